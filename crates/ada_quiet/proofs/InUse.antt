@@ -9,8 +9,8 @@ use Rattle.ada_program.specs.declared.program.ProcedureNo.{ProcedureNo}
 use Rattle.ada_program.specs.ProgramForm.{TypeForm, BodyForm, ProgramForm}
 use Rattle.ada_program.specs.WellFormed.{finalization_in}
 use Rattle.ada_quiet.specs.Quiet.{is_plain_body, is_plain_procedure, is_quiet_procedure, is_plain_operation, is_quiet_operation, has_quiet_operations, adjusts_access, operations_are_quiet}
-use Rattle.ada_quiet.specs.Frugal.{is_frugal_operation}
-use Rattle.ada_quiet.specs.InUse.{may_be_frugal, uses_finalize, uses_operations, operations_are_in_use}
+use Rattle.ada_quiet.specs.Frugal.{is_frugal_operation, is_silent_operation}
+use Rattle.ada_quiet.specs.InUse.{may_be_frugal, uses_initialize, uses_finalize, uses_operations, operations_are_in_use}
 
 -- Of two tests that both hold the first one holds, and so does the second one.
 pub first_of_both : (a b : Bool) → (a && b) ≡ true → a ≡ true
@@ -34,13 +34,19 @@ pub plain_operation : (p : ProgramForm) (o : Option ProcedureNo) → is_quiet_op
 plain_operation p None h = refl
 plain_operation p (Some procedure) h = plain_procedure p.types (slice_get p.bodies procedure.0) h
 
--- A quiet Finalize is in use.
+-- A plain Initialize is in use, so is a quiet one, and so is a quiet Finalize.
 either_first : (a b : Bool) → a ≡ true → (a || b) ≡ true
 either_first true b h = refl
 either_first false b h = absurd (cc h)
 
+pub uses_plain_initialize : (p : ProgramForm) (o : Option ProcedureNo) → is_plain_operation p o ≡ true → uses_initialize p o ≡ true
+uses_plain_initialize p o h = either_first (is_plain_operation p o) (may_be_frugal p && is_frugal_operation p o) h
+
+pub uses_quiet_initialize : (p : ProgramForm) (o : Option ProcedureNo) → is_quiet_operation p o ≡ true → uses_initialize p o ≡ true
+uses_quiet_initialize p o h = uses_plain_initialize p o (plain_operation p o h)
+
 pub uses_quiet_finalize : (p : ProgramForm) (o : Option ProcedureNo) → is_quiet_operation p o ≡ true → uses_finalize p o ≡ true
-uses_quiet_finalize p o h = either_first (is_quiet_operation p o) (may_be_frugal p && is_frugal_operation p o) h
+uses_quiet_finalize p o h = either_first (is_quiet_operation p o) (may_be_frugal p && is_frugal_operation p o && is_silent_operation p o) h
 
 -- Both of two tests may be replaced by what follows from them.
 pub others : (a b c d : Bool) → (a ≡ true → c ≡ true) → (b ≡ true → d ≡ true) → (a && b) ≡ true → (c && d) ≡ true
@@ -53,8 +59,8 @@ uses_quiet p (Some f) h =
     let initialize = is_quiet_operation p f.operations.initialize in
     let adjust = is_quiet_operation p f.operations.adjust in
     let finalize = is_quiet_operation p f.operations.finalize in
-    others (initialize && adjust) finalize (is_plain_operation p f.operations.initialize && adjust) (uses_finalize p f.operations.finalize)
-    (other_first initialize (is_plain_operation p f.operations.initialize) adjust (plain_operation p f.operations.initialize))
+    others (initialize && adjust) finalize (uses_initialize p f.operations.initialize && adjust) (uses_finalize p f.operations.finalize)
+    (other_first initialize (uses_initialize p f.operations.initialize) adjust (uses_quiet_initialize p f.operations.initialize))
     (uses_quiet_finalize p f.operations.finalize) h
 
 used_in : (p : ProgramForm) (ts : List TypeForm) → list_all (λ t. has_quiet_operations p (finalization_in (Some t)) && not (adjusts_access p t)) ts ≡ true →

@@ -7,23 +7,23 @@ use Rattle.ada_effects.specs.Effects.{no_calls, body_raises}
 use Rattle.ada_program.specs.Form.{RightForm, nothing, value_of, allocates, allocates_default, computes, StmtForm, skips, assigns, assigns_record, frees, gets, writes, writes_text, chooses, repeats, counts, exits, calls, returns, raises, encloses, StmtsForm, no_stmts, a_stmt, BranchesForm, otherwise, a_branch, HandlersForm, no_handlers, a_handler, DeclarationForm, creates_pool, collects, declares, declares_record}
 use Rattle.ada_program.specs.ProgramForm.{TypeForm, VariableForm, BodyForm}
 use Rattle.ada_program.specs.WellFormed.{variable_kind}
-use Rattle.ada_quiet.specs.Frugal.{is_frugal_right, is_frugal_declaration, are_frugal_declarations, is_frugal_stmt, are_frugal, are_frugal_branches, are_frugal_handlers, is_frugal_body}
-use Rattle.ada_quiet.specs.Quiet.{is_elementary, holds_elementary, is_quiet_path, is_quiet_expression, is_quiet_condition, is_quiet_right, is_quiet_declaration, are_quiet_declarations, is_quiet_stmt, are_quiet, are_quiet_branches, are_quiet_handlers, is_plain_body, is_quiet_body}
-use Rattle.ada_quiet.proofs.InUse.{second_of_both, others}
+use Rattle.ada_quiet.specs.Frugal.{is_there_already, is_frugal_declaration, are_frugal_declarations, is_frugal_stmt, are_frugal, are_frugal_branches, are_frugal_handlers, is_frugal_body}
+use Rattle.ada_quiet.specs.Quiet.{is_elementary, holds_elementary, is_quiet_expression, is_quiet_condition, is_quiet_right, is_quiet_declaration, are_quiet_declarations, is_quiet_stmt, are_quiet, are_quiet_branches, are_quiet_handlers, is_plain_body, is_quiet_body}
+use Rattle.ada_quiet.proofs.InUse.{first_of_both, second_of_both, others}
 
 module _ (types : List TypeForm) (variables : List VariableForm) where
-  right_frugal : (right : RightForm) → is_quiet_right types variables right ≡ true → is_frugal_right right ≡ true
-  right_frugal nothing quiet = refl
-  right_frugal (value_of path) quiet = refl
-  right_frugal (allocates access items) quiet = absurd (cc quiet)
-  right_frugal (allocates_default access) quiet = absurd (cc quiet)
-  right_frugal (computes e) quiet = refl
+  right_there : (right : RightForm) → is_quiet_right types variables right ≡ true → is_there_already right ≡ true
+  right_there nothing quiet = refl
+  right_there (value_of path) quiet = refl
+  right_there (allocates access items) quiet = absurd (cc quiet)
+  right_there (allocates_default access) quiet = absurd (cc quiet)
+  right_there (computes e) quiet = refl
 
   declaration_frugal : (d : DeclarationForm) → is_quiet_declaration types variables d ≡ true → is_frugal_declaration d ≡ true
   declaration_frugal (creates_pool p) quiet = absurd (cc quiet)
   declaration_frugal (collects access) quiet = absurd (cc quiet)
   declaration_frugal (declares x right) quiet =
-      right_frugal right (second_of_both (holds_elementary (variable_kind variables x)) (is_quiet_right types variables right) quiet)
+      right_there right (second_of_both (holds_elementary (variable_kind variables x)) (is_quiet_right types variables right) quiet)
   declaration_frugal (declares_record x t initial) quiet = absurd (cc quiet)
 
   declarations_frugal : (ds : List DeclarationForm) → are_quiet_declarations types variables ds ≡ true → are_frugal_declarations ds ≡ true
@@ -35,8 +35,7 @@ module _ (types : List TypeForm) (variables : List VariableForm) where
   mutual
     stmt_frugal : (f : StmtForm) → is_quiet_stmt types variables f ≡ true → is_frugal_stmt f ≡ true
     stmt_frugal skips quiet = refl
-    stmt_frugal (assigns target right) quiet =
-        right_frugal right (second_of_both (is_quiet_path types variables target) (is_quiet_right types variables right) quiet)
+    stmt_frugal (assigns target right) quiet = refl
     stmt_frugal (assigns_record target items) quiet = absurd (cc quiet)
     stmt_frugal (frees access path) quiet = absurd (cc quiet)
     stmt_frugal (gets target) quiet = refl
@@ -78,15 +77,16 @@ module _ (types : List TypeForm) (variables : List VariableForm) where
         others (are_quiet types variables fs) (are_quiet_handlers types variables hs) (are_frugal fs) (are_frugal_handlers hs)
         (stmts_frugal fs) (handlers_frugal hs) quiet
 
--- All variables of a quiet body but its formal parameter are Integers and Booleans: of a frugal one this is not asked.
+-- All variables of a quiet body but its formal parameter are Integers and Booleans, and no exception comes out of it: of a frugal one this is not asked.
 pub frugal_body : (types : List TypeForm) (b : BodyForm) → is_quiet_body types b ≡ true → is_frugal_body b ≡ true
 frugal_body types b quiet =
-    others (is_plain_body types b) silent (are_frugal_declarations b.declarations && are_frugal b.statements && are_frugal_handlers b.handlers) silent
-    parts (λ same. same) quiet
+    others (elementary && declarations && statements) handlers (are_frugal_declarations b.declarations && are_frugal b.statements) (are_frugal_handlers b.handlers)
+    (others (elementary && declarations) statements (are_frugal_declarations b.declarations) (are_frugal b.statements)
+    (λ both. declarations_frugal types b.variables b.declarations (second_of_both elementary declarations both))
+    (stmts_frugal types b.variables b.statements))
+    (handlers_frugal types b.variables b.handlers)
+    (first_of_both (is_plain_body types b) (not (body_raises no_calls b (λ e. true))) quiet)
   where
-    silent : Bool
-    silent = not (body_raises no_calls b (λ e. true))
-
     elementary : Bool
     elementary = list_all (λ x. is_elementary x.kind) (drop 1 b.variables)
 
@@ -96,11 +96,5 @@ frugal_body types b quiet =
     statements : Bool
     statements = are_quiet types b.variables b.statements
 
-    parts : is_plain_body types b ≡ true → (are_frugal_declarations b.declarations && are_frugal b.statements && are_frugal_handlers b.handlers) ≡ true
-    parts =
-        others (elementary && declarations && statements) (are_quiet_handlers types b.variables b.handlers)
-        (are_frugal_declarations b.declarations && are_frugal b.statements) (are_frugal_handlers b.handlers)
-        (others (elementary && declarations) statements (are_frugal_declarations b.declarations) (are_frugal b.statements)
-        (λ both. declarations_frugal types b.variables b.declarations (second_of_both elementary declarations both))
-        (stmts_frugal types b.variables b.statements))
-        (handlers_frugal types b.variables b.handlers)
+    handlers : Bool
+    handlers = are_quiet_handlers types b.variables b.handlers

@@ -12,10 +12,10 @@ use Rattle.ada_program.specs.declared.program.Operations.{Operations}
 use Rattle.ada_program.specs.declared.program.ProcedureNo.{ProcedureNo}
 use Rattle.ada_program.specs.ProgramForm.{TypeForm, BodyForm, ProgramForm}
 use Rattle.ada_program.specs.WellFormed.{finalization_in, finalization_of}
-use Rattle.ada_quiet.specs.First.{finalizes_in_use, IsUnused, HasUnused, stands_before, IsFirst, first_of, start_unless, unused_in}
-use Rattle.ada_quiet.specs.Frugal.{is_frugal_procedure}
-use Rattle.ada_quiet.specs.InUse.{may_be_frugal, uses_finalize, uses_operations, operations_are_in_use}
-use Rattle.ada_quiet.specs.Quiet.{is_plain_body, is_quiet_body, is_plain_procedure, is_quiet_procedure, is_plain_operation, is_quiet_operation, has_quiet_operations, has_access, operation_body, adjust_body, adjusts_access, operations_are_quiet}
+use Rattle.ada_quiet.specs.First.{initializes_in_use, finalizes_in_use, IsUnused, HasUnused, stands_before, IsFirst, first_of, start_unless, unused_in}
+use Rattle.ada_quiet.specs.Frugal.{is_frugal_procedure, is_silent_procedure}
+use Rattle.ada_quiet.specs.InUse.{may_be_frugal, uses_initialize, uses_finalize, uses_operations, operations_are_in_use}
+use Rattle.ada_quiet.specs.Quiet.{is_quiet_body, is_plain_procedure, is_quiet_procedure, is_quiet_operation, has_quiet_operations, has_access, operation_body, adjust_body, adjusts_access, operations_are_quiet}
 use Rattle.ada_quiet.proofs.Firsts.{IsOrder, either_first, same_first, AnyBelow, any_none, any_more}
 
 -- Places in the text.
@@ -68,18 +68,22 @@ body_there : (p : ProgramForm) (o : Option ProcedureNo) (procedure : ProcedureNo
     operation_body p o ≡ Some b
 body_there p o procedure b is at = ap (operation_body p) is ∙ at
 
--- It is plain, or quiet, as its body is.
-plain_as : (p : ProgramForm) (o : Option ProcedureNo) (procedure : ProcedureNo) (b : BodyForm) → o ≡ Some procedure → slice_get p.bodies procedure.0 ≡ Some b →
-    is_plain_operation p o ≡ is_plain_body p.types b
-plain_as p o procedure b is at = ap (is_plain_operation p) is ∙ ap (is_plain_procedure p.types) at
-
+-- It is quiet as its body is.
 quiet_as : (p : ProgramForm) (o : Option ProcedureNo) (procedure : ProcedureNo) (b : BodyForm) → o ≡ Some procedure → slice_get p.bodies procedure.0 ≡ Some b →
     is_quiet_operation p o ≡ is_quiet_body p.types b
 quiet_as p o procedure b is at = ap (is_quiet_operation p) is ∙ ap (is_quiet_procedure p.types) at
 
+-- An Initialize is in use as its body is.
+abbrev begun_procedure : ProgramForm → Option BodyForm → Bool
+begun_procedure p o = is_plain_procedure p.types o || (may_be_frugal p && is_frugal_procedure o)
+
+begun_as : (p : ProgramForm) (o : Option ProcedureNo) (procedure : ProcedureNo) (b : BodyForm) → o ≡ Some procedure → slice_get p.bodies procedure.0 ≡ Some b →
+    uses_initialize p o ≡ initializes_in_use p b
+begun_as p o procedure b is at = ap (uses_initialize p) is ∙ ap (begun_procedure p) at
+
 -- A Finalize is in use as its body is.
 abbrev used_procedure : ProgramForm → Option BodyForm → Bool
-used_procedure p o = is_quiet_procedure p.types o || (may_be_frugal p && is_frugal_procedure o)
+used_procedure p o = is_quiet_procedure p.types o || (may_be_frugal p && is_frugal_procedure o && is_silent_procedure o)
 
 used_as : (p : ProgramForm) (o : Option ProcedureNo) (procedure : ProcedureNo) (b : BodyForm) → o ≡ Some procedure → slice_get p.bodies procedure.0 ≡ Some b →
     uses_finalize p o ≡ finalizes_in_use p b
@@ -90,7 +94,7 @@ used_as p o procedure b is at = ap (uses_finalize p) is ∙ ap (used_procedure p
 -- One of the three operations.
 abbrev UnusedOf : ProgramForm → (leaves : Bool) → Finalization → Spot → Type 0
 UnusedOf p leaves f spot =
-    Begins p (is_plain_operation p f.operations.initialize) f.operations.initialize spot
+    Begins p (uses_initialize p f.operations.initialize) f.operations.initialize spot
     ⊎ (Begins p (is_quiet_operation p f.operations.adjust && not leaves) f.operations.adjust spot
     ⊎ Begins p (uses_finalize p f.operations.finalize) f.operations.finalize spot)
 
@@ -113,7 +117,7 @@ type_first p leaves (Some f) =
     (operation_first p adjusts f.operations.adjust) (operation_first p ends f.operations.finalize)))
   where
     begins : Bool
-    begins = is_plain_operation p f.operations.initialize
+    begins = uses_initialize p f.operations.initialize
 
     adjusts : Bool
     adjusts = is_quiet_operation p f.operations.adjust && not leaves
@@ -175,7 +179,7 @@ split : (p : ProgramForm) (t : ℕ) (f : Finalization) (leaves : Bool) (s : Spot
 split p t f leaves s at has (inl h) =
     let (b, found, begins) = h.1 in
     let (procedure, is, there) = overriding_there p f.operations.initialize b found in
-    (procedure, b, there, inl ((t, f, at, is), sym (plain_as p f.operations.initialize procedure b is there) ∙ h.0), begins)
+    (procedure, b, there, inl ((t, f, at, is), sym (begun_as p f.operations.initialize procedure b is there) ∙ h.0), begins)
 split p t f leaves s at has (inr (inl h)) =
     let (b, found, begins) = h.1 in
     let (procedure, is, there) = overriding_there p f.operations.adjust b found in
@@ -191,7 +195,7 @@ split p t f leaves s at has (inr (inr h)) =
 join : (p : ProgramForm) (procedure : ProcedureNo) (b : BodyForm) (s : Spot) → slice_get p.bodies procedure.0 ≡ Some b → b.start_spot ≡ s → IsUnused p procedure b →
     Below p (length p.types) s
 join p procedure b s there begins (inl ((t, f, at, is), loud)) =
-    (t, within p.types t f at, (f, at, inl (plain_as p f.operations.initialize procedure b is there ∙ loud, (b, body_there p f.operations.initialize procedure b is there, begins))))
+    (t, within p.types t f at, (f, at, inl (begun_as p f.operations.initialize procedure b is there ∙ loud, (b, body_there p f.operations.initialize procedure b is there, begins))))
 join p procedure b s there begins (inr (inl ((t, f, at, is), loud))) =
     let quiet = is_quiet_operation p f.operations.adjust in (
       t,
@@ -296,11 +300,11 @@ none_begins : (p : ProgramForm) (leaves : Bool) (f : Finalization) → uses_oper
     ¬ (UnusedOf p leaves f s)
 none_begins p leaves f used left s = go
   where
-    two : ((is_plain_operation p f.operations.initialize && is_quiet_operation p f.operations.adjust) ≡ true) × (uses_finalize p f.operations.finalize ≡ true)
-    two = both (is_plain_operation p f.operations.initialize && is_quiet_operation p f.operations.adjust) (uses_finalize p f.operations.finalize) used
+    two : ((uses_initialize p f.operations.initialize && is_quiet_operation p f.operations.adjust) ≡ true) × (uses_finalize p f.operations.finalize ≡ true)
+    two = both (uses_initialize p f.operations.initialize && is_quiet_operation p f.operations.adjust) (uses_finalize p f.operations.finalize) used
 
-    first : (is_plain_operation p f.operations.initialize ≡ true) × (is_quiet_operation p f.operations.adjust ≡ true)
-    first = both (is_plain_operation p f.operations.initialize) (is_quiet_operation p f.operations.adjust) two.0
+    first : (uses_initialize p f.operations.initialize ≡ true) × (is_quiet_operation p f.operations.adjust ≡ true)
+    first = both (uses_initialize p f.operations.initialize) (is_quiet_operation p f.operations.adjust) two.0
 
     go : ¬ (UnusedOf p leaves f s)
     go (inl h) = absurd (cc (sym first.0 ∙ h.0))
@@ -316,15 +320,14 @@ none_below p all s h =
     let (used, left) = found_type p (uses_operations p) h.0 f at (slice_get p.types h.0) refl all in
     none_begins p (has_access (slice_get p.types h.0)) f used left s one
 
--- Where one is not plain, or not quiet, it is there.
+-- Where one is not in use, or not quiet, it is there.
 body_of : (p : ProgramForm) (o : Option BodyForm) → (fits : Option BodyForm → Bool) → fits None ≡ true → fits o ≡ false → (b : BodyForm) × (o ≡ Some b)
 body_of p None fits fine h = absurd (cc (sym fine ∙ h))
 body_of p (Some b) fits fine h = (b, refl)
 
-loud_plain : (p : ProgramForm) (o : Option ProcedureNo) → is_plain_operation p o ≡ false → (s : Spot) × Begins p (is_plain_operation p o) o s
-loud_plain p None h = absurd (cc h)
-loud_plain p (Some procedure) h =
-    let (b, at) = body_of p (slice_get p.bodies procedure.0) (is_plain_procedure p.types) refl h in (b.start_spot, (h, (b, at, refl)))
+loud_begun : (p : ProgramForm) (o : Option ProcedureNo) → uses_initialize p o ≡ false → (b : BodyForm) × (operation_body p o ≡ Some b)
+loud_begun p None h = absurd (cc h)
+loud_begun p (Some procedure) h = body_of p (slice_get p.bodies procedure.0) (begun_procedure p) refl h
 
 loud_quiet : (p : ProgramForm) (o : Option ProcedureNo) → is_quiet_operation p o ≡ false → (b : BodyForm) × (operation_body p o ≡ Some b)
 loud_quiet p None h = absurd (cc h)
@@ -344,7 +347,7 @@ unused_type : (p : ProgramForm) (leaves : Bool) (o : Option Finalization) → (u
 unused_type p true None h = absurd (cc h)
 unused_type p false None h = absurd (cc h)
 unused_type p leaves (Some f) h =
-    go (is_plain_operation p f.operations.initialize) (quiet f.operations.adjust) (uses_finalize p f.operations.finalize) left refl refl refl refl h
+    go (uses_initialize p f.operations.initialize) (quiet f.operations.adjust) (uses_finalize p f.operations.finalize) left refl refl refl refl h
   where
     quiet : Option ProcedureNo → Bool
     quiet o = is_quiet_operation p o
@@ -352,9 +355,9 @@ unused_type p leaves (Some f) h =
     left : Bool
     left = leaves && is_some (operation_body p f.operations.adjust)
 
-    go : (i a z l : Bool) → is_plain_operation p f.operations.initialize ≡ i → quiet f.operations.adjust ≡ a → uses_finalize p f.operations.finalize ≡ z → left ≡ l →
+    go : (i a z l : Bool) → uses_initialize p f.operations.initialize ≡ i → quiet f.operations.adjust ≡ a → uses_finalize p f.operations.finalize ≡ z → left ≡ l →
         (i && a && z && not l) ≡ false → (s : Spot) × UnusedIn p leaves (Some f) s
-    go false a z l is _ _ _ h = let (s, one) = loud_plain p f.operations.initialize is in (s, (f, refl, inl one))
+    go false a z l is _ _ _ h = let (b, at) = loud_begun p f.operations.initialize is in (b.start_spot, (f, refl, inl (is, (b, at, refl))))
     go true false z l _ is _ _ h =
         let (b, at) = loud_quiet p f.operations.adjust is in
         (b.start_spot, (f, refl, inr (inl (none_fits (quiet f.operations.adjust) leaves is, (b, at, refl)))))

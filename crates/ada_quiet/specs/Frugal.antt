@@ -1,4 +1,4 @@
--- Bodies of Finalize that touch storage (7.6.1, 13.11.2): they move, follow and free what is there, and neither call nor create anything.
+-- Bodies of Initialize and Finalize that touch storage (7.6, 4.8, 13.11.2): they allocate, move, follow and free, and neither call nor declare more than variables.
 
 use Rattle.std.specs.Prelude.{Bool, true, false, not, ◌&&◌, List, Option, Some, None}
 use Rattle.std.specs.List.{list_all, slice_get}
@@ -7,19 +7,19 @@ use Rattle.ada_program.specs.declared.program.ProcedureNo.{ProcedureNo}
 use Rattle.ada_program.specs.ProgramForm.{BodyForm, ProgramForm}
 use Rattle.ada_effects.specs.Effects.{no_calls, body_raises}
 
--- What is assigned is there already (5.2): it is no allocator.
-abbrev pub is_frugal_right : RightForm → Bool
-is_frugal_right nothing = true
-is_frugal_right (value_of path) = true
-is_frugal_right (allocates access items) = false
-is_frugal_right (allocates_default access) = false
-is_frugal_right (computes e) = true
+-- What a variable is given at first is there already (3.3.1): it is no allocator.
+abbrev pub is_there_already : RightForm → Bool
+is_there_already nothing = true
+is_there_already (value_of path) = true
+is_there_already (allocates access items) = false
+is_there_already (allocates_default access) = false
+is_there_already (computes e) = true
 
 -- A declaration is that of a variable, which is given what is there (3.3.1).
 abbrev pub is_frugal_declaration : DeclarationForm → Bool
 is_frugal_declaration (creates_pool p) = false
 is_frugal_declaration (collects access) = false
-is_frugal_declaration (declares x right) = is_frugal_right right
+is_frugal_declaration (declares x right) = is_there_already right
 is_frugal_declaration (declares_record x t initial) = false
 
 -- So is each of these.
@@ -27,10 +27,10 @@ abbrev pub are_frugal_declarations : List DeclarationForm → Bool
 are_frugal_declarations ds = list_all is_frugal_declaration ds
 
 abbrev mutual
-  -- A statement neither calls nor allocates, and assigns no record as a whole (5.1).
+  -- A statement calls nothing, and assigns no record as a whole (5.1).
   pub is_frugal_stmt : StmtForm → Bool
   is_frugal_stmt skips = true
-  is_frugal_stmt (assigns target right) = is_frugal_right right
+  is_frugal_stmt (assigns target right) = true
   is_frugal_stmt (assigns_record target items) = false
   is_frugal_stmt (frees access path) = true
   is_frugal_stmt (gets target) = true
@@ -60,10 +60,9 @@ abbrev mutual
   are_frugal_handlers no_handlers = true
   are_frugal_handlers (a_handler choices fs hs) = are_frugal fs && are_frugal_handlers hs
 
--- All of a body is so, and no exception comes out of it.
+-- All of a body is so.
 abbrev pub is_frugal_body : BodyForm → Bool
-is_frugal_body b =
-    are_frugal_declarations b.declarations && are_frugal b.statements && are_frugal_handlers b.handlers && not (body_raises no_calls b (λ e. true))
+is_frugal_body b = are_frugal_declarations b.declarations && are_frugal b.statements && are_frugal_handlers b.handlers
 
 -- A procedure that was found has a frugal body.
 abbrev pub is_frugal_procedure : Option BodyForm → Bool
@@ -74,3 +73,17 @@ is_frugal_procedure (Some b) = is_frugal_body b
 abbrev pub is_frugal_operation : ProgramForm → Option ProcedureNo → Bool
 is_frugal_operation p None = true
 is_frugal_operation p (Some procedure) = is_frugal_procedure (slice_get p.bodies procedure.0)
+
+-- No exception comes out of a body, if it calls nothing (11.4).
+abbrev pub is_silent_body : BodyForm → Bool
+is_silent_body b = not (body_raises no_calls b (λ e. true))
+
+-- A procedure that was found has a body that lets no exception out.
+abbrev pub is_silent_procedure : Option BodyForm → Bool
+is_silent_procedure None = true
+is_silent_procedure (Some b) = is_silent_body b
+
+-- So has what overrides an operation, if one is overridden (7.6).
+abbrev pub is_silent_operation : ProgramForm → Option ProcedureNo → Bool
+is_silent_operation p None = true
+is_silent_operation p (Some procedure) = is_silent_procedure (slice_get p.bodies procedure.0)

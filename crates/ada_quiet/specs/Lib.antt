@@ -2,7 +2,7 @@
 
 -- operations that touch no storage, plain and quiet ones
 pub mod Quiet
--- bodies of Finalize that touch storage: frugal ones
+-- bodies of Initialize and Finalize that touch storage: frugal ones
 pub mod Frugal
 -- what is in use
 pub mod InUse

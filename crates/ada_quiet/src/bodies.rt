@@ -1,10 +1,11 @@
-//! Bodies of procedures, where they are quiet.
+//! Bodies of procedures, where they are plain, silent or quiet.
 
 ghost use Rattle.std.specs.Prelude.{◌≡◌, drop, true, IfOk};
 ghost use Rattle.std.specs.List.{list_all};
 ghost use Rattle.ada_effects.specs.Effects.{body_raises, no_calls};
 ghost use Rattle.ada_program.specs.Kept.{types_in, variables_in};
 ghost use Rattle.ada_program.specs.ProgramForm.{body_form};
+ghost use Rattle.ada_quiet.specs.Frugal as frugal;
 ghost use Rattle.ada_quiet.specs.Quiet as rules;
 
 use crate::statements::{are_quiet, are_quiet_declarations, are_quiet_handlers};
@@ -36,7 +37,7 @@ fn has_elementary(variables: &[Variable]) -> bool
 }
 
 /// Whether a body raises an exception that none of its handlers takes, if it calls nothing.
-pub(crate) fn raises_some(
+fn raises_some(
     alloc: Global,
     types: &[TypeDefinition],
     procedure: &Procedure,
@@ -50,6 +51,21 @@ pub(crate) fn raises_some(
     };
     let effect = effect_of(alloc, types, effects, procedure)?;
     Ok(!effect.raises.is_empty())
+}
+
+/// Whether a body is silent: no exception comes out of it, if it calls nothing (11.4).
+///
+/// # Errors
+/// `AllocError` where memory for the exceptions that it raises was refused.
+pub(crate) fn is_silent_body(
+    alloc: Global,
+    types: &[TypeDefinition],
+    procedure: &Procedure,
+) -> Result<bool, AllocError>
+    ensures { IfOk result (λ answer. answer ≡ frugal.is_silent_body (body_form procedure.now)) }
+{
+    let raises = raises_some(alloc, types, procedure)?;
+    Ok(!raises)
 }
 
 /// Whether a body is plain: it touches Integers and Booleans alone, and calls nothing. Linear in the body.
@@ -77,6 +93,5 @@ pub(crate) fn is_quiet_body(
     if !is_plain_body(types, procedure) {
         return Ok(false);
     }
-    let raises = raises_some(alloc, types, procedure)?;
-    Ok(!raises)
+    is_silent_body(alloc, types, procedure)
 }

@@ -1,5 +1,6 @@
-//! The first body in the text that overrides an operation of a controlled type and is not in use: Initialize is not plain, Adjust is
-//! not quiet, Finalize is neither quiet nor frugal, where it may be, or Adjust leaves a component that it must change.
+//! The first body in the text that overrides an operation of a controlled type and is not in use: Initialize is neither plain nor
+//! frugal, where it may be, Adjust is not quiet, Finalize is neither quiet nor, where it may be, frugal and silent, or Adjust leaves
+//! a component that it must change.
 
 ghost use Rattle.std.specs.Prelude.{◌≡◌, ◌↔◌, None, true, IfOk};
 ghost use Rattle.ada_program.specs.ProgramForm.{program_form};
@@ -8,8 +9,8 @@ ghost use Rattle.ada_quiet.specs.First.{IsFirstUntracked, IsFirstUnused};
 ghost use Rattle.ada_quiet.specs.InUse.{operations_are_in_use};
 ghost use Rattle.ada_quiet.specs.Quiet as quiet;
 
-use crate::operations::{has_access, is_plain_operation, is_quiet_operation};
-use crate::uses::{may_be_frugal, uses_finalize};
+use crate::operations::{has_access, is_quiet_operation};
+use crate::uses::{may_be_frugal, uses_finalize, uses_initialize};
 use ada_program::parts::finalization_of;
 use ada_program::program::Finalization;
 use ada_program::{ProcedureNo, Program, Spot};
@@ -49,7 +50,7 @@ fn start_unless(program: &Program, fits: bool, operation: Option<ProcedureNo>) -
     Some(procedure.start)
 }
 
-/// The first one of those that override the operations of a type and are not in use, where a Finalize may be frugal or not, and its
+/// The first one of those that override the operations of a type and are not in use, where operations may be frugal or not, and its
 /// Adjust leaves such a component or not.
 fn unused_in(
     alloc: Global,
@@ -64,7 +65,7 @@ fn unused_in(
         return Ok(None);
     };
     let operations = finalization.operations;
-    let begins = is_plain_operation(program, operations.initialize);
+    let begins = uses_initialize(program, frugal, operations.initialize);
     let adjusts = is_quiet_operation(alloc, program, operations.adjust)?;
     let ends = uses_finalize(alloc, program, frugal, operations.finalize)?;
     let initialize = start_unless(program, begins, operations.initialize);
@@ -74,10 +75,11 @@ fn unused_in(
 }
 
 /// Where the first body in the text begins that overrides an operation of a controlled type (7.6) and is not in use: one that
-/// overrides Initialize and is not plain, since it touches storage or calls; one that overrides Adjust and is not quiet, since it is
-/// not plain or lets an exception out; one that overrides Finalize and is not quiet either, nor frugal in a program in which a
-/// Finalize may be; or one that overrides Adjust of a type with a component of an access type, declared in it directly, which a
-/// quiet one leaves as it is. Linear in the types, their components, and the bodies of their operations.
+/// overrides Initialize and is not plain, since it touches storage or calls, nor frugal in a program in which operations may be; one
+/// that overrides Adjust and is not quiet, since it is not plain or lets an exception out; one that overrides Finalize and is
+/// neither quiet nor, in such a program, frugal and silent; or one that overrides Adjust of a type with a component of an access
+/// type, declared in it directly, which a quiet one leaves as it is. Linear in the types, their components, and the bodies of their
+/// operations.
 ///
 /// # Errors
 /// `AllocError` where memory for the exceptions that a body raises was refused.
@@ -86,7 +88,7 @@ pub fn first_unused(alloc: Global, program: &Program) -> Result<Option<Spot>, Al
     ensures first { IfOk result (IsFirstUnused (program_form program.now)) }
     ensures used { IfOk result (λ first. (first ≡ None) ↔ (operations_are_in_use (program_form program.now) ≡ true)) }
 {
-    let frugal = may_be_frugal(alloc, program)?;
+    let frugal = may_be_frugal(program);
     let mut first = None;
     'types: for number in 0..program.types.len() {
         let leaves = has_access(&program.types, number);

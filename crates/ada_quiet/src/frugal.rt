@@ -1,18 +1,17 @@
-//! Declarations, statements and bodies, where they are frugal: they move, follow and free what is there (7.6.1, 13.11.2).
+//! Declarations, statements and bodies, where they are frugal: they allocate, move, follow and free (7.6, 4.8, 13.11.2), and neither
+//! call nor declare more than variables, which are given what is there.
 
-ghost use Rattle.std.specs.Prelude.{◌≡◌, ◌&&◌, map, IfOk};
+ghost use Rattle.std.specs.Prelude.{◌≡◌, ◌&&◌, map};
 ghost use Rattle.ada_program.specs.Form.{StmtsForm, branches_form, declaration_form, handlers_form, initial_form, right_form, stmt_form, stmts_form};
 ghost use Rattle.ada_program.specs.ProgramForm.{body_form};
 ghost use Rattle.ada_quiet.specs.Frugal as rules;
 
-use crate::bodies::raises_some;
 use ada_program::Stmt;
-use ada_program::program::{Branch, Declaration, Handler, Procedure, Right, TypeDefinition};
-use std::alloc::{AllocError, Global};
+use ada_program::program::{Branch, Declaration, Handler, Procedure, Right};
 
-/// Whether what is assigned is there already (5.2): it is no allocator.
-fn is_frugal_right(right: &Right) -> bool
-    ensures { result ≡ rules.is_frugal_right (right_form right.now) }
+/// Whether what a variable is given at first is there already (3.3.1): it is no allocator.
+fn is_there_already(right: &Right) -> bool
+    ensures { result ≡ rules.is_there_already (right_form right.now) }
 {
     match right {
         Right::Null | Right::Path(_) | Right::Value(_) => true,
@@ -21,12 +20,12 @@ fn is_frugal_right(right: &Right) -> bool
 }
 
 /// Whether an initial value is, where one is written.
-fn is_frugal_initial(initial: &Option<Right>) -> bool
-    ensures { result ≡ rules.is_frugal_right (initial_form initial.now) }
+fn is_initial_there(initial: &Option<Right>) -> bool
+    ensures { result ≡ rules.is_there_already (initial_form initial.now) }
 {
     match initial {
         None => true,
-        Some(right) => is_frugal_right(right),
+        Some(right) => is_there_already(right),
     }
 }
 
@@ -38,7 +37,7 @@ fn is_frugal_declaration(declaration: &Declaration) -> bool
         Declaration::Variable {
             variable: _,
             initial,
-        } => is_frugal_initial(initial),
+        } => is_initial_there(initial),
         _ => false,
     }
 }
@@ -55,7 +54,7 @@ fn are_frugal_declarations(declarations: &[Declaration]) -> bool
     true
 }
 
-/// Whether a statement neither calls nor allocates, and assigns no record as a whole (5.1).
+/// Whether a statement calls nothing, and assigns no record as a whole (5.1).
 #[cycle(statements)]
 #[tactic(auto, using(std::proofs::lemmas::Grind::common_steps, ada_program::specs::Form::statement_rules))]
 fn is_frugal_stmt(statement: &Stmt) -> bool
@@ -63,6 +62,7 @@ fn is_frugal_stmt(statement: &Stmt) -> bool
 {
     match statement {
         Stmt::Null
+        | Stmt::Assign { .. }
         | Stmt::Free { .. }
         | Stmt::Get(_)
         | Stmt::PutImage(_)
@@ -71,7 +71,6 @@ fn is_frugal_stmt(statement: &Stmt) -> bool
         | Stmt::Return(_)
         | Stmt::Raise(_) => true,
         Stmt::AssignRecord { .. } | Stmt::Call { .. } => false,
-        Stmt::Assign { target: _, value } => is_frugal_right(value),
         Stmt::If {
             branches,
             otherwise,
@@ -138,24 +137,12 @@ fn are_frugal_handlers(handlers: &[Handler]) -> bool
     true
 }
 
-/// Whether a body is frugal: it neither calls nor creates anything, assigns no record as a whole, and lets no exception out. Linear
-/// in the body.
-///
-/// # Errors
-/// `AllocError` where memory for the exceptions that it raises was refused.
-pub(crate) fn is_frugal_body(
-    alloc: Global,
-    types: &[TypeDefinition],
-    procedure: &Procedure,
-) -> Result<bool, AllocError>
-    ensures { IfOk result (λ answer. answer ≡ rules.is_frugal_body (body_form procedure.now)) }
+/// Whether a body is frugal: it allocates in its statements, moves, follows and frees; it calls nothing, assigns no record as a whole,
+/// and declares variables alone, which are given what is there. An exception may come out of it. Linear in the body.
+pub(crate) fn is_frugal_body(procedure: &Procedure) -> bool
+    ensures { result ≡ rules.is_frugal_body (body_form procedure.now) }
 {
-    let frugal = are_frugal_declarations(&procedure.declarations)
+    are_frugal_declarations(&procedure.declarations)
         && are_frugal(&procedure.statements)
-        && are_frugal_handlers(&procedure.handlers);
-    if !frugal {
-        return Ok(false);
-    }
-    let raises = raises_some(alloc, types, procedure)?;
-    Ok(!raises)
+        && are_frugal_handlers(&procedure.handlers)
 }

@@ -2,7 +2,7 @@
 
 ghost use Rattle.ada_quiet.specs.Laws.{QuietIsFrugal, QuietIsInUse};
 
-/// A quiet body is frugal: what touches no storage moves, follows and frees nothing.
+/// A quiet body is frugal: what touches no storage allocates, moves, follows and frees nothing.
 pub fn quiet_is_frugal()
     ensures { QuietIsFrugal }
 {}

@@ -1,4 +1,4 @@
-//! The bodies that override operations of controlled types (7.6), where they are plain, quiet or frugal.
+//! The bodies that override operations of controlled types (7.6), where they are plain, quiet, frugal or silent.
 
 ghost use Rattle.std.specs.Prelude.{◌≡◌, ◌&&◌, Some, is_some, map, not, IfOk};
 ghost use Rattle.std.specs.List.{list_any, slice_get};
@@ -8,7 +8,7 @@ ghost use Rattle.ada_program.specs.WellFormed.{finalization_in};
 ghost use Rattle.ada_quiet.specs.Frugal as frugal;
 ghost use Rattle.ada_quiet.specs.Quiet as rules;
 
-use crate::bodies::{is_plain_body, is_quiet_body};
+use crate::bodies::{is_plain_body, is_quiet_body, is_silent_body};
 use crate::frugal::is_frugal_body;
 use ada_program::program::{ComponentKind, Finalization, Part, PartKind, TypeDefinition};
 use ada_program::{ProcedureNo, Program};
@@ -48,15 +48,28 @@ pub(crate) fn is_quiet_operation(
 }
 
 /// Whether it has a frugal one.
+pub(crate) fn is_frugal_operation(program: &Program, operation: Option<ProcedureNo>) -> bool
+    ensures { result ≡ frugal.is_frugal_operation (program_form program.now) operation }
+{
+    let Some(number) = operation else {
+        return true;
+    };
+    let Some(procedure) = program.procedures.get(number.0) else {
+        return true;
+    };
+    is_frugal_body(procedure)
+}
+
+/// Whether it has a silent one: no exception comes out of it.
 ///
 /// # Errors
 /// `AllocError` where memory for the exceptions that it raises was refused.
-pub(crate) fn is_frugal_operation(
+pub(crate) fn is_silent_operation(
     alloc: Global,
     program: &Program,
     operation: Option<ProcedureNo>,
 ) -> Result<bool, AllocError>
-    ensures { IfOk result (λ answer. answer ≡ frugal.is_frugal_operation (program_form program.now) operation) }
+    ensures { IfOk result (λ answer. answer ≡ frugal.is_silent_operation (program_form program.now) operation) }
 {
     let Some(number) = operation else {
         return Ok(true);
@@ -64,7 +77,7 @@ pub(crate) fn is_frugal_operation(
     let Some(procedure) = program.procedures.get(number.0) else {
         return Ok(true);
     };
-    is_frugal_body(alloc, &program.types, procedure)
+    is_silent_body(alloc, &program.types, procedure)
 }
 
 /// Whether all those have a quiet one that override the operations of a type.

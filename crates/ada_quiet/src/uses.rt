@@ -1,45 +1,33 @@
-//! Where a Finalize may be frugal, and where it is in use (7.6.1).
+//! Where an Initialize and a Finalize may be frugal, and where they are in use (7.6, 7.6.1).
 
-ghost use Rattle.std.specs.Prelude.{◌≡◌, ◌&&◌, Some, IfOk};
+ghost use Rattle.std.specs.Prelude.{◌≡◌, Some, IfOk};
 ghost use Rattle.ada_program.specs.Kept.{types_in};
 ghost use Rattle.ada_program.specs.ProgramForm.{program_form, type_form};
 ghost use Rattle.ada_program.specs.WellFormed.{finalization_in};
 ghost use Rattle.ada_quiet.specs.First as first;
 ghost use Rattle.ada_quiet.specs.InUse as rules;
 
-use crate::operations::{is_frugal_operation, is_quiet_operation};
+use crate::operations::{
+    is_frugal_operation, is_plain_operation, is_quiet_operation, is_silent_operation,
+};
 use ada_program::parts::finalization_of;
 use ada_program::program::{Finalization, TypeDefinition};
 use ada_program::{ProcedureNo, Program};
 use std::alloc::{AllocError, Global};
 
-/// Whether controlled parts are limited (7.5), where there are some, and what initializes them lets no exception out.
-fn begins_quietly(
-    alloc: Global,
-    program: &Program,
-    finalization: Option<Finalization>,
-) -> Result<bool, AllocError>
-    ensures { IfOk result (λ answer. answer ≡
-        (rules.is_limited finalization && rules.initializes_quietly (program_form program.now) finalization)) }
+/// Whether controlled parts are limited (7.5), where there are some.
+fn is_limited(finalization: Option<Finalization>) -> bool
+    ensures { result ≡ rules.is_limited finalization }
 {
-    let Some(finalization) = finalization else {
-        return Ok(true);
-    };
-    if !finalization.limited {
-        return Ok(false);
+    match finalization {
+        None => true,
+        Some(finalization) => finalization.limited,
     }
-    is_quiet_operation(alloc, program, finalization.operations.initialize)
 }
 
-/// Whether a type lets a Finalize be frugal: it designates no record type with controlled parts, and its own parts are limited and
-/// initialized without an exception.
-fn lets_be_frugal(
-    alloc: Global,
-    program: &Program,
-    definition: &TypeDefinition,
-) -> Result<bool, AllocError>
-    ensures { IfOk result (λ answer. answer ≡
-        rules.lets_be_frugal (program_form program.now) (type_form definition.now)) }
+/// Whether a type lets operations be frugal: it designates no record type with controlled parts, and its own parts are limited.
+fn lets_be_frugal(program: &Program, definition: &TypeDefinition) -> bool
+    ensures { result ≡ rules.lets_be_frugal (program_form program.now) (type_form definition.now) }
 {
     match definition {
         TypeDefinition::Record {
@@ -47,33 +35,41 @@ fn lets_be_frugal(
             parts: _,
             components: _,
             finalization,
-        } => begins_quietly(alloc, program, *finalization),
+        } => is_limited(*finalization),
         TypeDefinition::Access {
             name: _,
             designated,
             pool: _,
-        } => Ok(finalization_of(&program.types, designated.0).is_none()),
-        TypeDefinition::Object { record: _ } => Ok(true),
+        } => finalization_of(&program.types, designated.0).is_none(),
+        TypeDefinition::Object { record: _ } => true,
     }
 }
 
-/// Whether a Finalize may be frugal in a program: all controlled parts are limited, no access type designates a record type that has
-/// some, and no exception comes out of what overrides Initialize. Linear in the types and the bodies of their operations.
-///
-/// # Errors
-/// `AllocError` where memory for the exceptions that a body raises was refused.
-pub(crate) fn may_be_frugal(alloc: Global, program: &Program) -> Result<bool, AllocError>
-    ensures { IfOk result (λ answer. answer ≡ rules.may_be_frugal (program_form program.now)) }
+/// Whether an Initialize and a Finalize may be frugal in a program: all controlled parts are limited, and no access type designates a
+/// record type that has some. Linear in the types.
+pub(crate) fn may_be_frugal(program: &Program) -> bool
+    ensures { result ≡ rules.may_be_frugal (program_form program.now) }
 {
     'types: for definition in &program.types {
-        if !lets_be_frugal(alloc, program, definition)? {
-            return Ok(false);
+        if !lets_be_frugal(program, definition) {
+            return false;
         }
     }
-    Ok(true)
+    true
 }
 
-/// Whether what overrides Finalize is quiet, or frugal, where it may be.
+/// Whether what overrides Initialize is plain, or frugal, where it may be.
+pub(crate) fn uses_initialize(
+    program: &Program,
+    frugal: bool,
+    operation: Option<ProcedureNo>,
+) -> bool
+    ensures { result ≡ first.initializes (program_form program.now) frugal operation }
+{
+    is_plain_operation(program, operation) || frugal && is_frugal_operation(program, operation)
+}
+
+/// Whether what overrides Finalize is quiet, or frugal and silent, where it may be.
 ///
 /// # Errors
 /// `AllocError` where memory for the exceptions that it raises was refused.
@@ -88,8 +84,8 @@ pub(crate) fn uses_finalize(
     if is_quiet_operation(alloc, program, operation)? {
         return Ok(true);
     }
-    if !frugal {
+    if !(frugal && is_frugal_operation(program, operation)) {
         return Ok(false);
     }
-    is_frugal_operation(alloc, program, operation)
+    is_silent_operation(alloc, program, operation)
 }

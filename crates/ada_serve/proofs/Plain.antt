@@ -13,11 +13,10 @@ use Rattle.ada_program.specs.Controlled.{number_by, is_number, operations_in, op
 use Rattle.ada_program.specs.Form.{RightForm, nothing, value_of, allocates, allocates_default, computes, DeclarationForm, creates_pool, collects, declares, declares_record}
 use Rattle.ada_program.specs.ProgramForm.{TypeForm, type_form, VariableForm, BodyForm, body_forms, ProgramForm, program_form}
 use Rattle.ada_program.specs.WellFormed.{finalization_in, variable_kind}
-use Rattle.ada_effects.specs.Effects.{no_calls, body_raises}
 use Rattle.ada_meaning.specs.Pace.{right_creates, declaration_creates, declarations_create, body_creates, operation_creates, OperationsDeclareNoParts}
 use Rattle.ada_quiet.specs.Quiet.{is_elementary, holds_elementary, is_quiet_right, is_quiet_declaration, are_quiet_declarations, are_quiet, are_quiet_handlers, is_plain_body, is_plain_procedure, is_plain_operation, is_quiet_operation, adjusts_access}
-use Rattle.ada_quiet.specs.InUse.{may_be_frugal, uses_finalize, uses_operations, operations_are_in_use}
-use Rattle.ada_quiet.specs.Frugal.{is_frugal_right, is_frugal_declaration, are_frugal_declarations, are_frugal, are_frugal_handlers, is_frugal_body, is_frugal_procedure, is_frugal_operation}
+use Rattle.ada_quiet.specs.InUse.{may_be_frugal, uses_initialize, uses_finalize, uses_operations, operations_are_in_use}
+use Rattle.ada_quiet.specs.Frugal.{is_there_already, is_frugal_declaration, are_frugal_declarations, are_frugal, are_frugal_handlers, is_frugal_body, is_frugal_procedure, is_frugal_operation, is_silent_operation}
 use Rattle.ada_quiet.proofs.InUse.{plain_operation}
 
 -- Both tests are passed where their conjunction is.
@@ -72,18 +71,18 @@ operation_plain : (p : ProgramForm) (types : List TypeDefinition) (o : Option Pr
 operation_plain p types None plain = refl
 operation_plain p types (Some procedure) plain = procedure_plain p.types types (slice_get p.bodies procedure.0) plain
 
--- A frugal declaration creates nothing but its variable either.
-right_frugal : (types : List TypeDefinition) (right : RightForm) → is_frugal_right right ≡ true → right_creates types right ≡ false
-right_frugal types nothing frugal = refl
-right_frugal types (value_of path) frugal = refl
-right_frugal types (allocates access items) frugal = absurd (cc frugal)
-right_frugal types (allocates_default access) frugal = absurd (cc frugal)
-right_frugal types (computes e) frugal = refl
+-- A frugal declaration creates nothing but its variable either: what it is given at first is no allocator.
+right_there : (types : List TypeDefinition) (right : RightForm) → is_there_already right ≡ true → right_creates types right ≡ false
+right_there types nothing there = refl
+right_there types (value_of path) there = refl
+right_there types (allocates access items) there = absurd (cc there)
+right_there types (allocates_default access) there = absurd (cc there)
+right_there types (computes e) there = refl
 
 declaration_frugal : (types : List TypeDefinition) (d : DeclarationForm) → is_frugal_declaration d ≡ true → declaration_creates types d ≡ false
 declaration_frugal types (creates_pool pool) frugal = refl
 declaration_frugal types (collects access) frugal = refl
-declaration_frugal types (declares x right) frugal = right_frugal types right frugal
+declaration_frugal types (declares x right) frugal = right_there types right frugal
 declaration_frugal types (declares_record x object initial) frugal = absurd (cc frugal)
 
 declarations_frugal : (types : List TypeDefinition) (ds : List DeclarationForm) → are_frugal_declarations ds ≡ true → declarations_create types ds ≡ false
@@ -99,9 +98,7 @@ body_frugal types b frugal =
     let declarations = are_frugal_declarations b.declarations in
     let statements = are_frugal b.statements in
     let handlers = are_frugal_handlers b.handlers in
-    let quiet = not (body_raises no_calls b (λ e. true)) in
-    declarations_frugal types b.declarations
-    (left_of declarations statements (left_of (declarations && statements) handlers (left_of (declarations && statements && handlers) quiet frugal)))
+    declarations_frugal types b.declarations (left_of declarations statements (left_of (declarations && statements) handlers frugal))
 
 procedure_frugal : (types : List TypeDefinition) (found : Option BodyForm) → is_frugal_procedure found ≡ true → body_creates types found ≡ false
 procedure_frugal types None frugal = refl
@@ -111,13 +108,24 @@ operation_frugal : (p : ProgramForm) (types : List TypeDefinition) (o : Option P
 operation_frugal p types None frugal = refl
 operation_frugal p types (Some procedure) frugal = procedure_frugal types (slice_get p.bodies procedure.0) frugal
 
--- So does a Finalize that is in use.
+-- So it is with an operation that passes a test by which it creates nothing, or another one by which it is frugal.
+operation_either : (p : ProgramForm) (types : List TypeDefinition) (o : Option ProcedureNo) (passes frugal : Bool)
+    → (passes ≡ true → operation_creates types p.bodies o ≡ false) → (frugal ≡ true → is_frugal_operation p o ≡ true) → (passes || frugal) ≡ true
+    → operation_creates types p.bodies o ≡ false
+operation_either p types o true frugal tested other used = tested refl
+operation_either p types o false frugal tested other used = operation_frugal p types o (other used)
+
+-- So it is with an Initialize and a Finalize that are in use.
+initialize_used : (p : ProgramForm) (types : List TypeDefinition) (o : Option ProcedureNo) → uses_initialize p o ≡ true → operation_creates types p.bodies o ≡ false
+initialize_used p types o used =
+    operation_either p types o (is_plain_operation p o) (may_be_frugal p && is_frugal_operation p o) (operation_plain p types o)
+    (right_of (may_be_frugal p) (is_frugal_operation p o)) used
+
 finalize_used : (p : ProgramForm) (types : List TypeDefinition) (o : Option ProcedureNo) → uses_finalize p o ≡ true → operation_creates types p.bodies o ≡ false
-finalize_used p types o used = go (is_quiet_operation p o) refl used
-  where
-    go : (quiet : Bool) → is_quiet_operation p o ≡ quiet → (quiet || (may_be_frugal p && is_frugal_operation p o)) ≡ true → operation_creates types p.bodies o ≡ false
-    go true is _ = operation_plain p types o (plain_operation p o is)
-    go false _ frugal = operation_frugal p types o (right_of (may_be_frugal p) (is_frugal_operation p o) frugal)
+finalize_used p types o used =
+    let frugal = may_be_frugal p && is_frugal_operation p o in
+    operation_either p types o (is_quiet_operation p o) (frugal && is_silent_operation p o) (λ quiet. operation_plain p types o (plain_operation p o quiet))
+    (λ both. right_of (may_be_frugal p) (is_frugal_operation p o) (left_of frugal (is_silent_operation p o) both)) used
 
 -- None of these operations declares an object with controlled parts.
 abbrev DeclareNone : List TypeDefinition → List BodyForm → Operations → Type 0
@@ -127,11 +135,11 @@ DeclareNone types bodies o =
 none_in : (p : ProgramForm) (types : List TypeDefinition) (f : Option Finalization) → uses_operations p f ≡ true → DeclareNone types p.bodies (operations_in f)
 none_in p types None used = (refl, refl, refl)
 none_in p types (Some f) used =
-    let initialize = is_plain_operation p f.operations.initialize in
+    let initialize = uses_initialize p f.operations.initialize in
     let adjust = is_quiet_operation p f.operations.adjust in
     let finalize = uses_finalize p f.operations.finalize in
     let both = left_of (initialize && adjust) finalize used in (
-      operation_plain p types f.operations.initialize (left_of initialize adjust both),
+      initialize_used p types f.operations.initialize (left_of initialize adjust both),
       operation_plain p types f.operations.adjust (plain_operation p f.operations.adjust (right_of initialize adjust both)),
       finalize_used p types f.operations.finalize (right_of (initialize && adjust) finalize used),
     )

@@ -21,7 +21,7 @@ use Rattle.ada_meaning.specs.Frame.{Does, Treatment}
 use Rattle.ada_meaning.specs.Frame as frame
 use Rattle.ada_meaning.specs.State.{Master}
 use Rattle.ada_meaning.specs.Heap.{finds}
-use Rattle.ada_meaning.specs.Step.{places, last_of, selected, treating}
+use Rattle.ada_meaning.specs.Step.{places, last_of, selected, treating, procedure_of}
 use Rattle.ada_meaning.specs.Beginning.{BeginsStatement}
 use Rattle.ada_meaning.specs.Named.{Object, State, object_at, store, named, whole, inside}
 use Rattle.ada_meaning.specs.Law.{items_of}
@@ -38,7 +38,7 @@ use Rattle.ada_owners.proofs.Objects.{present_at}
 use Rattle.ada_owners.proofs.Changes.{store_access, store_reads}
 use Rattle.ada_finalized.specs.Law.{NoOperationRuns}
 use Rattle.ada_sound.specs.Always.{AgreesThere}
-use Rattle.ada_sound.specs.Agreement.{IsAtHome, Exists, IsValid, IsAs, Turning, here, IsFlowAt, IsBehind, running_procedure, component_access, IsKept, IsOwning, IsCleared, Agrees, value_in}
+use Rattle.ada_sound.specs.Agreement.{IsAtHome, Exists, IsValid, IsAs, Turning, here, IsFlowAt, IsBehind, IsSpokenOf, running_procedure, component_access, IsKept, IsOwning, IsCleared, Agrees, value_in}
 use Rattle.ada_sound.specs.Agreement as agreement
 use Rattle.ada_sound.proofs.Items as items
 use Rattle.ada_sound.proofs.Stored.{Stored, exists_out}
@@ -51,8 +51,8 @@ use Rattle.ada_sound.proofs.Invariant.{Known, Control, Ready, RunsOn, Working, H
 use Rattle.ada_typed.proofs.Bodies.{SeenFits, seen_fits}
 use Rattle.ada_sound.proofs.Callers.{Suspension, rest_of, known_in}
 use Rattle.ada_sound.proofs.Returns.{same_types}
-use Rattle.ada_sound.proofs.Finalizing.{Finalizing, waiting_for}
-use Rattle.ada_sound.proofs.FinalizingSteps.{finalizing_runs}
+use Rattle.ada_sound.proofs.Touching.{Touching, waiting_for}
+use Rattle.ada_sound.proofs.TouchingSteps.{touching_runs}
 use Rattle.ada_sound.proofs.Operating.{Sight, WaitsFor, Quietly, Comes, Body, Operates}
 use Rattle.ada_sound.proofs.Starts.{Ordinary, Sound}
 
@@ -284,27 +284,34 @@ none_waits : (o : Id) (of : ℕ) (treatment : Treatment) (k behind : Control) �
 none_waits o of (frame.begins by done) k behind (part, tasks, is) none = let there : NoOperationRuns (frame.Awaits (Names o) by done of part tasks ∷ k) = rw is at none in absurd (cc (there.0))
 none_waits o of (frame.ends cause) k behind (tasks, is) none = let there : NoOperationRuns (frame.Confines ∷ treating (Names o) (frame.ends cause) tasks k) = rw is at none in absurd (cc (there.0))
 
--- Wherever a statement begins while no operation runs.
-pub agrees_at : (program : Program) (s : State) → Sound program s → BeginsStatement s → NoOperationRuns s.control → AgreesThere program s
-agrees_at program s sound b none = by sound.goes
+-- Wherever a statement begins, but in the body of an operation that touches Integers and Booleans alone.
+pub agrees_at : (program : Program) (s : State) → Sound program s → BeginsStatement s → IsSpokenOf program s → AgreesThere program s
+agrees_at program s sound b spoken = by sound.goes
   where
     no_statement : (sight : Sight) (behind : Control) (ms : List Master) (operands : List Value) → Comes sight behind ms Running (Does (a_stmt b.stmt b.later) ∷ b.outer) operands → Quietly sight behind ms (Does (a_stmt b.stmt b.later) ∷ b.outer)
     no_statement sight behind ms operands (inl (all, goes, leads)) = leads
     no_statement sight behind ms [] (inr (running, next)) = absurd next
     no_statement sight behind ms (v ∷ vs) (inr (running, next)) = absurd next
 
-    by : Ordinary program s ⊎ (Operates program s ⊎ Finalizing program s) → AgreesThere program s
+    runs_apart : (o : Operates program s) → NoOperationRuns s.control → ⊥
+    runs_apart o none =
+        let sight : Sight = record { program = seen_in (Some o.procedure) (program_form program); object = o.object; access = o.access } in
+        let body : Body sight o.behind o.upper s.heap o.places o.operands Running (Does (a_stmt b.stmt b.later) ∷ b.outer) = rw (b.runs, b.first) at o.body in
+        let none_here : NoOperationRuns (Does (a_stmt b.stmt b.later) ∷ b.outer) = rw b.first at none in
+        none_waits o.object o.suspended.of o.treatment o.suspended.after o.behind o.suspended.waits
+        (waits_for_end sight o.behind (Does (a_stmt b.stmt b.later) ∷ b.outer) o.upper (no_statement sight o.behind o.upper o.operands body.comes) none_here)
+
+    unspoken : Operates program s → IsSpokenOf program s → ⊥
+    unspoken o (inl none) = runs_apart o none
+    unspoken o (inr not_plain) = not_plain (o.procedure, o.is_body.0, ap procedure_of o.active, o.is_body.1, o.plain)
+
+    by : Ordinary program s ⊎ (Operates program s ⊎ Touching program s) → AgreesThere program s
     by (inl o) =
         resumes_agrees program s o.suspensions (seen_fits (program_form program) sound.well (running_procedure s)) sound.typed.inside o.stands.behind b (rw (b.runs, b.first) at (o.ready.1))
     by (inr (inr f)) =
-        let runs = sym (finalizing_runs program s f) in
+        let runs = sym (touching_runs program s f) in
         let suspensions = waiting_for program s f in
         let ready = subst (λ (procedure : Option ℕ). Ready (known_in program procedure suspensions) s) runs f.ready in
         resumes_agrees program s suspensions (seen_fits (program_form program) sound.well (running_procedure s)) sound.typed.inside
         (subst (λ (procedure : Option ℕ). IsBehind procedure (rest_of suspensions)) runs ([], [], f.behind, refl)) b (rw (b.runs, b.first) at (ready.1))
-    by (inr (inl o)) =
-        let sight : Sight = record { program = seen_in (Some o.procedure) (program_form program); object = o.object; access = o.access } in
-        let body : Body sight o.behind o.upper s.heap o.places o.operands Running (Does (a_stmt b.stmt b.later) ∷ b.outer) = rw (b.runs, b.first) at o.body in
-        let none_here : NoOperationRuns (Does (a_stmt b.stmt b.later) ∷ b.outer) = rw b.first at none in
-        absurd (none_waits o.object o.suspended.of o.treatment o.suspended.after o.behind o.suspended.waits
-        (waits_for_end sight o.behind (Does (a_stmt b.stmt b.later) ∷ b.outer) o.upper (no_statement sight o.behind o.upper o.operands body.comes) none_here))
+    by (inr (inl o)) = absurd (unspoken o spoken)

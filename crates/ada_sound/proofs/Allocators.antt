@@ -34,13 +34,13 @@ use Rattle.ada_meaning.specs.declared.state.Id.{Id}
 use Rattle.ada_owners.specs.Places.{is_there, Place}
 use Rattle.ada_owners.specs.Reliance.{AreInHand, hold_of, with_lent}
 use Rattle.ada_owners.proofs.Changes.{store_is}
-use Rattle.ada_sound.proofs.Objects.{get_more}
+use Rattle.ada_sound.proofs.Objects.{get_more, get_new}
 use Rattle.ada_sound.proofs.Items.{home_has}
 use Rattle.ada_sound.proofs.Stored.{Stored, stored_new, stored_filled}
 use Rattle.ada_sound.proofs.Alters.{alters_new}
 use Rattle.ada_sound.proofs.Fits.{Fit, Hand, stacked, none_spared, hold_in, place_at, component_access, is_object, weaker_fit, plain_place, as_reliance, lose_all, put_owner, create_fit, insert_fit}
 use Rattle.ada_sound.proofs.Begins.{root_follows}
-use Rattle.ada_sound.proofs.Invariant.{begun, along, outers, HasRoom, RoomFor, Known, Control, Rooms, NoneBroken, MayRaise, back_onto, named_of, FilledBy, GoesInto, LeadsTo, Filling, FillsTo, Accepts, StoresTo, IsHolder, NamesTo, To, RunsOn, Working, Stepped, Fine}
+use Rattle.ada_sound.proofs.Invariant.{begun, along, outers, HasRoom, RoomFor, Known, Control, Rooms, NoneBroken, MayRaise, back_onto, named_of, FilledBy, GoesInto, LeadsTo, Filling, FillsTo, Accepts, StoresTo, IsHolder, IsCollected, NamesTo, To, RunsOn, Working, Stepped, Fine}
 use Rattle.ada_sound.proofs.Ready.{running, at_work, ready_on, jumps_less, treats_ready}
 use Rattle.ada_sound.proofs.Followings.{first_kept}
 use Rattle.ada_sound.proofs.Roots.{root_object, object_there, rest_raises, record_raises, selected_raises}
@@ -254,9 +254,19 @@ module _ (known : Known) (k : Control) (a : Activation Value) (rest : List (Acti
     granted_names (StoresIn o c ∷ k') operands room into to = stored_in o c k' (λ path is. rw is at into) to.0 to.1
     granted_names (f ∷ k') operands room into to = absurd to
 
+    -- A collection is open of its access type.
+    collected : IsCollected (create s.heap words cell) s.masters (created s.heap words)
+    unfolding cell
+    collected o x is found =
+        let next : Id = record { 0 = length s.heap } in
+        let this : o ≡ next = cc is in
+        let new = get_new s.heap (new_object cell) in
+        let one : x ≡ new_object cell = cc (rw this at found, new) in
+        rw one (home, is_home)
+
     answered_fine : (granted : Bool) → Stepped known s.heap Quiet (answered named types access count words home (running k a rest s) granted)
     unfolding cell lost
-    answered_fine true = record { ready = (tt, treats_ready known (created s.heap words) (begins Creation []) (all_tasks types access PartsFirst) k (create s.heap words cell) a.places (created s.heap words ∷ drop count a.operands) s.masters (inr (granted_names k (drop count a.operands) w.rest.leads.room w.rest.into w.rest.leads.to), new_may_undo known s.heap words cell k a.places s.masters w.rooms w.holds stored w.roomed w.fit w.rest.leads.starts)); alters = alters_new s.heap Quiet (new_object cell) refl; says = tt }
+    answered_fine true = record { ready = (tt, treats_ready known (created s.heap words) (begins Creation []) (all_tasks types access PartsFirst) k (create s.heap words cell) a.places (created s.heap words ∷ drop count a.operands) s.masters (inr (collected, granted_names k (drop count a.operands) w.rest.leads.room w.rest.into w.rest.leads.to), new_may_undo known s.heap words cell k a.places s.masters w.rooms w.holds (home, is_home) stored w.roomed w.fit w.rest.leads.starts)); alters = alters_new s.heap Quiet (new_object cell) refl; says = tt }
     answered_fine false = jumps_less known k a rest s (Raising StorageError) (at_work w (w.rest.leads.refused refl))
 
   creates_by : (types : List TypeDefinition) (access count words : ℕ) (home : Option Destination) → home_of access s.masters ≡ home → (w : Working known s.heap a.places s.masters (Filling known s.heap a.places access count [] k a.operands)) → HaveKinds known.program.types (cells_of s.heap) w.rest.leads.components (reverse (take count a.operands)) → Fine known s.heap s.masters (new_next named types access count words home (running k a rest s))

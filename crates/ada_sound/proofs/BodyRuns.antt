@@ -137,7 +137,8 @@ module _ (program : Program) (procedure : Option ℕ) (gs : List Suspension) whe
             (λ one h may. absurd (cc (one, none_on)))
             (λ h gives. (may_end, to_here behind.returned (behind_there h) (returns gs (behind_there h) (finalized_gives p.variables known.implicit (gone_with p.declarations) (owed_in p) h gives))))
             (λ t i. spares t (freed_there t (or_left (stmts_free p.types p.variables (effects_of known.implicit p) t p.statements) (handlers_free p.types p.variables (effects_of known.implicit p) t p.handlers) i)))
-            (λ t i. spares t (freed_there t (or_right (stmts_free p.types p.variables (effects_of known.implicit p) t p.statements) (handlers_free p.types p.variables (effects_of known.implicit p) t p.handlers) i))),
+            (λ t i. spares t (freed_there t (or_right (stmts_free p.types p.variables (effects_of known.implicit p) t p.statements) (handlers_free p.types p.variables (effects_of known.implicit p) t p.handlers) i)))
+            (λ t i. spares t (or_right (stmts_free p.types p.variables (effects_of known.implicit p) t p.statements || handlers_free p.types p.variables (effects_of known.implicit p) t p.handlers) (declarations_free known.implicit t p.declarations || leaving_frees known.implicit t p.declarations) (or_left (declarations_free known.implicit t p.declarations) (leaving_frees known.implicit t p.declarations) i))),
       )
 
 -- The main body has no caller, so no suspended activation has an alias.

@@ -29,11 +29,12 @@ use Rattle.ada_sound.proofs.Bodies.{IsBody, seen_is, effect_at}
 use Rattle.ada_sound.proofs.Invariant.{Control, Rooms, Working, GoesOn, ReadyIn, Says, CoveredIn, AllWait, body_among}
 use Rattle.ada_sound.proofs.Callers.{Suspension, callers_of, known_in, AreOf, Stands}
 use Rattle.ada_sound.proofs.Starts.{Ordinary, Sound, sound_first}
-use Rattle.ada_sound.proofs.Finalizing.{Finalizing, waiting_for}
+use Rattle.ada_sound.proofs.Touching.{Touching, waiting_for}
 use Rattle.ada_sound.proofs.Operating.{Sight, Comes, Body, Operates, behind_operation}
 use Rattle.ada_sound.proofs.Uncalled.{body_called}
 use Rattle.ada_sound.proofs.Runs.{Led}
 use Rattle.ada_sound.proofs.Runs as runs
+use Rattle.ada_sound.proofs.TouchingSteps.{touching_runs}
 
 module _ (program : Program) where
   -- What a body may free, calls of its procedure may; and what it may raise.
@@ -83,8 +84,8 @@ module _ (program : Program) where
 
   -- What leaves a body is among what it may raise.
   -- Where the body of a Finalize runs, what that frees is covered in its activation and in all that wait for it.
-  finalizing_frees : (s : State) (f : Finalizing program s) (t : ℕ) → CoveredIn (implicit_of (program_form program)) (seen_in (Some f.procedure) (program_form program)) t → (depth : ℕ) (a : Activation Value) (number : ℕ) → slice_get s.activations depth ≡ Some a → a.procedure ≡ Some number → call_frees (callees.effect_at program number) t ≡ true
-  finalizing_frees s f t may depth a number at is = by depth (rw f.frugal.active at at)
+  touching_frees : (s : State) (f : Touching program s) (t : ℕ) → CoveredIn (implicit_of (program_form program)) (seen_in (Some f.procedure) (program_form program)) t → (depth : ℕ) (a : Activation Value) (number : ℕ) → slice_get s.activations depth ≡ Some a → a.procedure ≡ Some number → call_frees (callees.effect_at program number) t ≡ true
+  touching_frees s f t may depth a number at is = by depth (rw f.frugal.active at at)
     where
       by : (n : ℕ) → slice_get (f.frugal.acting ∷ f.caller ∷ f.rest) n ≡ Some a → call_frees (callees.effect_at program number) t ≡ true
       by zero here =
@@ -94,17 +95,17 @@ module _ (program : Program) where
           rw same at (called_frees f.procedure t f.is_body may)
       by (suc n) here = all_free (f.caller ∷ f.rest) (behind_operation (f.caller ∷ f.rest) f.behind f.lower s) f.suspensions t refl f.stands (f.covers t may) n a number here is
 
-  finalizing_covers : (e : Event) (before : List Object) (s : State) (f : Finalizing program s) → Says (implicit_of (program_form program)) (seen_in (Some f.procedure) (program_form program)) e before s → (depth : ℕ) (a : Activation Value) (number : ℕ) → slice_get s.activations depth ≡ Some a → a.procedure ≡ Some number → IsCovered program number e
-  finalizing_covers (Born object part turn type number by) before s f says depth a n at is = tt
-  finalizing_covers (Finalized object part turn type number cause) before s f says depth a n at is = tt
-  finalizing_covers (Back object access number pool subpool (Leaving m item)) before s f says depth a n at is = tt
-  finalizing_covers (Back object access number pool subpool (Freeing g)) before s f says depth a n at is = finalizing_frees s f access says.covered.0 depth a n at is
-  finalizing_covers (Back object access number pool subpool (Assigning b)) before s f says depth a n at is = tt
-  finalizing_covers (Back object access number pool subpool (Undoing b)) before s f says depth a n at is = tt
-  finalizing_covers (Followed object) before s f says depth a n at is = tt
-  finalizing_covers (Left master) before s f says depth a n at is = tt
-  finalizing_covers (Line line) before s f says depth a n at is = tt
-  finalizing_covers Quiet before s f says depth a n at is = tt
+  touching_covers : (e : Event) (before : List Object) (s : State) (f : Touching program s) → Says (implicit_of (program_form program)) (seen_in (Some f.procedure) (program_form program)) e before s → (depth : ℕ) (a : Activation Value) (number : ℕ) → slice_get s.activations depth ≡ Some a → a.procedure ≡ Some number → IsCovered program number e
+  touching_covers (Born object part turn type number by) before s f says depth a n at is = tt
+  touching_covers (Finalized object part turn type number cause) before s f says depth a n at is = tt
+  touching_covers (Back object access number pool subpool (Leaving m item)) before s f says depth a n at is = tt
+  touching_covers (Back object access number pool subpool (Freeing g)) before s f says depth a n at is = touching_frees s f access says.covered.0 depth a n at is
+  touching_covers (Back object access number pool subpool (Assigning b)) before s f says depth a n at is = tt
+  touching_covers (Back object access number pool subpool (Undoing b)) before s f says depth a n at is = tt
+  touching_covers (Followed object) before s f says depth a n at is = tt
+  touching_covers (Left master) before s f says depth a n at is = tt
+  touching_covers (Line line) before s f says depth a n at is = tt
+  touching_covers Quiet before s f says depth a n at is = tt
 
   raised_by : (procedure : Option ℕ) (gs : List Suspension) (e : Exception) (actuals : List ActualForm) (references : List Value) (k : Control) (rooms : Rooms) (holds : Holds) → GoesOn (known_in program procedure gs) (Raising e) (Returns actuals references ∷ k) rooms holds → body_among (implicit_of (program_form program)) (seen_in procedure (program_form program)) e ≡ true
   raised_by procedure [] e actuals references k [] holds g = absurd g
@@ -128,14 +129,17 @@ module _ (program : Program) (accepted : IsChecked program) where
       by : Led program before.heap e after → IsCovered program number e
       by (inl (c, calm)) = covered_by program e before.heap after c.suspensions c.stands c.stepped.says depth a number at is
       by (inr (inl c)) = c.covered number
-      by (inr (inr c)) = finalizing_covers program e before.heap after c.finalizing c.says depth a number at is
+      by (inr (inr c)) = touching_covers program e before.heap after c.touching c.says depth a number at is
 
-  raises_in : (s : State) → Ordinary program s ⊎ (Operates program s ⊎ Finalizing program s) → (procedure : Option ℕ) (number : ℕ) (e : Exception) → running_procedure s ≡ procedure → procedure ≡ Some number → EndsBody s → s.mode ≡ Raising e → call_raises (callees.effect_at program number) (is_same e) ≡ true
+  raises_in : (s : State) → Ordinary program s ⊎ (Operates program s ⊎ Touching program s) → (procedure : Option ℕ) (number : ℕ) (e : Exception) → running_procedure s ≡ procedure → procedure ≡ Some number → EndsBody s → s.mode ≡ Raising e → call_raises (callees.effect_at program number) (is_same e) ≡ true
   raises_in s (inl o) procedure number e runs is ends mode =
       let may = leaves_by program (running_procedure s) o.suspensions e ends.actuals ends.references ends.outer s.control s.mode s.heap _ _ s.masters (o.ready.1) mode ends.first in
       called_raises program number e (rw (runs ∙ is) at (o.stands.body)) (rw (runs ∙ is) at may)
   raises_in s (inr (inr f)) procedure number e runs is ends mode =
-      absurd (f.silent e (leaves_by program (Some f.procedure) (waiting_for program s f) e ends.actuals ends.references ends.outer s.control s.mode s.heap _ _ s.masters (f.ready.1) mode ends.first))
+      let may = leaves_by program (Some f.procedure) (waiting_for program s f) e ends.actuals ends.references ends.outer s.control s.mode s.heap _ _ s.masters (f.ready.1) mode ends.first in
+      let here : Some f.procedure ≡ Some number = sym (touching_runs program s f) ∙ (runs ∙ is) in
+      let same : f.procedure ≡ number = cc here in
+      subst (λ (called : ℕ). call_raises (callees.effect_at program called) (is_same e) ≡ true) same (called_raises program f.procedure e f.is_body may)
   raises_in s (inr (inl o)) procedure number e runs is ends mode =
       let body : Body (record { program = seen_in (Some o.procedure) (program_form program); object = o.object; access = o.access }) o.behind o.upper s.heap o.places o.operands (Raising e) (Returns ends.actuals ends.references ∷ ends.outer) = rw (mode, ends.first) at o.body in
       let here : Some o.procedure ≡ Some number = (rw o.active at runs) ∙ is in

@@ -31,8 +31,8 @@ use Rattle.ada_sound.proofs.Homes.{same_one}
 use Rattle.ada_sound.proofs.Stored.{IsUnder, Stored, IsTaken, stored_part, stored_finish, stored_back, stored_shorter, stored_older, exists_out, none_is_left, taken_is}
 use Rattle.ada_sound.proofs.Fits.{sparing, Fit, none_spared, weaker_fit, part_fit, finish_fit, back_fit, sparing_set, sparing_shorter, sparing_left, sparing_unnamed, same_unnamed}
 use Rattle.ada_sound.proofs.Alters.{alters_set}
-use Rattle.ada_sound.proofs.Invariant.{outers, below, Known, Control, Rooms, Roomed, OwnedAmong, NamesNone, RunsOn, Working, Parting, IsAside, Freed, IsOther, gone_in, IsHolder, Clearing, ClearsTo, LeavesTo, ResumesTo, Behind, ThenBack, Ending, EndingBy, Backing, BackingBy, ReadyIn, Stepped, Fine, innermost}
-use Rattle.ada_sound.proofs.Ready.{running, stays, goes_ready, treats_ready}
+use Rattle.ada_sound.proofs.Invariant.{outers, below, Known, Control, Rooms, Roomed, OwnedAmong, NamesNone, RunsOn, Working, Parting, IsAside, Freed, IsOther, gone_in, UnderIs, IsHolder, Clearing, ClearsTo, LeavesTo, ResumesTo, Behind, ThenBack, Ending, EndingBy, Backing, BackingBy, ReadyIn, Stepped, Fine, innermost}
+use Rattle.ada_sound.proofs.Ready.{running, at_work, stays, goes_ready, treats_ready}
 use Rattle.ada_sound.proofs.Taken.{stored_after}
 use Rattle.ada_sound.proofs.Leavings.{AreInOrder, GoesInOrder, NamedBelow, HeldIn, taken_unnamed, taken_unreferred}
 
@@ -75,6 +75,12 @@ gone_still heap o x y found P on f =
     let still = set_here heap o.0 x y found in
     rw (still, set_twice heap o.0 y (finished y)) (on (rw found at f))
 
+-- An object under way that changes stays of its type.
+pub under_set : (heap : List Object) (o : Id) (x y : Object) → object_at heap o ≡ Some x → y.cell.access ≡ x.cell.access → (access : ℕ) → UnderIs heap (Some o) access → UnderIs (slice_set heap o.0 y) (Some o) access
+under_set heap o x y found same access (z, there, of) =
+    let one : z ≡ x = cc (there, found) in
+    (y, set_here heap o.0 x y found, same ∙ (rw one at of))
+
 -- What holds a component is no object that is gone.
 gone_holder : (heap : List Object) (v : Value) (o : Id) (x : Object) → v ≡ Names o → object_at heap o ≡ Some x → x.stage ≡ Gone → IsHolder heap v → ⊥
 gone_holder heap Null o x is found gone holder = holder
@@ -112,7 +118,8 @@ module _ (known : Known) where
   -- What is behind an object under way stays so.
   module _ (o : Id) (x y : Object) (heap : List Object) (found : object_at heap o ≡ Some x) (same : y.cell.home ≡ x.cell.home) (under after : Option Id) (others : (v : Value) → IsHolder heap v → IsOther v under → (v ≢ Names o) × IsOther v after)
       (keeps : (objects : List Object) (places : List Value) → object_at objects o ≡ Some x → KeepsAside known o y under after objects places)
-      (goes : (spared : Id → Bool) (places : List Value) (holds : Holds) → Fit known.program.types known.program.variables (outers known) spared (gone_in under heap) places holds → Fit known.program.types known.program.variables (outers known) spared (gone_in after (slice_set heap o.0 y)) places holds) where
+      (goes : (spared : Id → Bool) (places : List Value) (holds : Holds) → Fit known.program.types known.program.variables (outers known) spared (gone_in under heap) places holds → Fit known.program.types known.program.variables (outers known) spared (gone_in after (slice_set heap o.0 y)) places holds)
+      (remains : (access : ℕ) → UnderIs heap under access → UnderIs (slice_set heap o.0 y) after access) where
     holder_set : (h : Value) (c : ℕ) (places : List Value) (ms : List Master) (k : Control) → ClearsTo known under heap places ms (ClearsIn h c ∷ k) → ClearsTo known after (slice_set heap o.0 y) places ms (ClearsIn h c ∷ k)
     holder_set Null c places ms k r = absurd r.0
     holder_set (Names h) c places ms k r =
@@ -159,8 +166,11 @@ module _ (known : Known) where
 
     resumes_set : (places : List Value) (ms : List Master) (k : Control) → ResumesTo known under heap places ms k → ResumesTo known after (slice_set heap o.0 y) places ms k
     resumes_set places ms [] c = absurd c
-    resumes_set places ms (Resumes mode ∷ k) (came, c) =
-        (came, record { rooms = c.rooms; holds = c.holds; roomed = c.roomed; fit = goes none_spared places c.holds c.fit; aside = tt; rest = c.rest })
+    resumes_set places ms (Resumes mode ∷ k) (access, is, came, inl (collected, c)) =
+        (access, remains access is, came, inl (collected, record { rooms = c.rooms; holds = c.holds; roomed = c.roomed; fit = goes none_spared places c.holds c.fit; aside = tt; rest = c.rest }))
+    resumes_set places ms (Resumes mode ∷ k) (access, is, came, inr c) =
+        let kept = keeps heap places found none_spared c.holds c.fit c.aside in
+        (access, remains access is, came, inr (record { rooms = c.rooms; holds = c.holds; roomed = c.roomed; fit = kept.0; aside = kept.1; rest = c.rest }))
     resumes_set places ms (f ∷ k) c = absurd c
 
     pub behind_set : (cause : Cause) (home : ℕ) (places : List Value) (ms : List Master) (k : Control) → Behind known cause under home heap places ms k → Behind known cause after home (slice_set heap o.0 y) places ms k
@@ -186,7 +196,7 @@ module _ (known : Known) where
           covered = e.covered;
           rest = behind_set o e.object (finished e.object) s.heap e.found refl (Some o) None (λ v holder other. (other, tt))
               (λ objects places at spared holds f aside. (finish_fit o e.object at aside.0 aside.1 f, tt))
-              (λ spared places holds f. rw e.found at f) cause e.object.cell.home.item a.places s.masters k b.2;
+              (λ spared places holds f. rw e.found at f) (λ access is. tt) cause e.object.cell.home.item a.places s.masters k b.2;
         }),
       );
       alters = alters_set s.heap Quiet o e.object (finished e.object) e.found (refl, refl, refl) (λ h. h) (λ h. inl h);
@@ -221,7 +231,8 @@ module _ (known : Known) where
 
       resumed_ready : (k : Control) → ResumesTo known None heap a.places s.masters k → ReadyIn known Running k heap a.places a.operands s.masters
       resumed_ready [] c = absurd c
-      resumed_ready (Resumes mode ∷ k) c = freed_works stored c.1
+      resumed_ready (Resumes mode ∷ k) (access, is, came, inl (collected, c)) = freed_works stored c
+      resumed_ready (Resumes mode ∷ k) (access, is, came, inr c) = let w = freed_works stored c in at_work w w.rest.0
       resumed_ready (f ∷ k) c = absurd c
 
       behind_ready : (cause : Cause) (home : ℕ) (k : Control) → Behind known cause None home heap a.places s.masters k → ReadyIn known Running k heap a.places a.operands s.masters
@@ -243,7 +254,7 @@ module _ (known : Known) where
             tt,
             behind_ready (slice_set s.heap o.0 (returned b.object)) (stored_back o b.object b.found b.gone b.stored) cause b.object.cell.home.item k
                 (behind_set o b.object (returned b.object) s.heap b.found refl None None (λ v holder other. (λ is. gone_holder s.heap v o b.object is b.found b.gone holder, tt))
-                (λ objects places at spared holds f aside. (back_fit o b.object at f, tt)) (λ spared places holds f. back_fit o b.object b.found f) cause b.object.cell.home.item a.places s.masters k b.rest),
+                (λ objects places at spared holds f aside. (back_fit o b.object at f, tt)) (λ spared places holds f. back_fit o b.object b.found f) (λ access is. tt) cause b.object.cell.home.item a.places s.masters k b.rest),
           );
           alters = alters_set s.heap _ o b.object (returned b.object) b.found (refl, refl, refl) (λ h. refl) (λ h. inr refl);
           says = record {

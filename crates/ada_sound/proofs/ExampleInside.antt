@@ -1,6 +1,6 @@
 -- Three nodes go with their collection, and Finalize of one does nothing: where its statement begins, another one's component names the node that is gone.
 
-use Rattle.std.proofs.Common.{◌≡◌, ℕ, List, [], ◌∷◌, ◌++◌, refl, arith}
+use Rattle.std.proofs.Common.{◌≡◌, ℕ, List, [], ◌∷◌, ◌++◌, refl, ap, arith}
 use Rattle.std.specs.Prelude.{Bool, true, false, ◌||◌, if◌then◌else◌, Option, Some, None}
 use Rattle.std.specs.List.{slice_get}
 use Rattle.ada_program.specs.declared.program.Path.{Path}
@@ -10,7 +10,7 @@ use Rattle.ada_program.specs.declared.program.Stmt as stmt
 use Rattle.ada_program.specs.declared.program.Program.{Program}
 use Rattle.ada_program.specs.Controlled.{operations_of}
 use Rattle.ada_program.specs.Form.{stmt_forms, no_handlers, statement_rules}
-use Rattle.ada_program.specs.ProgramForm.{body_forms}
+use Rattle.ada_program.specs.ProgramForm.{BodyForm, body_forms}
 use Rattle.ada_flow.specs.Flow.{uses_in}
 use Rattle.ada_meaning.specs.declared.state.Id.{Id}
 use Rattle.ada_meaning.specs.declared.state.Stage.{Stage}
@@ -63,11 +63,11 @@ module _ (program : Program) (s : State) (o p : Id) (c : ℕ) where
       cc still
 
 -- An operation runs.
-abbrev some_waits : List (Frame Value) → Bool
+abbrev pub some_waits : List (Frame Value) → Bool
 some_waits [] = false
 some_waits (f ∷ k) = waits_for_operation f || some_waits k
 
-operates_here : (k : List (Frame Value)) → some_waits k ≡ true → NoOperationRuns k → ⊥
+pub operates_here : (k : List (Frame Value)) → some_waits k ≡ true → NoOperationRuns k → ⊥
 operates_here [] some none = cc some
 operates_here (f ∷ k) some none = by (waits_for_operation f) refl (λ later. operates_here k later none.1)
   where
@@ -121,5 +121,6 @@ unfolding next
 disagrees = run_in silent (silent_finalize ∷ []) three_nodes no_handlers silent_bodies silent_form refl [] choices (λ events s. DisagreesInside silent s) refl (
   (statements_begin inside).0 refl,
   operates_here inside.control refl,
+  (0, silent_finalize, refl, ap (λ (bodies : List BodyForm). slice_get bodies 0) silent_bodies, refl),
   names_gone silent inside (record { 0 = 1 }) (record { 0 = 2 }) 1 refl refl,
 )

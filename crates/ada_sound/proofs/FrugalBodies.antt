@@ -1,19 +1,16 @@
--- A frugal body (7.6.1, 13.11.2) creates no collection and no object: so it nests wherever it is called.
+-- A frugal body (7.6, 7.6.1, 13.11.2) creates no collection and declares no object: so it nests wherever it is called.
 
-use Rattle.std.proofs.Common.{◌≡◌, ℕ, true, false, List, [], ◌∷◌, ◌++◌, refl}
-use Rattle.ada_program.specs.declared.program.TypeDefinition.{TypeDefinition}
-use Rattle.ada_program.specs.Form.{RightForm, nothing, value_of, allocates, allocates_default, computes, StmtForm, skips, assigns, assigns_record, frees, gets, writes, writes_text, chooses, repeats, counts, exits, calls, returns, raises, encloses, StmtsForm, no_stmts, a_stmt, BranchesForm, otherwise, a_branch, HandlersForm, no_handlers, a_handler, DeclarationForm, creates_pool, collects, declares, declares_record}
+use Rattle.std.proofs.Common.{◌≡◌, ℕ, true, List, [], ◌∷◌, ◌++◌, refl}
+use Rattle.ada_program.specs.Form.{StmtForm, skips, assigns, assigns_record, frees, gets, writes, writes_text, chooses, repeats, counts, exits, calls, returns, raises, encloses, StmtsForm, no_stmts, a_stmt, BranchesForm, otherwise, a_branch, HandlersForm, no_handlers, a_handler, DeclarationForm, creates_pool, collects, declares, declares_record}
 use Rattle.ada_program.specs.Nested.{Callees, collected, record_objects, part_nests, statement_nests, statements_nest, branches_nest, handlers_nest, body_nests}
 use Rattle.ada_program.specs.ProgramForm.{TypeForm, BodyForm}
-use Rattle.ada_meaning.specs.Pace.{right_creates, declarations_create}
-use Rattle.ada_quiet.specs.Frugal.{is_frugal_right, are_frugal_declarations, is_frugal_stmt, are_frugal, are_frugal_branches, are_frugal_handlers, is_frugal_body}
+use Rattle.ada_quiet.specs.Frugal.{are_frugal_declarations, is_frugal_stmt, are_frugal, are_frugal_branches, are_frugal_handlers, is_frugal_body}
 use Rattle.ada_sound.proofs.OperationStarts.{apart}
 
 -- The declarations, the statements and the handlers of a frugal body are frugal.
 pub frugal_parts : (b : BodyForm) → is_frugal_body b ≡ true → (are_frugal_declarations b.declarations ≡ true) × (are_frugal b.statements ≡ true) × (are_frugal_handlers b.handlers ≡ true)
 frugal_parts b frugal =
-    let four = apart _ _ frugal in
-    let three = apart _ _ four.0 in
+    let three = apart _ _ frugal in
     let two = apart _ _ three.0 in
     (two.0, two.1, three.1)
 
@@ -71,21 +68,3 @@ frugal_nests types callees b around frugal =
       stmts_are types callees (collected b.declarations ++ around) b.statements three.1,
       handlers_are types callees (collected b.declarations ++ around) b.handlers three.2,
     ) refl
-
--- Its declarations create no object that has controlled parts.
-right_none : (tds : List TypeDefinition) (right : RightForm) → is_frugal_right right ≡ true → right_creates tds right ≡ false
-right_none tds nothing frugal = refl
-right_none tds (value_of path) frugal = refl
-right_none tds (allocates access items) frugal = absurd (cc frugal)
-right_none tds (allocates_default access) frugal = absurd (cc frugal)
-right_none tds (computes e) frugal = refl
-
-declarations_none : (tds : List TypeDefinition) (ds : List DeclarationForm) → are_frugal_declarations ds ≡ true → declarations_create tds ds ≡ false
-declarations_none tds [] frugal = refl
-declarations_none tds (creates_pool p ∷ ds) frugal = absurd (cc frugal)
-declarations_none tds (collects access ∷ ds) frugal = absurd (cc frugal)
-declarations_none tds (declares x right ∷ ds) frugal = let both = apart _ _ frugal in rw (right_none tds right both.0, declarations_none tds ds both.1) refl
-declarations_none tds (declares_record x t initial ∷ ds) frugal = absurd (cc frugal)
-
-pub frugal_creates_none : (tds : List TypeDefinition) (b : BodyForm) → is_frugal_body b ≡ true → declarations_create tds b.declarations ≡ false
-frugal_creates_none tds b frugal = declarations_none tds b.declarations (frugal_parts b frugal).0

@@ -1,4 +1,4 @@
--- The body of a Finalize runs that touches storage, a frugal one (7.6.1, 13.11.2): what is left of it before its end. Nothing in that is called, created, adjusted,
+-- The body of an operation runs that touches storage, a frugal one (7.6, 7.6.1, 13.11.2): what is left of it before its end. Nothing in that is called, adjusted,
 -- initialized or finalized.
 
 use Rattle.std.proofs.Common.{◌≡◌, ℕ, Bool, true, false, List, [], ◌∷◌, ◌++◌, refl, ◌⊎◌, inl, inr}
@@ -7,11 +7,11 @@ use Rattle.ada_program.specs.ProgramForm.{BodyForm}
 use Rattle.ada_meaning.specs.declared.state.Value.{Value}
 use Rattle.ada_meaning.specs.declared.state.Mode.{Mode}
 use Rattle.ada_meaning.specs.declared.state.Mode.TheVariants.{Running}
-use Rattle.ada_meaning.specs.Frame.{Frame, is_return, Elaborates, Does, Decides, Repeats, Turns, Ranges, Counts, Exits, Handles, Closes, Leaves, Returns, Evaluates, Computes, Follows, TestsNull, Continues, Applies, AppliesAlone, Stores, Targets, StoresIn, Receives, FreesIn, Declares, Writes, Ends, GivesBack, Clears, ClearsIn}
+use Rattle.ada_meaning.specs.Frame.{Frame, is_return, Elaborates, Does, Decides, Repeats, Turns, Ranges, Counts, Exits, Handles, Closes, Leaves, Returns, Evaluates, Computes, Follows, TestsNull, Continues, Applies, AppliesAlone, Stores, Targets, StoresIn, Receives, Fills, Copies, Creates, FreesIn, Declares, Writes, Ends, GivesBack, Clears, ClearsIn}
 use Rattle.ada_meaning.specs.State.{Activation, Master}
 use Rattle.ada_meaning.specs.Step.{given_places, operating, halts, moves, tells, asks, picks}
 use Rattle.ada_meaning.specs.Named.{State, Next, named}
-use Rattle.ada_quiet.specs.Frugal.{is_frugal_right, are_frugal_declarations, are_frugal, are_frugal_branches, are_frugal_handlers, is_frugal_body}
+use Rattle.ada_quiet.specs.Frugal.{are_frugal_declarations, are_frugal, are_frugal_branches, are_frugal_handlers, is_frugal_body}
 use Rattle.ada_sound.proofs.Invariant.{Control}
 use Rattle.ada_sound.proofs.FrugalBodies.{frugal_parts}
 use Rattle.ada_sound.proofs.Operating.{OwnVariables}
@@ -28,7 +28,7 @@ FrugalFrame (Counts x value last fs) = (are_frugal fs ≡ true)
 FrugalFrame Exits = Unit {0}
 FrugalFrame (Handles hs) = (are_frugal_handlers hs ≡ true)
 FrugalFrame Closes = Unit {0}
-FrugalFrame (Evaluates right) = (is_frugal_right right ≡ true)
+FrugalFrame (Evaluates right) = Unit {0}
 FrugalFrame (Computes e) = Unit {0}
 FrugalFrame (Follows cs) = Unit {0}
 FrugalFrame (TestsNull equal) = Unit {0}
@@ -36,9 +36,12 @@ FrugalFrame (Continues links) = Unit {0}
 FrugalFrame (Applies operator) = Unit {0}
 FrugalFrame (AppliesAlone operator) = Unit {0}
 FrugalFrame (Stores x) = Unit {0}
-FrugalFrame (Targets c right) = (is_frugal_right right ≡ true)
+FrugalFrame (Targets c right) = Unit {0}
 FrugalFrame (StoresIn v c) = Unit {0}
 FrugalFrame (Receives c) = Unit {0}
+FrugalFrame (Fills items) = Unit {0}
+FrugalFrame (Copies first t) = Unit {0}
+FrugalFrame (Creates access count) = Unit {0}
 FrugalFrame (FreesIn access c) = Unit {0}
 FrugalFrame (Declares x) = Unit {0}
 FrugalFrame Writes = Unit {0}
@@ -87,12 +90,12 @@ module _ (procedure : Option ℕ) (rest : List (Activation Value)) (lower : List
     pub own : OwnVariables upper
     pub frugal : Frugal behind after.mode after.control upper
 
-  -- So it does whatever comes next, if the run does not end: nothing is asked of a pool, and nothing is picked.
+  -- So it does whatever comes next, if the run does not end: nothing is picked.
   abbrev pub GoesFrugally : Next → Type 0
   GoesFrugally (halts halt) = Unit {0}
   GoesFrugally (moves e after) = Frugally after
   GoesFrugally (tells request e after) = Frugally after
-  GoesFrugally (asks request answered) = ⊥
+  GoesFrugally (asks request answered) = (granted : Bool) → Frugally (answered granted)
   GoesFrugally (picks n taken) = ⊥
 
 -- It begins, in a master of its own.

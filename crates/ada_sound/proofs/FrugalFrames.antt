@@ -1,17 +1,19 @@
--- A frugal body (7.6.1, 13.11.2) comes to what is left of an expression, an assignment, a Free or a statement: nothing is called, created or treated next.
+-- A frugal body (7.6, 7.6.1, 13.11.2) comes to what is left of an expression, an assignment, an allocator, a Free or a statement: nothing is called or
+-- treated next.
 
 use Rattle.std.proofs.Common.{◌≡◌, ℕ, Bool, true, false, List, [], ◌∷◌, ◌++◌, refl, inl, inr}
-use Rattle.std.specs.Prelude.{ℤ, Option, Some, None, Result, Ok, Err, ◌&&◌, int_le, if◌then◌else◌}
+use Rattle.std.specs.Prelude.{drop, ℤ, Option, Some, None, Result, Ok, Err, ◌&&◌, int_le, if◌then◌else◌}
 use Rattle.std.specs.List.{slice_get, slice_set}
 use Rattle.ada_values.specs.declared.operator.BinaryOperator.{BinaryOperator}
 use Rattle.ada_values.specs.declared.fault.OperatorFault.{OperatorFault}
 use Rattle.ada_values.specs.declared.fault.OperatorFault.TheVariants.{Overflow, DivisionByZero, WrongType}
 use Rattle.ada_program.specs.declared.program.Exception.{Exception}
-use Rattle.ada_program.specs.declared.program.Exception.TheVariants.{ConstraintError, EndError}
+use Rattle.ada_program.specs.declared.program.Exception.TheVariants.{ConstraintError, StorageError, EndError}
 use Rattle.ada_program.specs.declared.program.TypeDefinition.{TypeDefinition}
-use Rattle.ada_program.specs.Form.{ExpressionForm, integer, boolean, reads, is_null, applied_to, chained, LinksForm, no_more_links, a_link, RightForm, nothing, value_of, allocates, allocates_default, computes, StmtForm, skips, assigns, assigns_record, frees, gets, writes, writes_text, chooses, repeats, counts, exits, calls, returns, raises, encloses, StmtsForm, no_stmts, a_stmt, BranchesForm, otherwise, a_branch, HandlersForm, DeclarationForm, creates_pool, collects, declares, declares_record}
+use Rattle.ada_program.specs.Form.{ExpressionForm, integer, boolean, reads, is_null, applied_to, chained, LinksForm, no_more_links, a_link, ItemForm, null_item, item_of_path, item_of_value, item_of_record, RightForm, nothing, value_of, allocates, allocates_default, computes, StmtForm, skips, assigns, assigns_record, frees, gets, writes, writes_text, chooses, repeats, counts, exits, calls, returns, raises, encloses, StmtsForm, no_stmts, a_stmt, BranchesForm, otherwise, a_branch, HandlersForm, DeclarationForm, creates_pool, collects, declares, declares_record}
 use Rattle.ada_program.specs.ProgramForm.{BodyForm}
-use Rattle.ada_parts.specs.declared.tasks.Direction.TheVariants.{WholeFirst}
+use Rattle.ada_program.specs.Typed.{reached_of}
+use Rattle.ada_parts.specs.declared.tasks.Direction.TheVariants.{PartsFirst, WholeFirst}
 use Rattle.ada_meaning.specs.declared.event.Cause.{Cause}
 use Rattle.ada_meaning.specs.declared.event.Halt.TheVariants.{Erroneous}
 use Rattle.ada_meaning.specs.declared.event.Why.TheVariants.{GivesElsewhere}
@@ -21,11 +23,11 @@ use Rattle.ada_meaning.specs.declared.state.Mode.{Mode}
 use Rattle.ada_meaning.specs.declared.state.Mode.TheVariants.{Running, Raising, Exiting, Returning}
 use Rattle.ada_meaning.specs.Event.{Event, Followed, Quiet}
 use Rattle.ada_meaning.specs.Heap.{Cell, Found, on_null, on_gone, on_other, finds}
-use Rattle.ada_meaning.specs.Frame.{Frame, Elaborates, Leaves, TestsNull, Targets, Receives, FreesIn, Declares, Clears, ClearsIn}
-use Rattle.ada_meaning.specs.State.{Activation, Item, Master, Owned, declared, collection, record_object, storage_pool, height, home_of, pool_freed_to}
-use Rattle.ada_meaning.specs.Step.{first_or, entered, all_tasks, halts, moves, same_pool, raised, jumping, computed, put, owned, at, reading, component_next, follow_next, path_next, selected, named_next, before_last, last_of, holder_next, expression_next, null_test_next, is_decided, link_next, links_next, outcome_next, right_next, freeing, freeing_next, free_next, end_next, told_back, given_back, back_next, assign_next, target_next, stored_next, store_next, frees_next, freed_next, free_component_next, free_in_next, branches_next, decided_next, turn_next, repeats_next, turned_next, count_turn_next, counts_next, ranges_next, gets_next, received_next, receive_next, exit_next, exited_next, stmt_next, line_next, declarations_next, leave_next, master_leave_next, item_leave_next}
-use Rattle.ada_meaning.specs.Named.{State, Next, named, whole, look, standing}
-use Rattle.ada_quiet.specs.Frugal.{is_frugal_right, is_frugal_declaration, are_frugal_declarations, is_frugal_stmt, are_frugal, are_frugal_branches, are_frugal_handlers}
+use Rattle.ada_meaning.specs.Frame.{Frame, Elaborates, Leaves, TestsNull, Fills, Copies, Targets, Receives, FreesIn, Declares, Clears, ClearsIn}
+use Rattle.ada_meaning.specs.State.{Activation, Item, Master, Owned, declared, collection, record_object, storage_pool, Destination, height, home_of, pool_freed_to}
+use Rattle.ada_meaning.specs.Step.{first_or, entered, all_tasks, halts, moves, same_pool, raised, jumping, computed, put, owned, at, reading, component_next, follow_next, path_next, selected, named_next, before_last, last_of, holder_next, expression_next, null_test_next, is_decided, link_next, links_next, outcome_next, in_front, place_in, record_in, item_next, items_next, copied_next, copies_next, answered, new_next, initial_values, right_next, freeing, freeing_next, free_next, end_next, told_back, given_back, back_next, assign_next, target_next, stored_next, store_next, frees_next, freed_next, free_component_next, free_in_next, branches_next, decided_next, turn_next, repeats_next, turned_next, count_turn_next, counts_next, ranges_next, gets_next, received_next, receive_next, exit_next, exited_next, stmt_next, line_next, declarations_next, leave_next, master_leave_next, item_leave_next}
+use Rattle.ada_meaning.specs.Named.{State, Next, named, whole, look, standing, created}
+use Rattle.ada_quiet.specs.Frugal.{is_frugal_declaration, are_frugal_declarations, is_frugal_stmt, are_frugal, are_frugal_branches, are_frugal_handlers}
 use Rattle.ada_sound.proofs.Fits.{place_at}
 use Rattle.ada_sound.proofs.Invariant.{Control}
 use Rattle.ada_sound.proofs.OperationStarts.{apart}
@@ -127,22 +129,54 @@ module _ (procedure : Option ℕ) (rest : List (Activation Value)) (lower : List
     outcome_on (Err WrongType) a same k q = tt
 
     -- What is assigned.
-    pub right_on : (right : RightForm) → is_frugal_right right ≡ true → (a : Activation Value) → a.procedure ≡ procedure → (k : Control) → Left k → Fine (right_next named tds right (now a k ms))
-    right_on nothing frugal a same k q = computes_on _ a same k q
-    right_on (value_of path) frugal a same k q = named_on path.selectors path.root a same k q
-    right_on (allocates access items) frugal a same k q = absurd (cc frugal)
-    right_on (allocates_default access) frugal a same k q = absurd (cc frugal)
-    right_on (computes e) frugal a same k q = on a same _ refl refl (tt, q)
+    pub right_on : (right : RightForm) (a : Activation Value) → a.procedure ≡ procedure → (k : Control) → Left k → Fine (right_next named tds right (now a k ms))
+    right_on nothing a same k q = computes_on _ a same k q
+    right_on (value_of path) a same k q = named_on path.selectors path.root a same k q
+    right_on (allocates access items) a same k q = on a same _ refl refl (tt, (tt, q))
+    right_on (allocates_default access) a same k q = on (record a { operands = in_front (initial_values named (reached_of tds access)) a.operands }) same _ refl refl (tt, q)
+    right_on (computes e) a same k q = on a same _ refl refl (tt, q)
 
-    assigns_on : (cs : List ℕ) (x : ℕ) (right : RightForm) → is_frugal_right right ≡ true → (a : Activation Value) → a.procedure ≡ procedure → (k : Control) → Left k → Fine (assign_next named cs x right (now a k ms))
-    assigns_on [] x right frugal a same k q = on a same _ refl refl (frugal, (tt, q))
-    assigns_on (c ∷ cs) x right frugal a same k q = holder_on c cs x (λ last. Targets last right) a same k (λ last. (frugal, q))
+    -- The items of an allocator, and what is copied for them.
+    item_on : (i : ItemForm) (a : Activation Value) → a.procedure ≡ procedure → (k : Control) → Left k → Fine (item_next named i (now a k ms))
+    item_on null_item a same k q = computes_on _ a same k q
+    item_on (item_of_path path) a same k q = named_on path.selectors path.root a same k q
+    item_on (item_of_value e) a same k q = on a same _ refl refl (tt, q)
+    item_on (item_of_record p) a same k q =
+        let v = place_at a.places p.object.root in
+        path_on (selected named v p.object.selectors) (whole v) a same (Copies (place_in named v p.object.selectors p).component p.record_type ∷ k) (tt, q)
 
-    pub target_on : (o : Value) (c : ℕ) (right : RightForm) (found : Found (Cell Value)) → is_frugal_right right ≡ true → (a : Activation Value) → a.procedure ≡ procedure → (k : Control) → Left k → Fine (target_next named o c right found (now a k ms))
-    target_on o c right on_null frugal a same k q = raises_on ConstraintError a same k q
-    target_on o c right on_gone frugal a same k q = tt
-    target_on o c right on_other frugal a same k q = tt
-    target_on o c right (finds cell) frugal a same k q = on a same _ refl refl (frugal, (tt, q))
+    pub items_on : (items : List ItemForm) (a : Activation Value) → a.procedure ≡ procedure → (k : Control) → Left k → Fine (items_next named items (now a k ms))
+    items_on [] a same k q = on a same _ refl refl q
+    items_on (i ∷ is) a same k q = item_on i a same (Fills is ∷ k) (tt, q)
+
+    copied_on : (o : Value) (found : Option (List Value)) (a : Activation Value) → a.procedure ≡ procedure → (k : Control) → Left k → Fine (copied_next named o found (now a k ms))
+    copied_on o None a same k q = tt
+    copied_on o (Some vs) a same k q = on (record a { operands = in_front vs a.operands }) same _ refl refl q
+
+    pub copies_on : (o : Value) (first count : ℕ) (found : Found (Cell Value)) (a : Activation Value) → a.procedure ≡ procedure → (k : Control) → Left k → Fine (copies_next named o first count found (now a k ms))
+    copies_on o first count on_null a same k q = raises_on ConstraintError a same k q
+    copies_on o first count on_gone a same k q = tt
+    copies_on o first count on_other a same k q = tt
+    copies_on o first count (finds cell) a same k q = copied_on o (record_in cell.values first count) a same k q
+
+    -- A pool is asked for a new object, for which nothing is to be done.
+    answered_on : (access count words : ℕ) (home : Destination) → all_tasks tds access PartsFirst ≡ [] → (a : Activation Value) → a.procedure ≡ procedure → (k : Control) → Left k → (granted : Bool) → Goes (answered named tds access count words home (now a k ms) granted)
+    answered_on access count words home none a same k q true = rw none (on (record a { operands = created s.heap words ∷ drop count a.operands }) same _ refl refl q)
+    answered_on access count words home none a same k q false = raises_on StorageError a same k q
+
+    pub new_on : (access count words : ℕ) (home : Option Destination) → all_tasks tds access PartsFirst ≡ [] → (a : Activation Value) → a.procedure ≡ procedure → (k : Control) → Left k → Fine (new_next named tds access count words home (now a k ms))
+    new_on access count words None none a same k q = raises_on StorageError a same k q
+    new_on access count words (Some home) none a same k q = answered_on access count words home none a same k q
+
+    assigns_on : (cs : List ℕ) (x : ℕ) (right : RightForm) (a : Activation Value) → a.procedure ≡ procedure → (k : Control) → Left k → Fine (assign_next named cs x right (now a k ms))
+    assigns_on [] x right a same k q = on a same _ refl refl (tt, (tt, q))
+    assigns_on (c ∷ cs) x right a same k q = holder_on c cs x (λ last. Targets last right) a same k (λ last. (tt, q))
+
+    pub target_on : (o : Value) (c : ℕ) (right : RightForm) (found : Found (Cell Value)) (a : Activation Value) → a.procedure ≡ procedure → (k : Control) → Left k → Fine (target_next named o c right found (now a k ms))
+    target_on o c right on_null a same k q = raises_on ConstraintError a same k q
+    target_on o c right on_gone a same k q = tt
+    target_on o c right on_other a same k q = tt
+    target_on o c right (finds cell) a same k q = on a same _ refl refl (tt, (tt, q))
 
     stored_on : (o : Value) (c : ℕ) (v : Value) (found : Option Value) (a : Activation Value) → a.procedure ≡ procedure → (k : Control) → Left k → Fine (stored_next named o c v found (now a k ms))
     stored_on o c v None a same k q = tt
@@ -306,7 +340,7 @@ module _ (procedure : Option ℕ) (rest : List (Activation Value)) (lower : List
     -- Statements.
     pub stmt_on : (f : StmtForm) → is_frugal_stmt f ≡ true → (a : Activation Value) → StmtIsBare tds f s.heap a.places → a.procedure ≡ procedure → (k : Control) → Left k → Fine (stmt_next named tds bodies f (now a k ms))
     stmt_on skips frugal a bare same k q = on a same _ refl refl q
-    stmt_on (assigns target right) frugal a bare same k q = assigns_on target.selectors target.root right frugal a same k q
+    stmt_on (assigns target right) frugal a bare same k q = assigns_on target.selectors target.root right a same k q
     stmt_on (assigns_record target items) frugal a bare same k q = absurd (cc frugal)
     stmt_on (frees access path) frugal a bare same k q = frees_on path.selectors access path.root a bare same k q
     stmt_on (gets target) frugal a bare same k q = gets_on target.selectors target.root s.input a same k q
@@ -326,7 +360,7 @@ module _ (procedure : Option ℕ) (rest : List (Activation Value)) (lower : List
   declaration_on m ms own (creates_pool p) ds fs hs frugal more a same k q = absurd (cc frugal)
   declaration_on m ms own (collects access) ds fs hs frugal more a same k q = absurd (cc frugal)
   declaration_on m ms own (declares_record x t initial) ds fs hs frugal more a same k q = absurd (cc frugal)
-  declaration_on m ms own (declares x right) ds fs hs frugal more a same k q = on (m ∷ ms) own a same _ refl refl (frugal, (tt, (more, q)))
+  declaration_on m ms own (declares x right) ds fs hs frugal more a same k q = on (m ∷ ms) own a same _ refl refl (tt, (tt, (more, q)))
 
   pub declarations_on : (ms : List Master) → OwnVariables ms → (ds : List DeclarationForm) (fs : StmtsForm) (hs : HandlersForm) (a : Activation Value) → a.procedure ≡ procedure → (k : Control) → FrugalLeads behind (Elaborates ds fs hs ∷ k) ms → Fine (declarations_next named tds ds fs hs (now a k ms))
   declarations_on [] own ds fs hs a same k q = absurd q

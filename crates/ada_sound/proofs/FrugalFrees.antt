@@ -1,4 +1,5 @@
--- What a frugal body frees has no controlled parts (7.6.1, 13.11.2), where no access type designates a record type that has some: its Free treats nothing.
+-- What a frugal body allocates or frees has no controlled parts (4.8, 7.6, 7.6.1, 13.11.2), where no access type designates a record type that has some: its
+-- allocators and its Free treat nothing.
 
 use Rattle.std.proofs.Common.{◌≡◌, ℕ, zero, suc, Bool, true, false, ◌&&◌, if◌then◌else◌, List, [], ◌∷◌, refl, sym, ap, ◌∙◌}
 use Rattle.std.specs.Prelude.{Option, Some, None, is_some}
@@ -12,22 +13,25 @@ use Rattle.ada_program.specs.declared.program.TypeNo.{TypeNo}
 use Rattle.ada_program.specs.declared.program.VariableKind.{VariableKind}
 use Rattle.ada_program.specs.declared.program.VariableKind.TheVariants as variable
 use Rattle.ada_program.specs.Controlled.{number_in, number_reached, shapes_of}
-use Rattle.ada_program.specs.Form.{PathForm, StmtForm, frees, a_stmt}
-use Rattle.ada_program.specs.ProgramForm.{TypeForm, record_of, access_to, object_of, ProgramForm, program_form}
-use Rattle.ada_program.specs.WellFormed.{is_access, designated_in, is_freed_by, finalization_of, kind_among, kind_fits, reached_components, components_in, components_reached, named_in, type_fits, access_of, path_access, variable_kind, selected_kind, selectors_kind, statement_fits, callable_in}
-use Rattle.ada_parts.specs.declared.tasks.Direction.TheVariants.{WholeFirst}
+use Rattle.ada_program.specs.Form.{PathForm, ItemForm, StmtForm, frees, a_stmt}
+use Rattle.ada_program.specs.ProgramForm.{TypeForm, VariableForm, record_of, access_to, object_of, ProgramForm, program_form}
+use Rattle.ada_program.specs.WellFormed.{is_access, designated_in, is_freed_by, finalization_of, kind_among, kind_fits, reached_components, components_in, components_reached, named_in, type_fits, variable_kind_fits, variable_fits, access_of, path_access, variable_kind, selected_kind, selectors_kind, statement_fits, callable_in}
+use Rattle.ada_flow.specs.Flow.{Holds}
+use Rattle.ada_parts.specs.declared.tasks.Direction.{Direction}
+use Rattle.ada_parts.specs.declared.tasks.Direction.TheVariants.{PartsFirst, WholeFirst}
 use Rattle.ada_meaning.specs.declared.state.Id.{Id}
 use Rattle.ada_meaning.specs.declared.state.Stage.{Stage}
 use Rattle.ada_meaning.specs.declared.state.Stage.TheVariants.{Building, Existing, Gone}
 use Rattle.ada_meaning.specs.declared.state.Mode.TheVariants.{Running}
 use Rattle.ada_meaning.specs.declared.state.Value.{Value}
 use Rattle.ada_meaning.specs.declared.state.Value.TheVariants.{Null, Names, Scalar, Part}
-use Rattle.ada_meaning.specs.Frame.{Frame, Does, FreesIn}
+use Rattle.ada_meaning.specs.Frame.{Frame, Does, Creates, Stores, StoresIn, FreesIn, Declares}
 use Rattle.ada_meaning.specs.Heap.{Cell, Found, on_null, on_gone, on_other, finds}
 use Rattle.ada_meaning.specs.State.{Activation}
-use Rattle.ada_meaning.specs.Step.{all_tasks, tasks_for, first_or, places_of, operands_of}
+use Rattle.ada_meaning.specs.Step.{all_tasks, tasks_for, first_or, places_of, operands_of, places, operands}
 use Rattle.ada_meaning.specs.Named.{Object, State, object_at, look, seen, existing, all_alive, standing, standing_by}
 use Rattle.ada_typed.specs.Holding.{Cells, Designates, IsAccess, HasKind, cells_of}
+use Rattle.ada_typed.proofs.Bodies.{SeenFits}
 use Rattle.ada_typed.proofs.Control as typed
 use Rattle.ada_typed.proofs.Evaluations.{cell_at}
 use Rattle.ada_typed.proofs.Parts.{known_number, shown_number}
@@ -37,17 +41,17 @@ use Rattle.ada_typed.proofs.Values as typing
 use Rattle.ada_typed.proofs.Values.{OperandKind, of_kind, AreComputed}
 use Rattle.ada_sound.proofs.Assigned.{freed_at}
 use Rattle.ada_sound.proofs.Calm.{ends_operation, operation_ends_there}
-use Rattle.ada_sound.proofs.Fits.{place_at}
-use Rattle.ada_sound.proofs.Invariant.{Control}
+use Rattle.ada_sound.proofs.Fits.{place_at, names_object}
+use Rattle.ada_sound.proofs.Invariant.{Control, Rooms, Known, Allocating, ReadyBy, ReadyIn, Ready}
 use Rattle.ada_sound.proofs.OperationStarts.{apart}
 
 -- No access type designates a record type whose objects have controlled parts.
 abbrev pub NoAccessToParts : List TypeForm → Type 0
 NoAccessToParts types = (t : ℕ) (name : _) (designated : ℕ) (pool : _) → slice_get types t ≡ Some (access_to name designated pool) → is_some (finalization_of types designated) ≡ false
 
--- So there is nothing to do for an object of an access type.
+-- So there is nothing to do for an object of an access type, neither to initialize nor to finalize it.
 abbrev pub AccessIsBare : List TypeForm → List TypeDefinition → Type 0
-AccessIsBare types tds = (access : ℕ) → is_access types access ≡ true → all_tasks tds access WholeFirst ≡ []
+AccessIsBare types tds = (access : ℕ) (direction : Direction) → is_access types access ≡ true → all_tasks tds access direction ≡ []
 
 none_numbered : (o : Option Finalization) → is_some o ≡ false → number_in o ≡ None
 none_numbered None none = refl
@@ -63,18 +67,18 @@ bare_number types none access is = by (slice_get types access) refl is
     by (Some (object_of record_type)) at is' = absurd (cc is')
 
 pub bare_by : (program : Program) → NoAccessToParts (program_form program).types → AccessIsBare (program_form program).types program.types.items
-bare_by program none access is =
+bare_by program none access direction is =
     let tds = program.types.items in
     let types = (program_form program).types in
     let number : number_reached tds access ≡ None = sym (known_number tds types access refl) ∙ bare_number types none access is in
-    ap (tasks_for (shapes_of tds) WholeFirst) number
+    ap (tasks_for (shapes_of tds) direction) number
 
 -- What a component of an access type names is of an access type, where types fit.
-kind_there : (types : List TypeForm) (components : List ComponentKind) (c : ℕ) (own : TypeNo) → list_all (kind_fits types) components ≡ true → kind_among (Some components) c ≡ Some (variable.Access own) → is_access types own.0 ≡ true
+kind_there : (types : List TypeForm) (components : List ComponentKind) (c own : ℕ) → list_all (kind_fits types) components ≡ true → access_of (kind_among (Some components) c) ≡ Some own → is_access types own ≡ true
 kind_there types [] c own fit is = absurd (cc is)
 kind_there types (component.Integer initial ∷ ks) zero own fit is = absurd (cc is)
 kind_there types (component.Boolean initial ∷ ks) zero own fit is = absurd (cc is)
-kind_there types (component.Access access ∷ ks) zero own fit is = let same : access ≡ own = cc is in rw (← same) (apart _ _ fit).0
+kind_there types (component.Access access ∷ ks) zero own fit is = let same : access.0 ≡ own = cc is in rw (← same) (apart _ _ fit).0
 kind_there types (k ∷ ks) (suc c) own fit is = kind_there types ks c own (apart _ _ fit).1 is
 
 type_there : (types ts : List TypeForm) (t : ℕ) (u : TypeForm) → list_all (type_fits types) ts ≡ true → slice_get ts t ≡ Some u → type_fits types u ≡ true
@@ -83,7 +87,7 @@ type_there types (v ∷ ts) zero u fit is = let same : v ≡ u = cc is in rw (�
 type_there types (v ∷ ts) (suc t) u fit is = type_there types ts t u (apart _ _ fit).1 is
 
 module _ (types : List TypeForm) (fit : list_all (type_fits types) types ≡ true) where
-  components_fit : (u : Option TypeForm) (t c : ℕ) (own : TypeNo) → slice_get types t ≡ u → kind_among (components_in u) c ≡ Some (variable.Access own) → is_access types own.0 ≡ true
+  components_fit : (u : Option TypeForm) (t c own : ℕ) → slice_get types t ≡ u → access_of (kind_among (components_in u) c) ≡ Some own → is_access types own ≡ true
   components_fit None t c own at is = absurd (cc is)
   components_fit (Some (record_of name parts components finalization)) t c own at is =
       let three = apart _ _ (type_there types types t (record_of name parts components finalization) fit at) in
@@ -92,14 +96,29 @@ module _ (types : List TypeForm) (fit : list_all (type_fits types) types ≡ tru
   components_fit (Some (access_to name designated pool)) t c own at is = absurd (cc is)
   components_fit (Some (object_of record_type)) t c own at is = absurd (cc is)
 
-  reached_fit : (named : Option ℕ) (c : ℕ) (own : TypeNo) → kind_among (components_reached types named) c ≡ Some (variable.Access own) → is_access types own.0 ≡ true
+  reached_fit : (named : Option ℕ) (c own : ℕ) → access_of (kind_among (components_reached types named) c) ≡ Some own → is_access types own ≡ true
   reached_fit None c own is = absurd (cc is)
   reached_fit (Some t) c own is = components_fit (slice_get types t) t c own refl is
 
-  pub component_access : (holder : ℕ) (c : ℕ) (own : TypeNo) → kind_among (reached_components types holder) c ≡ Some (variable.Access own) → is_access types own.0 ≡ true
-  component_access holder c own is = reached_fit (named_in (slice_get types holder)) c own is
+  accepted_access : (holder c own : ℕ) → access_of (kind_among (reached_components types holder) c) ≡ Some own → is_access types own ≡ true
+  accepted_access holder c own is = reached_fit (named_in (slice_get types holder)) c own is
 
--- Where an object is found that is freed, nothing is to be done for it.
+  pub component_access : (holder : ℕ) (c : ℕ) (own : TypeNo) → kind_among (reached_components types holder) c ≡ Some (variable.Access own) → is_access types own.0 ≡ true
+  component_access holder c own is = accepted_access holder c own.0 (ap access_of is)
+
+-- So is what a variable of an access type names, where variables fit.
+named_access : (types : List TypeForm) (kind : VariableKind) (access : ℕ) → variable_kind_fits types kind ≡ true → access_of (Some kind) ≡ Some access → names_object (Some kind) ≡ false → is_access types access ≡ true
+named_access types variable.Integer access fit of none = absurd (cc of)
+named_access types variable.Boolean access fit of none = absurd (cc of)
+named_access types (variable.Access own) access fit of none = let same : own.0 ≡ access = cc of in rw (← same) fit
+named_access types (variable.Record object) access fit of none = absurd (cc none)
+
+held_access : (types : List TypeForm) (variables : List VariableForm) (x access : ℕ) → list_all (variable_fits types) variables ≡ true → access_of (variable_kind variables x) ≡ Some access → names_object (variable_kind variables x) ≡ false → is_access types access ≡ true
+held_access types [] x access fit of none = absurd (cc of)
+held_access types (v ∷ vs) zero access fit of none = named_access types v.kind access (apart _ _ (apart _ _ fit).0).0 of none
+held_access types (v ∷ vs) (suc x) access fit of none = held_access types vs x access (apart _ _ fit).1 of none
+
+-- Where an object is found that is freed, nothing is to be done for it. Nor is it for one that is allocated.
 module _ (tds : List TypeDefinition) where
   abbrev pub IsBare : Found (Cell Value) → Type 0
   IsBare on_null = Unit {0}
@@ -112,11 +131,12 @@ module _ (tds : List TypeDefinition) where
   StmtIsBare (frees access path) heap places = path.selectors ≡ [] → IsBare (standing heap (place_at places path.root))
   StmtIsBare f heap places = Unit {0}
 
-  -- And of the one that a frame frees that a component names.
+  -- And of the one that a frame frees that a component names, or that it creates.
   abbrev pub FrameIsBare : Frame Value → List Object → (places operands : List Value) → Type 0
   FrameIsBare (Does (a_stmt f fs)) heap places operands = StmtIsBare f heap places
   FrameIsBare (FreesIn access c) heap places operands =
       (cell : Cell Value) (w : Value) → look heap (first_or Null operands) ≡ finds cell → slice_get cell.values c ≡ Some w → IsBare (standing heap w)
+  FrameIsBare (Creates access count) heap places operands = (all_tasks tds access PartsFirst ≡ [])
   FrameIsBare f heap places operands = Unit {0}
 
   -- And of the first frame.
@@ -124,8 +144,11 @@ module _ (tds : List TypeDefinition) where
   NextIsBare [] heap places operands = Unit {0}
   NextIsBare (f ∷ k) heap places operands = FrameIsBare f heap places operands
 
--- Typing says so.
-module _ (p : ProgramForm) (tds : List TypeDefinition) (fit : list_all (type_fits p.types) p.types ≡ true) (bare : AccessIsBare p.types tds) where
+-- Typing says so, and what every step keeps.
+module _ (known : Known) (tds : List TypeDefinition) (fits : SeenFits known.program) (bare : AccessIsBare known.program.types tds) where
+  abbrev p : ProgramForm
+  p = known.program
+
   object_bare : (heap : List Object) (t : ℕ) (o : Id) (found : Option Object) → object_at heap o ≡ found → is_access p.types t ≡ true → Designates (cells_of heap) t o → IsBare tds (standing_by found)
   object_bare heap t o None at is named = tt
   object_bare heap t o (Some x) at is named = by (x.listed && all_alive x.cell.parts)
@@ -137,7 +160,7 @@ module _ (p : ProgramForm) (tds : List TypeDefinition) (fit : list_all (type_fit
       of = let one : named.0 ≡ x.cell = some_same (sym named.1 ∙ cell_at heap o.0 x at) in rw (← one) named.2
 
       by : (stands : Bool) → IsBare tds (if stands then finds x.cell else on_gone)
-      by true = bare x.cell.access (rw of is)
+      by true = bare x.cell.access WholeFirst (rw of is)
       by false = tt
 
   value_bare : (heap : List Object) (t : ℕ) (v : Value) → is_access p.types t ≡ true → IsAccess (cells_of heap) t v → IsBare tds (standing heap v)
@@ -170,8 +193,8 @@ module _ (p : ProgramForm) (tds : List TypeDefinition) (fit : list_all (type_fit
       variable_bare s at.0 path.root (variable_kind p.variables path.root) typing' refl (stands_so (variable_kind p.variables path.root) path.selectors at.0 alone at.2) at.3
 
   stmt_bare : (s : State) (inside : Bool) (f : StmtForm) → typed.TypedIn p s → statement_fits p.types p.variables p.texts p.exceptions (callable_in p) inside f ≡ true → StmtIsBare tds f s.heap (places_of s.activations)
-  stmt_bare s inside (frees access path) typing' fits = path_bare s access path typing' (apart _ _ fits).0
-  stmt_bare s inside f typing' fits = tt
+  stmt_bare s inside (frees access path) typing' fitting = path_bare s access path typing' (apart _ _ fitting).0
+  stmt_bare s inside f typing' fitting = tt
 
   -- What is freed of a component.
   same_there : {v w : Value} → Some v ≡ Some w → v ≡ w
@@ -184,7 +207,7 @@ module _ (p : ProgramForm) (tds : List TypeDefinition) (fit : list_all (type_fit
   held_bare s kinds holder own o x c w ready at has leads there =
       let held = component_there p o holder c (variable.Access own) x s kinds ready has at leads in
       let same : held.0 ≡ w = same_there (sym held.1 ∙ there) in
-      value_bare s.heap own.0 w (component_access p.types fit holder.0 c own leads) (rw same at held.2)
+      value_bare s.heap own.0 w (component_access p.types fits.types_fit holder.0 c own leads) (rw same at held.2)
 
   component_bare : (s : State) (kinds : List OperandKind) (holder own : TypeNo) (v : Value) (c : ℕ) (cell : Cell Value) (w : Value) → typed.Ready p kinds s → HasKind p.types (cells_of s.heap) (variable.Access holder) v → selected_kind p.types (Some (variable.Access holder)) c ≡ Some (variable.Access own) → look s.heap v ≡ finds cell → slice_get cell.values c ≡ Some w → IsBare tds (standing s.heap w)
   component_bare s kinds holder own Null c cell w ready has leads found there = absurd (cc found)
@@ -213,22 +236,38 @@ module _ (p : ProgramForm) (tds : List TypeDefinition) (fit : list_all (type_fit
   active_computed cells kinds [] active = absurd active
   active_computed cells kinds (a ∷ rest) active = active.1
 
-  frame_bare : (s : State) (f : Frame Value) (k : Control) (kinds : List OperandKind) → typed.TypedIn p s → typed.Ready p kinds s → typed.Fits p (cells_of s.heap) kinds (f ∷ k) → FrameIsBare tds f s.heap (places_of s.activations) (operands_of s.activations)
-  frame_bare s (Does (a_stmt f fs)) k kinds typing' ready fits = stmt_bare s fits.1 f typing' (apart _ _ fits.2.0).0
-  frame_bare s (FreesIn access c) k kinds typing' ready (ks, holder, own, is, leads, by_own, more) =
+  -- What is allocated goes to a variable, or to a component, of its access type.
+  allocated_access : (heap : List Object) (access : ℕ) (all : List ItemForm) (k : Control) (rooms : Rooms) (holds : Holds) → Allocating known heap access all k rooms holds → is_access p.types access ≡ true
+  allocated_access heap access all [] rooms holds a = absurd a.to
+  allocated_access heap access all (Stores x ∷ k) rooms holds a = let to = a.to in held_access p.types p.variables x access fits.variables_fit to.0.0 to.0.1
+  allocated_access heap access all (Declares x ∷ k) rooms holds a = let to = a.to in held_access p.types p.variables x access fits.variables_fit to.0.0 to.0.1
+  allocated_access heap access all (StoresIn (Names o) c ∷ k) rooms holds a = let to = a.to.0 in accepted_access p.types fits.types_fit to.0.cell.access c access to.3
+  allocated_access heap access all (StoresIn Null c ∷ k) rooms holds a = absurd a.to.0
+  allocated_access heap access all (StoresIn (Scalar n) c ∷ k) rooms holds a = absurd a.to.0
+  allocated_access heap access all (StoresIn (Part o place) c ∷ k) rooms holds a = absurd a.to.0
+  allocated_access heap access all (f ∷ k) rooms holds a = absurd a.to
+
+  frame_bare : (s : State) (f : Frame Value) (k : Control) (kinds : List OperandKind) → typed.TypedIn p s → typed.Ready p kinds s → typed.Fits p (cells_of s.heap) kinds (f ∷ k) → ReadyBy known f k s.heap (places s) (operands s) s.masters → FrameIsBare tds f s.heap (places_of s.activations) (operands_of s.activations)
+  frame_bare s (Does (a_stmt f fs)) k kinds typing' ready fitting works = stmt_bare s fitting.1 f typing' (apart _ _ fitting.2.0).0
+  frame_bare s (FreesIn access c) k kinds typing' ready (ks, holder, own, is, leads, by_own, more) works =
       λ cell w found there. operand_bare s kinds ks holder own (operands_of s.activations) c cell w ready (active_computed (cells_of s.heap) kinds s.activations ready.active) is leads found there
-  frame_bare s f k kinds typing' ready fits = tt
+  frame_bare s (Creates access count) k kinds typing' ready fitting works =
+      let filling = works.rest in
+      bare access PartsFirst (allocated_access s.heap access _ k works.rooms works.holds filling.leads)
+  frame_bare s f k kinds typing' ready fitting works = tt
 
-  by_control : (s : State) (k : Control) (kinds : List OperandKind) → typed.TypedIn p s → typed.Ready p kinds s → typed.Fits p (cells_of s.heap) kinds k → NextIsBare tds k s.heap (places_of s.activations) (operands_of s.activations)
-  by_control s [] kinds typing' ready fits = tt
-  by_control s (f ∷ k) kinds typing' ready fits = frame_bare s f k kinds typing' ready fits
+  by_control : (s : State) (k : Control) (kinds : List OperandKind) → typed.TypedIn p s → typed.Ready p kinds s → typed.Fits p (cells_of s.heap) kinds k → ReadyIn known Running k s.heap (places s) (operands s) s.masters → NextIsBare tds k s.heap (places_of s.activations) (operands_of s.activations)
+  by_control s [] kinds typing' ready fitting works = tt
+  by_control s (f ∷ k) kinds typing' ready fitting works = frame_bare s f k kinds typing' ready fitting works
 
-  -- What the next step frees has no controlled parts.
-  pub next_bare : (s : State) → typed.TypedIn p s → s.mode ≡ Running → ends_operation s.control ≡ false → NextIsBare tds s.control s.heap (places_of s.activations) (operands_of s.activations)
-  next_bare s (typed.running kinds ready fits) runs none = by_control s s.control kinds (typed.running kinds ready fits) ready fits
-  next_bare s (typed.operated kinds ready ended) runs none = let there = operation_ends_there p (cells_of s.heap) kinds s.control ended in absurd (cc (there, none))
-  next_bare s (typed.out_of_operation e kinds jumps ended) runs none = let there = operation_ends_there p (cells_of s.heap) kinds s.control ended in absurd (cc (there, none))
-  next_bare s (typed.on_jump mode jumps goes) runs none =
+  -- What the next step allocates or frees has no controlled parts.
+  pub next_bare : (s : State) → typed.TypedIn known.program s → Ready known s → s.mode ≡ Running → ends_operation s.control ≡ false → NextIsBare tds s.control s.heap (places_of s.activations) (operands_of s.activations)
+  next_bare s (typed.running kinds ready fitting) works runs none =
+      let there : ReadyIn known Running s.control s.heap (places s) (operands s) s.masters = rw runs at works.1 in
+      by_control s s.control kinds (typed.running kinds ready fitting) ready fitting there
+  next_bare s (typed.operated kinds ready ended) works runs none = let there = operation_ends_there p (cells_of s.heap) kinds s.control ended in absurd (cc (there, none))
+  next_bare s (typed.out_of_operation e kinds jumps ended) works runs none = let there = operation_ends_there p (cells_of s.heap) kinds s.control ended in absurd (cc (there, none))
+  next_bare s (typed.on_jump mode jumps goes) works runs none =
       let same : mode ≡ Running = sym jumps.jumps ∙ runs in
       let nowhere : typed.Goes p (cells_of s.heap) Running s.control = rw same at goes in
       absurd nowhere

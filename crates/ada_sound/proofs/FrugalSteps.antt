@@ -1,30 +1,30 @@
--- Any step of a frugal body (7.6.1, 13.11.2) in front of its end leads on in it.
+-- Any step of a frugal body (7.6, 7.6.1, 13.11.2) in front of its end leads on in it.
 
-use Rattle.std.proofs.Common.{◌≡◌, ℕ, Bool, true, false, if◌then◌else◌, List, [], ◌∷◌, ◌++◌, refl, subst, inl, inr}
+use Rattle.std.proofs.Common.{◌≡◌, ℕ, Bool, true, false, if◌then◌else◌, List, [], ◌∷◌, ◌++◌, refl, sym, ap, ◌∙◌, subst, inl, inr}
 use Rattle.std.specs.Prelude.{Option, Some, None, ◌||◌}
-use Rattle.std.specs.List.{list_all}
 use Rattle.ada_program.specs.declared.program.Exception.{Exception}
 use Rattle.ada_program.specs.declared.program.TypeDefinition.{TypeDefinition}
 use Rattle.ada_program.specs.Form.{StmtsForm, no_stmts, a_stmt, HandlersForm, no_handlers, a_handler}
 use Rattle.ada_program.specs.Handling.{handler_of, some_takes}
-use Rattle.ada_program.specs.ProgramForm.{BodyForm, ProgramForm, program_form, body_forms}
+use Rattle.ada_program.specs.ProgramForm.{TypeForm, BodyForm, ProgramForm, program_form, body_forms, seen_in}
+use Rattle.ada_program.specs.Typed.{words_of, width_of}
 use Rattle.ada_program.specs.declared.program.Program.{Program}
-use Rattle.ada_program.specs.WellFormed.{IsWellFormed, type_fits}
+use Rattle.ada_program.specs.WellFormed.{IsWellFormed}
 use Rattle.ada_meaning.specs.declared.state.Value.{Value}
 use Rattle.ada_meaning.specs.declared.state.Value.TheVariants.{Null}
 use Rattle.ada_meaning.specs.declared.state.Mode.{Mode}
 use Rattle.ada_meaning.specs.declared.state.Mode.TheVariants.{Running, Raising, Exiting, Returning}
-use Rattle.ada_meaning.specs.Frame.{Frame, is_return, Elaborates, Does, Decides, Repeats, Turns, Ranges, Counts, Exits, Handles, Closes, Leaves, Calls, Returns, Evaluates, Computes, Follows, TestsNull, Continues, Applies, AppliesAlone, Stores, Targets, StoresIn, Receives, FreesIn, Declares, Treats, Awaits, Confines, Writes, Ends, GivesBack, Clears, ClearsIn, handler_landing}
-use Rattle.ada_meaning.specs.State.{Activation, Master}
+use Rattle.ada_meaning.specs.Frame.{Frame, is_return, Elaborates, Does, Decides, Repeats, Turns, Ranges, Counts, Exits, Handles, Closes, Leaves, Calls, Returns, Evaluates, Computes, Follows, TestsNull, Continues, Applies, AppliesAlone, Fills, Copies, Creates, Stores, Targets, StoresIn, Receives, FreesIn, Declares, Treats, Awaits, Confines, Writes, Ends, GivesBack, Clears, ClearsIn, handler_landing}
+use Rattle.ada_meaning.specs.State.{Activation, Master, home_of}
 use Rattle.ada_meaning.specs.Step.{first_or, older, procedure_of, frame_next, landed, jump_next, mode_next}
 use Rattle.ada_meaning.specs.Named.{State, Next, named, next, look, lent}
 use Rattle.ada_quiet.specs.Frugal.{are_frugal, are_frugal_handlers}
 use Rattle.ada_typed.specs.Holding.{seen_now}
-use Rattle.ada_typed.proofs.Bodies.{types_seen}
+use Rattle.ada_typed.proofs.Bodies.{SeenFits, seen_fits, types_seen}
 use Rattle.ada_typed.proofs.Control as typed
 use Rattle.ada_typed.proofs.Kept.{crosses as crosses_by, is_treatment}
 use Rattle.ada_sound.proofs.Calm.{ends_operation}
-use Rattle.ada_sound.proofs.Invariant.{Control}
+use Rattle.ada_sound.proofs.Invariant.{Control, Known, Ready}
 use Rattle.ada_sound.proofs.OperationStarts.{apart}
 use Rattle.ada_sound.proofs.Operating.{OwnVariables}
 use Rattle.ada_sound.proofs.FrugalControl.{FrugalFrame, FrugalLeads, FrugalLeaves, Frugal, is_return_first, first_frugal, Frugally, GoesFrugally}
@@ -73,7 +73,7 @@ module _ (procedure : Option ℕ) (rest : List (Activation Value)) (lower : List
   frame_on Closes k [] own a same inner bare q = absurd q
   frame_on Closes k (m ∷ ms) own a same inner bare q = frames.leaves_first procedure rest lower behind tds bodies s (m ∷ ms) own Running a same k _ refl refl refl refl q.1
   frame_on (Returns actuals references) k ms own a same inner bare q = absurd (cc inner)
-  frame_on (Evaluates right) k ms own a same inner bare (frugal, q) = frames.right_on procedure rest lower behind tds bodies s ms own right frugal a same k q
+  frame_on (Evaluates right) k ms own a same inner bare (frugal, q) = frames.right_on procedure rest lower behind tds bodies s ms own right a same k q
   frame_on (Computes e) k ms own a same inner bare (frugal, q) = frames.expression_on procedure rest lower behind tds bodies s ms own e a same k q
   frame_on (Follows cs) k ms own a same inner bare (frugal, q) =
       frames.path_on procedure rest lower behind tds bodies s ms own cs (first_or Null a.operands) (record a { operands = older a.operands }) same k q
@@ -84,10 +84,15 @@ module _ (procedure : Option ℕ) (rest : List (Activation Value)) (lower : List
       frames.outcome_on procedure rest lower behind tds bodies s ms own (named.binary operator (first_or Null (older a.operands)) (first_or Null a.operands)) (record a { operands = older (older a.operands) }) same k q
   frame_on (AppliesAlone operator) k ms own a same inner bare (frugal, q) =
       frames.outcome_on procedure rest lower behind tds bodies s ms own (named.unary operator (first_or Null a.operands)) (record a { operands = older a.operands }) same k q
+  frame_on (Fills items) k ms own a same inner bare (frugal, q) = frames.items_on procedure rest lower behind tds bodies s ms own items a same k q
+  frame_on (Copies first t) k ms own a same inner bare (frugal, q) =
+      frames.copies_on procedure rest lower behind tds bodies s ms own (first_or Null a.operands) first (width_of tds t) (look s.heap (first_or Null a.operands)) (record a { operands = older a.operands }) same k q
+  frame_on (Creates access count) k ms own a same inner bare (frugal, q) =
+      frames.new_on procedure rest lower behind tds bodies s ms own access count (words_of tds access) (home_of access (ms ++ lower)) bare a same k q
   frame_on (Stores x) k ms own a same inner bare (frugal, q) =
       frames.puts_on procedure rest lower behind tds bodies s ms own x (first_or Null a.operands) (record a { operands = older a.operands }) same k q
   frame_on (Targets c right) k ms own a same inner bare (frugal, q) =
-      frames.target_on procedure rest lower behind tds bodies s ms own (first_or Null a.operands) c right (look s.heap (first_or Null a.operands)) frugal (record a { operands = older a.operands }) same k q
+      frames.target_on procedure rest lower behind tds bodies s ms own (first_or Null a.operands) c right (look s.heap (first_or Null a.operands)) (record a { operands = older a.operands }) same k q
   frame_on (StoresIn o c) k ms own a same inner bare (frugal, q) =
       frames.store_on procedure rest lower behind tds bodies s ms own o c (first_or Null a.operands) (look s.heap o) (record a { operands = older a.operands }) same k q
   frame_on (Receives c) k ms own a same inner bare (frugal, q) =
@@ -175,19 +180,19 @@ none_ends behind mode (f ∷ k) ms (inl q) = first f ms q
 none_ends behind mode (Leaves left ∷ k) ms (inr (runs, q)) = refl
 none_ends behind mode (f ∷ k) ms (inr (runs, q)) = absurd q
 
--- While a frugal body runs, and its end is not next, nothing is called, created or treated: whatever comes next is in the body, too.
+-- While a frugal body runs, and its end is not next, nothing is called or treated: whatever comes next is in the body, too.
 pub frugal_steps :
-    (p : ProgramForm) (tds : List TypeDefinition) (bodies : List BodyForm) → list_all (type_fits p.types) p.types ≡ true → AccessIsBare p.types tds
+    (known : Known) (tds : List TypeDefinition) (bodies : List BodyForm) → SeenFits known.program → AccessIsBare known.program.types tds
     → (behind : Control) (lower : List Master) (rest : List (Activation Value)) (s : State) (a : Activation Value) (upper : List Master)
     → s.activations ≡ a ∷ rest → s.masters ≡ upper ++ lower → OwnVariables upper → Frugal behind s.mode s.control upper → is_return_first s.control ≡ false
-    → typed.TypedIn p s → GoesFrugally a.procedure rest lower behind (next tds bodies s)
+    → typed.TypedIn known.program s → Ready known s → GoesFrugally a.procedure rest lower behind (next tds bodies s)
 unfolding next
-frugal_steps p tds bodies fit bare behind lower rest s a upper active masters own frugal inner typing =
+frugal_steps known tds bodies fits bare behind lower rest s a upper active masters own frugal inner typing ready =
     subst (λ (t : State). GoesFrugally a.procedure rest lower behind (mode_next named tds bodies s.mode t)) state_is
     (mode_on a.procedure rest lower behind tds bodies s s.mode s.control upper own a refl inner none frugal)
   where
     none : s.mode ≡ Running → NextIsBare tds s.control s.heap a.places a.operands
-    none runs = rw active at (next_bare p tds fit bare s typing runs (none_ends behind s.mode s.control upper frugal))
+    none runs = rw active at (next_bare known tds fits bare s typing ready runs (none_ends behind s.mode s.control upper frugal))
 
     -- The state, by its parts.
     state_is : record s { activations = a ∷ rest; masters = upper ++ lower } ≡ s
@@ -200,14 +205,18 @@ pub frugal_goes :
     (program : Program) → IsWellFormed (program_form program) → NoAccessToParts (program_form program).types
     → (procedure : Option ℕ) (rest : List (Activation Value)) (lower : List Master) (behind : Control) (s : State)
     → Frugally procedure rest lower behind s → is_return_first s.control ≡ false → typed.TypedIn (seen_now (program_form program) s) s
+    → (known : Known) → known.program ≡ seen_in procedure (program_form program) → Ready known s
     → GoesFrugally procedure rest lower behind (next program.types.items (body_forms program) s)
-frugal_goes program well none procedure rest lower behind s f inner typing =
+frugal_goes program well none procedure rest lower behind s f inner typing known seen ready =
     let p = program_form program in
-    let same : (seen_now p s).types ≡ p.types = types_seen p (procedure_of s.activations) in
-    let fit : list_all (type_fits (seen_now p s).types) (seen_now p s).types ≡ true = rw same (well.types_fit) in
-    let bare : AccessIsBare (seen_now p s).types program.types.items = rw same (bare_by program none) in
+    let runs : procedure_of s.activations ≡ procedure = ap procedure_of f.active ∙ f.same in
+    let types : known.program.types ≡ p.types = ap (λ (own : ProgramForm). own.types) seen ∙ types_seen p procedure in
+    let fits : SeenFits known.program = subst SeenFits (sym seen) (seen_fits p well procedure) in
+    let bare : AccessIsBare known.program.types program.types.items = subst (λ (all : List TypeForm). AccessIsBare all program.types.items) (sym types) (bare_by program none) in
+    let typing' : typed.TypedIn known.program s =
+    subst (λ (own : ProgramForm). typed.TypedIn own s) (ap (λ (number : Option ℕ). seen_in number p) runs ∙ sym seen) typing in
     subst (λ (number : Option ℕ). GoesFrugally number rest lower behind (next program.types.items (body_forms program) s)) f.same
-    (frugal_steps (seen_now p s) program.types.items (body_forms program) fit bare behind lower rest s f.acting f.upper f.active f.masters f.own f.frugal inner typing)
+    (frugal_steps known program.types.items (body_forms program) fits bare behind lower rest s f.acting f.upper f.active f.masters f.own f.frugal inner typing' ready)
 
 -- A frame of such a body calls nothing.
 calls_nothing : (f : Frame Value) → is_return f ≡ false → FrugalFrame f → (crosses_by f || is_treatment f) ≡ false

@@ -1,4 +1,4 @@
--- Where a Finalize may be frugal, no record with controlled parts is assigned to or copied as a whole (7.5, 7.6): so nothing is finalized at an assignment.
+-- Where operations may be frugal, no record with controlled parts is assigned to or copied as a whole (7.5, 7.6): so nothing is finalized at an assignment.
 
 use Rattle.std.proofs.Common.{◌≡◌, ℕ, Bool, true, false, List, [], refl, sym, ap, ◌∙◌}
 use Rattle.std.specs.Prelude.{Option, Some, None, not}
@@ -18,7 +18,7 @@ use Rattle.ada_sound.proofs.OperationStarts.{apart}
 
 limited_by : (p : ProgramForm) → may_be_frugal p ≡ true → (t : ℕ) (o : Option TypeForm) → slice_get p.types t ≡ o → is_limited (finalization_in o) ≡ true
 limited_by p may t None at = refl
-limited_by p may t (Some u) at = (apart _ _ (apart _ _ (each_lets p may t u at)).1).0
+limited_by p may t (Some u) at = (apart _ _ (each_lets p may t u at)).1
 
 -- What has controlled parts is limited.
 pub limited_parts : (p : ProgramForm) → may_be_frugal p ≡ true → (t : ℕ) (f : Finalization) → finalization_of p.types t ≡ Some f → f.limited ≡ true

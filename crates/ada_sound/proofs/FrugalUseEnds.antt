@@ -1,32 +1,36 @@
--- What the body of a Finalize frees is among what the end of an object may free, in which such a part lies (7.6.1, 13.11.2).
+-- What the body of an operation frees is among what the start or the end of an object may free, in which such a part lies (7.6, 7.6.1, 13.11.2).
 
 use Rattle.ada_sound.proofs.Started.{record_named, numbered_one}
-use Rattle.std.proofs.Common.{◌≡◌, ℕ, Bool, true, false, ◌||◌, List, [], ◌∷◌, ◌++◌, map, take, refl, sym, ap, ◌∙◌, subst}
+use Rattle.std.proofs.Common.{◌≡◌, ℕ, Bool, true, false, ◌||◌, List, [], ◌∷◌, refl, sym, ap, ◌∙◌, subst}
 use Rattle.std.specs.Prelude.{Option, Some, None, ◌==◌}
 use Rattle.std.proofs.lemmas.Bool.{eqb-true, or_left, or_right}
 use Rattle.std.specs.List.{list_any, slice_get}
-use Rattle.ada_deeds.specs.Does.{called_does, Does}
-use Rattle.ada_deeds.specs.Forms.{parts_do}
-use Rattle.ada_deeds.specs.Implicit.{implicit_of}
+use Rattle.ada_deeds.specs.Does.{Does}
+use Rattle.ada_deeds.specs.Forms.{overriding, parts_do}
+use Rattle.ada_deeds.specs.Implicit.{implicit_of, record_at}
 use Rattle.ada_deeds.specs.Laws.{DoesFree, known_to_free}
 use Rattle.ada_deeds.specs.Within.{does_by}
 use Rattle.ada_deeds.specs.declared.deed.Callee.TheVariants as callee
-use Rattle.ada_deeds.specs.declared.deed.Operation.TheVariants.{Finalize}
-use Rattle.ada_deeds.proofs.Freed.{AreDone as AreFreed, body_out, deed}
+use Rattle.ada_deeds.specs.declared.deed.Deed.{Deed}
+use Rattle.ada_deeds.specs.declared.deed.Operation.{Operation}
+use Rattle.ada_deeds.specs.declared.deed.Operation.TheVariants.{Initialize, Finalize}
+use Rattle.ada_deeds.proofs.Freed.{deed}
 use Rattle.ada_deeds.proofs.Known.{frees_are_done}
-use Rattle.ada_deeds.proofs.Parted.{does_parted}
-use Rattle.ada_deeds.proofs.Starting.{closes, own_out, walked_out}
-use Rattle.ada_deeds.proofs.Within.{counts_are_enough, is_one_of}
-use Rattle.ada_effects.specs.Effects.{body_frees, endings_free, no_calls}
+use Rattle.ada_deeds.proofs.Starting.{own_out, walked_out}
+use Rattle.ada_deeds.proofs.Within.{counts_are_enough}
 use Rattle.ada_flow.specs.Flow.{is_among}
 use Rattle.ada_meaning.proofs.Places.{is_declared, numbers_are_alone, types_have_their_operations}
 use Rattle.ada_program.specs.declared.program.Program.{Program}
 use Rattle.ada_program.specs.Controlled.{number_of, operations_of, procedure_number}
 use Rattle.ada_program.specs.ProgramForm.{BodyForm, ProgramForm, program_form, body_forms, seen_in}
-use Rattle.ada_program.specs.WellFormed.{IsWellFormed, named_in, profile_of}
+use Rattle.ada_program.specs.WellFormed.{IsWellFormed, named_in}
+use Rattle.ada_meaning.specs.declared.event.Birth.TheVariants.{Creation, Copy, Adjustment}
+use Rattle.ada_meaning.specs.Frame.{Treatment, begins, ends}
 use Rattle.ada_sound.proofs.Bodies.{effect_at, seen_is}
 use Rattle.ada_sound.proofs.Invariant.{CoveredIn}
-use Rattle.ada_typed.proofs.Bodies.{body_at}
+use Rattle.ada_sound.proofs.Operating.{IsCalled}
+use Rattle.ada_sound.proofs.QuietOperations.{MayTouch}
+use Rattle.ada_sound.proofs.Touching.{treated_frees}
 use Rattle.ada_typed.specs.Holding.{WalksTo}
 use Rattle.ada_typed.proofs.Inner.{lies_at}
 use Rattle.ada_typed.proofs.Lying.{IsOperable}
@@ -41,51 +45,36 @@ covered_known p number t b there may =
 pub covered_done : (p : ProgramForm) → IsWellFormed p → (number t : ℕ) (b : BodyForm) → slice_get p.bodies number ≡ Some b → CoveredIn (implicit_of p) (seen_in (Some number) p) t → DoesFree p number t
 covered_done p well number t b there may = frees_are_done p well number t (covered_known p number t b there may)
 
--- And what its body may free where nothing is called.
-pub uncalled_done : (p : ProgramForm) → IsWellFormed p → (number t : ℕ) (b : BodyForm) → slice_get p.bodies number ≡ Some b → body_frees p.types no_calls b t ≡ true → DoesFree p number t
-uncalled_done p well number t b there may =
-    let known = does_by p (deed t) in
-    let are : AreFreed p.types no_calls known t = record {
-      starts = λ u h. absurd (cc h);
-      adjusts = λ u h. absurd (cc h);
-      ends = λ u h. absurd (cc h);
-      called = λ procedure h. absurd (cc h);
-      ranged = λ c h. is_one_of p (deed t) c ((counts_are_enough p (deed t) c).0 h);
-      parted = λ operation r h. does_parted p well.types_fit (deed t) operation r ((counts_are_enough p (deed t) (callee.Parts operation (record { 0 = r }))).0 h);
-    } in
-    let fits = body_at p.types p.texts p.exceptions [] p.bodies number b well.bodies_fit there in
-    let done = body_out p.types p.texts p.exceptions ([] ++ map profile_of (take number p.bodies)) no_calls known t are well.types_fit b fits may in
-    closes p (deed t) (callee.Procedure (record { 0 = number })) done.0 (ap (called_does p.types known (deed t)) there ∙ done.1)
-
 module _ (program : Program) (well : IsWellFormed (program_form program)) where
   abbrev p : ProgramForm
   p = program_form program
 
-  -- What is freed by the finalization of a record is freed by that of an object in which it lies.
-  lying_frees : (access r first part : ℕ) (o : Option ℕ) (t : ℕ) → named_in (slice_get p.types access) ≡ o → WalksTo p.types o (Some r) first part →
-      Does p (deed t) (callee.Parts Finalize (record { 0 = r })) → (implicit_of p).end_frees access t ≡ true
-  lying_frees access r first part None t named walks h = absurd walks
-  lying_frees access r first part (Some u) t named walks h =
-      let whole = walked_out p (deed t) Finalize u first part r walks h in
-      ap (parts_do (does_by p (deed t)) Finalize) (record_named access (slice_get p.types access) u named)
-      ∙ (counts_are_enough p (deed t) (callee.Parts Finalize (record { 0 = u }))).1 whole
+  -- What an operation of a record does, that of an object in which it lies does.
+  lying_does : (d : Deed) (operation : Operation) (access r first part : ℕ) (o : Option ℕ) → named_in (slice_get p.types access) ≡ o → WalksTo p.types o (Some r) first part →
+      Does p d (callee.Parts operation (record { 0 = r })) → parts_do (does_by p d) operation (record_at p.types access) ≡ true
+  lying_does d operation access r first part None named walks h = absurd walks
+  lying_does d operation access r first part (Some u) named walks h =
+      let whole = walked_out p d operation u first part r walks h in
+      ap (parts_do (does_by p d) operation) (record_named access (slice_get p.types access) u named)
+      ∙ (counts_are_enough p d (callee.Parts operation (record { 0 = u }))).1 whole
 
-  -- What a procedure frees that overrides Finalize of a record that lies in an object, the end of the object may free.
-  pub done_free :
-      (access of part number : ℕ) → IsOperable p.types access of part → procedure_number (operations_of program.types.items of).finalize ≡ Some number
-      → (t : ℕ) → DoesFree p number t → (implicit_of p).end_frees access t ≡ true
-  done_free access of part number operable overrides t done =
+  -- So it is with what a procedure does that overrides the operation of a record that lies in an object.
+  pub done_lying :
+      (d : Deed) (operation : Operation) (access of part number : ℕ) → IsOperable p.types access of part
+      → procedure_number (overriding operation (operations_of program.types.items of)) ≡ Some number
+      → Does p d (callee.Procedure (record { 0 = number })) → parts_do (does_by p d) operation (record_at p.types access) ≡ true
+  done_lying d operation access of part number operable overrides done =
       let l = lies_at program well access of part operable.0 in
       let r = l.record_type in
-      let d = is_declared program r of l.numbered in
-      let alone : (u : ℕ) → number_of program.types.items (Some u) ≡ Some d.f.number.0 → u ≡ r =
-      λ u is. numbers_are_alone program u r of well (is ∙ ap (λ (n : ℕ). Some n) d.numbered) l.numbered in
-      let own : operations_of program.types.items of ≡ d.f.operations =
-      ap (operations_of program.types.items) (sym d.numbered) ∙ types_have_their_operations program r d.ps d.f d.declares alone in
-      let one = numbered_one d.f.operations.finalize number (sym (ap (λ o. procedure_number o.finalize) own) ∙ overrides) in
-      let out : Does p (deed t) (callee.Procedure one.0) = subst (λ (n : ℕ). DoesFree p n t) (sym one.2) done in
-      lying_frees access r l.first part (named_in (slice_get p.types access)) t refl l.walk
-      (own_out p (deed t) Finalize (record { 0 = r }) d.declares.0 d.ps d.declares.1 d.f one.0 d.declares.2 one.1 out)
+      let declared = is_declared program r of l.numbered in
+      let alone : (u : ℕ) → number_of program.types.items (Some u) ≡ Some declared.f.number.0 → u ≡ r =
+      λ u is. numbers_are_alone program u r of well (is ∙ ap (λ (n : ℕ). Some n) declared.numbered) l.numbered in
+      let own : operations_of program.types.items of ≡ declared.f.operations =
+      ap (operations_of program.types.items) (sym declared.numbered) ∙ types_have_their_operations program r declared.ps declared.f declared.declares alone in
+      let one = numbered_one (overriding operation declared.f.operations) number (sym (ap (λ o. procedure_number (overriding operation o)) own) ∙ overrides) in
+      let out : Does p d (callee.Procedure one.0) = subst (λ (n : ℕ). Does p d (callee.Procedure (record { 0 = n }))) (sym one.2) done in
+      lying_does d operation access r l.first part (named_in (slice_get p.types access)) refl l.walk
+      (own_out p d operation (record { 0 = r }) declared.declares.0 declared.ps declared.declares.1 declared.f one.0 declared.declares.2 one.1 out)
 
 -- What the body of a Finalize may free, the end of an object may free in which such a part lies.
 pub ends_free : (program : Program) → IsWellFormed (program_form program) → (access of part number : ℕ) (b : BodyForm) → IsOperable (program_form program).types access of part
@@ -93,29 +82,43 @@ pub ends_free : (program : Program) → IsWellFormed (program_form program) → 
     → (t : ℕ) → CoveredIn (implicit_of (program_form program)) (seen_in (Some number) (program_form program)) t
     → (implicit_of (program_form program)).end_frees access t ≡ true
 ends_free program well access of part number b operable overrides there t covered =
-    done_free program well access of part number operable overrides t (covered_done (program_form program) well number t b there covered)
+    done_lying program well (deed t) Finalize access of part number operable overrides (covered_done (program_form program) well number t b there covered)
 
--- The same of what the body may free where nothing is called.
-pub ends_free_uncalled : (program : Program) → IsWellFormed (program_form program) → (access of part number : ℕ) (b : BodyForm) → IsOperable (program_form program).types access of part
-    → procedure_number (operations_of program.types.items of).finalize ≡ Some number → slice_get (body_forms program) number ≡ Some b
-    → (t : ℕ) → body_frees (program_form program).types no_calls b t ≡ true → (implicit_of (program_form program)).end_frees access t ≡ true
-ends_free_uncalled program well access of part number b operable overrides there t may =
-    done_free program well access of part number operable overrides t (uncalled_done (program_form program) well number t b there may)
-
--- So the end of the objects of some types may, of which one is that of the object.
-any_end : (ends : ℕ → Bool) (access : ℕ) (types : List ℕ) → is_among types (Some access) ≡ true → ends access ≡ true → list_any ends types ≡ true
-any_end ends access [] among is = absurd (cc among)
-any_end ends access (u ∷ types) among is = by (access == u) refl among (λ also. any_end ends access types also is)
-  where
-    by : (here : Bool) → (access == u) ≡ here → (here || is_among types (Some access)) ≡ true → (is_among types (Some access) ≡ true → list_any ends types ≡ true)
-        → (ends u || list_any ends types) ≡ true
-    by true same also later = let one : access ≡ u = eqb-true access u same in or_left (ends u) (list_any ends types) (ap ends (sym one) ∙ is)
-    by false same also later = or_right (ends u) (list_any ends types) (later also)
-
-pub endings_free_of : (program : Program) → IsWellFormed (program_form program) → (access of part number : ℕ) (b : BodyForm) → IsOperable (program_form program).types access of part
-    → procedure_number (operations_of program.types.items of).finalize ≡ Some number → slice_get (body_forms program) number ≡ Some b
-    → (types : List ℕ) → is_among types (Some access) ≡ true
+-- What the body of an Initialize may free, the start of such an object may.
+pub starts_free : (program : Program) → IsWellFormed (program_form program) → (access of part number : ℕ) (b : BodyForm) → IsOperable (program_form program).types access of part
+    → procedure_number (operations_of program.types.items of).initialize ≡ Some number → slice_get (body_forms program) number ≡ Some b
     → (t : ℕ) → CoveredIn (implicit_of (program_form program)) (seen_in (Some number) (program_form program)) t
-    → endings_free (implicit_of (program_form program)) types t ≡ true
-endings_free_of program well access of part number b operable overrides there types among t covered =
-    any_end (λ u. (implicit_of (program_form program)).end_frees u t) access types among (ends_free program well access of part number b operable overrides there t covered)
+    → (implicit_of (program_form program)).start_frees access t ≡ true
+starts_free program well access of part number b operable overrides there t covered =
+    let p = program_form program in
+    let known = does_by p (deed t) in
+    let o = record_at p.types access in
+    or_left (parts_do known Initialize o) (parts_do known Finalize o)
+    (done_lying program well (deed t) Initialize access of part number operable overrides (covered_done p well number t b there covered))
+
+-- What the end of an object may free, its creation may: what has begun is finalized where an exception comes out (7.6.1).
+pub ends_in_starts : (p : ProgramForm) (access t : ℕ) → (implicit_of p).end_frees access t ≡ true → (implicit_of p).start_frees access t ≡ true
+ends_in_starts p access t frees =
+    let known = does_by p (deed t) in
+    let o = record_at p.types access in
+    or_right (parts_do known Initialize o) (parts_do known Finalize o) frees
+
+-- What the body of such an operation may free, the treatment may that calls it (7.6, 7.6.1).
+pub treated_frees_of : (program : Program) → IsWellFormed (program_form program) → (access of part number : ℕ) (b : BodyForm) → IsOperable (program_form program).types access of part
+    → (treatment : Treatment) → MayTouch treatment → IsCalled (operations_of program.types.items of) treatment number → slice_get (body_forms program) number ≡ Some b
+    → (t : ℕ) → CoveredIn (implicit_of (program_form program)) (seen_in (Some number) (program_form program)) t
+    → treated_frees (implicit_of (program_form program)) treatment access t ≡ true
+treated_frees_of program well access of part number b operable (begins Creation done) may called there t covered = starts_free program well access of part number b operable called there t covered
+treated_frees_of program well access of part number b operable (begins Copy done) may called there t covered = absurd may
+treated_frees_of program well access of part number b operable (begins (Adjustment n) done) may called there t covered = absurd may
+treated_frees_of program well access of part number b operable (ends cause) may called there t covered = ends_free program well access of part number b operable called there t covered
+
+-- What the end of the objects of a type may free, that of the objects of some types may, of which it is one.
+pub any_end : (may : ℕ → Bool) (access : ℕ) (types : List ℕ) → is_among types (Some access) ≡ true → may access ≡ true → list_any may types ≡ true
+any_end may access [] among is = absurd (cc among)
+any_end may access (u ∷ types) among is = by (access == u) refl among (λ also. any_end may access types also is)
+  where
+    by : (here : Bool) → (access == u) ≡ here → (here || is_among types (Some access)) ≡ true → (is_among types (Some access) ≡ true → list_any may types ≡ true)
+        → (may u || list_any may types) ≡ true
+    by true same also later = let one : access ≡ u = eqb-true access u same in or_left (may u) (list_any may types) (ap may (sym one) ∙ is)
+    by false same also later = or_right (may u) (list_any may types) (later also)

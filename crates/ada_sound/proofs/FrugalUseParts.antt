@@ -1,4 +1,4 @@
--- Where a Finalize may be frugal, what has controlled parts lies in declared objects alone (7.6, 3.10).
+-- Where operations may be frugal, what has controlled parts lies in declared objects alone (7.6, 3.10).
 
 use Rattle.std.proofs.Common.{◌≡◌, ℕ, Bool, true, false, List, refl, ap}
 use Rattle.std.specs.Prelude.{Option, Some, None, is_some, not}

@@ -16,7 +16,7 @@ use Rattle.ada_program.specs.declared.program.VariableKind.TheVariants as variab
 use Rattle.ada_program.specs.declared.program.TypeNo.{TypeNo}
 use Rattle.ada_program.specs.WellFormed.{finalization_of, is_access, access_of, kind_among, selectors_kind, variable_kind, record_components, reached_components, items_fit, is_record_object, profile_of, suits_profile}
 use Rattle.ada_program.specs.Handling.{is_same, handler_of}
-use Rattle.ada_effects.specs.Effects.{expression_raises, links_raise, items_raise, path_raises, record_path_raises, condition_raises, unary_raises, binary_raises, right_raises, right_starts, declaration_raises, stmts_raise, branches_raise, handlers_raise, Effect, Implicit, call_raises, body_raises, stmts_free, branches_free, handlers_free, body_frees, call_frees, effects_of, endings_free}
+use Rattle.ada_effects.specs.Effects.{expression_raises, links_raise, items_raise, path_raises, record_path_raises, condition_raises, unary_raises, binary_raises, right_raises, right_starts, declaration_raises, stmts_raise, branches_raise, handlers_raise, Effect, Implicit, call_raises, body_raises, stmts_free, branches_free, handlers_free, body_frees, call_frees, effects_of, endings_free, declaration_frees}
 use Rattle.ada_flow.specs.declared.rule.Hold.TheVariants as hold
 use Rattle.ada_flow.specs.declared.rule.Region.TheVariants.{Whole}
 use Rattle.ada_flow.specs.Flow.{Holds, hold_at, variable_access, lost_by, Outcome, faults, goes, Use, uses_in, uses_in_links, uses_in_item, named_by_item, is_owning, is_owning_record, owns_at_first, broken_among, without_values, moved_by_items, passes_type, behind_end, gives, gives_component, clears, compares_it, uses_in_actuals, Keeping, keeping_of, kept_at, is_kept, handed_back, left_unkept, owed_from, gives_back, all_give_back, are_as_good, have_exit, branches_have_exit, handlers_have_exit, is_left, condition_flow, stmts_flow, branches_flow, handlers_flow, declaration_flow, Gone as GoneWith, collected, is_among, left, left_finalized, left_by_call, nothing_gone, Around}
@@ -36,7 +36,7 @@ use Rattle.ada_meaning.specs.declared.event.Halt.TheVariants.{Finished, Unhandle
 use Rattle.ada_meaning.specs.Frame.{Frame, Elaborates, Does, Decides, Repeats, Turns, Ranges, Counts, Exits, Handles, Closes, Leaves, Calls, Returns, Evaluates, Computes, Follows, TestsNull, Refers, RefersIn, Opens, OpensIn, Continues, Applies, AppliesAlone, Fills, Copies, Creates, Stores, Targets, StoresIn, TargetsRecord, StoresRecord, Assigns, Receives, FreesIn, Declares, DeclaresRecord, Treats, Writes, Ends, GivesBack, Clears, ClearsIn, Treatment, begins, ends}
 use Rattle.ada_meaning.specs.Frame as frame
 use Rattle.ada_meaning.specs.Event.{Born, Finalized, Back, Followed, Left, Line, Quiet}
-use Rattle.ada_meaning.specs.State.{Activation, Owned, declared, collection, record_object, storage_pool, Item, Master, height}
+use Rattle.ada_meaning.specs.State.{Activation, Owned, declared, collection, record_object, storage_pool, Item, Master, height, Destination, home_of}
 use Rattle.ada_meaning.specs.Heap.{Home, Cell, finds}
 use Rattle.ada_meaning.specs.Step.{halts, moves, tells, asks, picks, first_or, older, in_front, before_last, last_of, selected, place_in, places, operands, treating}
 use Rattle.ada_meaning.specs.Named.{Object, State, Next, object_at, look, named, on_object, finished, store, whole, inside}
@@ -324,12 +324,13 @@ Outside known gone w = record w {
   returned = λ holds. BehindMaster known gone w.returned holds;
 }
 
--- Declarations, and what is behind them.
+-- Declarations, and what is behind them: of what their initializations may free no suspended activation has an alias, and the running body may free it.
 abbrev pub Elaborating : Known → List DeclarationForm → (more : Holds → Type 0) → Ways → Holds → Type 0
 Elaborating known [] more w holds = more holds
 Elaborating known (d ∷ ds) more w holds =
     Goes (declaration_flow known.program.types known.program.variables known.implicit d holds) (Elaborating known ds more w)
     (Raised (λ e. declaration_raises known.implicit (is_same e) d) w)
+    × Spares known (λ t. declaration_frees known.implicit t d)
 
 -- By the mode.
 abbrev pub By : Mode → Ways → Holds → Type 0
@@ -947,8 +948,8 @@ gone_in None heap = heap
 gone_in (Some o) heap = on_object finished heap (Names o)
 
 -- What is behind an object under way, by what ends it: a Free, whose variable or component becomes null; the leaving of a master, at the object's
--- home; or an exception that came out of its initialization, and goes on (7.6.1): then the object counts as gone already. A component that is freed counts as
--- null already, and its object is another one.
+-- home; or an exception that came out of its initialization, and goes on (7.6.1): then the object counts as gone already, if an allocator made it. A component
+-- that is freed counts as null already, and its object is another one.
 abbrev pub ClearsTo : Known → (under : Option Id) → List Object → List Value → List Master → Control → Type 0
 ClearsTo known under heap places masters [] = ⊥
 ClearsTo known under heap places masters (Clears x ∷ k) = Freed known under none_spared heap (slice_set places x Null) masters (RunsOn known k)
@@ -967,14 +968,29 @@ LeavesTo known under heap places masters (Leaves mode ∷ k) =
     Freed known under (sparing heap (innermost masters)) heap places masters (RunsOn known (Leaves mode ∷ k))
 LeavesTo known under heap places masters (f ∷ k) = ⊥
 
--- What goes on came out of the initialization of some object (7.6).
-abbrev pub CameOut : Known → Mode → Type 0
-CameOut known mode = (e : Exception) × (access : ℕ) × (mode ≡ Raising e) × (list_any (is_same e) (known.implicit.start_raises access) ≡ true)
+-- What goes on came out of the initialization of an object of this type (7.6).
+abbrev pub CameOut : Known → (access : ℕ) → Mode → Type 0
+CameOut known access mode = (e : Exception) × (mode ≡ Raising e) × (list_any (is_same e) (known.implicit.start_raises access) ≡ true)
+
+-- Of what the initialization of an object may free, no suspended activation and no variable has an alias, and the running body may free it.
+abbrev pub BeginsWell : Known → (access : ℕ) → Holds → Type 0
+BeginsWell known access holds = Spares known (known.implicit.start_frees access) × Unaliased known.program.variables (known.implicit.start_frees access) holds
+
+-- An object under way is of this type, if there is one.
+abbrev pub UnderIs : List Object → (under : Option Id) → (access : ℕ) → Type 0
+UnderIs heap None access = Unit {0}
+UnderIs heap (Some o) access = (object : Object) × (object_at heap o ≡ Some object) × (object.cell.access ≡ access)
+
+-- A collection of this type is open.
+abbrev pub HasCollection : List Master → (access : ℕ) → Type 0
+HasCollection masters access = (home : Destination) × (home_of access masters ≡ Some home)
 
 abbrev pub ResumesTo : Known → (under : Option Id) → List Object → List Value → List Master → Control → Type 0
 ResumesTo known under heap places masters [] = ⊥
 ResumesTo known under heap places masters (frame.Resumes mode ∷ k) =
-    CameOut known mode × Freed known None none_spared (gone_in under heap) places masters (λ rooms holds. To (By mode (ways known k rooms)) holds)
+    (access : ℕ) × UnderIs heap under access × CameOut known access mode
+    × ((HasCollection masters access × Freed known None none_spared (gone_in under heap) places masters (λ rooms holds. To (By mode (ways known k rooms)) holds))
+    ⊎ Freed known under none_spared heap places masters (λ rooms holds. To (By mode (ways known k rooms)) holds × BeginsWell known access holds))
 ResumesTo known under heap places masters (f ∷ k) = ⊥
 
 abbrev pub Behind : Known → Cause → (under : Option Id) → (home : ℕ) → List Object → List Value → List Master → Control → Type 0
@@ -1135,10 +1151,38 @@ NamesTo known (StoresIn o c ∷ k) heap places operands masters =
     IsHolder heap o × Working known (store heap o c (first_or Null operands)) places masters (RunsOn known k)
 NamesTo known (f ∷ k) heap places operands masters = ⊥
 
+-- A record object is initialized that a declaration created (3.3.1, 7.6). Its variable owns it, and nothing else relies on it. What is left goes on behind that,
+-- and where an exception comes out, it does so without the variable. Of what its initialization may free there is no alias.
+pub record Beginning (known : Known) (v : Value) (k : Control) (heap : List Object) (places : List Value) (masters : List Master) : Type 0 where
+  pub o : Id
+  pub object : Object
+  pub is : v ≡ Names o
+  pub found : object_at heap o ≡ Some object
+  pub x : ℕ
+  pub rooms : Rooms
+  pub holds : Holds
+  pub stored : Stored (outers known).under heap masters
+  pub roomed : Roomed (below known) masters rooms
+  pub fit : Fit known.program.types known.program.variables (outers known) none_spared heap places holds
+  pub aside : IsAside known none_spared heap places (slice_set holds x hold.Lost) (Some o)
+  pub runs : RunsOn known k rooms holds
+  pub undone : StartsTo known object.cell.access k rooms (slice_set holds x hold.Lost)
+  pub well : BeginsWell known object.cell.access holds
+
+-- What a value names is of an access type of which a collection is open.
+abbrev pub IsCollected : List Object → List Master → Value → Type 0
+IsCollected heap masters v = (o : Id) (x : Object) → v ≡ Names o → object_at heap o ≡ Some x → HasCollection masters x.cell.access
+
 -- Behind that of a record object what is left goes on.
-abbrev pub BegunTo : Known → Control → List Object → (places operands : List Value) → List Master → Type 0
-BegunTo known k heap places operands masters =
-    Working known heap places masters (RunsOn known k) ⊎ NamesTo known k heap places operands masters
+abbrev pub BeginsBy : Known → Value → Birth → Control → List Object → (places : List Value) → List Master → Type 0
+BeginsBy known v Creation k heap places masters = Beginning known v k heap places masters
+BeginsBy known v Copy k heap places masters = Working known heap places masters (RunsOn known k)
+BeginsBy known v (Adjustment number) k heap places masters = Working known heap places masters (RunsOn known k)
+
+-- So it does behind that of any object.
+abbrev pub BegunTo : Known → Value → Birth → Control → List Object → (places operands : List Value) → List Master → Type 0
+BegunTo known v by k heap places operands masters =
+    BeginsBy known v by k heap places masters ⊎ (IsCollected heap masters v × NamesTo known k heap places operands masters)
 
 -- Behind the finalization of an object stands its end.
 abbrev pub EndsTo : Known → Value → Control → List Object → List Value → List Master → Type 0
@@ -1163,10 +1207,13 @@ abbrev pub StartsRaise : Known → List Object → Value → Exception → Type 
 StartsRaise known heap v e =
     (o : Id) × (x : Object) × (v ≡ Names o) × (object_at heap o ≡ Some x) × (list_any (is_same e) (known.implicit.start_raises x.cell.access) ≡ true)
 
--- What is behind the initialization of an object goes on with an exception (7.6.1): the object counts as gone already.
+-- What is behind the initialization of an object goes on with an exception (7.6.1): the object counts as gone already, if an allocator made it; nothing relies on
+-- one that a declaration created.
 abbrev pub UndoneTo : Known → Value → Control → List Object → List Value → List Master → Exception → Type 0
 UndoneTo known v k heap places masters e =
-    Freed known None none_spared (on_object finished heap v) places masters (λ rooms holds. To ((ways known k rooms).raised e) holds)
+    (o : Id) × (access : ℕ) × (v ≡ Names o) × UnderIs heap (Some o) access
+    × ((HasCollection masters access × Freed known None none_spared (on_object finished heap v) places masters (λ rooms holds. To ((ways known k rooms).raised e) holds))
+    ⊎ Freed known (Some o) none_spared heap places masters (λ rooms holds. To ((ways known k rooms).raised e) holds × BeginsWell known access holds))
 
 -- A new object may be undone, where an exception comes out of its initialization; what is copied or adjusted never is (7.6, 7.6.1).
 abbrev pub MayUndo : Known → Value → Birth → Control → List Object → List Value → List Master → Type 0
@@ -1177,7 +1224,7 @@ MayUndo known v (Adjustment number) k heap places masters = Unit {0}
 
 -- An object is treated (7.6, 7.6.1): whatever is left of that, what is behind is ready; and so it is where a new object is undone.
 abbrev pub TreatsBy : Known → Value → Treatment → Control → List Object → (places operands : List Value) → List Master → Type 0
-TreatsBy known v (begins by done) k heap places operands masters = BegunTo known k heap places operands masters × MayUndo known v by k heap places masters
+TreatsBy known v (begins by done) k heap places operands masters = BegunTo known v by k heap places operands masters × MayUndo known v by k heap places masters
 TreatsBy known v (ends cause) k heap places operands masters = EndsTo known v k heap places masters ⊎ CopiesBehind known k heap places operands masters
 
 -- An object exists that a value names.

@@ -50,7 +50,7 @@ freed_either a b None = refl
 freed_either a b (Some t) = refl
 
 module _ (may : ℕ → Bool) where
-  freed_apart : (variables : List VariableForm) (holds : Holds) (x : ℕ) → without_freed variables may (slice_set holds x hold.Lost) ≡ slice_set (without_freed variables may holds) x hold.Lost
+  pub freed_apart : (variables : List VariableForm) (holds : Holds) (x : ℕ) → without_freed variables may (slice_set holds x hold.Lost) ≡ slice_set (without_freed variables may holds) x hold.Lost
   freed_apart [] holds x = refl
   freed_apart (v ∷ vs) [] x = refl
   freed_apart (v ∷ vs) (h ∷ hs) zero = ap (λ (g : Hold). g ∷ without_freed vs may hs) (alias_lost (is_freed may (access_of (Some v.kind))))
@@ -243,7 +243,7 @@ no_alias (hold.Own r) b = b
 no_alias (hold.Alias r) b = b
 no_alias hold.Lost b = b
 
-freed_none : (variables : List VariableForm) (may : ℕ → Bool) (holds : Holds) (x t : ℕ) → variable_access variables x ≡ Some t → may t ≡ true → Borrows (hold_at (without_freed variables may holds) x) → ⊥
+pub freed_none : (variables : List VariableForm) (may : ℕ → Bool) (holds : Holds) (x t : ℕ) → variable_access variables x ≡ Some t → may t ≡ true → Borrows (hold_at (without_freed variables may holds) x) → ⊥
 freed_none [] may holds x t of is b = absurd (cc of)
 freed_none (v ∷ vs) may [] x t of is b = b
 freed_none (v ∷ vs) may (h ∷ holds) zero t of is b = no_alias h (rw (of, is) at b)

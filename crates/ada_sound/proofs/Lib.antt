@@ -113,7 +113,6 @@ pub mod OperationFrames
 pub mod OperationRuns
 pub mod OperationLaw
 -- what it raises
-pub mod FrugalRaises
 pub mod FrugalControl
 pub mod FrugalFrees
 pub mod FrugalFrames
@@ -122,8 +121,8 @@ pub mod FrugalSteps
 pub mod FrugalUseParts
 pub mod FrugalUseEnds
 pub mod FrugalUseFrees
+pub mod FrugalUseLets
 pub mod FrugalUseCopies
-pub mod FrugalUseStarts
 -- what Free of a component does
 pub mod Releases
 -- record objects are declared
@@ -141,7 +140,7 @@ pub mod Statements
 -- jumps on their way
 pub mod Jumps
 -- the body of a Finalize that touches storage
-pub mod Finalizing
+pub mod Touching
 -- the first state
 pub mod Starts
 -- one step
@@ -150,20 +149,20 @@ pub mod Steps
 pub mod InOrder
 -- of which records a treatment speaks
 pub mod Operated
-pub mod FinalizingEnds
+pub mod TouchingEnds
 -- what is behind its object, where it is called
-pub mod FinalizingRests
+pub mod TouchingRests
 -- where its body begins
-pub mod FinalizingBegins
-pub mod FinalizingStarts
+pub mod TouchingBegins
+pub mod TouchingStarts
 -- what a body sees
 pub mod Sees
 -- its steps, and its end
-pub mod FinalizingSteps
+pub mod TouchingSteps
 -- while it leaves a master of its own
-pub mod FinalizingLeaves
+pub mod TouchingLeaves
 -- what stands there
-pub mod FinalizingStands
+pub mod TouchingStands
 -- whole runs
 pub mod Runs
 -- the laws of order
@@ -224,6 +223,8 @@ pub mod ExampleControlled
 pub mod ExampleOperations
 pub mod ExampleUndone
 pub mod ExampleTidying
+pub mod ExampleAllocating
+pub mod ExampleUndoing
 -- where flow is not agreed with
 pub mod ExampleInside
 -- where a statement begins

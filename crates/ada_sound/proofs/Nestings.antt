@@ -7,7 +7,7 @@ use Rattle.ada_program.specs.declared.program.Exception.{Exception}
 use Rattle.ada_program.specs.declared.program.Exception.TheVariants.{ConstraintError}
 use Rattle.ada_program.specs.Form.{ExpressionForm, DeclarationForm, StmtForm, chooses, repeats, counts, encloses, StmtsForm, a_stmt, BranchesForm, otherwise, a_branch, HandlersForm, no_handlers, a_handler}
 use Rattle.ada_program.specs.Handling.{is_same, some_takes, handler_of}
-use Rattle.ada_effects.specs.Effects.{Effects, effects_of, endings_free, declarations_free, leaving_frees, stmt_frees, stmts_free, branches_free, handlers_free, expression_raises, untaken, declaration_raises, declarations_raise, stmt_raises, stmts_raise, branches_raise, handlers_raise, passes}
+use Rattle.ada_effects.specs.Effects.{Effects, effects_of, endings_free, declaration_frees, declarations_free, leaving_frees, stmt_frees, stmts_free, branches_free, handlers_free, expression_raises, untaken, declaration_raises, declarations_raise, stmt_raises, stmts_raise, branches_raise, handlers_raise, passes}
 use Rattle.ada_flow.specs.Flow.{Holds, Outcome, loop_flow, uses_in, computed as computed_flow, bounds_flow, either_of, opened_by_all, counting_start, has_exit, have_exit, branches_have_exit, handlers_have_exit, is_left, condition_flow, ends_turn, exit_of, exit_flow, declaration_flow, declarations_flow, Gone, nothing_gone, gone_with, gone_with_both, loses, left, left_finalized, in_loop, begins_pair, stmt_flow, stmts_flow, branches_flow, handlers_flow, handled, then_flow, goes}
 use Rattle.ada_meaning.specs.Frame.{Does, Repeats, Counts, Handles, Closes}
 use Rattle.ada_sound.specs.Agreement.{Turning, past, into, counting, behind, in_branches, in_body, in_count, in_enclosed, in_others, in_this, in_next, to_this, to_next, ComesInside, in_statements, in_handlers}
@@ -254,13 +254,15 @@ module _ (known : Known) where
       pick false here more past' = more past'
 
   -- Declarations come one after another.
-  elaborates_from : (ds : List DeclarationForm) (holds : Holds) (more : Holds → Type 0) (among : Exception → Bool) (w : Ways) → ((e : Exception) → declarations_raise known.implicit (is_same e) ds ≡ true → among e ≡ true) → Goes (declarations_flow known.program.types known.program.variables known.implicit ds holds) more (Raised among w) → Elaborating known ds more w holds
-  elaborates_from [] holds more among w m g = g.0
-  elaborates_from (d ∷ ds) holds more among w m g =
-      goes_map (declaration_flow known.program.types known.program.variables known.implicit d holds) (λ h. Goes (declarations_flow known.program.types known.program.variables known.implicit ds h) more (Raised among w)) (Raised among w) (Elaborating known ds more w) (Raised (λ e. declaration_raises known.implicit (is_same e) d) w)
-      (λ h n. elaborates_from ds h more among w (λ e i. m e (or_right (declaration_raises known.implicit (is_same e) d) (declarations_raise known.implicit (is_same e) ds) i)) n)
-      (λ h r. raised_less among (λ e. declaration_raises known.implicit (is_same e) d) w (λ e i. m e (or_left (declaration_raises known.implicit (is_same e) d) (declarations_raise known.implicit (is_same e) ds) i)) h r)
-      (then_goes (declaration_flow known.program.types known.program.variables known.implicit d holds) (declarations_flow known.program.types known.program.variables known.implicit ds) more (Raised among w) (raised_before among w) g)
+  elaborates_from : (ds : List DeclarationForm) (holds : Holds) (more : Holds → Type 0) (among : Exception → Bool) (w : Ways) → ((e : Exception) → declarations_raise known.implicit (is_same e) ds ≡ true → among e ≡ true) → Goes (declarations_flow known.program.types known.program.variables known.implicit ds holds) more (Raised among w) → Spares known (λ t. declarations_free known.implicit t ds) → Elaborating known ds more w holds
+  elaborates_from [] holds more among w m g spares = g.0
+  elaborates_from (d ∷ ds) holds more among w m g spares = (
+    goes_map (declaration_flow known.program.types known.program.variables known.implicit d holds) (λ h. Goes (declarations_flow known.program.types known.program.variables known.implicit ds h) more (Raised among w)) (Raised among w) (Elaborating known ds more w) (Raised (λ e. declaration_raises known.implicit (is_same e) d) w)
+        (λ h n. elaborates_from ds h more among w (λ e i. m e (or_right (declaration_raises known.implicit (is_same e) d) (declarations_raise known.implicit (is_same e) ds) i)) n (λ t i. spares t (or_right (declaration_frees known.implicit t d) (declarations_free known.implicit t ds) i)))
+        (λ h r. raised_less among (λ e. declaration_raises known.implicit (is_same e) d) w (λ e i. m e (or_left (declaration_raises known.implicit (is_same e) d) (declarations_raise known.implicit (is_same e) ds) i)) h r)
+        (then_goes (declaration_flow known.program.types known.program.variables known.implicit d holds) (declarations_flow known.program.types known.program.variables known.implicit ds) more (Raised among w) (raised_before among w) g),
+    (λ t i. spares t (or_left (declaration_frees known.implicit t d) (declarations_free known.implicit t ds) i)),
+  )
 
   -- What a part may raise: its declarations, its statements past their handlers, its handlers.
   pub record PartRaises (ds : List DeclarationForm) (fs : StmtsForm) (hs : HandlersForm) (among : Exception → Bool) : Type 0 where
@@ -273,9 +275,9 @@ module _ (known : Known) where
       → ((way : List Turning) (place : Control) (at : Holds) → ComesInside known.program.types known.program.variables (around_at known inner) k ds fs hs holds way place at → known.At place at)
       → Goes (then_flow (declarations_flow known.program.types known.program.variables known.implicit ds holds) (λ at. handled (passes effects fs hs) (handlers_flow known.program.types known.program.variables (around_at known inner) hs) (stmts_flow known.program.types known.program.variables (around_at known inner) fs at))) (To o.normal) (Raised among o)
       → OnExit known.program.variables (have_exit fs) (around_at known inner) o.exited → OnExit known.program.variables (handlers_have_exit hs) (around_at known inner) o.exited → OnReturn known.program.variables (around_at known inner) o.returned
-      → Spares known (λ t. stmts_may t fs) → Spares known (λ t. handlers_may t hs)
+      → Spares known (λ t. stmts_may t fs) → Spares known (λ t. handlers_may t hs) → Spares known (λ t. declarations_free known.implicit t ds)
       → Elaborating known ds (Doing known fs (Handles hs ∷ Closes ∷ k) (Handled known hs (Closes ∷ k) o)) o holds
-  part_from inner k ds fs hs o among holds p from g exits' exits'' returns' spares' spares'' =
+  part_from inner k ds fs hs o among holds p from g exits' exits'' returns' spares' spares'' first =
       let v = known.program.variables in
       let part : Holds → Outcome = λ at. handled (passes effects fs hs) (handlers_flow known.program.types v (around_at known inner) hs) (stmts_flow known.program.types v (around_at known inner) fs at) in
       elaborates_from ds holds (Doing known fs (Handles hs ∷ Closes ∷ k) (Handled known hs (Closes ∷ k) o)) among o p.by_declarations
@@ -299,7 +301,7 @@ module _ (known : Known) where
         spares',
       ))
       (λ normal h is r. r)
-      (then_goes (declarations_flow known.program.types v known.implicit ds holds) part (To o.normal) (Raised among o) (raised_before among o) g))
+      (then_goes (declarations_flow known.program.types v known.implicit ds holds) part (To o.normal) (Raised among o) (raised_before among o) g)) first
 
   -- What leaves a block on its way behind a loop.
   exits_block : (gone inside : Gone) (start : Option Holds) (holds : Holds) → MayExit known.program.variables known.implicit start (gone_with_both gone inside) holds → MayExit known.program.variables known.implicit start inside (left_finalized known.program.variables known.implicit gone holds)
@@ -339,3 +341,4 @@ module _ (known : Known) where
       (λ h may. (let behind = left_finalized v known.implicit gone h in (ends, to_here w.returned behind (returns' behind (returns_block gone here.within (owed_in known.program) h may)))))
       (λ t i. spares t (or_left (stmts_may t body || handlers_may t hs) (parts_may t ds) (or_left (stmts_may t body) (handlers_may t hs) i)))
       (λ t i. spares t (or_left (stmts_may t body || handlers_may t hs) (parts_may t ds) (or_right (stmts_may t body) (handlers_may t hs) i)))
+      (λ t i. spares t (or_right (stmts_may t body || handlers_may t hs) (parts_may t ds) (or_left (declarations_free known.implicit t ds) (leaving_frees known.implicit t ds) i)))

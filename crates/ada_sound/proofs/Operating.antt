@@ -33,7 +33,7 @@ use Rattle.ada_meaning.specs.Step.{treating, beginning}
 use Rattle.ada_meaning.specs.Named.{Object, State, object_at}
 use Rattle.ada_typed.proofs.Kept.{Behind, behind_call}
 use Rattle.ada_finalized.specs.Law.{NoOperationRuns}
-use Rattle.ada_quiet.specs.Quiet.{is_elementary, holds_elementary, is_quiet_expression, are_quiet_links, is_quiet_condition, are_quiet_declarations, are_quiet, are_quiet_branches, are_quiet_handlers}
+use Rattle.ada_quiet.specs.Quiet.{is_elementary, holds_elementary, is_quiet_expression, are_quiet_links, is_quiet_condition, are_quiet_declarations, are_quiet, are_quiet_branches, are_quiet_handlers, is_plain_body}
 use Rattle.ada_sound.proofs.Bodies.{IsBody}
 use Rattle.ada_sound.proofs.Fits.{IsWithin, place_at}
 use Rattle.ada_sound.proofs.Invariant.{Control, TreatsBy}
@@ -259,10 +259,11 @@ pub record Suspended (program : Program) (object : Id) (treatment : Treatment) (
   pub stands : Stands program suspensions (behind_operation (caller ∷ rest) behind lower s)
   pub calm : IsCalm (behind_call behind)
 
--- The body of an operation runs.
+-- The body of an operation runs that touches Integers and Booleans alone.
 pub record Operates (program : Program) (s : State) : Type 0 where
   pub procedure : ℕ
   pub is_body : IsBody (program_form program) (Some procedure)
+  pub plain : is_plain_body (program_form program).types is_body.0 ≡ true
   pub places : List Value
   pub operands : List Value
   pub caller : Activation Value
@@ -281,6 +282,7 @@ pub record Operates (program : Program) (s : State) : Type 0 where
 
 -- What is known of a plain body, in which no exit leads out of the body.
 pub record PlainBody (types : List TypeForm) (b : BodyForm) : Type 0 where
+  pub plain : is_plain_body types b ≡ true
   pub elementary : list_all (λ x. is_elementary x.kind) (drop 1 b.variables) ≡ true
   pub declarations : are_quiet_declarations types b.variables b.declarations ≡ true
   pub statements : are_quiet types b.variables b.statements ≡ true

@@ -30,12 +30,12 @@ pub is_live : (heap : List Object) (o : Id) (x : Object) → object_at heap o �
 is_live heap o x found live = (x.cell, rw found (found_by x x.stage live))
 
 -- What is behind the body of an operation is ready.
-ready_for : (known : Known) (o : Id) (of : ℕ) (treatment : Treatment) (k behind : Control) (heap : List Object) (places operands : List Value) (ms : List Master) → IsLive heap (Names o) → WaitsFor o of treatment k behind → TreatsBy known (Names o) treatment k heap places operands ms → ReadyIn known Running behind heap places operands ms
+pub ready_for : (known : Known) (o : Id) (of : ℕ) (treatment : Treatment) (k behind : Control) (heap : List Object) (places operands : List Value) (ms : List Master) → IsLive heap (Names o) → WaitsFor o of treatment k behind → TreatsBy known (Names o) treatment k heap places operands ms → ReadyIn known Running behind heap places operands ms
 ready_for known o of (begins by done) k behind heap places operands ms live (part, tasks, is) r = rw is (live, r)
 ready_for known o of (ends cause) k behind heap places operands ms live (tasks, is) r = rw is (Names o, cause, tasks, k, refl, r)
 
 -- So it is where an exception comes out of the body: the object is a new one, which is undone then.
-ready_raising : (known : Known) (o : Id) (of : ℕ) (treatment : Treatment) (access : ℕ) (k behind : Control) (heap : List Object) (places operands : List Value) (ms : List Master) (e : Exception) (x : Object) → object_at heap o ≡ Some x → x.cell.access ≡ access → IsLive heap (Names o) → WaitsFor o of treatment k behind
+pub ready_raising : (known : Known) (o : Id) (of : ℕ) (treatment : Treatment) (access : ℕ) (k behind : Control) (heap : List Object) (places operands : List Value) (ms : List Master) (e : Exception) (x : Object) → object_at heap o ≡ Some x → x.cell.access ≡ access → IsLive heap (Names o) → WaitsFor o of treatment k behind
     → lets_out known.implicit access treatment e ≡ true → TreatsBy known (Names o) treatment k heap places operands ms → ReadyIn known (Raising e) behind heap places operands ms
 ready_raising known o of (begins Creation done) access k behind heap places operands ms e x found same live (part, tasks, is) out r =
     rw is (refl, live, r.1.0, (o, x, refl, found, rw same out), r.1.1 e (o, x, refl, found, rw same out))

@@ -43,6 +43,7 @@ pub operates_on : (program : Program) (s after : State) (e : Event) (o : Operate
 operates_on program s after e o a = record {
   procedure = o.procedure;
   is_body = o.is_body;
+  plain = o.plain;
   places = a.places;
   operands = a.operands;
   caller = o.caller;

@@ -125,6 +125,7 @@ module _ (program : Program) (number : ℕ) (b : BodyForm) (there : slice_get (b
       record {
         procedure = number;
         is_body = (b, there);
+        plain = plain.plain;
         places = given_places named (reference ∷ []) b.variables;
         operands = [];
         caller = caller;

@@ -22,11 +22,12 @@ use Rattle.ada_flow.specs.Flow.{have_exit, handlers_have_exit}
 use Rattle.ada_typed.proofs.Bodies.{seen_as, seen_fits}
 use Rattle.ada_scopes.specs.Scopes.{NestsAnywhere, AllNestAnywhere, OperationsNest}
 use Rattle.ada_quiet.specs.Quiet.{is_quiet_stmt, are_quiet, are_quiet_branches, are_quiet_handlers, are_quiet_declarations, is_plain_body, is_plain_procedure, is_quiet_procedure, is_plain_operation, is_quiet_operation, adjusts_access}
-use Rattle.ada_quiet.specs.Frugal.{is_frugal_body, is_frugal_procedure, is_frugal_operation}
-use Rattle.ada_quiet.specs.InUse.{may_be_frugal, uses_finalize, uses_operations, operations_are_in_use}
+use Rattle.ada_quiet.specs.Frugal.{is_frugal_body, is_frugal_procedure, is_frugal_operation, is_silent_procedure, is_silent_operation}
+use Rattle.ada_quiet.specs.InUse.{may_be_frugal, uses_initialize, uses_finalize, uses_operations, operations_are_in_use}
 use Rattle.ada_quiet.proofs.InUse.{plain_procedure, plain_operation}
 use Rattle.ada_sound.proofs.Exits.{no_exits, no_exit_handlers}
 use Rattle.ada_sound.proofs.OperationStarts.{apart}
+use Rattle.ada_parts.specs.Part as parts
 use Rattle.ada_meaning.specs.declared.event.Birth.TheVariants.{Creation, Copy, Adjustment}
 use Rattle.ada_meaning.specs.declared.event.Cause.{Cause}
 use Rattle.ada_meaning.specs.Frame.{Treatment, begins, ends}
@@ -89,6 +90,7 @@ plain_is types b plain out on =
     let three = apart _ _ four.0 in
     let two = apart _ _ three.0 in
     record {
+      plain = plain;
       elementary = two.0;
       declarations = two.1;
       statements = three.1;
@@ -123,11 +125,14 @@ module _ (p : ProgramForm) where
   abbrev IsFrugal : ℕ → Type 0
   IsFrugal number = (may_be_frugal p ≡ true) × (is_frugal_procedure (slice_get p.bodies number) ≡ true)
 
-  -- What overrides Initialize is plain, what overrides Adjust is quiet, and what overrides Finalize is quiet or frugal.
+  abbrev IsSilent : ℕ → Type 0
+  IsSilent number = is_silent_procedure (slice_get p.bodies number) ≡ true
+
+  -- What overrides Initialize is plain or frugal, what overrides Adjust is quiet, and what overrides Finalize is quiet, or frugal and silent.
   record AreUsed (o : Operations) (number : ℕ) : Type 0 where
-    initializes : procedure_number o.initialize ≡ Some number → IsPlain number
+    initializes : procedure_number o.initialize ≡ Some number → IsPlain number ⊎ IsFrugal number
     adjusts : procedure_number o.adjust ≡ Some number → IsQuiet number
-    finalizes : procedure_number o.finalize ≡ Some number → IsQuiet number ⊎ IsFrugal number
+    finalizes : procedure_number o.finalize ≡ Some number → IsQuiet number ⊎ (IsFrugal number × IsSilent number)
 
   plain_one : (o : Option ProcedureNo) (number : ℕ) → is_plain_operation p o ≡ true → procedure_number o ≡ Some number → IsPlain number
   plain_one None number plain is = absurd (cc is)
@@ -141,12 +146,26 @@ module _ (p : ProgramForm) where
   frugal_one None number frugal is = absurd (cc is)
   frugal_one (Some procedure) number frugal is = let same : procedure.0 ≡ number = cc is in rw same at frugal
 
-  finalize_one : (o : Option ProcedureNo) (number : ℕ) → uses_finalize p o ≡ true → procedure_number o ≡ Some number → IsQuiet number ⊎ IsFrugal number
+  silent_one : (o : Option ProcedureNo) (number : ℕ) → is_silent_operation p o ≡ true → procedure_number o ≡ Some number → IsSilent number
+  silent_one None number silent is = absurd (cc is)
+  silent_one (Some procedure) number silent is = let same : procedure.0 ≡ number = cc is in rw same at silent
+
+  finalize_one : (o : Option ProcedureNo) (number : ℕ) → uses_finalize p o ≡ true → procedure_number o ≡ Some number → IsQuiet number ⊎ (IsFrugal number × IsSilent number)
   finalize_one o number uses is = by (is_quiet_operation p o) refl uses
     where
-      by : (quiet : Bool) → is_quiet_operation p o ≡ quiet → (quiet || (may_be_frugal p && is_frugal_operation p o)) ≡ true → IsQuiet number ⊎ IsFrugal number
+      by : (quiet : Bool) → is_quiet_operation p o ≡ quiet → (quiet || (may_be_frugal p && is_frugal_operation p o && is_silent_operation p o)) ≡ true → IsQuiet number ⊎ (IsFrugal number × IsSilent number)
       by true quiet uses' = inl (quiet_one o number quiet is)
-      by false quiet uses' = let both = apart (may_be_frugal p) (is_frugal_operation p o) uses' in inr (both.0, frugal_one o number both.1 is)
+      by false quiet uses' =
+          let three = apart (may_be_frugal p && is_frugal_operation p o) (is_silent_operation p o) uses' in
+          let both = apart (may_be_frugal p) (is_frugal_operation p o) three.0 in
+          inr ((both.0, frugal_one o number both.1 is), silent_one o number three.1 is)
+
+  initialize_one : (o : Option ProcedureNo) (number : ℕ) → uses_initialize p o ≡ true → procedure_number o ≡ Some number → IsPlain number ⊎ IsFrugal number
+  initialize_one o number uses is = by (is_plain_operation p o) refl uses
+    where
+      by : (plain : Bool) → is_plain_operation p o ≡ plain → (plain || (may_be_frugal p && is_frugal_operation p o)) ≡ true → IsPlain number ⊎ IsFrugal number
+      by true plain uses' = inl (plain_one o number plain is)
+      by false plain uses' = let both = apart (may_be_frugal p) (is_frugal_operation p o) uses' in inr (both.0, frugal_one o number both.1 is)
 
   three_used : (f : Option Finalization) (number : ℕ) → uses_operations p f ≡ true → AreUsed (operations_in f) number
   three_used None number uses = record { initializes = λ is. absurd (cc is); adjusts = λ is. absurd (cc is); finalizes = λ is. absurd (cc is) }
@@ -154,7 +173,7 @@ module _ (p : ProgramForm) where
       let three = apart _ _ uses in
       let two = apart _ _ three.0 in
       record {
-        initializes = λ is. plain_one f.operations.initialize number two.0 is;
+        initializes = λ is. initialize_one f.operations.initialize number two.0 is;
         adjusts = λ is. quiet_one f.operations.adjust number two.1 is;
         finalizes = λ is. finalize_one f.operations.finalize number three.1 is;
       }
@@ -225,6 +244,17 @@ module _ (p : ProgramForm) where
       let b = there_one t (Some procedure) procedure.0 right refl in
       nests_there procedure.0 b.0 b.1 (λ callees around. body_is p.types callees b.0 around (rw (b.1) at plain))
 
+  initialize_nests : (t : ℕ) (o : Option ProcedureNo) → overrides_rightly p.types (callable_in p) t o ≡ true → uses_initialize p o ≡ true → NestsAnywhere (callees_of p) o
+  initialize_nests t None right uses = tt
+  initialize_nests t (Some procedure) right uses = by (initialize_one (Some procedure) procedure.0 uses refl)
+    where
+      b : (c : BodyForm) × (slice_get p.bodies procedure.0 ≡ Some c)
+      b = there_one t (Some procedure) procedure.0 right refl
+
+      by : IsPlain procedure.0 ⊎ IsFrugal procedure.0 → NestsAnywhere (callees_of p) (Some procedure)
+      by (inl plain) = plain_nests t (Some procedure) right plain
+      by (inr frugal) = nests_there procedure.0 b.0 b.1 (λ callees around. frugal_nests p.types callees b.0 around (rw (b.1) at (frugal.1)))
+
   finalize_nests : (t : ℕ) (o : Option ProcedureNo) → overrides_rightly p.types (callable_in p) t o ≡ true → uses_finalize p o ≡ true → NestsAnywhere (callees_of p) o
   finalize_nests t None right uses = tt
   finalize_nests t (Some procedure) right uses = by (finalize_one (Some procedure) procedure.0 uses refl)
@@ -232,9 +262,9 @@ module _ (p : ProgramForm) where
       b : (c : BodyForm) × (slice_get p.bodies procedure.0 ≡ Some c)
       b = there_one t (Some procedure) procedure.0 right refl
 
-      by : IsQuiet procedure.0 ⊎ IsFrugal procedure.0 → NestsAnywhere (callees_of p) (Some procedure)
+      by : IsQuiet procedure.0 ⊎ (IsFrugal procedure.0 × IsSilent procedure.0) → NestsAnywhere (callees_of p) (Some procedure)
       by (inl quiet) = plain_nests t (Some procedure) right (plain_operation p (Some procedure) quiet)
-      by (inr frugal) = nests_there procedure.0 b.0 b.1 (λ callees around. frugal_nests p.types callees b.0 around (rw (b.1) at (frugal.1)))
+      by (inr both) = nests_there procedure.0 b.0 b.1 (λ callees around. frugal_nests p.types callees b.0 around (rw (b.1) at (both.0.1)))
 
   nests_three : (t : ℕ) (f : Option Finalization) → has_operations p.types (callable_in p) t f ≡ true → uses_operations p f ≡ true → AllNestAnywhere (callees_of p) (operations_in f)
   nests_three t None right uses = (tt, tt, tt)
@@ -243,7 +273,7 @@ module _ (p : ProgramForm) where
       let three = apart _ _ two.0 in
       let uses_two = apart _ _ uses in
       let uses_three = apart _ _ uses_two.0 in
-      (plain_nests t f.operations.initialize three.0 uses_three.0, plain_nests t f.operations.adjust three.1 (plain_operation p f.operations.adjust uses_three.1), finalize_nests t f.operations.finalize two.1 uses_two.1)
+      (initialize_nests t f.operations.initialize three.0 uses_three.0, plain_nests t f.operations.adjust three.1 (plain_operation p f.operations.adjust uses_three.1), finalize_nests t f.operations.finalize two.1 uses_two.1)
 
   nests_at : (ts : List TypeForm) (n i : ℕ) → have_operations p.types (callable_in p) n ts ≡ true → list_all (λ t. uses_operations p (finalization_in (Some t)) && not (adjusts_access p t)) ts ≡ true → AllNestAnywhere (callees_of p) (operations_in (finalization_in (slice_get ts i)))
   nests_at [] n i right uses = (tt, tt, tt)
@@ -260,11 +290,18 @@ LetsNothingOut (begins Copy done) b = body_raises no_calls b (λ e. true) ≡ fa
 LetsNothingOut (begins (Adjustment number) done) b = body_raises no_calls b (λ e. true) ≡ false
 LetsNothingOut (ends cause) b = body_raises no_calls b (λ e. true) ≡ false
 
--- What is called is plain, or it is a frugal Finalize.
+-- What is called for a new object, or for one that is finalized, may touch storage (7.6, 7.6.1).
+abbrev pub MayTouch : Treatment → Type 0
+MayTouch (begins Creation done) = Unit {0}
+MayTouch (begins Copy done) = ⊥
+MayTouch (begins (Adjustment number) done) = ⊥
+MayTouch (ends cause) = Unit {0}
+
+-- What is called is plain, or it is a frugal Initialize or Finalize.
 abbrev pub IsUsedAs : ProgramForm → Treatment → BodyForm → Type 0
 IsUsedAs p treatment b =
     (PlainBody p.types b × LetsNothingOut treatment b)
-    ⊎ ((cause : Cause) × (treatment ≡ ends cause) × (may_be_frugal p ≡ true) × (is_frugal_body b ≡ true))
+    ⊎ (MayTouch treatment × (may_be_frugal p ≡ true) × (is_frugal_body b ≡ true) × LetsNothingOut treatment b)
 
 -- What overrides an operation, by the number of the type among the controlled ones.
 module _ (program : Program) (uses : operations_are_in_use (program_form program) ≡ true) (well : IsWellFormed (program_form program)) (of number : ℕ) (b : BodyForm) (there : slice_get (body_forms program) number ≡ Some b) where
@@ -286,12 +323,19 @@ module _ (program : Program) (uses : operations_are_in_use (program_form program
   quiet_body : IsQuiet whole number → PlainBody whole.types b × (body_raises no_calls b (λ e. true) ≡ false)
   quiet_body quiet = (plain_body (plain_procedure whole.types (slice_get whole.bodies number) quiet), no_no (body_raises no_calls b (λ e. true)) (apart _ _ (rw there at quiet)).1)
 
-  finalizes_as : (cause : Cause) → IsQuiet whole number ⊎ IsFrugal whole number → IsUsedAs whole (ends cause) b
+  silent_body : IsSilent whole number → body_raises no_calls b (λ e. true) ≡ false
+  silent_body silent = no_no (body_raises no_calls b (λ e. true)) (rw there at silent)
+
+  finalizes_as : (cause : Cause) → IsQuiet whole number ⊎ (IsFrugal whole number × IsSilent whole number) → IsUsedAs whole (ends cause) b
   finalizes_as cause (inl quiet) = inl (quiet_body quiet)
-  finalizes_as cause (inr frugal) = inr (cause, refl, frugal.0, rw there at (frugal.1))
+  finalizes_as cause (inr both) = inr (tt, both.0.0, rw there at (both.0.1), silent_body both.1)
+
+  initializes_as : (done : List parts.Part) → IsPlain whole number ⊎ IsFrugal whole number → IsUsedAs whole (begins Creation done) b
+  initializes_as done (inl plain) = inl (plain_body plain, tt)
+  initializes_as done (inr frugal) = inr (tt, frugal.0, rw there at (frugal.1), tt)
 
   pub used_as : (treatment : Treatment) → IsCalled (operations_of program.types.items of) treatment number → IsUsedAs whole treatment b
-  used_as (begins Creation done) called = inl (plain_body (used.initializes called), tt)
+  used_as (begins Creation done) called = initializes_as done (used.initializes called)
   used_as (begins Copy done) called = inl (quiet_body (used.adjusts called))
   used_as (begins (Adjustment n) done) called = inl (quiet_body (used.adjusts called))
   used_as (ends cause) called = finalizes_as cause (used.finalizes called)

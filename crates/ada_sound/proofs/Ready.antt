@@ -7,6 +7,7 @@ use Rattle.ada_flow.specs.declared.rule.Hold.TheVariants as hold
 use Rattle.ada_flow.specs.Flow.{Holds}
 use Rattle.ada_parts.specs.Task.{Task}
 use Rattle.ada_meaning.specs.declared.state.Value.{Value}
+use Rattle.ada_meaning.specs.declared.event.Birth.{Birth}
 use Rattle.ada_meaning.specs.declared.event.Birth.TheVariants.{Creation, Copy, Adjustment}
 use Rattle.ada_meaning.specs.declared.state.Value.TheVariants.{Null, Names, Scalar, Part}
 use Rattle.ada_meaning.specs.declared.state.Mode.{Mode}
@@ -23,7 +24,7 @@ use Rattle.ada_sound.proofs.Fits.{MayFollow, weaker_fit, spare_fit, put_lost, sp
 use Rattle.ada_sound.proofs.Orderings.{AsGood}
 use Rattle.ada_sound.proofs.Alters.{alters_same}
 use Rattle.ada_sound.proofs.Stored.{Stored}
-use Rattle.ada_sound.proofs.Invariant.{under_in, outers, StoresOn, Caller, below_callers, below, at_end, nowhere, Known, Control, Rooms, Roomed, To, RunsOn, RunsBehind, GoesOn, RaisesAt, CopiesTo, PassesTo, Awaits, IsHolder, Working, Parting, HalfBy, Resumes, NamesTo, BegunTo, EndsTo, StoresBehind, CopiesBehind, TreatsBy, RaisesBy, ReadyIn, Ready, Says, Stepped, By, innermost, ways}
+use Rattle.ada_sound.proofs.Invariant.{under_in, outers, StoresOn, Caller, below_callers, below, at_end, nowhere, Known, Control, Rooms, Roomed, To, RunsOn, RunsBehind, GoesOn, RaisesAt, CopiesTo, PassesTo, Awaits, IsHolder, Working, Parting, HalfBy, Resumes, NamesTo, BeginsBy, BegunTo, EndsTo, StoresBehind, CopiesBehind, TreatsBy, RaisesBy, ReadyIn, Ready, Says, Stepped, By, innermost, ways}
 
 -- The state at work on something, with a running activation; and in another mode.
 abbrev pub running : Control → Activation Value → List (Activation Value) → State → State
@@ -140,9 +141,14 @@ module _ (known : Known) where
   names_ready (StoresIn o c ∷ k) heap places operands ms r = inl (r.0, inl r.1)
   names_ready (f ∷ k) heap places operands ms r = absurd r
 
-  begun_ready : (k : Control) (heap : List Object) (places operands : List Value) (ms : List Master) → BegunTo known k heap places operands ms → ReadyIn known Running k heap places operands ms
-  begun_ready k heap places operands ms (inl w) = runs_ready k heap places operands ms w
-  begun_ready k heap places operands ms (inr r) = names_ready k heap places operands ms r
+  pub begins_work : (v : Value) (by : Birth) (k : Control) (heap : List Object) (places : List Value) (ms : List Master) → BeginsBy known v by k heap places ms → Working known heap places ms (RunsOn known k)
+  begins_work v Creation k heap places ms b = record { rooms = b.rooms; holds = b.holds; stored = b.stored; roomed = b.roomed; fit = b.fit; rest = b.runs }
+  begins_work v Copy k heap places ms w = w
+  begins_work v (Adjustment number) k heap places ms w = w
+
+  begun_ready : (v : Value) (by : Birth) (k : Control) (heap : List Object) (places operands : List Value) (ms : List Master) → BegunTo known v by k heap places operands ms → ReadyIn known Running k heap places operands ms
+  begun_ready v by k heap places operands ms (inl b) = runs_ready k heap places operands ms (begins_work v by k heap places ms b)
+  begun_ready v by k heap places operands ms (inr r) = names_ready k heap places operands ms r.1
 
   ends_ready : (v : Value) (k : Control) (heap : List Object) (places operands : List Value) (ms : List Master) → EndsTo known v k heap places ms → ReadyIn known Running k heap places operands ms
   ends_ready v [] heap places operands ms r = absurd r
@@ -183,7 +189,7 @@ module _ (known : Known) where
 
   -- An object is treated first, if anything is to be done.
   pub treats_ready : (v : Value) (treatment : Treatment) (tasks : List Task) (k : Control) (heap : List Object) (places operands : List Value) (ms : List Master) → TreatsBy known v treatment k heap places operands ms → ReadyIn known Running (treating v treatment tasks k) heap places operands ms
-  treats_ready v (begins by done) [] k heap places operands ms r = begun_ready k heap places operands ms r.0
+  treats_ready v (begins by done) [] k heap places operands ms r = begun_ready v by k heap places operands ms r.0
   treats_ready v (ends cause) [] k heap places operands ms (inl r) = ends_ready v k heap places operands ms r
   treats_ready v (ends cause) [] k heap places operands ms (inr r) = copies_ready k heap places operands ms r
   treats_ready v treatment (task ∷ tasks) k heap places operands ms r = r

@@ -1,6 +1,6 @@
 -- Record objects are declared: each is stored at its own item, and its variable owns it.
 
-use Rattle.std.proofs.Common.{◌≡◌, ℕ, zero, suc, Bool, true, false, ◌&&◌, ◌||◌, List, [], ◌∷◌, length, take, drop, reverse, map, refl, ap, ◌∙◌, inl}
+use Rattle.std.proofs.Common.{◌≡◌, ℕ, zero, suc, Bool, true, false, ◌&&◌, ◌||◌, List, [], ◌∷◌, length, take, drop, reverse, map, refl, sym, ap, ◌∙◌, ◌⊎◌, inl, inr, ◌≢◌}
 use Rattle.std.proofs.lemmas.Bool.{eqb-true}
 use Rattle.std.specs.Prelude.{Option, Some, None}
 use Rattle.std.specs.List.{list_any, slice_get, slice_index_or, slice_set}
@@ -21,7 +21,7 @@ use Rattle.ada_program.specs.WellFormed.{access_of, held_kind, kind_among, reach
 use Rattle.ada_flow.specs.declared.rule.Hold.{Hold}
 use Rattle.ada_flow.specs.declared.rule.Hold.TheVariants as hold
 use Rattle.ada_flow.specs.declared.rule.Region.TheVariants.{Whole}
-use Rattle.ada_flow.specs.Flow.{Holds, Gone, is_among, variable_access, is_owning, owns_at_first, declared_at, copies_to, uses_in_items, using_paths, ends_with}
+use Rattle.ada_flow.specs.Flow.{Holds, without_freed, Gone, is_among, variable_access, is_owning, owns_at_first, declared_at, copies_to, uses_in_items, using_paths, ends_with}
 use Rattle.ada_meaning.specs.declared.state.Id.{Id}
 use Rattle.ada_meaning.specs.declared.state.Value.{Value}
 use Rattle.ada_meaning.specs.declared.state.Value.TheVariants.{Null, Names}
@@ -34,25 +34,31 @@ use Rattle.ada_meaning.specs.State.{Activation, record_object, Master, height}
 use Rattle.ada_meaning.specs.Step.{all_tasks, owning, made, record_next, record_cell, initial_value, initial_values}
 use Rattle.ada_meaning.specs.Named.{Object, State, named, new_object, create, created}
 use Rattle.ada_meaning.specs.Law.{items_of}
-use Rattle.ada_owners.specs.Places.{Place}
-use Rattle.ada_owners.specs.Reliance.{AreInHand}
-use Rattle.ada_owners.proofs.Kernel.{blank}
+use Rattle.ada_owners.specs.Places.{Place, variable, component, elsewhere, value_at}
+use Rattle.ada_owners.specs.Reliance.{Owns, Borrows, AreInHand}
+use Rattle.ada_owners.proofs.Kernel as kernel
+use Rattle.ada_owners.proofs.Kernel.{blank, same_place}
+use Rattle.ada_owners.proofs.Objects.{next_id, read_other}
+use Rattle.ada_owners.proofs.Changes.{put_reads}
+use Rattle.ada_owners.proofs.Creations.{not_next, past_access}
+use Rattle.ada_owners.proofs.Ends.{IsUnnamed}
+use Rattle.ada_sound.proofs.Objects.{get_new, set_twice}
 use Rattle.ada_sound.proofs.Items.{HasItem}
 use Rattle.ada_sound.proofs.Stored.{Stored, stored_new, stored_owning}
 use Rattle.ada_typed.specs.Holding.{Cells, HasKind, HaveKinds, cells_of}
 use Rattle.ada_typed.proofs.Values.{OperandKind, AreComputed, AreHeld, active_placed}
 use Rattle.ada_typed.proofs.Control as typed
-use Rattle.ada_sound.proofs.Fits.{Outsiders, Fit, bare, stacked, none_spared, place_at, hold_in, weaker_fit, put_lost, put_owner, create_fit}
+use Rattle.ada_sound.proofs.Fits.{Outsiders, Fit, Hand, IsUnreferred, outer_access, bare, stacked, none_spared, place_at, hold_in, weaker_fit, put_lost, put_owner, create_fit, hand_is_unnamed, less_unnamed}
 use Rattle.ada_sound.proofs.Alters.{alters_new}
-use Rattle.ada_sound.proofs.Invariant.{outers, below, Known, Control, Rooms, Roomed, To, Raised, Doing, Handled, Outside, Elaborating, Giving, MayOwn, Recording, RunsOn, StartsTo, MayUndo, Working, Stepped, Fine, ways}
+use Rattle.ada_sound.proofs.Invariant.{outers, below, Known, Control, Rooms, Roomed, To, Raised, Doing, Handled, Outside, Elaborating, Giving, MayOwn, Recording, RunsOn, StartsTo, Spares, Unaliased, IsAside, Beginning, BeginsBy, MayUndo, Working, Stepped, Fine, ways}
 use Rattle.ada_sound.proofs.Ready.{running, at_work, treats_ready, ready_on}
-use Rattle.ada_sound.proofs.Outcomes.{to_before, raised_before, using_goes, ends_goes, loses_to}
+use Rattle.ada_sound.proofs.Outcomes.{to_before, raised_before, using_goes, ends_goes, loses_goes, loses_to}
 use Rattle.ada_sound.proofs.Raising.{or_left, or_right, any_more}
 use Rattle.ada_sound.proofs.Values.{lost_here}
-use Rattle.ada_sound.proofs.Orderings.{good_losing, good_to_lost}
+use Rattle.ada_sound.proofs.Orderings.{AsGood, good_losing, good_to_lost, without_freed_good}
 use Rattle.ada_flow.specs.Flow.{left_finalized}
-use Rattle.ada_sound.proofs.LeftFinalized.{finalized_losing}
-use Rattle.ada_sound.proofs.Undone.{new_may_undo}
+use Rattle.ada_sound.proofs.LeftFinalized.{finalized_losing, freed_apart, freed_none}
+use Rattle.ada_sound.proofs.Undone.{beginning_undone}
 use Rattle.ada_sound.proofs.Followings.{first_kept}
 use Rattle.ada_sound.proofs.Copied.{items_keep, copied_plain}
 use Rattle.ada_sound.proofs.Defaults.{Reaches}
@@ -120,6 +126,41 @@ has_place types cells variables places x t held is = by (variable_kind variables
     by None of e = absurd (cc e)
     by (Some kind) of e = (slice_index_or places x Null, active_placed types cells variables [] (bare places ∷ []) x kind (held, tt) of)
 
+-- No place that is relied on names a new object, and no call refers to it.
+module _ {types : List TypeForm} {variables : List VariableForm} {outer : Outsiders} {heap : List Object} {places : List Value} {holds : Holds} (words : ℕ) (cell : Cell Value) (f : Fit types variables outer none_spared heap places holds) where
+  new_borrows : (q : Place) → Borrows (hold_in outer none_spared holds q) → value_at (create heap words cell) (stacked places outer) q ≡ Names (next_id heap) → ⊥
+  new_borrows (variable y) b e =
+      not_next heap words cell (variable_access variables y) (kernel.right_at f.owners.fit (variable y) (λ lost. (let none : Borrows hold.Lost = rw lost at b in absurd none)) (next_id heap) e)
+  new_borrows (component o c) b e = absurd b
+  new_borrows (elsewhere d y) b e =
+      not_next heap words cell (outer_access (slice_get outer.suspended d) y) (kernel.right_at f.owners.fit (elsewhere d y) (λ lost. (let none : Borrows hold.Lost = rw lost at b in absurd none)) (next_id heap) e)
+
+  new_unnamed : Hand types variables outer none_spared (create heap words cell) places holds (Some cell.access) (created heap words) → IsUnnamed (create heap words cell) (stacked places outer) (hold_in outer none_spared holds) (next_id heap)
+  new_unnamed hand = hand_is_unnamed outer types variables none_spared (create heap words cell) places holds (Some cell.access) (next_id heap) hand new_borrows
+
+  new_unreferred : IsUnreferred outer (next_id heap)
+  new_unreferred t refers = let at = f.referred (next_id heap) t refers in let past = past_access heap words cell in cc (at, past)
+
+-- Nor does one where a variable gets its name, on which nothing relies.
+put_unnamed : {heap : List Object} {places : List Value} (outer : Outsiders) (holds : Holds) (x : ℕ) (v : Value) (o : Id) → IsUnnamed heap (stacked places outer) (hold_in outer none_spared holds) o → IsUnnamed heap (stacked (slice_set places x v) outer) (hold_in outer none_spared (slice_set holds x hold.Lost)) o
+put_unnamed {heap} {places} outer holds x v o none = record {
+  unowned = λ q own e. unowned q (same_place q (variable x)) own e;
+  unborrowed = λ q b e. unborrowed q (same_place q (variable x)) b e;
+}
+  where
+    others : (q : Place) → q ≢ variable x → hold_in outer none_spared (slice_set holds x hold.Lost) q ≡ hold_in outer none_spared holds q
+    others (variable y) ne = read_other holds x y hold.Lost hold.Lost (λ e. ne (ap variable e))
+    others (component p c) ne = refl
+    others (elsewhere d y) ne = refl
+
+    unowned : (q : Place) → (q ≡ variable x) ⊎ (q ≢ variable x) → Owns (hold_in outer none_spared (slice_set holds x hold.Lost) q) → value_at heap (stacked (slice_set places x v) outer) q ≡ Names o → ⊥
+    unowned q (inl is) own e = let none : Owns hold.Lost = rw (is, lost_here holds x) at own in absurd none
+    unowned q (inr ne) own e = none.unowned q (rw (others q ne) at own) (sym (put_reads heap (stacked places outer) x v q ne) ∙ e)
+
+    unborrowed : (q : Place) → (q ≡ variable x) ⊎ (q ≢ variable x) → Borrows (hold_in outer none_spared (slice_set holds x hold.Lost) q) → value_at heap (stacked (slice_set places x v) outer) q ≡ Names o → ⊥
+    unborrowed q (inl is) b e = let none : Borrows hold.Lost = rw (is, lost_here holds x) at b in absurd none
+    unborrowed q (inr ne) b e = none.unborrowed q (rw (others q ne) at b) (sym (put_reads heap (stacked places outer) x v q ne) ∙ e)
+
 module _ (known : Known) (rest : List (Activation Value)) (s : State) (types : List TypeDefinition) (x t : ℕ) where
   -- The new item is the object's home, and is one that the master may own.
   has_own : (under ms : List Master) (rooms : Rooms) → Roomed under ms rooms → MayOwn rooms t → HasItem (height ms) t None (items_of (owning (record { number = height ms; owned = record_object t }) ms))
@@ -132,41 +173,109 @@ module _ (known : Known) (rest : List (Activation Value)) (s : State) (types : L
   roomed_more item under [] (gone ∷ rooms) r e = absurd r
   roomed_more item under (m ∷ ms) (gone ∷ rooms) r e = ((e, r.0), r.1)
 
-  -- What comes out of its initialization passes the frames, where its variable is lost (7.6); a copy is never undone.
-  abbrev pub StartsBy : Birth → Control → Rooms → Holds → Type 0
-  StartsBy Creation k rooms holds = StartsTo known t k rooms (slice_set holds x hold.Lost)
-  StartsBy Copy k rooms holds = Unit {0}
-  StartsBy (Adjustment number) k rooms holds = Unit {0}
+  -- It is initialized (3.3.1, 7.6): less may be known behind that, where it frees objects; what comes out of it passes the frames, where its variable is lost; and
+  -- of what it may free there is no alias.
+  pub record Initializing (k : Control) (rooms : Rooms) (holds : Holds) : Type 0 where
+    pub owns : MayOwn rooms t
+    pub after : Holds
+    pub good : AsGood (slice_set holds x (hold.Own Whole)) after
+    pub runs : RunsOn known k rooms after
+    pub undone : StartsTo known t k rooms (slice_set after x hold.Lost)
+    pub spares : Spares known (known.implicit.start_frees t)
+    pub unaliased : Unaliased known.program.variables (known.implicit.start_frees t) after
 
-  may_undo_by : (by : Birth) (k : Control) (cell : Cell Value) (words : ℕ) (places : List Value) (ms : List Master) (rooms : Rooms) (holds : Holds) → cell.access ≡ t → Stored (outers known).under (create s.heap words cell) ms → Roomed (below known) ms rooms → Fit known.program.types known.program.variables (outers known) none_spared s.heap places (slice_set holds x hold.Lost) → StartsBy by k rooms holds → MayUndo known (created s.heap words) by k (create s.heap words cell) places ms
-  may_undo_by Creation k cell words places ms rooms holds of stored roomed fit starts = new_may_undo known s.heap words cell k places ms rooms (slice_set holds x hold.Lost) stored roomed fit (rw of starts)
-  may_undo_by Copy k cell words places ms rooms holds of stored roomed fit starts = tt
-  may_undo_by (Adjustment number) k cell words places ms rooms holds of stored roomed fit starts = tt
+  -- What is copied is never undone: what is behind goes on.
+  abbrev pub StartsBy : Birth → Control → Rooms → Holds → Type 0
+  StartsBy Creation k rooms holds = Initializing k rooms holds
+  StartsBy Copy k rooms holds = MayOwn rooms t × To (RunsOn known k rooms) (slice_set holds x (hold.Own Whole))
+  StartsBy (Adjustment number) k rooms holds = MayOwn rooms t × To (RunsOn known k rooms) (slice_set holds x (hold.Own Whole))
 
   -- An object comes to be whose components name nothing, and its variable owns it.
-  pub made_fine : (by : Birth) (a : Activation Value) (k : Control) (values : List Value) (u : Value) → is_record_object t (variable_kind known.program.variables x) ≡ true → slice_get a.places x ≡ Some u → ((holding : Place → Hold) (kind : ℕ → Option ℕ) → AreInHand s.heap (stacked a.places (outers known)) holding kind 0 values) → Working known s.heap a.places s.masters (λ rooms holds. MayOwn rooms t × StartsBy by k rooms holds × To (RunsOn known k rooms) (slice_set holds x (hold.Own Whole))) → Stepped known s.heap Quiet (made named types x t by values (running k a rest s))
-  made_fine by a k values u is there in_hand w =
-      let cell = record_cell named types t (height s.masters) values in
-      let words = words_of types t in
-      let kinds = λ (c : ℕ). access_of (kind_among (reached_components known.program.types t) c) in
-      let both = create_fit words cell (in_hand (hold_in (outers known) none_spared w.holds) kinds) w.fit in
-      let own : variable_access known.program.variables x ≡ Some t = record_access (variable_kind known.program.variables x) t is in
-      let placed = put_there a.places x u (created s.heap words) there in
-      let places = slice_set a.places x (created s.heap words) in
-      let ms = owning (record { number = height s.masters; owned = record_object t }) s.masters in
-      let after : Working known (create s.heap words cell) places ms (RunsOn known k) = record {
-        rooms = w.rooms;
-        holds = w.rest.2.0;
-        stored = stored_new cell (has_own (below known) s.masters w.rooms w.roomed w.rest.0) (stored_owning (record_object t) w.stored);
-        roomed = roomed_more (height s.masters) (below known) s.masters w.rooms w.roomed w.rest.0;
-        fit = weaker_fit w.rest.2.0 w.rest.2.1 (put_owner x (created s.heap words) Whole (rw placed tt) (rw own both.1) both.0);
-        rest = w.rest.2.2;
-      } in
-      record {
-        ready = (tt, treats_ready known (created s.heap words) (begins by []) (all_tasks types t PartsFirst) k (create s.heap words cell) places a.operands ms (inl after, may_undo_by by k cell words places ms w.rooms w.holds refl after.stored after.roomed (put_lost x (created s.heap words) w.fit) w.rest.1));
-        alters = alters_new s.heap Quiet (new_object cell) refl;
-        says = tt;
-      }
+  module _ (a : Activation Value) (k : Control) (values : List Value) (u : Value) (is : is_record_object t (variable_kind known.program.variables x) ≡ true) (there : slice_get a.places x ≡ Some u) (in_hand : (holding : Place → Hold) (kind : ℕ → Option ℕ) → AreInHand s.heap (stacked a.places (outers known)) holding kind 0 values) where
+    abbrev words : ℕ
+    words = words_of types t
+
+    abbrev cell : Cell Value
+    cell = record_cell named types t (height s.masters) values
+
+    abbrev heap : List Object
+    heap = create s.heap words cell
+
+    abbrev new : Value
+    new = created s.heap words
+
+    abbrev places : List Value
+    places = slice_set a.places x new
+
+    abbrev masters : List Master
+    masters = owning (record { number = height s.masters; owned = record_object t }) s.masters
+
+    module _ {more : Rooms → Holds → Type 0} (w : Working known s.heap a.places s.masters more) (owns : MayOwn w.rooms t) where
+      made_both : Fit known.program.types known.program.variables (outers known) none_spared heap a.places w.holds × Hand known.program.types known.program.variables (outers known) none_spared heap a.places w.holds (Some t) new
+      made_both =
+          let kinds = λ (c : ℕ). access_of (kind_among (reached_components known.program.types t) c) in
+          create_fit words cell (in_hand (hold_in (outers known) none_spared w.holds) kinds) w.fit
+
+      made_stored : Stored (outers known).under heap masters
+      made_stored = stored_new cell (has_own (below known) s.masters w.rooms w.roomed owns) (stored_owning (record_object t) w.stored)
+
+      made_roomed : Roomed (below known) masters w.rooms
+      made_roomed = roomed_more (height s.masters) (below known) s.masters w.rooms w.roomed owns
+
+      made_fit : (after : Holds) → AsGood (slice_set w.holds x (hold.Own Whole)) after → Fit known.program.types known.program.variables (outers known) none_spared heap places after
+      made_fit after good =
+          let own : variable_access known.program.variables x ≡ Some t = record_access (variable_kind known.program.variables x) t is in
+          let placed = put_there a.places x u new there in
+          weaker_fit after good (put_owner x new Whole (rw placed tt) (rw own made_both.1) made_both.0)
+
+      -- Where its variable is lost, nothing relies on it.
+      lost_good : (after : Holds) → AsGood (slice_set w.holds x (hold.Own Whole)) after → AsGood (slice_set w.holds x hold.Lost) (slice_set after x hold.Lost)
+      lost_good after good =
+          let owned = slice_set w.holds x (hold.Own Whole) in
+          let other = slice_set after x hold.Lost in
+          rw (set_twice w.holds x (hold.Own Whole) hold.Lost) at (good_losing x owned other (lost_here after x) (good_to_lost x owned after good))
+
+      made_aside : (after : Holds) → AsGood (slice_set w.holds x (hold.Own Whole)) after → IsAside known none_spared heap places (slice_set after x hold.Lost) (Some (next_id s.heap))
+      made_aside after good =
+          let unnamed = new_unnamed words cell w.fit made_both.1 in (
+            less_unnamed (slice_set after x hold.Lost) (lost_good after good) (next_id s.heap) (put_lost x new made_both.0) (put_unnamed (outers known) w.holds x new (next_id s.heap) unnamed),
+            new_unreferred words cell w.fit,
+          )
+
+      made_works : To (RunsOn known k w.rooms) (slice_set w.holds x (hold.Own Whole)) → Working known heap places masters (RunsOn known k)
+      made_works runs = record { rooms = w.rooms; holds = runs.0; stored = made_stored; roomed = made_roomed; fit = made_fit runs.0 runs.1; rest = runs.2 }
+
+    made_begins : (by : Birth) → Working known s.heap a.places s.masters (StartsBy by k) → BeginsBy known new by k heap places masters × MayUndo known new by k heap places masters
+    made_begins Creation w =
+        let i = w.rest in
+        let b : Beginning known new k heap places masters = record {
+          o = next_id s.heap;
+          object = new_object cell;
+          is = refl;
+          found = get_new s.heap (new_object cell);
+          x = x;
+          rooms = w.rooms;
+          holds = i.after;
+          stored = made_stored w i.owns;
+          roomed = made_roomed w i.owns;
+          fit = made_fit w i.owns i.after i.good;
+          aside = made_aside w i.owns i.after i.good;
+          runs = i.runs;
+          undone = i.undone;
+          well = (i.spares, i.unaliased);
+        } in
+        (b, (b.stored, beginning_undone known new k heap places masters b))
+    made_begins Copy w = (made_works w w.rest.0 w.rest.1, tt)
+    made_begins (Adjustment number) w = (made_works w w.rest.0 w.rest.1, tt)
+
+    pub made_fine : (by : Birth) → Working known s.heap a.places s.masters (StartsBy by k) → Stepped known s.heap Quiet (made named types x t by values (running k a rest s))
+    made_fine by w =
+        let b = made_begins by w in
+        record {
+          ready = (tt, treats_ready known new (begins by []) (all_tasks types t PartsFirst) k heap places a.operands masters (inl b.0, b.1));
+          alters = alters_new s.heap Quiet (new_object cell) refl;
+          says = tt;
+        }
 
 module _ (known : Known) (a : Activation Value) (rest : List (Activation Value)) (s : State) (types : List TypeDefinition) (x t : ℕ) (ds : List DeclarationForm) (fs : StmtsForm) (hs : HandlersForm) (k : Control) where
   -- What passes the frames with what was known before passes them also where the variable is lost, whose record object goes with the block.
@@ -182,25 +291,32 @@ module _ (known : Known) (a : Activation Value) (rest : List (Activation Value))
       )
 
   -- What is known where a record object comes to be: without an initial value, or behind one.
-  by_default : (holds : Holds) (rooms : Rooms) → is_record_object t (variable_kind known.program.variables x) ≡ true → RunsOn known (Elaborates (declares_record x t None ∷ ds) fs hs ∷ k) rooms holds → MayOwn rooms t × StartsTo known t (Elaborates ds fs hs ∷ k) rooms (slice_set holds x hold.Lost) × To (RunsOn known (Elaborates ds fs hs ∷ k) rooms) (slice_set holds x (hold.Own Whole))
+  by_default : (holds : Holds) (rooms : Rooms) → is_record_object t (variable_kind known.program.variables x) ≡ true → RunsOn known (Elaborates (declares_record x t None ∷ ds) fs hs ∷ k) rooms holds → Initializing known rest s types x t (Elaborates ds fs hs ∷ k) rooms holds
   by_default holds [] is e = absurd e
   by_default holds (gone ∷ rooms) is e =
-      let program = known.program in
+      let variables = known.program.variables in
       let o = Outside known gone (ways known k rooms) in
       let more = Elaborating known ds (Doing known fs (Handles hs ∷ Closes ∷ k) (Handled known hs (Closes ∷ k) o)) o in
       let among : Exception → Bool = λ e'. declaration_raises known.implicit (is_same e') (declares_record x t None) in
       let may = initial_raises None || initial_starts known.implicit (λ e'. true) t None in
-      let after = slice_set holds x (hold.Own Whole) in
-      let flow = ends_with may holds after in
-      let g = loses_to program.variables (λ u. initial_frees known.implicit u t None) flow more (Raised among o) (raised_before among o) e.1 in
-      let n = ends_goes may holds after (To more) (Raised among o) g in
-      let among_gone : is_among gone.types (variable_access program.variables x) ≡ true = rw (record_access (variable_kind program.variables x) t is) e.0.0 in (
-        e.0.0,
-        (λ e' starts.
+      let frees : ℕ → Bool = λ u. initial_frees known.implicit u t None in
+      let owned = slice_set holds x (hold.Own Whole) in
+      let g = loses_goes variables frees (ends_with may holds owned) more (Raised among o) e.1.0 in
+      let n = ends_goes may holds owned (λ h. more (without_freed variables frees h)) (λ h. Raised among o (without_freed variables frees h)) g in
+      let among_gone : is_among gone.types (variable_access variables x) ≡ true = rw (record_access (variable_kind variables x) t is) e.0.0 in
+      let lost : slice_set (without_freed variables frees owned) x hold.Lost ≡ slice_set (without_freed variables frees holds) x hold.Lost =
+      sym (freed_apart frees variables owned x) ∙ (ap (without_freed variables frees) (set_twice holds x (hold.Own Whole) hold.Lost) ∙ freed_apart frees variables holds x) in
+      record {
+        owns = e.0.0;
+        after = without_freed variables frees owned;
+        good = without_freed_good variables frees owned;
+        runs = (e.0.1, n.0);
+        undone = λ e' starts.
             (let some = any_more (is_same e') (λ e2. true) (λ e2 i. refl) (known.implicit.start_raises t) starts in
-            raised_losing gone rooms e' holds among_gone (n.1 some e' (or_right (is_same e' ConstraintError && initial_raises None) (initial_starts known.implicit (is_same e') t None) starts)))),
-        (n.0.0, n.0.1, (e.0.1, n.0.2)),
-      )
+            rw lost (raised_losing gone rooms e' (without_freed variables frees holds) among_gone (n.1 some e' (or_right (is_same e' ConstraintError && initial_raises None) (initial_starts known.implicit (is_same e') t None) starts))));
+        spares = e.1.1;
+        unaliased = λ y u of freed b. freed_none variables frees owned y u of freed b;
+      }
 
   by_items : (items : List ItemForm) (holds : Holds) (rooms : Rooms) → is_record_object t (variable_kind known.program.variables x) ≡ true → RunsOn known (Elaborates (declares_record x t (Some items) ∷ ds) fs hs ∷ k) rooms holds → Giving known items (Elaborates ds fs hs ∷ k) rooms holds × Recording known x t (Elaborates ds fs hs ∷ k) rooms holds
   by_items items holds [] is e = absurd e
@@ -215,7 +331,7 @@ module _ (known : Known) (a : Activation Value) (rest : List (Activation Value))
       let after = slice_set holds x (hold.Own Whole) in
       let may = items_raise items || false in
       let flow = using_paths (copies_to owning spot ∷ used) holds (ends_with may holds after) in
-      let g = loses_to program.variables (λ u. initial_frees known.implicit u t (Some items)) flow more (Raised among o) (raised_before among o) e.1 in
+      let g = loses_to program.variables (λ u. initial_frees known.implicit u t (Some items)) flow more (Raised among o) (raised_before among o) e.1.0 in
       let u = using_goes (copies_to owning spot ∷ used) holds (ends_with may holds after) (To more) (Raised among o) g in
       let n = ends_goes may holds after (To more) (Raised among o) u.1 in
       let kept = first_kept holds (copies_to owning spot) used u.0 in (
@@ -230,8 +346,8 @@ module _ (known : Known) (a : Activation Value) (rest : List (Activation Value))
 
   pub record_fine : (initial : Option (List ItemForm)) (u : Value) → slice_get a.places x ≡ Some u → is_record_object t (variable_kind known.program.variables x) ≡ true → Working known s.heap a.places s.masters (RunsOn known (Elaborates (declares_record x t initial ∷ ds) fs hs ∷ k)) → Fine known s.heap s.masters (record_next named types x t initial (running (Elaborates ds fs hs ∷ k) a rest s))
   record_fine None u there is w =
-      made_fine known rest s types x t Creation a (Elaborates ds fs hs ∷ k) (initial_values named (reached_of types t)) u is there
-      (λ holding kind. initials_in_hand (outers known) s.heap a.places holding kind (reached_of types t)) (at_work w (by_default w.holds w.rooms is w.rest))
+      made_fine known rest s types x t a (Elaborates ds fs hs ∷ k) (initial_values named (reached_of types t)) u is there
+      (λ holding kind. initials_in_hand (outers known) s.heap a.places holding kind (reached_of types t)) Creation (at_work w (by_default w.holds w.rooms is w.rest))
   record_fine (Some items) u there is w =
       ready_on known (Fills items ∷ DeclaresRecord x t ∷ Elaborates ds fs hs ∷ k) a rest s a.operands (at_work w (by_items items w.holds w.rooms is w.rest))
 
@@ -243,5 +359,5 @@ recorded_fine known k a rest s types reaches x t kinds (ks, object, cs, is, of, 
     let plain : list_any is_owning cs ≡ false = rw reached at w.rest.0 in
     let none = plain_names_nothing known.program.types (cells_of s.heap) cs (reverse (take (length cs) a.operands)) plain have in
     let place = has_place known.program.types (cells_of s.heap) known.program.variables a.places x t held w.rest.1 in
-    made_fine known rest s types x t Copy (record a { operands = drop (words_of types t) a.operands }) k (reverse (take (words_of types t) a.operands)) place.0 w.rest.1 place.1
-    (λ holding kind. nothing_in_hand (outers known) s.heap a.places holding kind 0 (reverse (take (words_of types t) a.operands)) (rw counted none)) (at_work w (w.rest.2, tt, w.rest.3))
+    made_fine known rest s types x t (record a { operands = drop (words_of types t) a.operands }) k (reverse (take (words_of types t) a.operands)) place.0 w.rest.1 place.1
+    (λ holding kind. nothing_in_hand (outers known) s.heap a.places holding kind 0 (reverse (take (words_of types t) a.operands)) (rw counted none)) Copy (at_work w (w.rest.2, w.rest.3))

@@ -53,9 +53,9 @@ use Rattle.ada_sound.proofs.Leavings.{HeldIn}
 use Rattle.ada_sound.proofs.InOrder.{in_order}
 use Rattle.ada_sound.proofs.Sees.{reaches_in, may_call}
 use Rattle.ada_sound.proofs.QuietOperations.{IsUsedAs, used_as}
-use Rattle.ada_sound.proofs.FinalizingStarts.{finalizing_starts}
-use Rattle.ada_sound.proofs.FinalizingSteps.{InFinalize, Went, GoesFinalizing, finalizing_step}
-use Rattle.ada_sound.proofs.Finalizing.{Finalizing, waiting_for}
+use Rattle.ada_sound.proofs.TouchingStarts.{touching_starts}
+use Rattle.ada_sound.proofs.TouchingSteps.{InTouching, Went, GoesTouching, touching_step}
+use Rattle.ada_sound.proofs.Touching.{Touching, waiting_for}
 use Rattle.ada_sound.proofs.Operated.{OperatedOn, operated_by}
 use Rattle.ada_parts.specs.declared.tasks.Next.TheVariants.{Perform}
 use Rattle.ada_sound.proofs.Alters.{BackIn, StaysItself, Alters, alters_same, alters_set}
@@ -201,7 +201,7 @@ pub record InOperation (program : Program) (before : List Object) (e : Event) (a
 -- What a step leads to: the ordinary invariant, or the body of an operation runs.
 abbrev pub Led : Program → List Object → Event → State → Type 0
 Led program before e after =
-    (Crosses program before e after × IsCalm (behind_call after.control)) ⊎ (InOperation program before e after ⊎ InFinalize program before e after)
+    (Crosses program before e after × IsCalm (behind_call after.control)) ⊎ (InOperation program before e after ⊎ InTouching program before e after)
 
 -- What tells of no storage says nothing of objects, and covers nothing.
 told_says : (e : Event) (before : List Object) (after : State) → TellsNothing e → (implicit : Implicit) (p : ProgramForm) → Says implicit p e before after
@@ -390,8 +390,8 @@ module _ (program : Program) (a : Activation Value) (rest : List (Activation Val
       says = told_says e s.heap after c.tells;
       covered = told_covered program e c.tells;
     }))
-    begun_as e after is c (inr (cause, ends_so, may, frugal)) = inr (inr (record {
-      finalizing = finalizing_starts program a rest s k v treatment tasks o.suspensions c.o cause may whole refl refl sound calm_here o.calm (restand Running (Treats v treatment tasks) o.suspensions o.stands) e after c ends_so frugal
+    begun_as e after is c (inr (touches, may, frugal, silent)) = inr (inr (record {
+      touching = touching_starts program a rest s k v treatment tasks o.suspensions may whole refl refl sound calm_here o.calm (restand Running (Treats v treatment tasks) o.suspensions o.stands) e after c touches silent frugal
           (step_typed program sound.well whole after settled e sound.typed (rw is (refl, refl)));
       alters = rw c.is c.alters;
       says = told_says e s.heap after c.tells _ _;
@@ -542,27 +542,27 @@ module _ (program : Program) (s : State) (o : Operates program s) where
       (subst (λ (t : State). StepsOn sight o.procedure o.caller o.rest o.lower o.behind program.types.items (body_forms program) s o.places o.operands (mode_next named program.types.items (body_forms program) s.mode t)) state_is
       (steps_on sight o.procedure o.caller o.rest o.lower o.behind program.types.items (body_forms program) s o.places o.operands s.mode o.upper s.control o.body))
 
--- A step of the body of a Finalize that touches storage.
+-- A step of the body of an operation that touches storage.
 led_went : (program : Program) (before : List Object) (e : Event) (after : State) → Went program before e after → Led program before e after
 led_went program before e after (inl f) = inr (inr f)
 led_went program before e after (inr o) = inl o
 
-led_finalizing : (program : Program) (s : State) (n : Next) → GoesFinalizing program s n → FineIn program s n
-led_finalizing program s (halts halt) g = g
-led_finalizing program s (moves e after) g = led_went program s.heap e after g
-led_finalizing program s (tells request e after) g = led_went program s.heap e after g
-led_finalizing program s (asks request answered) g = absurd g
-led_finalizing program s (picks n taken) g = absurd g
+led_touching : (program : Program) (s : State) (n : Next) → GoesTouching program s n → FineIn program s n
+led_touching program s (halts halt) g = g
+led_touching program s (moves e after) g = led_went program s.heap e after g
+led_touching program s (tells request e after) g = led_went program s.heap e after g
+led_touching program s (asks request answered) g = λ granted. led_went program s.heap Quiet (answered granted) (g granted)
+led_touching program s (picks n taken) g = absurd g
 
 -- So what comes next keeps the invariant, and each state that a sound one steps to is sound.
 step_fine : (program : Program) (s : State) → Sound program s → FineIn program s (next program.types.items (body_forms program) s)
 unfolding next
 step_fine program s sound = by sound.goes
   where
-    by : Ordinary program s ⊎ (Operates program s ⊎ Finalizing program s) → FineIn program s (next program.types.items (body_forms program) s)
+    by : Ordinary program s ⊎ (Operates program s ⊎ Touching program s) → FineIn program s (next program.types.items (body_forms program) s)
     by (inl o) = step_by program s.mode s.control s.activations s sound o
     by (inr (inl o)) = operating_step program s o
-    by (inr (inr f)) = led_finalizing program s (next program.types.items (body_forms program) s) (finalizing_step program s sound f)
+    by (inr (inr f)) = led_touching program s (next program.types.items (body_forms program) s) (touching_step program s sound f)
 
 -- Where a choice leads, the invariant holds.
 leads_fine : (program : Program) (s : State) (n : Next) (choice : Choice) (e : Event) (after : State) → FineIn program s n → Leads n choice e after → Led program s.heap e after
@@ -585,16 +585,16 @@ led program s choice e after r step = leads_fine program s (next program.types.i
 
 does_so : (program : Program) (before : List Object) (e : Event) (after : State) → Led program before e after → Does before e after
 does_so program before e after (inl (c, calm)) = record { implicit = implicit_of (program_form program); body = (known_in program (running_procedure after) c.suspensions).program; alters = c.stepped.alters; says = c.stepped.says }
-does_so program before e after (inr (inr c)) = record { implicit = implicit_of (program_form program); body = seen_in (Some c.finalizing.procedure) (program_form program); alters = c.alters; says = c.says }
+does_so program before e after (inr (inr c)) = record { implicit = implicit_of (program_form program); body = seen_in (Some c.touching.procedure) (program_form program); alters = c.alters; says = c.says }
 does_so program before e after (inr (inl c)) = record { implicit = implicit_of (program_form program); body = program_form program; alters = c.alters; says = c.says (implicit_of (program_form program)) (program_form program) }
 
 pub stepped : (program : Program) (s : State) (choice : Choice) (e : Event) (after : State) → Sound program s → Step program s choice e after → Does s.heap e after
 stepped program s choice e after r step = does_so program s.heap e after (led program s choice e after r step)
 
-goes_so : (program : Program) (before : List Object) (e : Event) (after : State) → Led program before e after → Ordinary program after ⊎ (Operates program after ⊎ Finalizing program after)
+goes_so : (program : Program) (before : List Object) (e : Event) (after : State) → Led program before e after → Ordinary program after ⊎ (Operates program after ⊎ Touching program after)
 goes_so program before e after (inl (c, calm)) = inl (record { suspensions = c.suspensions; ready = c.stepped.ready; stands = c.stands; calm = calm })
 goes_so program before e after (inr (inl c)) = inr (inl c.operates)
-goes_so program before e after (inr (inr c)) = inr (inr c.finalizing)
+goes_so program before e after (inr (inr c)) = inr (inr c.touching)
 
 reached_then : (program : Program) (s : State) (choice : Choice) (e : Event) (after : State) → IsReached program s → Step program s choice e after → IsReached program after
 reached_then program s choice e after (input, events, run) step = (input, events ++ e ∷ [], run_more e choice after run step)
@@ -623,7 +623,7 @@ below_has n access pool (m ∷ upper) lower has = has_after n access pool m.item
 pub housed : (program : Program) (s : State) → Sound program s → (o : Id) (x : Object) → object_at s.heap o ≡ Some x → x.out ≡ true → HasItem x.cell.home.item x.cell.access x.cell.home.pool (items_of s.masters)
 housed program s sound o x found out = by sound.goes
   where
-    by : Ordinary program s ⊎ (Operates program s ⊎ Finalizing program s) → HasItem x.cell.home.item x.cell.access x.cell.home.pool (items_of s.masters)
+    by : Ordinary program s ⊎ (Operates program s ⊎ Touching program s) → HasItem x.cell.home.item x.cell.access x.cell.home.pool (items_of s.masters)
     by (inl n) = ((stored_in program s n).1.sane o x found).housed out
     by (inr (inr f)) = ((ready_stored (known_in program (Some f.procedure) (waiting_for program s f)) s f.ready).1.sane o x found).housed out
     by (inr (inl n)) =

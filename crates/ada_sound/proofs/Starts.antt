@@ -28,7 +28,7 @@ use Rattle.ada_sound.proofs.BodyRuns.{body_runs, none_suspended}
 use Rattle.ada_sound.proofs.Exits.{no_exits, no_exit_handlers}
 use Rattle.ada_sound.proofs.Invariant.{Ready}
 use Rattle.ada_sound.proofs.Callers.{Suspension, known_in, Stands}
-use Rattle.ada_sound.proofs.Finalizing.{Finalizing}
+use Rattle.ada_sound.proofs.Touching.{Touching}
 use Rattle.ada_sound.proofs.Operating.{IsCalm, Operates}
 use Rattle.ada_sound.proofs.QuietOperations.{operations_nest}
 use Rattle.ada_sound.proofs.Returns.{same_types}
@@ -52,7 +52,7 @@ pub record Sound (program : Program) (s : State) : Type 0 where
   pub in_use : operations_are_in_use (program_form program) ≡ true
   pub frees_own : FreesItsOwn (program_form program)
   pub obeys : ObeysRules program
-  pub goes : Ordinary program s ⊎ (Operates program s ⊎ Finalizing program s)
+  pub goes : Ordinary program s ⊎ (Operates program s ⊎ Touching program s)
   pub typed : typed.Typed (program_form program) s
   pub nested : Scoped (program_form program) s
 

@@ -105,11 +105,11 @@ module _ (known : Known) where
   -- What declarations go on with.
   collects_more : (access : ℕ) (ds : List DeclarationForm) (fs : StmtsForm) (hs : HandlersForm) (k : Control) (holds : Holds) (rooms : Rooms) → RunsOn known (Elaborates (collects access ∷ ds) fs hs ∷ k) rooms holds → RunsOn known (Elaborates ds fs hs ∷ k) rooms holds
   collects_more access ds fs hs k holds [] e = absurd e
-  collects_more access ds fs hs k holds (gone ∷ rooms) e = (e.0.1, e.1.0)
+  collects_more access ds fs hs k holds (gone ∷ rooms) e = (e.0.1, e.1.0.0)
 
   pools_more : (p : ℕ) (ds : List DeclarationForm) (fs : StmtsForm) (hs : HandlersForm) (k : Control) (holds : Holds) (rooms : Rooms) → RunsOn known (Elaborates (creates_pool p ∷ ds) fs hs ∷ k) rooms holds → RunsOn known (Elaborates ds fs hs ∷ k) rooms holds
   pools_more p ds fs hs k holds [] e = absurd e
-  pools_more p ds fs hs k holds (gone ∷ rooms) e = (e.0, e.1.0)
+  pools_more p ds fs hs k holds (gone ∷ rooms) e = (e.0, e.1.0.0)
 
   declares_more : (heap : List Object) (places : List Value) (x : ℕ) (right : RightForm) (ds : List DeclarationForm) (fs : StmtsForm) (hs : HandlersForm) (k : Control) (holds : Holds) (rooms : Rooms) → RunsOn known (Elaborates (declares x right ∷ ds) fs hs ∷ k) rooms holds → Takes known heap places right (Declares x ∷ Elaborates ds fs hs ∷ k) rooms holds
   declares_more heap places x right ds fs hs k holds [] e = absurd e
@@ -123,7 +123,7 @@ module _ (known : Known) where
           declared_at known.program.variables x,
           initializes_after known right flow (Elaborates ds fs hs ∷ k) (gone ∷ rooms) (Raised among o) (raised_before among o)
               (goes_map (initializes known.program.variables known.implicit right flow) (Elaborating known ds (Doing known fs (Handles hs ∷ Closes ∷ k) (Handled known hs (Closes ∷ k) o)) o)
-              (Raised among o) (RunsOn known (Elaborates ds fs hs ∷ k) (gone ∷ rooms)) (Raised among o) (λ h g. (e.0, g)) (λ h r. r) e.1),
+              (Raised among o) (RunsOn known (Elaborates ds fs hs ∷ k) (gone ∷ rooms)) (Raised among o) (λ h g. (e.0, g)) (λ h r. r) e.1.0),
         ),
         tt,
       )

@@ -10,6 +10,7 @@ use Rattle.ada_meaning.specs.declared.state.Value.{Value}
 use Rattle.ada_meaning.specs.declared.state.Value.TheVariants.{Null, Names, Scalar, Part}
 use Rattle.ada_meaning.specs.declared.state.Mode.{Mode}
 use Rattle.ada_meaning.specs.declared.state.Mode.TheVariants.{Running, Raising, Exiting, Returning}
+use Rattle.ada_meaning.specs.declared.event.Birth.{Birth}
 use Rattle.ada_meaning.specs.Frame as frame
 use Rattle.ada_meaning.specs.Frame.{Frame, Elaborates, Does, Decides, Repeats, Turns, Ranges, Counts, Exits, Handles, Closes, Leaves, Calls, Returns, Evaluates, Computes, Follows, TestsNull, Refers, RefersIn, Opens, OpensIn, Continues, Applies, AppliesAlone, Fills, Copies, Creates, Stores, Targets, StoresIn, TargetsRecord, StoresRecord, Assigns, Receives, FreesIn, Declares, DeclaresRecord, Treats, Writes, Ends, GivesBack, Clears, ClearsIn, Treatment, begins, ends}
 use Rattle.ada_meaning.specs.State.{Master}
@@ -17,6 +18,7 @@ use Rattle.ada_meaning.specs.Step.{first_or}
 use Rattle.ada_meaning.specs.Named.{Object, State, store}
 use Rattle.ada_sound.proofs.Stored.{Stored}
 use Rattle.ada_sound.proofs.Back.{stored_before}
+use Rattle.ada_sound.proofs.Ready.{begins_work}
 use Rattle.ada_sound.proofs.Invariant.{Known, Control, Rooms, Working, HalfBy, Resumes, Clearing, EvaluatesTo, TargetsTo, StoringIn, HalfFollows, NamesTo, BegunTo, EndsTo, CopiesBehind, TreatsBy, EndingBy, BackingBy, ReadyBy, RaisesBy, ReadyIn, Ready}
 
 -- Objects are stored, where one at most is under way.
@@ -95,9 +97,9 @@ module _ (known : Known) where
   names_stored (StoresIn o c ∷ k) heap places operands ms r = (_, stored_before heap ms o c (first_or Null operands) r.1.stored)
   names_stored (f ∷ k) heap places operands ms r = absurd r
 
-  begun_stored : (k : Control) (heap : List Object) (places operands : List Value) (ms : List Master) → BegunTo known k heap places operands ms → IsStored heap ms
-  begun_stored k heap places operands ms (inl w) = (_, w.stored)
-  begun_stored k heap places operands ms (inr r) = names_stored k heap places operands ms r
+  begun_stored : (v : Value) (by : Birth) (k : Control) (heap : List Object) (places operands : List Value) (ms : List Master) → BegunTo known v by k heap places operands ms → IsStored heap ms
+  begun_stored v by k heap places operands ms (inl b) = let w = begins_work known v by k heap places ms b in (_, w.stored)
+  begun_stored v by k heap places operands ms (inr r) = names_stored k heap places operands ms r.1
 
   ends_stored : (v : Value) (k : Control) (heap : List Object) (places : List Value) (ms : List Master) → EndsTo known v k heap places ms → IsStored heap ms
   ends_stored v [] heap places ms r = absurd r
@@ -110,7 +112,7 @@ module _ (known : Known) where
   copies_stored (f ∷ k) heap places operands ms r = absurd r
 
   treats_stored : (v : Value) (treatment : Treatment) (k : Control) (heap : List Object) (places operands : List Value) (ms : List Master) → TreatsBy known v treatment k heap places operands ms → IsStored heap ms
-  treats_stored v (begins by done) k heap places operands ms r = begun_stored k heap places operands ms r.0
+  treats_stored v (begins by done) k heap places operands ms r = begun_stored v by k heap places operands ms r.0
   treats_stored v (ends cause) k heap places operands ms (inl r) = ends_stored v k heap places ms r
   treats_stored v (ends cause) k heap places operands ms (inr r) = copies_stored k heap places operands ms r
 
@@ -154,7 +156,7 @@ module _ (known : Known) where
   frame_stored (Declares x) k heap places operands ms r = (_, r.stored)
   frame_stored (DeclaresRecord x t) k heap places operands ms r = (_, r.stored)
   frame_stored (Treats v treatment tasks) k heap places operands ms r = treats_stored v treatment k heap places operands ms r
-  frame_stored (frame.Awaits v by done of part tasks) k heap places operands ms r = begun_stored k heap places operands ms r.1.0
+  frame_stored (frame.Awaits v by done of part tasks) k heap places operands ms r = begun_stored v by k heap places operands ms r.1.0
   frame_stored frame.Confines k heap places operands ms (v, cause, tasks, behind, is, r) = treats_stored v (ends cause) behind heap places operands ms r
   frame_stored (frame.Resumes mode) k heap places operands ms r = (_, r.stored)
   frame_stored Writes k heap places operands ms r = (_, r.stored)

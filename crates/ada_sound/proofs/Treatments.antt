@@ -12,6 +12,7 @@ use Rattle.ada_program.specs.Controlled.{operations_of, procedure_number, shapes
 use Rattle.ada_program.specs.ProgramForm.{BodyForm}
 use Rattle.ada_flow.specs.Flow.{Holds}
 use Rattle.ada_meaning.specs.declared.event.Birth.{Birth}
+use Rattle.ada_meaning.specs.declared.event.Birth.TheVariants.{Creation, Copy, Adjustment}
 use Rattle.ada_meaning.specs.declared.event.Cause.{Cause}
 use Rattle.ada_meaning.specs.declared.state.Id.{Id}
 use Rattle.ada_meaning.specs.declared.state.Place.{Place}
@@ -38,10 +39,10 @@ use Rattle.ada_sound.proofs.Objects.{set_here, set_twice}
 use Rattle.ada_sound.proofs.Stored.{stored_treated}
 use Rattle.ada_sound.proofs.Fits.{Fit, treated_fit, same_unnamed, gone_fit}
 use Rattle.ada_sound.proofs.Alters.{Alters, alters_same, alters_set}
-use Rattle.ada_sound.proofs.Invariant.{outers, Known, Control, Rooms, RunsOn, Working, IsHolder, IsPlainIn, IsLive, NamesTo, BegunTo, EndsTo, StoresBehind, CopiesBehind, TreatsBy, ThenBack, Ending, ConfinesBy, EndsWell, Stepped, Fine}
+use Rattle.ada_sound.proofs.Invariant.{outers, Known, Control, Rooms, RunsOn, Working, IsHolder, IsPlainIn, IsLive, NamesTo, BeginsBy, BegunTo, EndsTo, StoresBehind, CopiesBehind, TreatsBy, ThenBack, Ending, ConfinesBy, EndsWell, Stepped, Fine}
 use Rattle.ada_sound.proofs.Ready.{running, at_work, stays, treats_ready}
-use Rattle.ada_sound.proofs.Endings.{swapped, gone_still, behind_set}
-use Rattle.ada_sound.proofs.Undone.{undo_set}
+use Rattle.ada_sound.proofs.Endings.{swapped, gone_still, under_set, behind_set}
+use Rattle.ada_sound.proofs.Undone.{beginning_set, collected_set, undo_set}
 use Rattle.ada_sound.proofs.Operating.{StaysLive, WaitsFor, IsCalled}
 
 -- A part of the object that a value names changes.
@@ -121,7 +122,7 @@ module _ (change : PartState → PartState) (part : ℕ) where
         behind_set known o x (treated change part x) heap found refl (Some o) (Some o) (λ w holder other. (other, other))
             (λ objects held at spared holds f aside. (treated_fit change part o x at f, (same_unnamed objects o x at o aside.0 (treated change part x) refl (λ c. refl), aside.1)))
             (λ spared held holds f. gone_still heap o x (treated change part x) found (λ objects. Fit known.program.types known.program.variables (outers known) spared objects held holds) (gone_fit heap o x (treated change part x) found) f)
-            cause x.cell.home.item places ms k r.2,
+            (under_set heap o x (treated change part x) found refl) cause x.cell.home.item places ms k r.2,
       )
       then_set places (f ∷ k) r = absurd r
 
@@ -164,9 +165,16 @@ module _ (change : PartState → PartState) (part : ℕ) where
     names_set places operands (StoresIn h c ∷ k) r = put_set h c _ places k r
     names_set places operands (f ∷ k) r = absurd r
 
-    begun_set : (places operands : List Value) (k : Control) → BegunTo known k heap places operands ms → BegunTo known k (slice_set heap o.0 (treated change part x)) places operands ms
-    begun_set places operands k (inl w) = inl (works_set heap o x found known ms w)
-    begun_set places operands k (inr r) = inr (names_set places operands k r)
+    begins_set : (v : Value) (by : Birth) (places : List Value) (k : Control) → v ≡ Names o → BeginsBy known v by k heap places ms → BeginsBy known v by k (slice_set heap o.0 (treated change part x)) places ms
+    begins_set v Creation places k is b =
+        beginning_set known heap places ms o x (treated change part x) found refl (stored_treated change part o x found) (λ holds f. treated_fit change part o x found f)
+        (λ holds aside. (same_unnamed heap o x found o aside.0 (treated change part x) refl (λ c. refl), aside.1)) v k is b
+    begins_set v Copy places k is w = works_set heap o x found known ms w
+    begins_set v (Adjustment number) places k is w = works_set heap o x found known ms w
+
+    begun_set : (v : Value) (by : Birth) (places operands : List Value) (k : Control) → v ≡ Names o → BegunTo known v by k heap places operands ms → BegunTo known v by k (slice_set heap o.0 (treated change part x)) places operands ms
+    begun_set v by places operands k is (inl b) = inl (begins_set v by places k is b)
+    begun_set v by places operands k is (inr r) = inr (collected_set heap ms o x (treated change part x) found refl v is r.0, names_set places operands k r.1)
 
     -- So does what is copied to a record that is assigned to.
     holder_set : (v : Value) → IsHolder heap v → IsHolder (slice_set heap o.0 (treated change part x)) v
@@ -200,9 +208,10 @@ module _ (change : PartState → PartState) (part : ℕ) where
 
     treats_set : (v : Value) (treatment : Treatment) (places operands : List Value) (k : Control) → v ≡ Names o → TreatsBy known v treatment k heap places operands ms → TreatsBy known v treatment k (slice_set heap o.0 (treated change part x)) places operands ms
     treats_set v (begins by done) places operands k is r = (
-      begun_set places operands k r.0,
+      begun_set v by places operands k is r.0,
       rw is (undo_set known heap places ms o x (treated change part x) found refl (stored_treated change part o x found)
-          (λ holds f. gone_fit heap o x (treated change part x) found f) by k (rw is at r.1)),
+          (λ holds f. gone_fit heap o x (treated change part x) found f) (λ holds f. treated_fit change part o x found f)
+          (λ holds aside. (same_unnamed heap o x found o aside.0 (treated change part x) refl (λ c. refl), aside.1)) by k (rw is at r.1)),
     )
     treats_set v (ends cause) places operands k is (inl r) = inl (ends_set heap o x found known ms v places k is r)
     treats_set v (ends cause) places operands k is (inr r) = inr (copies_set places operands k r)

@@ -1,13 +1,15 @@
 -- A new object may be undone (7.6, 7.6.1): where an exception comes out of its initialization, what has begun is finalized, the object ceases to exist, its
 -- words go back, and the exception goes on.
 
-use Rattle.std.proofs.Common.{◌≡◌, true, List, [], ◌∷◌, ◌++◌, length, map, refl, sym, inl}
+use Rattle.std.proofs.Common.{◌≡◌, ℕ, Bool, true, List, [], ◌∷◌, ◌++◌, length, map, refl, sym, inl, ◌≢◌, ◌⊎◌, inr}
 use Rattle.std.specs.Prelude.{Option, Some, None}
 use Rattle.std.specs.List.{list_any, slice_set}
 use Rattle.ada_parts.specs.Part as parts
 use Rattle.ada_parts.specs.Task.{performs}
 use Rattle.ada_program.specs.declared.program.Exception.{Exception}
 use Rattle.ada_program.specs.Handling.{is_same}
+use Rattle.ada_program.specs.ProgramForm.{VariableForm}
+use Rattle.ada_flow.specs.declared.rule.Hold.TheVariants as hold
 use Rattle.ada_flow.specs.Flow.{Holds}
 use Rattle.ada_meaning.specs.declared.state.Id.{Id}
 use Rattle.ada_meaning.specs.declared.state.Value.{Value}
@@ -24,16 +26,21 @@ use Rattle.ada_meaning.specs.Heap.{Cell}
 use Rattle.ada_meaning.specs.State.{Activation, Master}
 use Rattle.ada_meaning.specs.Step.{undone, undo_next}
 use Rattle.ada_meaning.specs.Named.{Object, State, object_at, look, named, on_object, new_object, create, created, parted, finished}
+use Rattle.ada_owners.specs.Reliance.{Borrows}
 use Rattle.ada_sound.proofs.Objects.{get_new, set_here, set_new}
 use Rattle.ada_sound.proofs.Stored.{Stored, stored_part}
-use Rattle.ada_sound.proofs.Fits.{Fit, none_spared, beside_fit, gone_fit}
+use Rattle.ada_sound.proofs.Fits.{Fit, none_spared, weaker_fit, part_fit, beside_fit, gone_fit, same_unnamed}
 use Rattle.ada_sound.proofs.Alters.{alters_set}
-use Rattle.ada_sound.proofs.Invariant.{outers, below, Known, Control, Rooms, Roomed, To, Ending, StartsTo, StartsRaise, UndoneTo, MayUndo, IsLive, Stepped, Fine, ways}
+use Rattle.ada_sound.proofs.Invariant.{outers, below, Known, Control, Rooms, Roomed, To, By, Unaliased, IsAside, Freed, gone_in, Beginning, BeginsWell, UnderIs, HasCollection, ResumesTo, IsCollected, Ending, StartsTo, StartsRaise, UndoneTo, MayUndo, IsLive, Stepped, Fine, ways}
 use Rattle.ada_sound.proofs.Ready.{in_mode, treats_ready}
-use Rattle.ada_sound.proofs.Endings.{gone_still}
+use Rattle.ada_sound.proofs.Endings.{gone_still, under_set}
+use Rattle.ada_sound.proofs.Orderings.{as_good, good_to_lost}
+use Rattle.ada_sound.proofs.Values.{lost_here, read_other, same_or_not}
 
 -- The object itself changes while it is initialized, and stays of its type: it may be undone still.
-module _ (known : Known) (heap : List Object) (places : List Value) (ms : List Master) (o : Id) (x y : Object) (found : object_at heap o ≡ Some x) (same : y.cell.access ≡ x.cell.access) (kept : Stored (outers known).under heap ms → Stored (outers known).under (slice_set heap o.0 y) ms) (keeps : (holds : Holds) → Fit known.program.types known.program.variables (outers known) none_spared (slice_set heap o.0 (finished x)) places holds → Fit known.program.types known.program.variables (outers known) none_spared (slice_set heap o.0 (finished y)) places holds) where
+module _ (known : Known) (heap : List Object) (places : List Value) (ms : List Master) (o : Id) (x y : Object) (found : object_at heap o ≡ Some x) (same : y.cell.access ≡ x.cell.access) (kept : Stored (outers known).under heap ms → Stored (outers known).under (slice_set heap o.0 y) ms) (goes : (holds : Holds) → Fit known.program.types known.program.variables (outers known) none_spared (slice_set heap o.0 (finished x)) places holds → Fit known.program.types known.program.variables (outers known) none_spared (slice_set heap o.0 (finished y)) places holds)
+    (keeps : (holds : Holds) → Fit known.program.types known.program.variables (outers known) none_spared heap places holds → Fit known.program.types known.program.variables (outers known) none_spared (slice_set heap o.0 y) places holds)
+    (apart : (holds : Holds) → IsAside known none_spared heap places holds (Some o) → IsAside known none_spared (slice_set heap o.0 y) places holds (Some o)) where
   still : object_at (slice_set heap o.0 y) o ≡ Some y
   still = set_here heap o.0 x y found
 
@@ -44,38 +51,131 @@ module _ (known : Known) (heap : List Object) (places : List Value) (ms : List M
       (o, x, refl, found, rw (z_is, same) at raises)
 
   undone_set : (k : Control) (e : Exception) → UndoneTo known (Names o) k heap places ms e → UndoneTo known (Names o) k (slice_set heap o.0 y) places ms e
-  undone_set k e u = record {
-    rooms = u.rooms;
-    holds = u.holds;
-    roomed = u.roomed;
-    fit = gone_still heap o x y found (λ objects. Fit known.program.types known.program.variables (outers known) none_spared objects places u.holds) (keeps u.holds) u.fit;
-    aside = tt;
-    rest = u.rest;
-  }
+  undone_set k e (p, access, is, under, inl (collected, u)) =
+      let this : p ≡ o = cc is in (
+        o,
+        access,
+        refl,
+        under_set heap o x y found same access (rw this at under),
+        inl (
+          collected,
+          record {
+            rooms = u.rooms;
+            holds = u.holds;
+            roomed = u.roomed;
+            fit = gone_still heap o x y found (λ objects. Fit known.program.types known.program.variables (outers known) none_spared objects places u.holds) (goes u.holds) u.fit;
+            aside = tt;
+            rest = u.rest;
+          },
+        ),
+      )
+  undone_set k e (p, access, is, under, inr u) =
+      let this : p ≡ o = cc is in
+      let aside : IsAside known none_spared heap places u.holds (Some o) = rw this at u.aside in (
+        o,
+        access,
+        refl,
+        under_set heap o x y found same access (rw this at under),
+        inr (record { rooms = u.rooms; holds = u.holds; roomed = u.roomed; fit = keeps u.holds u.fit; aside = apart u.holds aside; rest = u.rest }),
+      )
 
   pub undo_set : (by : Birth) (k : Control) → MayUndo known (Names o) by k heap places ms → MayUndo known (Names o) by k (slice_set heap o.0 y) places ms
   undo_set Creation k may = (kept may.0, λ e raises. undone_set k e (may.1 e (raises_before e raises)))
   undo_set Copy k may = tt
   undo_set (Adjustment number) k may = tt
 
+-- It is initialized still: what is behind goes on, and the collection of its access type is open still.
+module _ (known : Known) (heap : List Object) (places : List Value) (ms : List Master) (o : Id) (x y : Object) (found : object_at heap o ≡ Some x) (same : y.cell.access ≡ x.cell.access) (kept : Stored (outers known).under heap ms → Stored (outers known).under (slice_set heap o.0 y) ms)
+    (keeps : (holds : Holds) → Fit known.program.types known.program.variables (outers known) none_spared heap places holds → Fit known.program.types known.program.variables (outers known) none_spared (slice_set heap o.0 y) places holds)
+    (apart : (holds : Holds) → IsAside known none_spared heap places holds (Some o) → IsAside known none_spared (slice_set heap o.0 y) places holds (Some o)) where
+  pub beginning_set : (v : Value) (k : Control) → v ≡ Names o → Beginning known v k heap places ms → Beginning known v k (slice_set heap o.0 y) places ms
+  beginning_set v k is b =
+      let names = b.is in
+      let this : b.o ≡ o = cc (names, is) in
+      let there = b.found in
+      let one : b.object ≡ x = cc (rw this at there, found) in
+      let aside : IsAside known none_spared heap places (slice_set b.holds b.x hold.Lost) (Some o) = rw this at b.aside in
+      record {
+        o = o;
+        object = y;
+        is = is;
+        found = set_here heap o.0 x y found;
+        x = b.x;
+        rooms = b.rooms;
+        holds = b.holds;
+        stored = kept b.stored;
+        roomed = b.roomed;
+        fit = keeps b.holds b.fit;
+        aside = apart (slice_set b.holds b.x hold.Lost) aside;
+        runs = b.runs;
+        undone = rw same (rw one at b.undone);
+        well = rw same (rw one at b.well);
+      }
+
+pub collected_set : (heap : List Object) (ms : List Master) (o : Id) (x y : Object) → object_at heap o ≡ Some x → y.cell.access ≡ x.cell.access → (v : Value) → v ≡ Names o → IsCollected heap ms v → IsCollected (slice_set heap o.0 y) ms v
+collected_set heap ms o x y found same v is collected p z names there =
+    let this : p ≡ o = cc (names, is) in
+    let still = set_here heap o.0 x y found in
+    let one : z ≡ y = cc (rw this at there, still) in
+    rw (one, same) (collected o x is found)
+
+-- A variable that is lost has no alias.
+lost_unaliased : (variables : List VariableForm) (may : ℕ → Bool) (holds : Holds) (x : ℕ) → Unaliased variables may holds → Unaliased variables may (slice_set holds x hold.Lost)
+lost_unaliased variables may holds x none y t of freed b = go (same_or_not y x)
+  where
+    go : (y ≡ x) ⊎ (y ≢ x) → ⊥
+    go (inl e) = let nothing : Borrows hold.Lost = rw (e, lost_here holds x) at b in absurd nothing
+    go (inr ne) = none y t of freed (rw (read_other holds x y hold.Lost hold.Lost ne) at b)
+
+-- A record object may be undone while it is initialized: its variable is not relied on then.
+pub beginning_undone : (known : Known) (v : Value) (k : Control) (heap : List Object) (places : List Value) (ms : List Master) → Beginning known v k heap places ms → (e : Exception) → StartsRaise known heap v e → UndoneTo known v k heap places ms e
+beginning_undone known v k heap places ms b e (p, z, is, there, raises) =
+    let lost = slice_set b.holds b.x hold.Lost in
+    let names = b.is in
+    let found = b.found in
+    let this : p ≡ b.o = cc (is, names) in
+    let one : z ≡ b.object = cc (rw this at there, found) in (
+      b.o,
+      b.object.cell.access,
+      b.is,
+      (b.object, b.found, refl),
+      inr (record {
+        rooms = b.rooms;
+        holds = lost;
+        roomed = b.roomed;
+        fit = weaker_fit lost (good_to_lost b.x b.holds b.holds (as_good b.holds)) b.fit;
+        aside = b.aside;
+        rest = (b.undone e (rw one at raises), (b.well.0, lost_unaliased known.program.variables (known.implicit.start_frees b.object.cell.access) b.holds b.x b.well.1));
+      }),
+    )
+
 -- What fits before an object comes to be fits where it is gone again.
 module _ (known : Known) (heap : List Object) (words : _) (cell : Cell Value) where
   new_out : heap ++ finished (new_object cell) ∷ [] ≡ on_object finished (create heap words cell) (created heap words)
   new_out = sym (rw (get_new heap (new_object cell)) (set_new heap (new_object cell) (finished (new_object cell))))
 
-  pub new_undone : (k : Control) (places : List Value) (ms : List Master) (rooms : Rooms) (holds : Holds) (e : Exception) → Roomed (below known) ms rooms → Fit known.program.types known.program.variables (outers known) none_spared heap places holds → To ((ways known k rooms).raised e) holds → UndoneTo known (created heap words) k (create heap words cell) places ms e
-  new_undone k places ms rooms holds e roomed fit goes = record {
-    rooms = rooms;
-    holds = holds;
-    roomed = roomed;
-    fit = rw new_out at (beside_fit heap (finished (new_object cell)) refl fit);
-    aside = tt;
-    rest = goes;
-  }
+  pub new_undone : (k : Control) (places : List Value) (ms : List Master) (rooms : Rooms) (holds : Holds) (e : Exception) → HasCollection ms cell.access → Roomed (below known) ms rooms → Fit known.program.types known.program.variables (outers known) none_spared heap places holds → To ((ways known k rooms).raised e) holds → UndoneTo known (created heap words) k (create heap words cell) places ms e
+  new_undone k places ms rooms holds e collected roomed fit goes = (
+    record { 0 = length heap },
+    cell.access,
+    refl,
+    (new_object cell, get_new heap (new_object cell), refl),
+    inl (
+      collected,
+      record {
+        rooms = rooms;
+        holds = holds;
+        roomed = roomed;
+        fit = rw new_out at (beside_fit heap (finished (new_object cell)) refl fit);
+        aside = tt;
+        rest = goes;
+      },
+    ),
+  )
 
-  -- So a new object may be undone.
-  pub new_may_undo : (k : Control) (places : List Value) (ms : List Master) (rooms : Rooms) (holds : Holds) → Stored (outers known).under (create heap words cell) ms → Roomed (below known) ms rooms → Fit known.program.types known.program.variables (outers known) none_spared heap places holds → StartsTo known cell.access k rooms holds → MayUndo known (created heap words) Creation k (create heap words cell) places ms
-  new_may_undo k places ms rooms holds stored roomed fit starts = (stored, λ e raises. new_undone k places ms rooms holds e roomed fit (starts e (raised e raises)))
+  -- So a new object may be undone that an allocator made.
+  pub new_may_undo : (k : Control) (places : List Value) (ms : List Master) (rooms : Rooms) (holds : Holds) → HasCollection ms cell.access → Stored (outers known).under (create heap words cell) ms → Roomed (below known) ms rooms → Fit known.program.types known.program.variables (outers known) none_spared heap places holds → StartsTo known cell.access k rooms holds → MayUndo known (created heap words) Creation k (create heap words cell) places ms
+  new_may_undo k places ms rooms holds collected stored roomed fit starts = (stored, λ e raises. new_undone k places ms rooms holds e collected roomed fit (starts e (raised e raises)))
     where
       next : Id
       next = record { 0 = length heap }
@@ -96,7 +196,54 @@ live_exists heap ms o x found live stored = go x.stage refl
     go Gone is = absurd (live is)
 
 module _ (known : Known) (k : Control) (a : Activation Value) (rest : List (Activation Value)) (s : State) (e : Exception) (done : List parts.Part) where
-  -- The object leaves its collection, and what has begun of it is finalized next.
+  -- The object leaves its collection: what is behind goes on still.
+  left_resumes : (o : Id) (x : Object) → object_at s.heap o ≡ Some x → StartsRaise known s.heap (Names o) e → UndoneTo known (Names o) k s.heap a.places s.masters e → ResumesTo known (Some o) (slice_set s.heap o.0 (parted x)) a.places s.masters (Resumes (Raising e) ∷ k)
+  left_resumes o x found (q, y, names, there, raises) (p, access, is, under, goes) = (access, under_set s.heap o x (parted x) found refl access at_o, (e, refl, came), behind goes)
+    where
+      this : p ≡ o
+      this = cc is
+
+      at_o : UnderIs s.heap (Some o) access
+      at_o = rw this at under
+
+      of_under : UnderIs s.heap (Some o) access → x.cell.access ≡ access
+      of_under (z, at_z, of) =
+          let one : z ≡ x = cc (at_z, found) in
+          rw one at of
+
+      came : list_any (is_same e) (known.implicit.start_raises access) ≡ true
+      came =
+          let same : q ≡ o = cc names in
+          let one : y ≡ x = cc (rw same at there, found) in
+          rw (of_under at_o) at (rw one at raises)
+
+      behind : (HasCollection s.masters access × Freed known None none_spared (on_object finished s.heap (Names o)) a.places s.masters (λ rooms holds. To ((ways known k rooms).raised e) holds))
+          ⊎ Freed known (Some p) none_spared s.heap a.places s.masters (λ rooms holds. To ((ways known k rooms).raised e) holds × BeginsWell known access holds)
+          → (HasCollection s.masters access × Freed known None none_spared (gone_in (Some o) (slice_set s.heap o.0 (parted x))) a.places s.masters (λ rooms holds. To (By (Raising e) (ways known k rooms)) holds))
+          ⊎ Freed known (Some o) none_spared (slice_set s.heap o.0 (parted x)) a.places s.masters (λ rooms holds. To (By (Raising e) (ways known k rooms)) holds × BeginsWell known access holds)
+      behind (inl (collected, u)) = inl (
+        collected,
+        record {
+          rooms = u.rooms;
+          holds = u.holds;
+          roomed = u.roomed;
+          fit = gone_still s.heap o x (parted x) found (λ objects. Fit known.program.types known.program.variables (outers known) none_spared objects a.places u.holds) (gone_fit s.heap o x (parted x) found) u.fit;
+          aside = tt;
+          rest = u.rest;
+        },
+      )
+      behind (inr u) =
+          let aside : IsAside known none_spared s.heap a.places u.holds (Some o) = rw this at u.aside in
+          inr (record {
+            rooms = u.rooms;
+            holds = u.holds;
+            roomed = u.roomed;
+            fit = part_fit o x found u.fit;
+            aside = (same_unnamed s.heap o x found o aside.0 (parted x) refl (λ c. refl), aside.1);
+            rest = u.rest;
+          })
+
+  -- What has begun of it is finalized next.
   undone_object : (o : Id) (x : Object) → object_at s.heap o ≡ Some x → x.stage ≡ Existing → Stored (outers known).under s.heap s.masters → StartsRaise known s.heap (Names o) e → UndoneTo known (Names o) k s.heap a.places s.masters e → Stepped known s.heap Quiet (record (undone named e (Names o) done x.cell (in_mode (Raising e) k a rest s)) { heap = slice_set s.heap o.0 (parted x) })
   undone_object o x found exists stored raises u =
       let heap = slice_set s.heap o.0 (parted x) in
@@ -107,21 +254,7 @@ module _ (known : Known) (k : Control) (a : Activation Value) (rest : List (Acti
         parted = refl;
         stored = stored_part o x found stored;
         covered = tt;
-        rest = (
-          refl,
-          refl,
-          (
-            (e, raises.1.cell.access, refl, raises.4),
-            record {
-              rooms = u.rooms;
-              holds = u.holds;
-              roomed = u.roomed;
-              fit = gone_still s.heap o x (parted x) found (λ objects. Fit known.program.types known.program.variables (outers known) none_spared objects a.places u.holds) (gone_fit s.heap o x (parted x) found) u.fit;
-              aside = tt;
-              rest = u.rest;
-            },
-          ),
-        );
+        rest = (refl, refl, left_resumes o x found raises u);
       } in
       record {
         ready = (

@@ -4,6 +4,8 @@ use Rattle.std.proofs.Common.{◌≡◌, ◌≢◌, ℕ, List, [], ◌∷◌, re
 use Rattle.std.specs.Prelude.{Some}
 use Rattle.std.specs.List.{slice_set}
 use Rattle.ada_flow.specs.Flow.{Holds}
+use Rattle.ada_meaning.specs.declared.event.Birth.{Birth}
+use Rattle.ada_meaning.specs.declared.event.Birth.TheVariants.{Creation, Copy, Adjustment}
 use Rattle.ada_meaning.specs.declared.state.Id.{Id}
 use Rattle.ada_meaning.specs.declared.state.Value.{Value}
 use Rattle.ada_meaning.specs.declared.state.Value.TheVariants.{Null, Names, Scalar, Part}
@@ -17,11 +19,11 @@ use Rattle.ada_owners.proofs.Objects.{at_other}
 use Rattle.ada_owners.proofs.Changes.{store_is}
 use Rattle.ada_sound.proofs.Objects.{set_here, set_twice}
 use Rattle.ada_sound.proofs.Stored.{stored_filled}
-use Rattle.ada_sound.proofs.Fits.{Fit, store_blank, wrote_unnamed, gone_fit}
-use Rattle.ada_sound.proofs.Invariant.{outers, Known, Control, Rooms, RunsOn, Working, IsHolder, IsPlainIn, NamesTo, BegunTo, EndsTo, StoresBehind, CopiesBehind, TreatsBy, ThenBack, Ending}
+use Rattle.ada_sound.proofs.Fits.{Fit, none_spared, store_blank, wrote_unnamed, gone_fit}
+use Rattle.ada_sound.proofs.Invariant.{outers, Known, Control, Rooms, RunsOn, Working, IsHolder, IsPlainIn, NamesTo, BeginsBy, BegunTo, EndsTo, StoresBehind, CopiesBehind, TreatsBy, ThenBack, Ending}
 use Rattle.ada_sound.proofs.Ready.{at_work}
-use Rattle.ada_sound.proofs.Endings.{KeepsFit, swapped, gone_still, behind_set}
-use Rattle.ada_sound.proofs.Undone.{undo_set}
+use Rattle.ada_sound.proofs.Endings.{KeepsFit, swapped, gone_still, under_set, behind_set}
+use Rattle.ada_sound.proofs.Undone.{beginning_set, collected_set, undo_set}
 
 -- This goes into this component.
 module _ (c : ℕ) (v : Value) (nameless : (p : Id) → v ≡ Names p → ⊥) where
@@ -106,7 +108,7 @@ module _ (c : ℕ) (v : Value) (nameless : (p : Id) → v ≡ Names p → ⊥) w
         behind_set known o x (wrote x) heap found refl (Some o) (Some o) (λ w holder other. (other, other))
             (λ objects held at spared holds f aside. (wrote_fit known objects held o x at spared holds f, (wrote_unnamed objects o x at o aside.0 c v nameless, aside.1)))
             (λ spared held holds f. gone_still heap o x (wrote x) found (λ objects. Fit known.program.types known.program.variables (outers known) spared objects held holds) (gone_fit heap o x (wrote x) found) f)
-            cause x.cell.home.item places ms k r.2,
+            (under_set heap o x (wrote x) found refl) cause x.cell.home.item places ms k r.2,
       )
       then_set places (f ∷ k) r = absurd r
 
@@ -153,9 +155,16 @@ module _ (c : ℕ) (v : Value) (nameless : (p : Id) → v ≡ Names p → ⊥) w
     names_set places operands (StoresIn h d ∷ k) r = put_set h d _ places k r
     names_set places operands (f ∷ k) r = absurd r
 
-    begun_set : (places operands : List Value) (k : Control) → BegunTo known k heap places operands ms → BegunTo known k (slice_set heap o.0 (wrote x)) places operands ms
-    begun_set places operands k (inl w) = inl (works_set heap o x found known ms w)
-    begun_set places operands k (inr r) = inr (names_set places operands k r)
+    begins_set : (by : Birth) (places : List Value) (k : Control) → BeginsBy known (Names o) by k heap places ms → BeginsBy known (Names o) by k (slice_set heap o.0 (wrote x)) places ms
+    begins_set Creation places k b =
+        beginning_set known heap places ms o x (wrote x) found refl (stored_filled o x c v found) (λ holds f. wrote_fit known heap places o x found none_spared holds f)
+        (λ holds aside. (wrote_unnamed heap o x found o aside.0 c v nameless, aside.1)) (Names o) k refl b
+    begins_set Copy places k w = works_set heap o x found known ms w
+    begins_set (Adjustment number) places k w = works_set heap o x found known ms w
+
+    begun_set : (by : Birth) (places operands : List Value) (k : Control) → BegunTo known (Names o) by k heap places operands ms → BegunTo known (Names o) by k (slice_set heap o.0 (wrote x)) places operands ms
+    begun_set by places operands k (inl b) = inl (begins_set by places k b)
+    begun_set by places operands k (inr r) = inr (collected_set heap ms o x (wrote x) found refl (Names o) refl r.0, names_set places operands k r.1)
 
     -- So does what is copied to a record that is assigned to.
     holder_set : (u : Value) → IsHolder heap u → IsHolder (slice_set heap o.0 (wrote x)) u
@@ -190,9 +199,10 @@ module _ (c : ℕ) (v : Value) (nameless : (p : Id) → v ≡ Names p → ⊥) w
     -- Whatever is behind the treatment of the object.
     pub treats_written : (treatment : Treatment) (places operands : List Value) (k : Control) → TreatsBy known (Names o) treatment k heap places operands ms → TreatsBy known (Names o) treatment k (slice_set heap o.0 (wrote x)) places operands ms
     treats_written (begins by done) places operands k r = (
-      begun_set places operands k r.0,
+      begun_set by places operands k r.0,
       undo_set known heap places ms o x (wrote x) found refl (stored_filled o x c v found)
-          (λ holds f. gone_fit heap o x (wrote x) found f) by k r.1,
+          (λ holds f. gone_fit heap o x (wrote x) found f) (λ holds f. wrote_fit known heap places o x found none_spared holds f)
+          (λ holds aside. (wrote_unnamed heap o x found o aside.0 c v nameless, aside.1)) by k r.1,
     )
     treats_written (ends cause) places operands k (inl r) = inl (ends_set heap o x found known ms (Names o) places k refl r)
     treats_written (ends cause) places operands k (inr r) = inr (copies_set places operands k r)

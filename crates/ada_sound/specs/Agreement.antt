@@ -6,7 +6,7 @@ use Rattle.ada_program.specs.declared.program.Choice.{Choice}
 use Rattle.ada_program.specs.declared.program.Program.{Program}
 use Rattle.ada_text.specs.declared.spot.Spot.{Spot}
 use Rattle.ada_program.specs.Form.{ActualForm, PathForm, ExpressionForm, nothing, DeclarationForm, StmtForm, assigns, chooses, repeats, counts, encloses, StmtsForm, a_stmt, BranchesForm, otherwise, a_branch, HandlersForm, a_handler}
-use Rattle.ada_program.specs.ProgramForm.{TypeForm, VariableForm, ProgramForm, main_body, program_form, seen_in}
+use Rattle.ada_program.specs.ProgramForm.{TypeForm, VariableForm, BodyForm, ProgramForm, main_body, program_form, body_forms, seen_in}
 use Rattle.ada_program.specs.declared.program.TypeNo.{TypeNo}
 use Rattle.ada_program.specs.declared.program.VariableKind.TheVariants as variable
 use Rattle.ada_program.specs.WellFormed.{access_of, variable_kind, reached_components, kind_among}
@@ -15,6 +15,7 @@ use Rattle.ada_flow.specs.declared.rule.Hold.TheVariants as hold
 use Rattle.ada_flow.specs.Flow.{Holds, goes, hold_at, variable_access, declarations_flow, computed, bounds_flow, condition_flow, opened_by_all, counting_start, gone_with, Around, body_around, keeping_of, in_loop, in_block, begins_pair, stmt_flow, stmts_flow, first_holds}
 use Rattle.ada_deeds.specs.Implicit.{implicit_of}
 use Rattle.ada_effects.specs.Effects.{Implicit, effects_of}
+use Rattle.ada_quiet.specs.Quiet.{is_plain_body}
 use Rattle.ada_meaning.specs.declared.state.Id.{Id}
 use Rattle.ada_meaning.specs.declared.state.Value.{Value}
 use Rattle.ada_meaning.specs.declared.state.Value.TheVariants.{Null, Names, Scalar, Part}
@@ -26,6 +27,7 @@ use Rattle.ada_meaning.specs.Heap.{finds}
 use Rattle.ada_meaning.specs.Step.{before_last, last_of, held, procedure_of}
 use Rattle.ada_meaning.specs.Named.{Object, State, object_at, named, whole, inside}
 use Rattle.ada_meaning.specs.Law.{items_of}
+use Rattle.ada_finalized.specs.Law.{NoOperationRuns}
 use Rattle.ada_owners.specs.Places as owners
 use Rattle.ada_owners.specs.Places.{value_at}
 use Rattle.ada_owners.specs.Reliance.{Owns}
@@ -146,6 +148,16 @@ mutual
 -- The procedure whose body runs: none, where it is the main one.
 abbrev pub running_procedure : State → Option ℕ
 running_procedure s = procedure_of s.activations
+
+-- The body runs of a procedure that touches Integers and Booleans alone.
+abbrev pub RunsPlainly : Program → State → Type 0
+RunsPlainly program s =
+    (number : ℕ) × (b : BodyForm) × (running_procedure s ≡ Some number) × (slice_get (body_forms program) number ≡ Some b)
+    × (is_plain_body (program_form program).types b ≡ true)
+
+-- Flow speaks of a state where no operation of a controlled type runs, or where the body that runs is not of such a procedure (7.6).
+abbrev pub IsSpokenOf : Program → State → Type 0
+IsSpokenOf program s = NoOperationRuns s.control ⊎ (RunsPlainly program s → ⊥)
 
 -- What is left to do behind a body: nothing behind the main one, and what its caller was to do behind that of a procedure (6.5).
 abbrev pub IsBehind : (procedure : Option ℕ) → (rest : Place) → Type 0

@@ -22,8 +22,7 @@ use Rattle.ada_meaning.specs.Beginning.{BeginsStatement}
 use Rattle.ada_meaning.specs.Named.{Object, State, object_at}
 use Rattle.ada_meaning.specs.Run.{Event, Run, Halts, first_state}
 use Rattle.ada_meaning.specs.Law.{IsBackHome, items_of, Falls, MastersFall, GivesBackOf, Happened, IsHoused, HasPool, OwnTwoPools, IsDeclaredPool, IsBack, HasEnded}
-use Rattle.ada_finalized.specs.Law.{NoOperationRuns}
-use Rattle.ada_sound.specs.Agreement.{Agrees, Place, Turning, IsFlowAt, IsBehind, running_procedure}
+use Rattle.ada_sound.specs.Agreement.{Agrees, Place, Turning, IsFlowAt, IsBehind, IsSpokenOf, running_procedure}
 use Rattle.ada_quiet.specs.InUse.{operations_are_in_use}
 
 -- Of the events of each run, and the state that it comes to.
@@ -63,9 +62,9 @@ AgreesThere program s =
     × IsFlowAt program (running_procedure s) rest way s.control holds
     × Agrees (program_form program).types (seen_in (running_procedure s) (program_form program)).variables s holds
 
--- So it is wherever a statement begins while no operation runs, in the main body or in that of a procedure.
+-- So it is wherever a statement begins, in the main body or in that of a procedure, but in that of an operation that touches Integers and Booleans alone.
 abbrev pub AgreesWithFlow : Program → Type 0
-AgreesWithFlow program = InEveryRun program (λ events last. BeginsStatement last → NoOperationRuns last.control → AgreesThere program last)
+AgreesWithFlow program = InEveryRun program (λ events last. BeginsStatement last → IsSpokenOf program last → AgreesThere program last)
 
 -- Any two events, the first before the second.
 abbrev pub InPairs : (Event → Event → Type 0) → List Event → State → Type 0

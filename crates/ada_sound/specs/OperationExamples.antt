@@ -1,11 +1,11 @@
 -- The operations, the statements and the events of the programs by which the laws show what operations of controlled types do, where one of them raises an
--- exception and where one of them frees, too, and that others must not be in use.
+-- exception and where some of them allocate and free, too, and that others must not be in use.
 
 use Rattle.std.specs.Prelude.{ℕ, List, [], ◌∷◌, ◌++◌, Some, None, false, pos}
 use Rattle.std.proofs.Math.ListN.{replicate}
 use Rattle.ada_values.specs.declared.operator.BinaryOperator.TheVariants as binary
 use Rattle.ada_program.specs.declared.program.Choice.TheVariants as choice
-use Rattle.ada_program.specs.declared.program.Exception.TheVariants.{ConstraintError}
+use Rattle.ada_program.specs.declared.program.Exception.TheVariants.{ConstraintError, StorageError}
 use Rattle.ada_program.specs.declared.program.FormalMode.TheVariants.{InOut}
 use Rattle.ada_program.specs.declared.program.Operations.{Operations}
 use Rattle.ada_program.specs.declared.program.Program.{Program}
@@ -22,6 +22,7 @@ use Rattle.ada_meaning.specs.Beginning.{BeginsStatement}
 use Rattle.ada_meaning.specs.Named.{State}
 use Rattle.ada_meaning.specs.Run.{Event}
 use Rattle.ada_finalized.specs.Law.{NoOperationRuns}
+use Rattle.ada_sound.specs.Agreement.{RunsPlainly, IsSpokenOf}
 use Rattle.ada_sound.specs.Always.{AgreesThere}
 use Rattle.ada_sound.specs.Examples.{example_spot, example_path, with_number}
 use Rattle.ada_sound.specs.RecordExamples.{object_path, object_record}
@@ -249,6 +250,124 @@ tidying_events =
     ∷ Left 0
     ∷ []
 
+-- The same types, but that Holder overrides Initialize and Finalize, by these procedures. H : Holder has number 0 in the main procedure.
+abbrev pub allocating_operations : Operations
+allocating_operations = record { initialize = Some (record { 0 = 0 }); adjust = None; finalize = Some (record { 0 = 1 }) }
+
+-- procedure Initialize (H : in out Holder) is begin H.Head := new Cell; exception when Storage_Error => null; end Initialize;
+abbrev pub allocating_initialize : BodyForm
+allocating_initialize =
+    operation_body 4 (a_stmt (assigns head_now (allocates_default 1)) no_stmts)
+    (a_handler (choice.Exception StorageError ∷ []) (a_stmt skips no_stmts) no_handlers)
+
+-- procedure Finalize (H : in out Holder) is begin Free (H.Head); end Finalize;
+abbrev pub allocating_finalize : BodyForm
+allocating_finalize = operation_body 5 (a_stmt (frees 1 head_now) no_stmts) no_handlers
+
+-- Both, in order.
+abbrev pub allocating_bodies : List BodyForm
+allocating_bodies = allocating_initialize ∷ allocating_finalize ∷ []
+
+-- The component Value of what Head of H names.
+abbrev pub value_now : PathForm
+value_now = object_path 0 (0 ∷ 0 ∷ [])
+
+-- H.Head.Value := 7; Put_Line (Integer'Image (H.Head.Value));
+abbrev pub allocating_stmts : StmtsForm
+allocating_stmts = a_stmt (assigns value_now (computes (integer (pos 7)))) (a_stmt (writes (reads value_now)) no_stmts)
+
+-- when Constraint_Error => null;
+abbrev pub allocating_handlers : HandlersForm
+allocating_handlers = a_handler (choice.Exception ConstraintError ∷ []) (a_stmt skips no_stmts) no_handlers
+
+-- The Initialize of H, a master of its own, follows H where its Head is found as a target, and where that is written, and is left: now H has its value. H and
+-- the cell are followed to where the 7 is written, and once more to where it is read. At the leaving of the main procedure H is finalized: its Finalize frees
+-- the cell. Then the words of H go back, and nothing is left in the collection.
+abbrev pub allocating_events : List Event
+allocating_events =
+    replicate 2 (Followed object_h)
+    ++ Left 1
+    ∷ Born object_h 0 0 0 1 Creation
+    ∷ Followed object_h
+    ∷ replicate 2 (Followed new_cell)
+    ++ Followed object_h
+    ∷ Followed new_cell
+    ∷ Line (Image (pos 7))
+    ∷ Finalized object_h 0 0 0 1 (Leaving 0 1)
+    ∷ Followed object_h
+    ∷ Back new_cell 1 1 (Some 0) None (Freeing 3)
+    ∷ Followed object_h
+    ∷ Left 2
+    ∷ Back object_h 3 0 None None (Leaving 0 1)
+    ∷ Left 0
+    ∷ []
+
+-- Where the cell is refused, Initialize handles that, and H has its value all the same. The main procedure finds null in Head, and handles that. Finalize finds
+-- it, too, and frees nothing.
+abbrev pub refused_events : List Event
+refused_events =
+    Followed object_h
+    ∷ Left 1
+    ∷ Born object_h 0 0 0 1 Creation
+    ∷ Followed object_h
+    ∷ Finalized object_h 0 0 0 1 (Leaving 0 1)
+    ∷ Followed object_h
+    ∷ Left 2
+    ∷ Back object_h 3 0 None None (Leaving 0 1)
+    ∷ Left 0
+    ∷ []
+
+-- The same types, but that Holder overrides Initialize and Finalize, by these procedures; and type Pair is record First : Holder; Second : Holder; end record;
+-- which has number 3. P : Pair, in a block, has number 0 in the main procedure.
+
+-- procedure Initialize (H : in out Holder) is begin H.Head := new Cell; end Initialize;
+abbrev pub undoing_initialize : BodyForm
+undoing_initialize = operation_body 5 (a_stmt (assigns head_now (allocates_default 1)) no_stmts) no_handlers
+
+-- procedure Finalize (H : in out Holder) is begin Free (H.Head); end Finalize;
+abbrev pub undoing_finalize : BodyForm
+undoing_finalize = operation_body 6 (a_stmt (frees 1 head_now) no_stmts) no_handlers
+
+-- Both, in order.
+abbrev pub undoing_bodies : List BodyForm
+undoing_bodies = undoing_initialize ∷ undoing_finalize ∷ []
+
+-- The collection of Link.
+abbrev pub undoing_declarations : List DeclarationForm
+undoing_declarations = collects 1 ∷ []
+
+-- declare P : Pair; begin null; end;
+abbrev pub undoing_stmts : StmtsForm
+undoing_stmts = a_stmt (encloses (declares_record 0 4 None ∷ []) (a_stmt skips no_stmts) no_handlers) no_stmts
+
+-- when Storage_Error => null;
+abbrev pub undoing_handlers : HandlersForm
+undoing_handlers = a_handler (choice.Exception StorageError ∷ []) (a_stmt skips no_stmts) no_handlers
+
+-- The object P.
+abbrev pub object_p : Value
+object_p = Names (record { 0 = 0 })
+
+-- First is initialized: the cell is granted, Head names it, and First has its value. For Second the cell is refused, and Storage_Error leaves the body of
+-- Initialize, so that P is undone: First is finalized, whose Finalize frees the cell, and the words of P go back. Then the block is left, the handler takes the
+-- exception, and nothing is left in the collection.
+abbrev pub undoing_events : List Event
+undoing_events =
+    replicate 2 (Followed object_p)
+    ++ Left 2
+    ∷ Born object_p 0 0 0 1 Creation
+    ∷ Followed object_p
+    ∷ Left 3
+    ∷ Finalized object_p 0 0 0 1 (Undoing 4)
+    ∷ Followed object_p
+    ∷ Back new_cell 1 1 (Some 0) None (Freeing 6)
+    ∷ Followed object_p
+    ∷ Left 5
+    ∷ Back object_p 4 0 None None (Undoing 4)
+    ∷ Left 1
+    ∷ Left 0
+    ∷ []
+
 -- type Node is new Controlled with record Value : Integer; Next : Link; end record; which has number 0; type Link is access Node; which has number 1.
 -- Head, Second : Link have the numbers 0 and 1 in the main procedure.
 
@@ -338,6 +457,11 @@ three_nodes =
 abbrev pub silent_finalize : BodyForm
 silent_finalize = operation_body 2 (a_stmt skips no_stmts) no_handlers
 
--- Of a state where a statement begins in the body of an operation, while the third node is gone, which the second one names: flow is not agreed with there.
+-- Of a state where a statement begins in the body of an operation that touches Integers and Booleans alone, while the third node is gone, which the second
+-- one names: flow is not agreed with there.
 abbrev pub DisagreesInside : Program → State → Type 0
-DisagreesInside program s = BeginsStatement s × (NoOperationRuns s.control → ⊥) × (AgreesThere program s → ⊥)
+DisagreesInside program s = BeginsStatement s × (NoOperationRuns s.control → ⊥) × RunsPlainly program s × (AgreesThere program s → ⊥)
+
+-- Of a state where a statement begins in the body of an operation that touches storage: flow speaks of it.
+abbrev pub IsSpokenOfInside : Program → State → Type 0
+IsSpokenOfInside program s = BeginsStatement s × (NoOperationRuns s.control → ⊥) × IsSpokenOf program s

@@ -151,7 +151,16 @@ pub fn premises_are_met()
 ///
 /// And one is accepted whose Finalize touches storage (7.6.1, 13.11.2): its record object, of a limited type, owns a cell.
 /// Where the main procedure is left, Finalize frees the cell, whose words go back before those of the record object, so that
-/// none are left to go back with the collection.
+/// none are left to go back with the collection; and `flow_invariant` speaks of where the Free begins.
+///
+/// And one is accepted whose Initialize does so, too (7.6, 4.8): it allocates the cell that its record object owns, and
+/// handles `Storage_Error`, so that the program finishes where the cell is granted, and is freed by Finalize, and where it
+/// is refused, and nothing is freed.
+///
+/// And one is accepted whose Initialize lets `Storage_Error` out (7.6.1): of a declared object with two components of such a
+/// limited type, the first one is initialized and owns a cell, and for the second one the cell is refused, so that the first
+/// one is finalized, which frees its cell, and the words of the object go back before a handler outside of its block takes
+/// the exception.
 pub fn operations_are_accepted()
     ensures operates { (program : Program)
         × (operations_of program.types.items 0 ≡ operation_examples.count_operations)
@@ -165,7 +174,23 @@ pub fn operations_are_accepted()
         × (body_forms program ≡ operation_examples.tidying_finalize ∷ [])
         × (declaration_forms program ≡ operation_examples.tidying_declarations)
         × (stmt_forms program ≡ operation_examples.tidying_stmts)
-        × IsChecked program × FinishesAfter operation_examples.tidying_events program }
+        × IsChecked program × FinishesAfter operation_examples.tidying_events program
+        × always.InSomeRun program (λ events last. operation_examples.IsSpokenOfInside program last) }
+    ensures allocates { (program : Program)
+        × (operations_of program.types.items 0 ≡ operation_examples.allocating_operations)
+        × (body_forms program ≡ operation_examples.allocating_bodies)
+        × (declaration_forms program ≡ operation_examples.tidying_declarations)
+        × (stmt_forms program ≡ operation_examples.allocating_stmts)
+        × (handler_forms program ≡ operation_examples.allocating_handlers)
+        × IsChecked program × FinishesAfter operation_examples.allocating_events program
+        × FinishesAfter operation_examples.refused_events program }
+    ensures undoes { (program : Program)
+        × (operations_of program.types.items 0 ≡ operation_examples.allocating_operations)
+        × (body_forms program ≡ operation_examples.undoing_bodies)
+        × (declaration_forms program ≡ operation_examples.undoing_declarations)
+        × (stmt_forms program ≡ operation_examples.undoing_stmts)
+        × (handler_forms program ≡ operation_examples.undoing_handlers)
+        × IsChecked program × FinishesAfter operation_examples.undoing_events program }
 {}
 
 /// Nor are they where an Initialize raises an exception (7.6.1): a program is accepted that allocates an object with two
@@ -182,9 +207,9 @@ pub fn failed_initializations_are_accepted()
         × IsChecked program × FinishesAfter operation_examples.failing_events program }
 {}
 
-/// That no operation runs is needed where flow is agreed with, in the main procedure or in one that is called: of a
-/// program that is accepted, three nodes go with their collection, whose Finalize does nothing. The last one is gone, which
-/// the second one names; where the statement in the first one's Finalize begins, the second one is in its collection still.
+/// Flow is not agreed with in the body of an operation that touches Integers and Booleans alone: of a program that is
+/// accepted, three nodes go with their collection, whose Finalize does nothing. The last one is gone, which the second one
+/// names; where the statement in the first one's Finalize begins, the second one is in its collection still.
 pub fn operations_run_apart()
     ensures disagrees { (program : Program)
         × (operations_of program.types.items 0 ≡ operation_examples.node_operations)

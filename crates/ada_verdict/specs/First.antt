@@ -42,7 +42,8 @@ OperationsObey program = IsFirstOf (program_form program) None
 abbrev pub AdjustsNoAccess : Program → Type 0
 AdjustsNoAccess program = IsFirstUntracked (program_form program) None
 
--- Each operation is in use: Initialize is plain, Adjust is quiet, and Finalize is quiet or, where it may be, frugal.
+-- Each operation is in use: Initialize is plain or, where it may be, frugal, Adjust is quiet, and Finalize is quiet or, where it may be, frugal
+-- and silent.
 abbrev pub OperationsAreInUse : Program → Type 0
 OperationsAreInUse program = IsFirstNotInUse (program_form program) None
 

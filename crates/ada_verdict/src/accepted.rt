@@ -142,7 +142,8 @@ fn obey(alloc: Global, program: &Program, implicit: &Implicit) -> Result<(), Flo
     flow(alloc, program, implicit)
 }
 
-/// Each operation is in use: Initialize is plain, Adjust is quiet, and Finalize is quiet or, where it may be, frugal.
+/// Each operation is in use: Initialize is plain or, where it may be, frugal, Adjust is quiet, and Finalize is quiet or, where it may
+/// be, frugal and silent.
 ///
 /// # Errors
 /// The first one that is not, or want of memory.

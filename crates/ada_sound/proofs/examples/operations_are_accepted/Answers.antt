@@ -1,6 +1,8 @@
--- By two programs and their runs.
+-- By four programs and their runs.
 use Rattle.ada_sound.proofs.ExampleOperations as operations
 use Rattle.ada_sound.proofs.ExampleTidying as tidying
+use Rattle.ada_sound.proofs.ExampleAllocating as allocating
+use Rattle.ada_sound.proofs.ExampleUndoing as undoing
 use Rattle.ada_sound.proofs.examples.operations_are_accepted.Goals as goal
 
 pub returns : goal.returns
@@ -23,5 +25,27 @@ returns c = record {
     tidying.tidying_form,
     tidying.tidying_accepted,
     tidying.tidies,
+    tidying.is_spoken_of,
+  );
+  allocates = (
+    allocating.allocating,
+    allocating.allocating_overrides,
+    allocating.allocating_has,
+    allocating.allocating_declares,
+    allocating.allocating_does,
+    allocating.allocating_handles,
+    allocating.allocating_accepted,
+    allocating.allocates,
+    allocating.is_refused,
+  );
+  undoes = (
+    undoing.undoing,
+    undoing.undoing_overrides,
+    undoing.undoing_has,
+    undoing.undoing_declares,
+    undoing.undoing_does,
+    undoing.undoing_handles,
+    undoing.undoing_accepted,
+    undoing.undoes,
   );
 }

@@ -15,7 +15,7 @@ use Rattle.ada_meaning.specs.declared.state.Id.{Id}
 use Rattle.ada_meaning.specs.declared.state.Mode.{Mode}
 use Rattle.ada_meaning.specs.declared.state.Mode.TheVariants.{Running}
 use Rattle.ada_meaning.specs.declared.state.Value.{Value}
-use Rattle.ada_meaning.specs.Frame.{Leaves}
+use Rattle.ada_meaning.specs.Frame.{Leaves, Treatment, begins, ends}
 use Rattle.ada_meaning.specs.Law.{items_of}
 use Rattle.ada_meaning.specs.State.{Owned, declared, collection, record_object, storage_pool, Item, Master}
 use Rattle.ada_meaning.specs.Named.{Object, State, object_at}
@@ -23,7 +23,7 @@ use Rattle.ada_owners.specs.Places.{is_there, elsewhere, access_in, access_at}
 use Rattle.ada_owners.specs.Reliance.{IsOf, Says, kind_of}
 use Rattle.ada_scopes.specs.Scopes.{is_number_of, is_innermost}
 use Rattle.ada_sound.proofs.Callers.{known_in, callers_of}
-use Rattle.ada_sound.proofs.Finalizing.{Finalizing, resting}
+use Rattle.ada_sound.proofs.Touching.{Touching, resting, under_way}
 use Rattle.ada_sound.proofs.Fits.{IsReferred, IsRelied, kinds_of, outer_hold, outer_value_at}
 use Rattle.ada_sound.proofs.FrugalControl.{Frugal}
 use Rattle.ada_sound.proofs.Invariant.{Control, Known, Parting, Rooms, RunsOn, innermost, outers, under_in}
@@ -108,10 +108,10 @@ leaves_own behind mode left k upper lower (inl leads) own = absurd leads.0
 leaves_own behind mode left k [] lower (inr leaving) own = absurd leaving.1
 leaves_own behind mode left k (m ∷ upper) lower (inr leaving) own = own.0
 
--- So it is while the body of a Finalize that touches storage runs: what is under way then is the object that it finalizes, and the body refers to that one.
-pub finalizing_leaves : (program : Program) (s : State) (f : Finalizing program s) → s.mode ≡ Running → (left : Mode) (k : Control) → s.control ≡ Leaves left ∷ k → HeldIn s.heap s.masters × NamedBelow (outers (known_in program (Some f.procedure) (resting f.caller f.object f.access f.place f.behind f.lower f.kept f.rests.rooms f.rests.holds ∷ f.suspensions))) s.heap s.masters
-finalizing_leaves program s f runs left k leaves =
-    let known = known_in program (Some f.procedure) (resting f.caller f.object f.access f.place f.behind f.lower f.kept f.rests.rooms f.rests.holds ∷ f.suspensions) in
+-- So it is while the body of an operation that touches storage runs: what is under way then is the object that it finalizes, and the body refers to that one.
+pub touching_leaves : (program : Program) (s : State) (f : Touching program s) → s.mode ≡ Running → (left : Mode) (k : Control) → s.control ≡ Leaves left ∷ k → HeldIn s.heap s.masters × NamedBelow (outers (known_in program (Some f.procedure) (resting f.caller f.treatment f.object f.access f.place f.behind f.lower f.kept f.rooms f.holds ∷ f.suspensions))) s.heap s.masters
+touching_leaves program s f runs left k leaves =
+    let known = known_in program (Some f.procedure) (resting f.caller f.treatment f.object f.access f.place f.behind f.lower f.kept f.rooms f.holds ∷ f.suspensions) in
     let parting = rw (runs, leaves) at f.ready.1 in
     let inner = leaves_own f.behind s.mode left k f.frugal.upper f.lower (rw leaves at f.frugal.frugal) f.frugal.own in
     let own : AreVariables (innermost s.masters) = rw f.frugal.masters inner in
@@ -121,6 +121,10 @@ finalizing_leaves program s f runs left k leaves =
     none : under_in (callers_of program f.suspensions) ≡ []
     none = none_under (implicit_of (program_form program)) (seen_in f.caller.procedure (program_form program)) (callers_of program f.suspensions) f.stands.standing.waiting
 
-    refers : (o : Id) → IsUnder (f.object ∷ under_in (callers_of program f.suspensions)) o → (t : ℕ) × (((f.object ≡ o) × (f.access ≡ t)) ⊎ IsReferred (outers (known_in program f.caller.procedure f.suspensions)).referenced o t)
-    refers o (inl same) = (f.access, inl (same, refl))
-    refers o (inr later) = let nothing : IsUnder [] o = rw none at later in absurd nothing
+    refers_to : (treatment : Treatment) (o : Id) → IsUnder (under_way treatment f.object ++ under_in (callers_of program f.suspensions)) o → (t : ℕ) × (((f.object ≡ o) × (f.access ≡ t)) ⊎ IsReferred (outers (known_in program f.caller.procedure f.suspensions)).referenced o t)
+    refers_to (begins by done) o later = let nothing : IsUnder [] o = rw none at later in absurd nothing
+    refers_to (ends cause) o (inl same) = (f.access, inl (same, refl))
+    refers_to (ends cause) o (inr later) = let nothing : IsUnder [] o = rw none at later in absurd nothing
+
+    refers : (o : Id) → IsUnder (under_way f.treatment f.object ++ under_in (callers_of program f.suspensions)) o → (t : ℕ) × (((f.object ≡ o) × (f.access ≡ t)) ⊎ IsReferred (outers (known_in program f.caller.procedure f.suspensions)).referenced o t)
+    refers o under = refers_to f.treatment o under

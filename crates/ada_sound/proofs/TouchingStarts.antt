@@ -1,24 +1,25 @@
--- The treatment of an object calls a Finalize that touches storage: its body begins in a sound state (7.6.1).
+-- The treatment of an object calls an operation that touches storage: its body begins in a sound state (7.6, 7.6.1).
 
 use Rattle.std.proofs.Common.{◌≡◌, ℕ, true, false, List, ◌∷◌, refl, sym, ap, subst, ◌∙◌}
 use Rattle.std.specs.Prelude.{Option, Some, None}
 use Rattle.std.specs.Option.{option_map}
 use Rattle.std.proofs.lemmas.Option.{slice_get-map}
 use Rattle.ada_deeds.specs.Implicit.{implicit_of}
-use Rattle.ada_effects.specs.Effects.{endings_free}
 use Rattle.ada_finalized.specs.Law.{NoOperationRuns}
-use Rattle.ada_finalized.proofs.Standing.{untreated_end}
+use Rattle.ada_finalized.proofs.Standing.{untreated_start, untreated_end}
 use Rattle.ada_parts.specs.Task.{Task}
 use Rattle.ada_program.specs.declared.program.Program.{Program}
 use Rattle.ada_program.specs.declared.program.TypeNo.{TypeNo}
 use Rattle.ada_program.specs.declared.program.VariableKind.{VariableKind}
 use Rattle.ada_program.specs.declared.program.VariableKind.TheVariants as variable_kinds
-use Rattle.ada_program.specs.Controlled.{operations_of, procedure_number}
+use Rattle.ada_program.specs.Controlled.{operations_of}
 use Rattle.ada_program.specs.ProgramForm.{TypeForm, ProgramForm, program_form, body_forms, seen_by, seen_in}
 use Rattle.ada_program.specs.WellFormed.{finalization_of, is_access, variable_kind}
 use Rattle.ada_quiet.specs.Frugal.{is_frugal_body}
 use Rattle.ada_quiet.specs.InUse.{may_be_frugal}
-use Rattle.ada_meaning.specs.declared.event.Cause.{Cause}
+use Rattle.ada_meaning.specs.declared.event.Birth.TheVariants.{Creation, Copy, Adjustment}
+use Rattle.ada_program.specs.declared.program.Exception.{Exception}
+use Rattle.ada_program.specs.WellFormed.{IsWellFormed}
 use Rattle.ada_meaning.specs.declared.state.Id.{Id}
 use Rattle.ada_meaning.specs.declared.state.Mode.TheVariants.{Running}
 use Rattle.ada_meaning.specs.declared.state.Place.{Place}
@@ -26,8 +27,7 @@ use Rattle.ada_meaning.specs.declared.state.Stage.{Stage}
 use Rattle.ada_meaning.specs.declared.state.Stage.TheVariants.{Building, Existing, Gone}
 use Rattle.ada_meaning.specs.declared.state.Value.{Value}
 use Rattle.ada_meaning.specs.declared.state.Value.TheVariants.{Names, Part}
-use Rattle.ada_meaning.specs.Finalization.{NothingTreated}
-use Rattle.ada_meaning.specs.Frame.{Ends, Treatment, Treats, ends}
+use Rattle.ada_meaning.specs.Frame.{Treatment, Treats, begins, ends}
 use Rattle.ada_meaning.specs.Heap.{Cell}
 use Rattle.ada_meaning.specs.Law.{items_of}
 use Rattle.ada_meaning.specs.State.{Activation}
@@ -41,20 +41,22 @@ use Rattle.ada_typed.specs.Holding.{Designates, cells_of}
 use Rattle.ada_typed.proofs.Bodies.{seen_as}
 use Rattle.ada_typed.proofs.Control as typed
 use Rattle.ada_typed.proofs.Kept.{behind_call}
-use Rattle.ada_typed.proofs.Overridings.{ending_for}
+use Rattle.ada_typed.proofs.Overridings.{OperationFor, beginning_for, ending_for}
 use Rattle.ada_sound.proofs.Alters.{Alters}
 use Rattle.ada_sound.proofs.Callers.{Suspension, known_in, Stands}
-use Rattle.ada_sound.proofs.Finalizing.{Finalizing}
-use Rattle.ada_sound.proofs.FinalizingBegins.{IsAlone, alone, finalizing_begins}
-use Rattle.ada_sound.proofs.FinalizingRests.{AtRest, at_rest}
+use Rattle.ada_sound.proofs.Touching.{Enters, Touching}
+use Rattle.ada_sound.proofs.TouchingBegins.{IsAlone, alone, touching_begins}
+use Rattle.ada_sound.proofs.TouchingRests.{at_rest, at_start}
 use Rattle.ada_sound.proofs.Fits.{IsWithin}
 use Rattle.ada_sound.proofs.FrugalUseCopies.{limited_parts}
-use Rattle.ada_sound.proofs.FrugalUseEnds.{endings_free_of}
+use Rattle.ada_sound.proofs.FrugalUseEnds.{treated_frees_of}
+use Rattle.ada_sound.proofs.QuietOperations.{LetsNothingOut, MayTouch}
 use Rattle.ada_sound.proofs.FrugalUseParts.{operable_is_object}
-use Rattle.ada_sound.proofs.FrugalUseStarts.{none_starts}
-use Rattle.ada_sound.proofs.Invariant.{Control, CoveredIn, IsCopied, TreatsBy}
+use Rattle.ada_sound.proofs.FrugalUseEnds.{ends_in_starts}
+use Rattle.ada_sound.proofs.FrugalUseLets.{touches_let}
+use Rattle.ada_sound.proofs.Invariant.{Control, CoveredIn, IsCopied, Known, TreatsBy, body_among}
 use Rattle.ada_sound.proofs.Operated.{OperatedOn}
-use Rattle.ada_sound.proofs.Operating.{IsCalm, StaysLive}
+use Rattle.ada_sound.proofs.Operating.{IsCalled, IsCalm, StaysLive, lets_out}
 use Rattle.ada_sound.proofs.OperationBegins.{formal_holds}
 use Rattle.ada_sound.proofs.OperationStarts.{calm_behind}
 use Rattle.ada_sound.proofs.Returns.{same_types}
@@ -87,44 +89,56 @@ within_by types kind o access place object is (at, same, within) =
     let one : at ≡ place = cc same in
     rw (is, ← one) within
 
-module _ (program : Program) (a : Activation Value) (rest : List (Activation Value)) (s : State) (k : Control) (v : Value) (treatment : Treatment) (tasks : List Task) (gs : List Suspension) (o : Id) (cause : Cause) (may : may_be_frugal (program_form program) ≡ true) where
+-- The operation of a controlled type that a treatment calls, by its number (7.6).
+operation_for : (program : Program) → IsWellFormed (program_form program) → (of number : ℕ) (treatment : Treatment) → MayTouch treatment → IsCalled (operations_of program.types.items of) treatment number → OperationFor (program_form program) of number
+operation_for program well of number (begins Creation done) may called = beginning_for (program_form program) program.types.items refl well.operations_fit Creation of number called
+operation_for program well of number (begins Copy done) may called = absurd may
+operation_for program well of number (begins (Adjustment n) done) may called = absurd may
+operation_for program well of number (ends cause) may called = ending_for (program_form program) program.types.items refl well.operations_fit of number called
+
+module _ (program : Program) (a : Activation Value) (rest : List (Activation Value)) (s : State) (k : Control) (v : Value) (treatment : Treatment) (tasks : List Task) (gs : List Suspension) (may : may_be_frugal (program_form program) ≡ true) where
   abbrev p : ProgramForm
   p = program_form program
 
-  module _ (whole : State) (is : whole.control ≡ Treats v treatment tasks ∷ k) (by : ends cause ≡ treatment) (sound : Sound program whole) (still : NoOperationRuns whole.control) where
-    -- Nothing is treated behind it.
-    untreated : (w : Value) (behind : Control) → k ≡ Ends w ∷ behind → NothingTreated behind
-    untreated w behind at =
-        untreated_end program sound.reached.0 sound.reached.1 whole still sound.reached.2 v w cause tasks behind
-        (is ∙ (ap (λ (t : Treatment). Treats v t tasks ∷ k) (sym by) ∙ ap (λ (j : Control). Treats v (ends cause) tasks ∷ j) at))
+  abbrev known : Known
+  known = known_in program a.procedure gs
 
-    fits_here : ItemsFit p.types (items_of whole.masters)
-    fits_here = items_fit p whole sound.nested
-
-  no_copy : (t : ℕ) → IsCopied (known_in program a.procedure gs) t → ⊥
+  no_copy : (t : ℕ) → IsCopied known t → ⊥
   no_copy t (f, is, limited) =
       let found : finalization_of p.types t ≡ Some f = subst (λ (types : List TypeForm). finalization_of types t ≡ Some f) (same_types a.procedure p) is in
       let other = limited_parts p may t f found in
       cc (limited, other)
 
-  -- The body of a Finalize begins.
+  -- The body of an operation begins.
   module _ (whole : State) (is : whole.control ≡ Treats v treatment tasks ∷ k) (same : whole.masters ≡ s.masters) (sound : Sound program whole) (still : NoOperationRuns whole.control) (calm : IsCalm (behind_call k)) (stands : Stands program gs (record s { activations = a ∷ rest })) where
     abbrev IsOperated : Treatment → Id → ℕ → Type 0
     IsOperated by object of = (by ≡ treatment) × OperatedOn p.types (cells_of s.heap) object of
 
-    pub finalizing_starts : (e : Event) (after : State) (c : Begins (known_in program a.procedure gs) a rest s program.types.items (body_forms program) k IsOperated e after) → c.treatment ≡ ends cause → is_frugal_body c.b ≡ true → typed.Typed p after → Finalizing program after
-    finalizing_starts e after c ends_so frugal typing =
+    fits_here : ItemsFit known.program.types (items_of s.masters)
+    fits_here =
+        let fits : ItemsFit p.types (items_of whole.masters) = items_fit p whole sound.nested in
+        subst (λ (types : List TypeForm). ItemsFit types (items_of s.masters)) (sym (same_types a.procedure p)) (rw same at fits)
+
+    -- What waits for it, by what is treated.
+    enters : (o : Id) (x : Object) (heap : List Object) → object_at heap o ≡ Some x → is_access known.program.types x.cell.access ≡ false → (by : Treatment) → by ≡ treatment → MayTouch by → TreatsBy known (Names o) by k heap a.places a.operands s.masters → Enters known by o x k heap a.places s.masters
+    enters o x heap found object (begins Creation done) one may' treats =
+        at_start known o x heap found a.places a.operands s.masters object fits_here done k treats
+        (untreated_start program sound.reached.0 sound.reached.1 whole still sound.reached.2 v Creation done tasks k (is ∙ ap (λ (t : Treatment). Treats v t tasks ∷ k) (sym one)))
+    enters o x heap found object (begins Copy done) one may' treats = absurd may'
+    enters o x heap found object (begins (Adjustment n) done) one may' treats = absurd may'
+    enters o x heap found object (ends cause) one may' treats =
+        at_rest known o x heap found a.places a.operands s.masters object fits_here (ends_in_starts p) no_copy cause k treats
+        (λ w behind at. untreated_end program sound.reached.0 sound.reached.1 whole still sound.reached.2 v w cause tasks behind
+        (is ∙ (ap (λ (t : Treatment). Treats v t tasks ∷ k) (sym one) ∙ ap (λ (j : Control). Treats v (ends cause) tasks ∷ j) at)))
+
+    pub touching_starts : (e : Event) (after : State) (c : Begins known a rest s program.types.items (body_forms program) k IsOperated e after) → MayTouch c.treatment → LetsNothingOut c.treatment c.b → is_frugal_body c.b ≡ true → typed.Typed p after → Touching program after
+    touching_starts e after c touches silent frugal typing =
         let operated = c.operated.1 in
         let of_type : c.x.cell.access ≡ operated.0 = kept_type s.heap c.heap e c.o c.x operated.0 c.alters c.found operated.2 in
         let object : is_access p.types c.x.cell.access ≡ false = rw of_type (operable_is_object program sound.well may operated.0 c.of operated.1 operated.3) in
-        let treats : TreatsBy (known_in program a.procedure gs) (Names c.o) (ends cause) k c.heap a.places a.operands s.masters = rw ends_so at c.treats in
-        let at : AtRest (known_in program a.procedure gs) c.o c.x k c.heap a.places s.masters =
-        at_rest (known_in program a.procedure gs) c.o c.x c.heap c.found a.places a.operands s.masters
-        (subst (λ (types : List TypeForm). is_access types c.x.cell.access ≡ false) (sym (same_types a.procedure p)) object)
-        (subst (λ (types : List TypeForm). ItemsFit types (items_of s.masters)) (sym (same_types a.procedure p)) (rw same at (fits_here whole is (sym ends_so ∙ c.operated.0) sound still)))
-        (λ access raised. none_starts program sound.well may sound.in_use access raised) no_copy cause k treats (untreated whole is (sym ends_so ∙ c.operated.0) sound still) in
-        let overrides : procedure_number (operations_of program.types.items c.of).finalize ≡ Some c.number = rw ends_so at c.called in
-        let operation = ending_for p program.types.items refl sound.well.operations_fit c.of c.number overrides in
+        let at : Enters known c.treatment c.o c.x k c.heap a.places s.masters =
+        enters c.o c.x c.heap c.found (subst (λ (types : List TypeForm). is_access types c.x.cell.access ≡ false) (sym (same_types a.procedure p)) object) c.treatment c.operated.0 touches c.treats in
+        let operation = operation_for program sound.well c.of c.number c.treatment touches c.called in
         let body : operation.body ≡ c.b = let found = operation.there in let there = c.there in cc (found, there) in
         let lone : IsAlone c.b = alone c.b operation.object (rw body at operation.formals) in
         let begun = operating named c.number c.b (Part c.o c.place) c.behind (record s { activations = a ∷ rest; heap = c.heap; mode = Running; control = k }) in
@@ -133,7 +147,9 @@ module _ (program : Program) (a : Activation Value) (rest : List (Activation Val
         let own : typed.TypedIn (seen_by c.number c.b p) begun = rw (seen_as p c.number c.b c.there) at inside in
         let holds = formal_holds program c.number c.b c.o c.place begun (_, refl) c.x c.found own in
         let within : IsWithin p.types (variable_kind c.b.variables 0) c.x.cell.access c.place.component = within_by p.types (variable_kind c.b.variables 0) c.o c.x.cell.access c.place lone.object lone.is (rw lone.is at holds) in
-        let frees : (t : ℕ) → CoveredIn (implicit_of p) (seen_in (Some c.number) p) t → endings_free (implicit_of p) at.gone.types t ≡ true =
-        endings_free_of program sound.well c.x.cell.access c.of operated.1 c.number c.b (rw of_type operated.3) overrides c.there at.gone.types at.among in
-        rw c.is (finalizing_begins program sound.well sound.obeys c.number c.b c.there may frugal lone a rest gs s k c.o c.x c.heap c.found (live_there c.x.stage c.live) c.place within at c.behind frees e c.of cause c.alters (rw ends_so at c.waits) stands
-        (calm_behind c.o c.of (ends cause) k c.behind (rw ends_so at c.waits) calm))
+        let frees : (t : ℕ) → CoveredIn (implicit_of p) (seen_in (Some c.number) p) t → at.may t ≡ true =
+        λ t covered. at.includes t (treated_frees_of program sound.well c.x.cell.access c.of operated.1 c.number c.b (rw of_type operated.3) c.treatment touches c.called c.there t covered) in
+        let lets : (raised : Exception) → body_among (implicit_of p) (seen_in (Some c.number) p) raised ≡ true → lets_out (implicit_of p) c.x.cell.access c.treatment raised ≡ true =
+        touches_let program sound.well may c.x.cell.access c.of operated.1 c.number c.b (rw of_type operated.3) c.treatment touches silent c.called c.there frugal in
+        rw c.is (touching_begins program sound.well sound.obeys c.number c.b c.there may frugal lone a rest gs s k c.o c.x c.heap c.found (live_there c.x.stage c.live) c.place within c.treatment at c.behind frees lets e c.of c.alters c.waits stands
+        (calm_behind c.o c.of c.treatment k c.behind c.waits calm))

@@ -1,12 +1,12 @@
--- The body of a Finalize that touches storage begins in a sound state (7.6.1): its formal parameter stands for a record in an object that nothing relies on, and
--- of what it may free no suspended activation has an alias.
+-- The body of an operation that touches storage begins in a sound state (7.6, 7.6.1): its formal parameter stands for a record in the object that is treated, and of
+-- what it may free no suspended activation has an alias.
 
 use Rattle.ada_meaning.specs.declared.state.Mode.TheVariants.{Running}
 use Rattle.std.proofs.Common.{◌≡◌, ◌≢◌, ℕ, zero, suc, true, List, [], ◌∷◌, ◌++◌, length, map, take, refl, sym, ap, subst, ◌∙◌, inl, inr}
 use Rattle.std.specs.Prelude.{Some}
 use Rattle.std.specs.List.{slice_get}
 use Rattle.ada_deeds.specs.Implicit.{implicit_of}
-use Rattle.ada_effects.specs.Effects.{body_frees, body_raises, effects_of, endings_free}
+use Rattle.ada_effects.specs.Effects.{body_frees, effects_of}
 use Rattle.ada_program.specs.declared.program.FormalMode.{FormalMode}
 use Rattle.ada_program.specs.declared.program.FormalMode.TheVariants.{In, InOut}
 use Rattle.ada_program.specs.declared.program.Program.{Program}
@@ -16,17 +16,14 @@ use Rattle.ada_program.specs.ProgramForm.{TypeForm, VariableForm, BodyForm, Prog
 use Rattle.ada_program.specs.WellFormed.{IsWellFormed, formal_kinds, is_access, variable_kind}
 use Rattle.ada_quiet.specs.Frugal.{is_frugal_body}
 use Rattle.ada_quiet.specs.InUse.{may_be_frugal}
-use Rattle.ada_program.specs.Handling.{is_same}
-use Rattle.ada_sound.proofs.FrugalRaises.{frugal_quiet}
 use Rattle.ada_flow.specs.declared.rule.Hold.TheVariants as hold
 use Rattle.ada_flow.specs.declared.rule.Region.TheVariants.{Whole}
 use Rattle.ada_flow.specs.Flow.{formal_hold, Holds, ObeysRules, body_keeps, first_holds, gone_with, hold_at, keeping_of, variable_access}
-use Rattle.ada_meaning.specs.declared.event.Cause.{Cause}
 use Rattle.ada_meaning.specs.declared.state.Id.{Id}
 use Rattle.ada_meaning.specs.declared.state.Place.{Place}
 use Rattle.ada_meaning.specs.declared.state.Value.{Value}
 use Rattle.ada_meaning.specs.declared.state.Value.TheVariants.{Names, Part}
-use Rattle.ada_meaning.specs.Frame.{Elaborates, Returns, ends}
+use Rattle.ada_meaning.specs.Frame.{Elaborates, Returns, Treatment}
 use Rattle.ada_meaning.specs.State.{Activation}
 use Rattle.ada_meaning.specs.Step.{given_places, operating}
 use Rattle.ada_meaning.specs.Named.{Object, State, named, object_at}
@@ -40,17 +37,17 @@ use Rattle.ada_sound.proofs.Alters.{Alters}
 use Rattle.ada_sound.proofs.Bodies.{IsBody, seen_is}
 use Rattle.ada_sound.proofs.BodyRuns.{body_runs}
 use Rattle.ada_sound.proofs.Callers.{Suspension, caller_of, known_in, Stands}
-use Rattle.ada_sound.proofs.Finalizing.{Finalizing, resting}
-use Rattle.ada_sound.proofs.FinalizingRests.{AtRest}
+use Rattle.ada_sound.proofs.Touching.{Enters, under_way, Touching, resting}
 use Rattle.ada_sound.proofs.Fits.{Fit, IsPlace, IsReferred, IsSaid, IsWithin, NoOuterAlias, none_spared, outer_access, outer_hold, place_at}
 use Rattle.ada_sound.proofs.FrugalControl.{frugal_starts}
-use Rattle.ada_sound.proofs.Invariant.{Control, CoveredIn, Known, RunsOn, Spares, outer_of, outers}
-use Rattle.ada_sound.proofs.Operating.{IsCalm, WaitsFor, behind_operation}
+use Rattle.ada_sound.proofs.Invariant.{Control, CoveredIn, Known, RunsOn, Spares, outer_of, outers, body_among}
+use Rattle.ada_sound.proofs.Operating.{IsCalm, WaitsFor, behind_operation, lets_out}
 use Rattle.ada_sound.proofs.Orderings.{as_good}
 use Rattle.ada_sound.proofs.Returns.{same_types}
 use Rattle.ada_sound.proofs.Starts.{body_obeys, lost_first, none_out, none_on}
 use Rattle.ada_sound.proofs.Stored.{stored_entered}
 use Rattle.ada_sound.proofs.Waiting.{stands_kept}
+use Rattle.ada_program.specs.declared.program.Exception.{Exception}
 
 -- The only formal parameter of an operation is a record: its body borrows what that refers to, and relies on no other variable.
 pub record IsAlone (b : BodyForm) : Type 0 where
@@ -84,7 +81,7 @@ pub alone : (b : BodyForm) (object : TypeNo) → formal_kinds b ≡ variable_kin
 alone b object is = let by = alone_by b.formals b.variables object is in record { object = object; is = by.0; first = by.1; others = by.2 }
 
 module _ (program : Program) (well : IsWellFormed (program_form program)) (obeys : ObeysRules program) (number : ℕ) (b : BodyForm) (there : slice_get (body_forms program) number ≡ Some b) (may : may_be_frugal (program_form program) ≡ true) (frugal : is_frugal_body b ≡ true) (lone : IsAlone b) (a : Activation Value) (rest : List (Activation Value)) (gs : List Suspension) (s : State) (k : Control) (o : Id) (x : Object) (heap : List Object) (found : object_at heap o ≡ Some x) (exists : is_there x.stage ≡ true) (place : Place)
-    (within : IsWithin (program_form program).types (variable_kind b.variables 0) x.cell.access place.component) (at : AtRest (known_in program a.procedure gs) o x k heap a.places s.masters) (behind : Control) where
+    (within : IsWithin (program_form program).types (variable_kind b.variables 0) x.cell.access place.component) (treatment : Treatment) (at : Enters (known_in program a.procedure gs) treatment o x k heap a.places s.masters) (behind : Control) where
   abbrev p : ProgramForm
   p = program_form program
 
@@ -95,7 +92,7 @@ module _ (program : Program) (well : IsWellFormed (program_form program)) (obeys
   own = seen_in (Some number) p
 
   abbrev waiting : Suspension
-  waiting = resting a o x.cell.access place behind s.masters (body_keeps own.types (effects_of (implicit_of p) own) (keeping_of (implicit_of p) own) (main_body own)) at.rests.rooms at.rests.holds
+  waiting = resting a treatment o x.cell.access place behind s.masters (body_keeps own.types (effects_of (implicit_of p) own) (keeping_of (implicit_of p) own) (main_body own)) at.rooms at.holds
 
   abbrev body : Known
   body = known_in program (Some number) (waiting ∷ gs)
@@ -128,8 +125,8 @@ module _ (program : Program) (well : IsWellFormed (program_form program)) (obeys
 
   begun_fit : Fit known.program.types b.variables (outers body) none_spared heap begins first
   begun_fit =
-      called_fit known.program.types (outers known) (outer_of (caller_of program waiting gs)) (Part o place ∷ []) (record { object = o; access = x.cell.access } ∷ []) (o ∷ []) none_spared heap b.variables begins first at.rests.holds at.fit
-      (as_good at.rests.holds) (λ y own'. own') (λ i own'. absurd (none_own i own')) (λ i j own' other same. absurd (none_own i own')) right said objects refers
+      called_fit known.program.types (outers known) (outer_of (caller_of program waiting gs)) (Part o place ∷ []) (record { object = o; access = x.cell.access } ∷ []) (under_way treatment o) none_spared heap b.variables begins first at.holds at.fit
+      (as_good at.holds) (λ y own'. own') (λ i own'. absurd (none_own i own')) (λ i j own' other same. absurd (none_own i own')) right said objects refers
 
   body_fit : Fit own.types own.variables (outers body) none_spared heap begins first
   body_fit =
@@ -137,30 +134,30 @@ module _ (program : Program) (well : IsWellFormed (program_form program)) (obeys
       let now : Fit (seen_by number b p).types (seen_by number b p).variables (outers body) none_spared heap begins first = rw same at begun_fit in
       rw (seen_as p number b there) now
 
-  -- What the body may free is what the finalization of the object may.
-  module _ (frees : (t : ℕ) → CoveredIn (implicit_of p) own t → endings_free (implicit_of p) at.gone.types t ≡ true) where
+  -- What the body may free is what the treatment of the object may.
+  module _ (frees : (t : ℕ) → CoveredIn (implicit_of p) own t → at.may t ≡ true) (lets : (e : Exception) → body_among (implicit_of p) own e ≡ true → lets_out (implicit_of p) x.cell.access treatment e ≡ true) where
     no_outer : (t : ℕ) → CoveredIn (implicit_of p) own t → NoOuterAlias known.program.types (outers body) t
     no_outer t may = (
       (λ d y of b'. (by_depth d y of b')),
       (λ p' is access. by_reference p' is access),
     )
       where
-        ends : endings_free (implicit_of p) at.gone.types t ≡ true
+        ends : at.may t ≡ true
         ends = frees t may
 
         by_depth : (d y : ℕ) → outer_access (slice_get (outers body).suspended d) y ≡ Some t → Borrows (outer_hold (slice_get (outers body).suspended d) y) → ⊥
-        by_depth zero y of b' = at.leaves.1 y t of ends b'
-        by_depth (suc d) y of b' = (at.leaves.0 t ends).0.0 d y of b'
+        by_depth zero y of b' = at.unaliased y t of ends b'
+        by_depth (suc d) y of b' = (at.spares t ends).0.0 d y of b'
 
         by_reference : (p' : Id) → IsReferred (outers body).referenced p' t → is_access known.program.types t ≡ true → ⊥
-        by_reference p' (inl (same, of)) access = let object = at.rests.declared in cc (rw of at object, access)
-        by_reference p' (inr is) access = (at.leaves.0 t ends).0.1 p' is access
+        by_reference p' (inl (same, of)) access = let object = at.waits.declared in cc (rw of at object, access)
+        by_reference p' (inr is) access = (at.spares t ends).0.1 p' is access
 
     spares : Spares body (body_frees own.types (effects_of (implicit_of p) own) (main_body own))
     spares t may = (subst (λ (types : List TypeForm). NoOuterAlias types (outers body) t) (same_types a.procedure p ∙ sym (same_types (Some number) p)) (no_outer t may), may)
 
     covers : (t : ℕ) → CoveredIn (implicit_of p) own t → CoveredIn (implicit_of p) known.program t
-    covers t may = (at.leaves.0 t (frees t may)).1
+    covers t may = (at.spares t (frees t may)).1
 
     is_body : IsBody p (Some number)
     is_body = (b, there)
@@ -173,9 +170,9 @@ module _ (program : Program) (well : IsWellFormed (program_form program)) (obeys
         subst (λ (c : BodyForm). RunsOn body (Elaborates c.declarations c.statements c.handlers ∷ Returns [] [] ∷ behind) (gone_with c.declarations ∷ []) (first_holds c.formals c.variables)) same_body
         (body_runs program (Some number) (waiting ∷ gs) (body_obeys program (Some number) is_body obeys) (none_out program (Some number) well) (none_on program (Some number) well) spares refl)
 
-    pub finalizing_begins : (e : Event) (of : ℕ) (cause : Cause) → Alters s.heap e heap → WaitsFor o of (ends cause) k behind → Stands program gs (record s { activations = a ∷ rest }) → IsCalm (behind_call behind)
-        → Finalizing program (operating named number b (Part o place) behind (record s { activations = a ∷ rest; heap = heap; mode = Running }))
-    finalizing_begins e of cause alters waits stands calm =
+    pub touching_begins : (e : Event) (of : ℕ) → Alters s.heap e heap → WaitsFor o of treatment k behind → Stands program gs (record s { activations = a ∷ rest }) → IsCalm (behind_call behind)
+        → Touching program (operating named number b (Part o place) behind (record s { activations = a ∷ rest; heap = heap; mode = Running }))
+    touching_begins e of alters awaited stands calm =
         let after = operating named number b (Part o place) behind (record s { activations = a ∷ rest; heap = heap; mode = Running }) in
         record {
           procedure = number;
@@ -191,19 +188,22 @@ module _ (program : Program) (well : IsWellFormed (program_form program)) (obeys
           of_access = refl;
           home = x.cell.home;
           at_home = refl;
-          cause = cause;
+          treatment = treatment;
           of = of;
           behind = behind;
           after = k;
-          waits = waits;
+          awaited = awaited;
           lower = s.masters;
           kept = waiting.kept;
           frugal = frugal_starts number b frugal (Part o place) behind (record s { activations = a ∷ rest; heap = heap; mode = Running });
+          rooms = at.rooms;
+          holds = at.holds;
+          waits = at.waits;
           rests = at.rests;
           stands = stands_kept program (record s { activations = a ∷ rest }) (behind_operation (a ∷ rest) behind s.masters after) gs stands e (record { procedure = refl; suspended = refl }) alters;
           calm = calm;
           may = may;
-          silent = λ raised among. frugal_quiet (effects_of (implicit_of p) own) b frugal raised (subst (λ (c : BodyForm). body_raises (effects_of (implicit_of p) own) c (is_same raised) ≡ true) same_body among);
+          lets = lets;
           covers = covers;
           ready = (
             tt,

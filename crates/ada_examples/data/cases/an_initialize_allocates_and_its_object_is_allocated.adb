@@ -1,0 +1,23 @@
+with Ada.Finalization; with Ada.Text_IO; with Ada.Unchecked_Deallocation;
+procedure Main is
+   type Cell is record Value : Integer := 7; end record;
+   type Link is access Cell;
+   type Holder is new Ada.Finalization.Limited_Controlled with record Held : Link; end record;
+   overriding procedure Initialize (Object : in out Holder);
+   overriding procedure Finalize (Object : in out Holder);
+   type Holder_Link is access Holder;
+   procedure Free is new Ada.Unchecked_Deallocation (Cell, Link);
+   overriding procedure Initialize (Object : in out Holder) is
+   begin
+      Object.Held := new Cell;
+   exception
+      when Storage_Error => Ada.Text_IO.Put_Line ("no cell");
+   end Initialize;
+   overriding procedure Finalize (Object : in out Holder) is
+   begin
+      Free (Object.Held);
+   end Finalize;
+   H : Holder_Link;
+begin
+   H := new Holder;
+end Main;

@@ -1,0 +1,20 @@
+with Ada.Finalization; with Ada.Text_IO; with Ada.Unchecked_Deallocation;
+procedure Main is
+   type Cell is record Value : Integer := 7; end record;
+   type Link is access Cell;
+   type Holder is new Ada.Finalization.Limited_Controlled with record Held : Link; end record;
+   overriding procedure Initialize (Object : in out Holder);
+   overriding procedure Finalize (Object : in out Holder);
+   procedure Free is new Ada.Unchecked_Deallocation (Cell, Link);
+   overriding procedure Initialize (Object : in out Holder) is
+   begin
+      Object.Held := new Cell;
+   end Initialize;
+   overriding procedure Finalize (Object : in out Holder) is
+   begin
+      Free (Object.Held);
+   end Finalize;
+   H : Holder;
+begin
+   Ada.Text_IO.Put_Line ("initialized");
+end Main;

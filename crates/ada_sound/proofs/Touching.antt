@@ -1,0 +1,166 @@
+-- The body of an operation runs that touches storage (7.6, 7.6.1, 13.11.2): an Initialize of an object that a declaration creates, or a Finalize of one at the
+-- leaving of its master. What holds there, and what is kept of all that waits for it.
+
+use Rattle.std.proofs.Common.{◌≡◌, ◌≢◌, ℕ, true, false, List, [], ◌∷◌, ◌++◌, ◌⊎◌}
+use Rattle.std.specs.Prelude.{Bool, Some}
+use Rattle.std.specs.List.{slice_get, slice_set}
+use Rattle.ada_program.specs.declared.program.Exception.{Exception}
+use Rattle.ada_quiet.specs.InUse.{may_be_frugal}
+use Rattle.ada_program.specs.declared.program.Program.{Program}
+use Rattle.ada_program.specs.ProgramForm.{program_form, seen_in}
+use Rattle.ada_program.specs.WellFormed.{is_access, variable_kind}
+use Rattle.ada_deeds.specs.Implicit.{implicit_of}
+use Rattle.ada_effects.specs.Effects.{Implicit}
+use Rattle.ada_flow.specs.declared.rule.Hold.TheVariants as hold
+use Rattle.ada_flow.specs.Flow.{Holds, Keeping, hold_at}
+use Rattle.ada_meaning.specs.declared.event.Birth.TheVariants.{Creation}
+use Rattle.ada_meaning.specs.declared.event.Cause.TheVariants.{Leaving, Undoing}
+use Rattle.ada_meaning.specs.declared.state.Id.{Id}
+use Rattle.ada_meaning.specs.declared.state.Mode.{Mode}
+use Rattle.ada_meaning.specs.declared.state.Place.{Place}
+use Rattle.ada_meaning.specs.declared.state.Value.{Value}
+use Rattle.ada_meaning.specs.declared.state.Value.TheVariants.{Names, Part}
+use Rattle.ada_meaning.specs.Finalization.{NothingTreated}
+use Rattle.ada_meaning.specs.Frame.{Treatment, begins, ends, Leaves, Ends, GivesBack, Resumes}
+use Rattle.ada_meaning.specs.Heap.{Home}
+use Rattle.ada_meaning.specs.State.{Activation, Master}
+use Rattle.ada_meaning.specs.Named.{Object, State, object_at}
+use Rattle.ada_typed.proofs.Kept.{behind_call}
+use Rattle.ada_sound.proofs.Bodies.{IsBody}
+use Rattle.ada_sound.proofs.Callers.{Suspension, known_in, Stands}
+use Rattle.ada_sound.proofs.Fits.{Fit, Outsiders, IsPlace, IsRelied, IsSaid, IsUnreferred, none_spared, outer_hold, outer_value, place_at}
+use Rattle.ada_sound.proofs.FrugalControl.{Frugally}
+use Rattle.ada_sound.proofs.Invariant.{body_among, Control, Rooms, Roomed, RunsOn, Known, CoveredIn, IsNewest, Ready, Spares, StartsTo, Unaliased, below, innermost, outers, BeginsWell, CameOut, To, By, ways}
+use Rattle.ada_sound.proofs.Operating.{WaitsFor, IsCalm, behind_operation, lets_out}
+use Rattle.ada_sound.proofs.Stored.{Stored}
+
+-- Neither a variable of the running activation nor one of a suspended one is relied on to name this object.
+pub record IsNamedNowhere (outer : Outsiders) (places : List Value) (holds : Holds) (o : Id) : Type 0 where
+  pub here : (x : ℕ) → IsRelied (hold_at holds x) → place_at places x ≡ Names o → ⊥
+  pub elsewhere : (d x : ℕ) → IsRelied (outer_hold (slice_get outer.suspended d) x) → outer_value (slice_get outer.suspended d) x ≡ Names o → ⊥
+
+-- What is behind the finalization of an object whose master is left: its end, and then what is left of the master. None of that changes while a Finalize of
+-- the object runs, whatever is freed and moved then.
+pub record Resting (known : Known) (object : Id) (home : Home) (places : List Value) (after : Control) (lower : List Master) (rooms : Rooms) (holds : Holds) : Type 0 where
+  pub master : ℕ
+  pub item : ℕ
+  pub mode : Mode
+  pub rest : Control
+  pub is : after ≡ Ends (Names object) ∷ GivesBack (Names object) (Leaving master item) home.pool ∷ Leaves mode ∷ rest
+  pub own_item : item ≡ home.item
+  pub newest : IsNewest home.item (innermost lower)
+  pub runs : RunsOn known (Leaves mode ∷ rest) rooms holds
+  pub nowhere : IsNamedNowhere (outers known) places holds object
+
+-- What is behind the initialization of a record object that a declaration creates, whose variable owns it: what is left goes on, and where an exception comes
+-- out, it does so without the variable.
+pub record Starting (known : Known) (object : Id) (access : ℕ) (places : List Value) (after : Control) (rooms : Rooms) (holds : Holds) : Type 0 where
+  pub x : ℕ
+  pub runs : RunsOn known after rooms holds
+  pub undone : StartsTo known access after rooms (slice_set holds x hold.Lost)
+  pub well : BeginsWell known access holds
+  pub nowhere : IsNamedNowhere (outers known) places (slice_set holds x hold.Lost) object
+
+-- What is behind the finalization of a part of a record object out of whose initialization an exception came: the end of the object, and then the exception goes on.
+pub record Undoes (known : Known) (object : Id) (access : ℕ) (home : Home) (places : List Value) (after : Control) (rooms : Rooms) (holds : Holds) : Type 0 where
+  pub number : ℕ
+  pub mode : Mode
+  pub rest : Control
+  pub is : after ≡ Ends (Names object) ∷ GivesBack (Names object) (Undoing number) home.pool ∷ Resumes mode ∷ rest
+  pub came : CameOut known access mode
+  pub runs : To (By mode (ways known rest rooms)) holds
+  pub well : BeginsWell known access holds
+  pub nowhere : IsNamedNowhere (outers known) places holds object
+
+-- What is behind the body, by what it is called for.
+abbrev pub Rests : Known → Treatment → (object : Id) → (access : ℕ) → Home → (places : List Value) → (after : Control) → (lower : List Master) → Rooms → Holds → Type 0
+Rests known (begins by done) object access home places after lower rooms holds = (by ≡ Creation) × Starting known object access places after rooms holds
+Rests known (ends cause) object access home places after lower rooms holds = Resting known object home places after lower rooms holds ⊎ Undoes known object access home places after rooms holds
+
+-- What is known of the activation that waits, whatever the body is called for: the object is of no access type, and no call refers to it; nothing else is
+-- treated behind it; and what each variable holds is as it is said of it.
+pub record Paused (known : Known) (object : Id) (access : ℕ) (places : List Value) (after : Control) (lower : List Master) (rooms : Rooms) (holds : Holds) : Type 0 where
+  pub declared : is_access known.program.types access ≡ false
+  pub unreferred : IsUnreferred (outers known) object
+  pub untreated : NothingTreated after
+  pub roomed : Roomed (below known) lower rooms
+  pub said : (x : ℕ) → IsSaid (place_at (outers known).given x) (hold_at holds x) (place_at places x)
+  pub objects : (x : ℕ) → hold_at holds x ≢ hold.Lost → IsPlace known.program.types (outers known).referenced (variable_kind known.program.variables x) (place_at places x)
+
+-- An object that is finalized is under way; one that is initialized is in its collection.
+abbrev pub under_way : Treatment → Id → List Id
+under_way (begins by done) object = []
+under_way (ends cause) object = object ∷ []
+
+-- What the operations that such a treatment calls may free (7.6, 7.6.1).
+abbrev pub treated_frees : Implicit → Treatment → (access : ℕ) → ℕ → Bool
+treated_frees implicit (begins by done) access t = implicit.start_frees access t
+treated_frees implicit (ends cause) access t = implicit.end_frees access t
+
+-- What is known where such a body is called: what waits for it, and what it may free, of which there is no alias.
+pub record Enters (known : Known) (treatment : Treatment) (o : Id) (x : Object) (after : Control) (heap : List Object) (places : List Value) (masters : List Master) : Type 0 where
+  pub rooms : Rooms
+  pub holds : Holds
+  pub waits : Paused known o x.cell.access places after masters rooms holds
+  pub rests : Rests known treatment o x.cell.access x.cell.home places after masters rooms holds
+  pub fit : Fit known.program.types known.program.variables (outers known) none_spared heap places holds
+  pub stored : Stored (under_way treatment o ++ (outers known).under) heap masters
+  pub may : ℕ → Bool
+  pub includes : (t : ℕ) → treated_frees known.implicit treatment x.cell.access t ≡ true → may t ≡ true
+  pub spares : Spares known may
+  pub unaliased : Unaliased known.program.variables may holds
+
+-- The activation that waits for the body, whose formal parameter stands for a record in the object.
+abbrev pub resting : (caller : Activation Value) (treatment : Treatment) (object : Id) (access : ℕ) (place : Place) (behind : Control) (lower : List Master) → Keeping → Rooms → Holds → Suspension
+resting caller treatment object access place behind lower kept rooms holds = record {
+  procedure = caller.procedure;
+  actuals = [];
+  passed = Part object place ∷ [];
+  references = [];
+  referenced = record { object = object; access = access } ∷ [];
+  under = under_way treatment object;
+  kept = kept;
+  control = behind;
+  masters = lower;
+  rooms = rooms;
+  places = caller.places;
+  before = holds;
+}
+
+-- The body of such an operation runs.
+pub record Touching (program : Program) (s : State) : Type 0 where
+  pub procedure : ℕ
+  pub is_body : IsBody (program_form program) (Some procedure)
+  pub caller : Activation Value
+  pub rest : List (Activation Value)
+  pub suspensions : List Suspension
+  pub object : Id
+  pub place : Place
+  pub x : Object
+  pub found : object_at s.heap object ≡ Some x
+  pub access : ℕ
+  pub of_access : x.cell.access ≡ access
+  pub home : Home
+  pub at_home : x.cell.home ≡ home
+  pub treatment : Treatment
+  pub of : ℕ
+  pub behind : Control
+  pub after : Control
+  pub awaited : WaitsFor object of treatment after behind
+  pub lower : List Master
+  pub kept : Keeping
+  pub rooms : Rooms
+  pub holds : Holds
+  pub frugal : Frugally (Some procedure) (caller ∷ rest) lower behind s
+  pub waits : Paused (known_in program caller.procedure suspensions) object access caller.places after lower rooms holds
+  pub rests : Rests (known_in program caller.procedure suspensions) treatment object access home caller.places after lower rooms holds
+  pub stands : Stands program suspensions (behind_operation (caller ∷ rest) behind lower s)
+  pub calm : IsCalm (behind_call behind)
+  pub may : may_be_frugal (program_form program) ≡ true
+  pub lets : (e : Exception) → body_among (implicit_of (program_form program)) (seen_in (Some procedure) (program_form program)) e ≡ true → lets_out (implicit_of (program_form program)) access treatment e ≡ true
+  pub covers : (t : ℕ) → CoveredIn (implicit_of (program_form program)) (seen_in (Some procedure) (program_form program)) t → CoveredIn (implicit_of (program_form program)) (seen_in caller.procedure (program_form program)) t
+  pub ready : Ready (known_in program (Some procedure) (resting caller treatment object access place behind lower kept rooms holds ∷ suspensions)) s
+
+-- The activations that wait for it, the nearest one first.
+abbrev pub waiting_for : (program : Program) (s : State) → Touching program s → List Suspension
+waiting_for program s f = resting f.caller f.treatment f.object f.access f.place f.behind f.lower f.kept f.rooms f.holds ∷ f.suspensions

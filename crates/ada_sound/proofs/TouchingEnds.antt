@@ -1,0 +1,320 @@
+-- The body of an operation that touches storage comes to its end (7.6, 7.6.1): what waits for it goes on, with the rest of the treatment, or the end of the object,
+-- and then with what is left.
+
+use Rattle.ada_sound.proofs.Leavings.{owns_relied, borrows_relied, component_borrows}
+use Rattle.ada_meaning.specs.Heap.{Home}
+use Rattle.std.proofs.Common.{◌≡◌, ℕ, Bool, true, false, List, [], ◌∷◌, ◌++◌, refl, sym, ap, ◌∙◌, subst, inl, inr, slice_set}
+use Rattle.std.specs.Prelude.{Option, Some, None}
+use Rattle.std.specs.List.{list_all, slice_get}
+use Rattle.ada_program.specs.declared.program.Exception.{Exception}
+use Rattle.ada_program.specs.declared.program.Program.{Program}
+use Rattle.ada_program.specs.ProgramForm.{TypeForm, program_form, body_forms}
+use Rattle.ada_program.specs.WellFormed.{IsWellFormed, type_fits, is_access}
+use Rattle.ada_deeds.specs.Implicit.{implicit_of}
+use Rattle.ada_flow.specs.Flow.{Holds, hold_at}
+use Rattle.ada_meaning.specs.declared.event.Cause.{Cause}
+use Rattle.ada_flow.specs.declared.rule.Hold.TheVariants as hold
+use Rattle.ada_meaning.specs.declared.event.Birth.TheVariants.{Creation, Copy, Adjustment}
+use Rattle.ada_sound.proofs.OperationCalls.{ready_for, ready_raising}
+use Rattle.ada_meaning.specs.declared.event.Cause.TheVariants.{Leaving, Undoing}
+use Rattle.ada_meaning.specs.declared.state.Id.{Id}
+use Rattle.ada_meaning.specs.declared.state.Mode.{Mode}
+use Rattle.ada_meaning.specs.declared.state.Mode.TheVariants.{Running, Raising, Exiting, Returning}
+use Rattle.ada_meaning.specs.declared.state.Stage.TheVariants.{Existing}
+use Rattle.ada_meaning.specs.declared.state.Value.{Value}
+use Rattle.ada_meaning.specs.declared.state.Value.TheVariants.{Names}
+use Rattle.ada_meaning.specs.Event.{Quiet}
+use Rattle.ada_parts.specs.Part as parts
+use Rattle.ada_meaning.specs.Frame.{Returns, Ends, ends, begins, Treatment, Stores}
+use Rattle.ada_meaning.specs.Frame as frame
+use Rattle.ada_meaning.specs.State.{Activation, Master}
+use Rattle.ada_meaning.specs.Step.{moves, operands, places, mode_next}
+use Rattle.ada_meaning.specs.Named.{Object, State, named, next}
+use Rattle.ada_owners.specs.Places.{Place, variable, component, elsewhere, value_at, access_at}
+use Rattle.ada_owners.specs.Reliance.{Owns, Borrows, IsOf, component_kind}
+use Rattle.ada_owners.proofs.Ends.{IsUnnamed}
+use Rattle.ada_owners.proofs.Kernel as kernel
+use Rattle.ada_owners.proofs.Objects.{present_at}
+use Rattle.ada_sound.proofs.Activations.{returned_fit}
+use Rattle.ada_sound.proofs.Callers.{Suspension, caller_of, known_in}
+use Rattle.ada_sound.proofs.Touching.{IsNamedNowhere, resting, Touching, Resting, Rests, Starting, under_way, Undoes}
+use Rattle.ada_sound.proofs.Fits.{Fit, kinds_of, hold_in, stacked, none_spared, sparing, outer_hold, outer_value_at, spare_fit, weaker_fit}
+use Rattle.ada_sound.proofs.FrugalControl.{is_return_first, frugal_ends}
+use Rattle.ada_sound.proofs.InOrder.{component_is_access}
+use Rattle.ada_sound.proofs.Invariant.{Control, Known, Rooms, GoesOn, Working, Ending, EndsTo, ReadyIn, TreatsBy, innermost, outer_of, outers, IsLive, Beginning, StartsTo, BeginsWell}
+use Rattle.ada_sound.proofs.Operating.{behind_operation, lets_out}
+use Rattle.ada_sound.proofs.Ready.{stays}
+use Rattle.ada_sound.proofs.Returns.{Crosses, same_types}
+use Rattle.ada_sound.proofs.Stored.{Stored}
+use Rattle.ada_sound.proofs.Orderings.{AsGood, good_to_lost, as_good}
+use Rattle.ada_sound.proofs.Undone.{beginning_undone}
+use Rattle.ada_sound.proofs.Waiting.{stands_kept}
+use Rattle.ada_sound.proofs.Alters.{alters_same}
+
+-- No place names an object of a type of which no component is, where no variable is relied on to name it.
+module _ (known : Known) (heap : List Object) (held : List Value) (holds : Holds) (spared : Id → Bool) (fit : Fit known.program.types known.program.variables (outers known) spared heap held holds) (types_fit : list_all (type_fits known.program.types) known.program.types ≡ true) (o : Id) (access : ℕ) (there : access_at heap o ≡ Some access) (declared : is_access known.program.types access ≡ false) (nowhere : IsNamedNowhere (outers known) held holds o) where
+  of_no_component : (holder kind : Option ℕ) (c : ℕ) → component_kind (kinds_of known.program.types known.program.variables (outers known)) holder c ≡ kind → IsOf (access_at heap) kind o → ⊥
+  of_no_component None None c is of = of
+  of_no_component None (Some t) c is of = cc is
+  of_no_component (Some u) None c is of = of
+  of_no_component (Some u) (Some t) c is of =
+      let one = component_is_access known.program.types types_fit u c t is in
+      let same : t ≡ access = cc (of, there) in
+      let none : is_access known.program.types t ≡ false = rw same declared in
+      cc (one, none)
+
+  no_owner : (q : Place) → Owns (hold_in (outers known) spared holds q) → value_at heap (stacked held (outers known)) q ≡ Names o → ⊥
+  no_owner (variable x) own names = nowhere.here x (owns_relied (hold_at holds x) own) names
+  no_owner (component p c) own names =
+      of_no_component (access_at heap p) (component_kind (kinds_of known.program.types known.program.variables (outers known)) (access_at heap p) c) c refl
+      (kernel.owned_at fit.owners.fit (component p c) own o names)
+  no_owner (elsewhere d x) own names =
+      nowhere.elsewhere d x (owns_relied (outer_hold (slice_get (outers known).suspended d) x) own) (sym (outer_value_at heap held (outers known) d x) ∙ names)
+
+  no_borrower : (q : Place) → Borrows (hold_in (outers known) spared holds q) → value_at heap (stacked held (outers known)) q ≡ Names o → ⊥
+  no_borrower (variable x) borrows names = nowhere.here x (borrows_relied (hold_at holds x) borrows) names
+  no_borrower (component p c) borrows names = component_borrows (spared p) borrows
+  no_borrower (elsewhere d x) borrows names =
+      nowhere.elsewhere d x (borrows_relied (outer_hold (slice_get (outers known).suspended d) x) borrows) (sym (outer_value_at heap held (outers known) d x) ∙ names)
+
+  unnamed_here : IsUnnamed heap (stacked held (outers known)) (hold_in (outers known) spared holds) o
+  unnamed_here = record { unowned = no_owner; unborrowed = no_borrower }
+
+-- What waits for a Finalize is ready, once the end of the object is.
+ends_first : (known : Known) (o : Id) (after k : Control) (heap : List Object) (held : List Value) (ms : List Master) → after ≡ Ends (Names o) ∷ k → Ending known o k heap held ms → EndsTo known (Names o) after heap held ms
+ends_first known o after k heap held ms is ending = rw is (refl, ending)
+
+module _ (program : Program) (well : IsWellFormed (program_form program)) (s : State) (f : Touching program s) (parted : (cause : Cause) → f.treatment ≡ ends cause → f.x.listed ≡ false) (ends_now : is_return_first s.control ≡ true) where
+  abbrev own : Known
+  own = known_in program f.caller.procedure f.suspensions
+
+  abbrev waiting : Suspension
+  waiting = resting f.caller f.treatment f.object f.access f.place f.behind f.lower f.kept f.rooms f.holds
+
+  abbrev running : Known
+  running = known_in program (Some f.procedure) (waiting ∷ f.suspensions)
+
+  abbrev Works : List Value → Type 0
+  Works held = Working running s.heap held f.lower (λ rooms holds. Unit {0})
+
+  -- No exit leads out of the body.
+  none_exited : (k : Control) (rooms : Rooms) (holds : Holds) → GoesOn running Exiting (Returns [] [] ∷ k) rooms holds → ⊥
+  none_exited k [] holds is = is
+  none_exited k (gone ∷ rooms) holds is = is
+
+  works_by : (mode : Mode) (k : Control) (held computed : List Value) → ReadyIn running mode (Returns [] [] ∷ k) s.heap held computed f.lower → Works held
+  works_by Running k held computed w = record { rooms = w.rooms; holds = w.holds; stored = w.stored; roomed = w.roomed; fit = w.fit; rest = tt }
+  works_by (Raising e) k held computed w = record { rooms = w.rooms; holds = w.holds; stored = w.stored; roomed = w.roomed; fit = w.fit; rest = tt }
+  works_by Exiting k held computed w = absurd (none_exited k w.rooms w.holds w.rest)
+  works_by Returning k held computed w = record { rooms = w.rooms; holds = w.holds; stored = w.stored; roomed = w.roomed; fit = w.fit; rest = tt }
+
+  -- So what is behind it is next.
+  abbrev acts : Mode → Control → Activation Value → State
+  acts mode k a = record s { mode = mode; control = k; activations = a ∷ f.caller ∷ f.rest; masters = f.lower }
+
+  -- Behind the body: an exception goes on.
+  abbrev left_in : Mode → State
+  left_in Running = behind_operation (f.caller ∷ f.rest) f.behind f.lower s
+  left_in (Raising e) = record (behind_operation (f.caller ∷ f.rest) f.behind f.lower s) { mode = Raising e }
+  left_in Exiting = behind_operation (f.caller ∷ f.rest) f.behind f.lower s
+  left_in Returning = behind_operation (f.caller ∷ f.rest) f.behind f.lower s
+
+  goes_by : (mode : Mode) (a : Activation Value) (held computed : List Value) → ReadyIn running mode (Returns [] [] ∷ f.behind) s.heap held computed f.lower → mode_next named program.types.items (body_forms program) mode (acts mode (Returns [] [] ∷ f.behind) a) ≡ moves Quiet (left_in mode)
+  goes_by Running a held computed w = refl
+  goes_by (Raising e) a held computed w = refl
+  goes_by Exiting a held computed w = absurd (none_exited f.behind w.rooms w.holds w.rest)
+  goes_by Returning a held computed w = refl
+
+  -- The masters of the body have been left.
+  at_end : (s.control ≡ Returns [] [] ∷ f.behind) × (f.frugal.upper ≡ [])
+  at_end = frugal_ends f.behind s.mode s.control f.frugal.upper f.frugal.frugal ends_now
+
+  masters_are : s.masters ≡ f.lower
+  masters_are = f.frugal.masters ∙ ap (λ ms. ms ++ f.lower) at_end.1
+
+  ready_now : ReadyIn running s.mode (Returns [] [] ∷ f.behind) s.heap (places s) (operands s) f.lower
+  ready_now =
+      subst (λ (ms : List Master). ReadyIn running s.mode (Returns [] [] ∷ f.behind) s.heap (places s) (operands s) ms) masters_are
+      (subst (λ (k : Control). ReadyIn running s.mode k s.heap (places s) (operands s) s.masters) at_end.0 f.ready.1)
+
+  works : Works (places s)
+  works = works_by s.mode f.behind (places s) (operands s) ready_now
+
+  -- What its caller relies on.
+  same_here : running.program.types ≡ own.program.types
+  same_here = same_types (Some f.procedure) (program_form program) ∙ sym (same_types f.caller.procedure (program_form program))
+
+  own_fit : Fit own.program.types own.program.variables (outers own) none_spared s.heap f.caller.places f.holds
+  own_fit =
+      returned_fit (outer_of (caller_of program waiting f.suspensions)) running.program.variables (places s) works.holds (λ i. None) f.caller.places f.holds own.program.types (outers own) waiting.passed waiting.referenced waiting.under none_spared s.heap
+      (λ x. inr (inl (refl, refl))) (subst (λ (types : List TypeForm). Fit types running.program.variables (outers running) none_spared s.heap (places s) works.holds) same_here works.fit)
+      f.waits.said f.waits.objects
+
+  own_types_fit : list_all (type_fits own.program.types) own.program.types ≡ true
+  own_types_fit = subst (λ (types : List TypeForm). list_all (type_fits types) types ≡ true) (sym (same_types f.caller.procedure (program_form program))) well.types_fit
+
+  there : access_at s.heap f.object ≡ Some f.access
+  there = works.fit.referred f.object f.access (inl (refl, refl))
+
+  exists_still : f.x.stage ≡ Existing
+  exists_still =
+      let present = present_at s.heap f.object f.access there in
+      let same : present.object ≡ f.x = let is = present.found in let found = f.found in cc (is, found) in
+      (works.stored.sane f.object f.x f.found).there_exists (rw same at present.there)
+
+  -- No place names the object, where nothing is relied on to name it.
+  unnamed_by : (holds : Holds) (spared : Id → Bool) → Fit own.program.types own.program.variables (outers own) spared s.heap f.caller.places holds → IsNamedNowhere (outers own) f.caller.places holds f.object → IsUnnamed s.heap (stacked f.caller.places (outers own)) (hold_in (outers own) spared holds) f.object
+  unnamed_by holds spared fit nowhere = unnamed_here own s.heap f.caller.places holds spared fit own_types_fit f.object f.access there f.waits.declared nowhere
+
+  own_stored : (treatment : Treatment) → f.treatment ≡ treatment → Stored (under_way treatment f.object ++ (outers own).under) s.heap f.lower
+  own_stored treatment is = subst (λ (by : Treatment). Stored (under_way by f.object ++ (outers own).under) s.heap f.lower) is works.stored
+
+  -- The object is to cease to exist, and its words go back, before what is left of its master.
+  resting_ends : (cause : Cause) → f.treatment ≡ ends cause → (r : Resting own f.object f.home f.caller.places f.after f.lower f.rooms f.holds) → Ending own f.object (frame.GivesBack (Names f.object) (Leaving r.master r.item) f.home.pool ∷ frame.Leaves r.mode ∷ r.rest) s.heap f.caller.places f.lower
+  resting_ends cause is r =
+      let fit = spare_fit (sparing s.heap (innermost f.lower)) own_fit in
+      record {
+        object = f.x;
+        found = f.found;
+        exists = exists_still;
+        parted = parted cause is;
+        stored = own_stored (ends cause) is;
+        covered = tt;
+        rest = (
+          refl,
+          ap (λ (home : Home). home.pool) (sym f.at_home),
+          (
+            rw f.at_home r.own_item,
+            rw f.at_home r.newest,
+            record {
+              rooms = f.rooms;
+              holds = f.holds;
+              roomed = f.waits.roomed;
+              fit = fit;
+              aside = (unnamed_by f.holds (sparing s.heap (innermost f.lower)) fit r.nowhere, f.waits.unreferred);
+              rest = r.runs;
+            },
+          ),
+        );
+      }
+
+  -- So it is, before the exception goes on that came out of its initialization.
+  undoing_ends : (cause : Cause) → f.treatment ≡ ends cause → (r : Undoes own f.object f.access f.home f.caller.places f.after f.rooms f.holds) → Ending own f.object (frame.GivesBack (Names f.object) (Undoing r.number) f.home.pool ∷ frame.Resumes r.mode ∷ r.rest) s.heap f.caller.places f.lower
+  undoing_ends cause is r = record {
+    object = f.x;
+    found = f.found;
+    exists = exists_still;
+    parted = parted cause is;
+    stored = own_stored (ends cause) is;
+    covered = tt;
+    rest = (
+      refl,
+      ap (λ (home : Home). home.pool) (sym f.at_home),
+      (
+        f.access,
+        (f.x, f.found, f.of_access),
+        r.came,
+        inr (record {
+          rooms = f.rooms;
+          holds = f.holds;
+          roomed = f.waits.roomed;
+          fit = own_fit;
+          aside = (unnamed_by f.holds none_spared own_fit r.nowhere, f.waits.unreferred);
+          rest = (r.runs, r.well);
+        }),
+      ),
+    );
+  }
+
+  -- Its initialization goes on, or what is left does.
+  beginning : (done : List parts.Part) → f.treatment ≡ begins Creation done → Starting own f.object f.access f.caller.places f.after f.rooms f.holds → Beginning own (Names f.object) f.after s.heap f.caller.places f.lower
+  beginning done is r =
+      let less : AsGood f.holds (slice_set f.holds r.x hold.Lost) = good_to_lost r.x f.holds f.holds (as_good f.holds) in
+      record {
+        o = f.object;
+        object = f.x;
+        is = refl;
+        found = f.found;
+        x = r.x;
+        rooms = f.rooms;
+        holds = f.holds;
+        stored = own_stored (begins Creation done) is;
+        roomed = f.waits.roomed;
+        fit = own_fit;
+        aside = (unnamed_by (slice_set f.holds r.x hold.Lost) none_spared (weaker_fit (slice_set f.holds r.x hold.Lost) less own_fit) r.nowhere, f.waits.unreferred);
+        runs = r.runs;
+        undone = subst (λ (t : ℕ). StartsTo own t f.after f.rooms (slice_set f.holds r.x hold.Lost)) (sym f.of_access) r.undone;
+        well = subst (λ (t : ℕ). BeginsWell own t f.holds) (sym f.of_access) r.well;
+      }
+
+  treats_by : (treatment : Treatment) → f.treatment ≡ treatment → Rests own treatment f.object f.access f.home f.caller.places f.after f.lower f.rooms f.holds → TreatsBy own (Names f.object) treatment f.after s.heap f.caller.places f.caller.operands f.lower
+  treats_by (begins Creation done) is (creation, r) =
+      let b = beginning done is r in (
+        inl b,
+        (own_stored (begins Creation done) is, λ e raises. beginning_undone own (Names f.object) f.after s.heap f.caller.places f.lower b e raises),
+      )
+  treats_by (begins Copy done) is (creation, r) = absurd (cc creation)
+  treats_by (begins (Adjustment number) done) is (creation, r) = absurd (cc creation)
+  treats_by (ends cause) is (inl r) = inl (ends_first own f.object f.after _ s.heap f.caller.places f.lower r.is (resting_ends cause is r))
+  treats_by (ends cause) is (inr r) = inl (ends_first own f.object f.after _ s.heap f.caller.places f.lower r.is (undoing_ends cause is r))
+
+  live : IsLive s.heap (Names f.object)
+  live = (f.x.cell, rw (f.found, exists_still) refl)
+
+  behind_ready : ReadyIn own Running f.behind s.heap f.caller.places f.caller.operands f.lower
+  behind_ready =
+      ready_for own f.object f.of f.treatment f.after f.behind s.heap f.caller.places f.caller.operands f.lower live f.awaited (treats_by f.treatment refl f.rests)
+
+  crosses_back : Crosses program s.heap Quiet (behind_operation (f.caller ∷ f.rest) f.behind f.lower s)
+  crosses_back = record {
+    suspensions = f.suspensions;
+    stepped = stays own Quiet (behind_operation (f.caller ∷ f.rest) f.behind f.lower s) (tt, behind_ready) tt;
+    stands = f.stands;
+  }
+
+  -- An exception comes out of an Initialize: the object is undone next.
+  raises_back : (e : Exception) → lets_out (implicit_of (program_form program)) f.access f.treatment e ≡ true → Crosses program s.heap Quiet (left_in (Raising e))
+  raises_back e out = record {
+    suspensions = f.suspensions;
+    stepped = stays own Quiet (left_in (Raising e))
+        (tt, ready_raising own f.object f.of f.treatment f.access f.after f.behind s.heap f.caller.places f.caller.operands f.lower e f.x f.found f.of_access live f.awaited out (treats_by f.treatment refl f.rests)) tt;
+    stands = stands_kept program (behind_operation (f.caller ∷ f.rest) f.behind f.lower s) (left_in (Raising e)) f.suspensions f.stands Quiet
+        (record { procedure = refl; suspended = refl }) (alters_same s.heap Quiet);
+  }
+
+  raised_out : (e : Exception) (rooms : Rooms) (holds : Holds) → GoesOn running (Raising e) (Returns [] [] ∷ f.behind) rooms holds → lets_out (implicit_of (program_form program)) f.access f.treatment e ≡ true
+  raised_out e [] holds (may, is, keeps) = f.lets e may
+  raised_out e (gone ∷ rooms) holds is = absurd is
+
+  crosses_by : (mode : Mode) (held computed : List Value) → ReadyIn running mode (Returns [] [] ∷ f.behind) s.heap held computed f.lower → Crosses program s.heap Quiet (left_in mode)
+  crosses_by Running held computed w = crosses_back
+  crosses_by (Raising e) held computed w = raises_back e (raised_out e w.rooms w.holds w.rest)
+  crosses_by Exiting held computed w = crosses_back
+  crosses_by Returning held computed w = crosses_back
+
+  -- The state, by its parts.
+  state_is : acts s.mode (Returns [] [] ∷ f.behind) f.frugal.acting ≡ s
+  state_is =
+      subst (λ (k : Control). acts s.mode k f.frugal.acting ≡ s) at_end.0
+      (subst (λ (all : List (Activation Value)). record s { activations = all; masters = f.lower } ≡ s) f.frugal.active
+      (subst (λ (ms : List Master). record s { masters = ms } ≡ s) masters_are refl))
+
+  goes_now : next program.types.items (body_forms program) s ≡ moves Quiet (left_in s.mode)
+  unfolding next
+  goes_now =
+      subst (λ (t : State). mode_next named program.types.items (body_forms program) s.mode t ≡ moves Quiet (left_in s.mode)) state_is
+      (goes_by s.mode f.frugal.acting (places s) (operands s) ready_now)
+
+-- When the end of the body is next, what waits for the operation goes on, perhaps with an exception.
+pub touching_ends :
+    (program : Program) → IsWellFormed (program_form program) → (s : State) → (f : Touching program s) → ((cause : Cause) → f.treatment ≡ ends cause → f.x.listed ≡ false)
+    → is_return_first s.control ≡ true
+    → (after : State) × (next program.types.items (body_forms program) s ≡ moves Quiet after) × Crosses program s.heap Quiet after × (after.control ≡ f.behind)
+touching_ends program well s f parted ends_now =
+    (left_in program well s f parted ends_now s.mode, goes_now program well s f parted ends_now, crosses_by program well s f parted ends_now s.mode (places s) (operands s) (ready_now program well s f parted ends_now), same_control s.mode)
+  where
+    same_control : (mode : Mode) → (left_in program well s f parted ends_now mode).control ≡ f.behind
+    same_control Running = refl
+    same_control (Raising e) = refl
+    same_control Exiting = refl
+    same_control Returning = refl

@@ -1,0 +1,290 @@
+-- An operation that touches storage is called for an object whose master is left (7.6.1), or for one that a declaration creates (7.6): what is behind that.
+
+use Rattle.std.proofs.Common.{◌≡◌, ℕ, Bool, true, false, List, [], ◌∷◌, ◌++◌, refl, sym, subst, ◌∙◌, ◌⊎◌, inl, inr, slice_set, eqb-true, None, ap}
+use Rattle.std.specs.Prelude.{Option, Some, ◌==◌, if◌then◌else◌}
+use Rattle.std.specs.List.{slice_get}
+use Rattle.ada_program.specs.ProgramForm.{TypeForm}
+use Rattle.ada_program.specs.WellFormed.{is_access}
+use Rattle.ada_flow.specs.declared.rule.Hold.{Hold}
+use Rattle.ada_flow.specs.declared.rule.Hold.TheVariants as hold
+use Rattle.ada_flow.specs.Flow.{Holds, Gone as GoneWith, hold_at, is_among}
+use Rattle.ada_meaning.specs.declared.event.Cause.{Cause}
+use Rattle.ada_meaning.specs.declared.event.Birth.TheVariants.{Creation}
+use Rattle.ada_meaning.specs.declared.event.Cause.TheVariants.{Leaving, Freeing, Assigning, Undoing}
+use Rattle.ada_meaning.specs.declared.state.Id.{Id}
+use Rattle.ada_meaning.specs.declared.state.Mode.{Mode}
+use Rattle.ada_meaning.specs.declared.state.Value.{Value}
+use Rattle.ada_meaning.specs.declared.state.Value.TheVariants.{Names}
+use Rattle.ada_meaning.specs.Finalization.{NothingTreated}
+use Rattle.ada_parts.specs.Part as parts
+use Rattle.ada_meaning.specs.Frame.{Copies, Ends, GivesBack, Leaves, Resumes, ends, begins}
+use Rattle.ada_meaning.specs.Law.{items_of}
+use Rattle.ada_meaning.specs.State.{Owned, declared, collection, record_object, storage_pool, Item, Master, Destination, home_among, collection_in, home_of, destination}
+use Rattle.ada_meaning.specs.Named.{Object, object_at}
+use Rattle.ada_owners.specs.Places.{variable, elsewhere}
+use Rattle.ada_owners.specs.Reliance.{Owns, Borrows}
+use Rattle.ada_owners.proofs.Ends.{IsUnnamed}
+use Rattle.ada_scopes.proofs.Homes.{OwnedFits, ItemsFit, fit_after}
+use Rattle.ada_sound.proofs.Endings.{among_by}
+use Rattle.ada_sound.proofs.Touching.{IsNamedNowhere, Enters, Paused, Resting}
+use Rattle.ada_sound.proofs.FrugalUseEnds.{any_end}
+use Rattle.ada_effects.specs.Effects.{endings_free}
+use Rattle.ada_sound.proofs.Fits.{IsRelied, Outsiders, hold_in, none_spared, objects_left, outer_hold, outer_value_at, respare, sparing, stacked}
+use Rattle.ada_sound.proofs.Invariant.{Behind, CopiesBehind, Control, Ending, EndingBy, EndsTo, Freed, IsCopied, IsNewest, Known, LeavesTo, Roomed, Rooms, RunsOn, ThenBack, TreatsBy, WillBeCovered, below, innermost, outers, Beginning, CameOut, ResumesTo, BeginsWell, To, HasCollection, By, ways, gone_in}
+use Rattle.ada_sound.proofs.Items.{Counted, HasItem, Houses, newest_is}
+use Rattle.ada_sound.proofs.Stored.{Stored, exists_out}
+
+-- What is relied on to name an object owns it or borrows it.
+relied_apart : (h : Hold) → IsRelied h → Owns h ⊎ Borrows h
+relied_apart hold.Null r = absurd r
+relied_apart (hold.Kept q) r = inl tt
+relied_apart (hold.Own q) r = inl tt
+relied_apart (hold.Alias q) r = inr tt
+relied_apart hold.Lost r = absurd r
+
+named_nowhere : (outer : Outsiders) (spared : Id → Bool) (heap : List Object) (places : List Value) (holds : Holds) (o : Id) → IsUnnamed heap (stacked places outer) (hold_in outer spared holds) o → IsNamedNowhere outer places holds o
+named_nowhere outer spared heap places holds o none = record {
+  here = λ x relied names. elim (relied_apart (hold_at holds x) relied) [ inl own ↦ none.unowned (variable x) own names | inr b ↦ none.unborrowed (variable x) b names ];
+  elsewhere = λ d x relied names. (
+      let at = outer_value_at heap places outer d x ∙ names in
+      elim (relied_apart (outer_hold (slice_get outer.suspended d) x) relied) [ inl own ↦ none.unowned (elsewhere d x) own at | inr b ↦ none.unborrowed (elsewhere d x) b at ]
+      );
+}
+
+-- The newest item is that of the object, which is of no access type.
+is_object_left : (types : List TypeForm) (i : Item) (is : List Item) (access : ℕ) (pool : Option ℕ) → is_access types access ≡ false → (owned : Owned) → i.owned ≡ owned → Houses owned access pool → OwnedFits types owned → objects_left (i ∷ is) ≡ true
+is_object_left types i is access pool object (declared x) own houses fits = absurd houses
+is_object_left types i is access pool object (storage_pool declaration number) own houses fits = absurd houses
+is_object_left types i is access pool object (record_object t) own houses fits = rw own refl
+is_object_left types i is access pool object (collection t p) own houses fits = let same = houses.0 in absurd (cc (rw same at fits, object))
+
+module _ (types : List TypeForm) (under : List Id) (heap : List Object) (o : Id) (x : Object) (found : object_at heap o ≡ Some x) (out : x.out ≡ true) (object : is_access types x.cell.access ≡ false) (m : Master) (ms : List Master) (stored : Stored under heap (m ∷ ms)) (fits : ItemsFit types (items_of (m ∷ ms))) where
+  -- It is the home of the object, so it is of a type that the master may own.
+  newest_houses : (i : Item) (is : List Item) → m.items ≡ i ∷ is → i.number ≡ x.cell.home.item → Houses i.owned x.cell.access x.cell.home.pool
+  newest_houses i is at same =
+      newest_is x.cell.home.item x.cell.access x.cell.home.pool i (is ++ items_of ms) (sym same)
+      (subst (λ (items : List Item). Counted (items ++ items_of ms)) at stored.counted)
+      (subst (λ (items : List Item). HasItem x.cell.home.item x.cell.access x.cell.home.pool (items ++ items_of ms)) at ((stored.sane o x found).housed out))
+
+  left_by : (is : List Item) → m.items ≡ is → IsNewest x.cell.home.item is → objects_left is ≡ true
+  left_by [] at newest = absurd newest
+  left_by (i ∷ is) at newest =
+      is_object_left types i is x.cell.access x.cell.home.pool object i.owned refl (newest_houses i is at newest)
+      (subst (λ (items : List Item). ItemsFit types (items ++ items_of ms)) at fits).0
+
+  among_gone : (below : List Master) (gone : GoneWith) (rooms : Rooms) → Roomed below (m ∷ ms) (gone ∷ rooms) → (is : List Item) → m.items ≡ is → IsNewest x.cell.home.item is → is_among gone.types (Some x.cell.access) ≡ true
+  among_gone below gone rooms roomed [] at newest = absurd newest
+  among_gone below gone rooms roomed (i ∷ is) at newest =
+      among_by i.owned x.cell.access x.cell.home.pool gone.types (newest_houses i is at newest) (rw at at (roomed.0)).0
+
+module _ (known : Known) (o : Id) (x : Object) (heap : List Object) (found : object_at heap o ≡ Some x) (places operands : List Value) (masters : List Master) (object : is_access known.program.types x.cell.access ≡ false) (fits : ItemsFit known.program.types (items_of masters)) where
+  -- A collection is one of an access type.
+  none_among : (is rest : List Item) (later : Option Destination) (d : Destination) → ItemsFit known.program.types (is ++ rest) → home_among x.cell.access is later ≡ Some d → later ≡ Some d
+  none_among [] rest later d fit at = at
+  none_among (i ∷ is) rest later d fit at = by i.owned refl at (none_among is rest later d fit.1)
+    where
+      by : (owned : Owned) → i.owned ≡ owned → collection_in x.cell.access i owned (home_among x.cell.access is later) ≡ Some d → (home_among x.cell.access is later ≡ Some d → later ≡ Some d) → later ≡ Some d
+      by (declared y) own at' more = more at'
+      by (record_object t) own at' more = more at'
+      by (storage_pool declaration number) own at' more = more at'
+      by (collection t pool) own at' more = either (x.cell.access == t) refl at'
+        where
+          either : (b : Bool) → (x.cell.access == t) ≡ b → (if b then destination i.number pool else home_among x.cell.access is later) ≡ Some d → later ≡ Some d
+          either false other at2 = more at2
+          either true same at2 =
+              let one : x.cell.access ≡ t = eqb-true x.cell.access t same in
+              let fits : OwnedFits known.program.types i.owned = fit.0 in
+              let access : is_access known.program.types t ≡ true = rw own at fits in
+              absurd (cc (rw (← one) at access, object))
+
+  none_collected : (ms : List Master) → ItemsFit known.program.types (items_of ms) → (d : Destination) → home_of x.cell.access ms ≡ Some d → ⊥
+  none_collected [] fit d at = cc at
+  none_collected (m ∷ ms) fit d at =
+      none_collected ms (fit_after known.program.types m.items (items_of ms) fit) d (none_among m.items (items_of ms) (home_of x.cell.access ms) d fit at)
+
+  -- The master is left.
+  module _ (mode : Mode) (rest : Control) (master : ℕ) (newest : IsNewest x.cell.home.item (innermost masters)) (untreated : NothingTreated rest) (stored : Stored (o ∷ (outers known).under) heap masters) (out : x.out ≡ true) (r : Freed known (Some o) (sparing heap (innermost masters)) heap places masters (RunsOn known (Leaves mode ∷ rest))) where
+    left_over : (ms : List Master) → masters ≡ ms → objects_left (innermost ms) ≡ true
+    left_over [] at = absurd (rw at at newest)
+    left_over (m ∷ ms) at = left_by known.program.types (o ∷ (outers known).under) heap o x found out object m ms (rw at at stored) (rw at at fits) m.items refl (rw at at newest)
+
+    left : objects_left (innermost masters) ≡ true
+    left = left_over masters refl
+
+    among_by_rooms : (gone : GoneWith) (inner : Rooms) (ms : List Master) → masters ≡ ms → Roomed (below known) ms (gone ∷ inner) → is_among gone.types (Some x.cell.access) ≡ true
+    among_by_rooms gone inner [] at roomed = absurd (rw at at newest)
+    among_by_rooms gone inner (m ∷ ms) at roomed = among_gone known.program.types (o ∷ (outers known).under) heap o x found out object m ms (rw at at stored) (rw at at fits) (below known) gone inner roomed m.items refl (rw at at newest)
+
+    -- What is left of the master behind the end of the object.
+    abbrev behind_it : Control
+    behind_it = Ends (Names o) ∷ GivesBack (Names o) (Leaving master x.cell.home.item) x.cell.home.pool ∷ Leaves mode ∷ rest
+
+    resting_here : Resting known o x.cell.home places behind_it masters r.rooms r.holds
+    resting_here = record {
+      master = master;
+      item = x.cell.home.item;
+      mode = mode;
+      rest = rest;
+      is = refl;
+      own_item = refl;
+      newest = newest;
+      runs = r.rest;
+      nowhere = named_nowhere (outers known) (sparing heap (innermost masters)) heap places r.holds o r.aside.0;
+    }
+
+    paused_here : Paused known o x.cell.access places behind_it masters r.rooms r.holds
+    paused_here = record {
+      declared = object;
+      unreferred = r.aside.1;
+      untreated = untreated;
+      roomed = r.roomed;
+      said = r.fit.said;
+      objects = r.fit.objects;
+    }
+
+    by_rooms : (cause : Cause) (rooms : Rooms) → r.rooms ≡ rooms → Roomed (below known) masters rooms → RunsOn known (Leaves mode ∷ rest) rooms r.holds → Enters known (ends cause) o x behind_it heap places masters
+    by_rooms cause [] is roomed runs = absurd runs
+    by_rooms cause (gone ∷ inner) is roomed runs = record {
+      rooms = r.rooms;
+      holds = r.holds;
+      waits = paused_here;
+      rests = inl resting_here;
+      fit = respare (sparing heap (innermost masters)) none_spared (λ k c p e. rw left refl) r.fit;
+      stored = stored;
+      may = endings_free known.implicit gone.types;
+      includes = λ t is. any_end (λ u. known.implicit.end_frees u t) x.cell.access gone.types (among_by_rooms gone inner masters refl roomed) is;
+      spares = runs.1.0;
+      unaliased = runs.1.1;
+    }
+
+    at_rest_here : (cause : Cause) → Enters known (ends cause) o x behind_it heap places masters
+    at_rest_here cause = by_rooms cause r.rooms refl r.roomed r.rest
+
+  -- In a program in which operations may touch storage, nothing else finalizes an object with controlled parts than the leaving of its master, and an exception out of
+  -- its initialization: it is neither freed nor assigned to.
+  module _ (starts : (access t : ℕ) → known.implicit.end_frees access t ≡ true → known.implicit.start_frees access t ≡ true) (no_copy : (t : ℕ) → IsCopied known t → ⊥) where
+    leaving : (m item : ℕ) (pool : Option ℕ) (k : Control) → item ≡ x.cell.home.item → pool ≡ x.cell.home.pool → IsNewest x.cell.home.item (innermost masters) → Stored (o ∷ (outers known).under) heap masters → x.out ≡ true → NothingTreated k → LeavesTo known (Some o) heap places masters k → (cause : Cause) → Enters known (ends cause) o x (Ends (Names o) ∷ GivesBack (Names o) (Leaving m item) pool ∷ k) heap places masters
+    leaving m item pool [] own from newest stored out untreated r cause = absurd r
+    leaving m item pool (Leaves mode ∷ rest) own from newest stored out untreated r cause = rw (own, from) (at_rest_here mode rest m newest untreated stored out r cause)
+    leaving m item pool (f ∷ k) own from newest stored out untreated r cause = absurd r
+
+    undone : (number : ℕ) (mode : Mode) (rest : Control) → NothingTreated rest → Stored (o ∷ (outers known).under) heap masters → CameOut known x.cell.access mode
+        → Freed known (Some o) none_spared heap places masters (λ rooms holds. To (By mode (ways known rest rooms)) holds × BeginsWell known x.cell.access holds)
+        → (cause : Cause) → Enters known (ends cause) o x (Ends (Names o) ∷ GivesBack (Names o) (Undoing number) x.cell.home.pool ∷ Resumes mode ∷ rest) heap places masters
+    undone number mode rest untreated stored came r cause = record {
+      rooms = r.rooms;
+      holds = r.holds;
+      waits = record {
+        declared = object;
+        unreferred = r.aside.1;
+        untreated = untreated;
+        roomed = r.roomed;
+        said = r.fit.said;
+        objects = r.fit.objects;
+      };
+      rests = inr (record {
+        number = number;
+        mode = mode;
+        rest = rest;
+        is = refl;
+        came = came;
+        runs = r.rest.0;
+        well = r.rest.1;
+        nowhere = named_nowhere (outers known) none_spared heap places r.holds o r.aside.0;
+      });
+      fit = r.fit;
+      stored = stored;
+      may = known.implicit.start_frees x.cell.access;
+      includes = λ t is. starts x.cell.access t is;
+      spares = r.rest.1.0;
+      unaliased = r.rest.1.1;
+    }
+
+    undoing : (number : ℕ) (pool : Option ℕ) (k : Control) → pool ≡ x.cell.home.pool → NothingTreated k → Stored (o ∷ (outers known).under) heap masters → ResumesTo known (Some o) heap places masters k
+        → (cause : Cause) → Enters known (ends cause) o x (Ends (Names o) ∷ GivesBack (Names o) (Undoing number) pool ∷ k) heap places masters
+    undoing number pool [] from untreated stored r cause = absurd r
+    undoing number pool (Resumes mode ∷ rest) from untreated stored (access, (y, at, of), came, r) cause =
+        let one : y ≡ x = cc (at, found) in
+        let same : access ≡ x.cell.access = sym of ∙ ap (λ (z : Object). z.cell.access) one in
+        by same came r
+      where
+        by : access ≡ x.cell.access → CameOut known access mode
+            → ((HasCollection masters access × Freed known None none_spared (gone_in (Some o) heap) places masters (λ rooms holds. To (By mode (ways known rest rooms)) holds))
+            ⊎ Freed known (Some o) none_spared heap places masters (λ rooms holds. To (By mode (ways known rest rooms)) holds × BeginsWell known access holds))
+            → Enters known (ends cause) o x (Ends (Names o) ∷ GivesBack (Names o) (Undoing number) pool ∷ Resumes mode ∷ rest) heap places masters
+        by same came' (inl (open_one, freed)) = let home : HasCollection masters x.cell.access = rw same at open_one in absurd (none_collected masters fits home.0 home.1)
+        by same came' (inr freed) = rw from (undone number mode rest untreated stored (rw same at came') (rw same at freed) cause)
+    undoing number pool (f ∷ k) from untreated stored r cause = absurd r
+
+    by_cause : (cause : Cause) (pool : Option ℕ) (k : Control) → pool ≡ x.cell.home.pool → WillBeCovered known.implicit known.program x.cell.access (GivesBack (Names o) cause pool ∷ k) → Stored (o ∷ (outers known).under) heap masters → x.out ≡ true → NothingTreated k → Behind known cause (Some o) x.cell.home.item heap places masters k → (way : Cause) → Enters known (ends way) o x (Ends (Names o) ∷ GivesBack (Names o) cause pool ∷ k) heap places masters
+    by_cause (Leaving m item) pool k from covered stored out untreated b way = leaving m item pool k b.0 from b.1 stored out untreated b.2 way
+    by_cause (Freeing number) pool k from covered stored out untreated b way = let free = covered.1 in absurd (cc (free, object))
+    by_cause (Assigning number) pool k from covered stored out untreated b way = absurd b
+    by_cause (Undoing number) pool k from covered stored out untreated b way = undoing number pool k from untreated stored b way
+
+    back : (k : Control) (e : Ending known o k heap places masters) → e.object ≡ x → NothingTreated k → ThenBack known o x.cell.home heap places masters k → (way : Cause) → Enters known (ends way) o x (Ends (Names o) ∷ k) heap places masters
+    back [] e one untreated b way = absurd b
+    back (GivesBack (Names p) cause pool ∷ k) e one untreated b way =
+        let same = b.0 in
+        rw same (by_cause cause pool k b.1 (rw one at e.covered) e.stored (exists_out o x found (rw one at e.exists) e.stored) untreated b.2 way)
+    back (f ∷ k) e one untreated b way = absurd b
+
+    ending_of : (w : Value) (k : Control) → w ≡ Names o → EndingBy known w k heap places masters → NothingTreated k → (way : Cause) → Enters known (ends way) o x (Ends w ∷ k) heap places masters
+    ending_of w k is e untreated way =
+        let own : Ending known o k heap places masters = rw is at e in
+        let one : own.object ≡ x = let at = own.found in cc (at, found) in
+        rw is (back k own one untreated (rw one at own.rest) way)
+
+    ends_by : (k : Control) → EndsTo known (Names o) k heap places masters → ((w : Value) (rest : Control) → k ≡ Ends w ∷ rest → NothingTreated rest) → (way : Cause) → Enters known (ends way) o x k heap places masters
+    ends_by [] r untreated way = absurd r
+    ends_by (Ends w ∷ k) r untreated way = ending_of w k r.0 r.1 (untreated w k refl) way
+    ends_by (f ∷ k) r untreated way = absurd r
+
+    copies_by : (k : Control) → CopiesBehind known k heap places operands masters → ⊥
+    copies_by [] r = r
+    copies_by (Copies first t ∷ k) (copied, r) = no_copy t copied
+    copies_by (f ∷ k) r = r
+
+    pub at_rest : (cause : Cause) (k : Control) → TreatsBy known (Names o) (ends cause) k heap places operands masters → ((w : Value) (rest : Control) → k ≡ Ends w ∷ rest → NothingTreated rest) → Enters known (ends cause) o x k heap places masters
+    at_rest cause k (inl r) untreated = ends_by k r untreated cause
+    at_rest cause k (inr r) untreated = absurd (copies_by k r)
+
+  -- A record object is initialized that a declaration creates.
+  begins_here : (done : List parts.Part) (k : Control) → NothingTreated k → Beginning known (Names o) k heap places masters → Enters known (begins Creation done) o x k heap places masters
+  begins_here done k untreated b =
+      let same : b.o ≡ o = let is = b.is in cc is in
+      let one : b.object ≡ x = let at = b.found in cc (rw same at at, found) in
+      let aside = rw same at b.aside in
+      let well : BeginsWell known x.cell.access b.holds = rw one at b.well in
+      record {
+        rooms = b.rooms;
+        holds = b.holds;
+        waits = record {
+          declared = object;
+          unreferred = aside.1;
+          untreated = untreated;
+          roomed = b.roomed;
+          said = b.fit.said;
+          objects = b.fit.objects;
+        };
+        rests = (
+          refl,
+          record {
+            x = b.x;
+            runs = b.runs;
+            undone = rw one at b.undone;
+            well = well;
+            nowhere = named_nowhere (outers known) none_spared heap places (slice_set b.holds b.x hold.Lost) o aside.0;
+          },
+        );
+        fit = b.fit;
+        stored = b.stored;
+        may = known.implicit.start_frees x.cell.access;
+        includes = λ t is. is;
+        spares = well.0;
+        unaliased = well.1;
+      }
+
+  pub at_start : (done : List parts.Part) (k : Control) → TreatsBy known (Names o) (begins Creation done) k heap places operands masters → NothingTreated k → Enters known (begins Creation done) o x k heap places masters
+  at_start done k (inl b, may) untreated = begins_here done k untreated b
+  at_start done k (inr (collected, r), may) untreated = let home = collected o x refl found in absurd (none_collected masters fits home.0 home.1)
