@@ -156,7 +156,7 @@ module _ (types : List TypeForm) (callees : Callees) where
   shorter_anywhere k ms h = no_more k ms (shorter ms) (owns_less ms, older_shorter ms) h
 
   -- The master of a frame owns no collection, where an operation waits behind that.
-  master_owns_none : (waiting : Bool) (ms : List Master) (f : Frame Value) → has_master f ≡ true → waiting ≡ true → FrameAnywhere waiting ms f → InnermostOwnsNone ms
+  pub master_owns_none : (waiting : Bool) (ms : List Master) (f : Frame Value) → has_master f ≡ true → waiting ≡ true → FrameAnywhere waiting ms f → InnermostOwnsNone ms
   master_owns_none waiting ms (frame.Elaborates ds fs hs) is waits h = (h waits).1
   master_owns_none waiting ms frame.Closes is waits h = h waits
   master_owns_none waiting ms (frame.Leaves mode) is waits h = h waits

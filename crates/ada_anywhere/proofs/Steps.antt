@@ -33,7 +33,7 @@ use Rattle.ada_scopes.specs.Scopes.{is_departure}
 use Rattle.ada_scopes.proofs.Counts.{Scopes, scopes}
 use Rattle.ada_scopes.proofs.Control.{FrameNests, Nests, Nested, standing, beginning, parting}
 use Rattle.ada_anywhere.specs.Anywhere.{some_waits, has_master}
-use Rattle.ada_anywhere.proofs.Control.{InnermostOwnsNone, outside, StatementsAnywhere, BranchesAnywhere, HandlersAnywhere, FrameAnywhere, Anywhere, Here, part_anywhere, body_anywhere, treating_anywhere, owning_anywhere, behind_owning}
+use Rattle.ada_anywhere.proofs.Control.{InnermostOwnsNone, outside, StatementsAnywhere, BranchesAnywhere, HandlersAnywhere, FrameAnywhere, Anywhere, Here, part_anywhere, body_anywhere, treating_anywhere, owning_anywhere, behind_owning, master_owns_none}
 use Rattle.ada_anywhere.proofs.Evaluations.{Good, path_good, holder_good, record_holder_good, refers_good, open_good, opens_good, expression_good, null_test_good, links_good, outcome_good, items_good, copies_good, record_target_good, store_record_good, record_assign_good, assigns_good, new_good, right_good, free_good, free_in_good, end_good, back_good}
 use Rattle.ada_anywhere.proofs.Treatments.{OperationsHere, awaited_good, treats_good, leave_good}
 
@@ -340,11 +340,6 @@ module _ (types : List TypeForm) (callees : Callees) (bodies : List BodyForm) (n
   left_good Returning actuals references l s here h =
       landed_good l Returning (returned named actuals references s) (rw (returned_waits references s.control) here) (storing_nests references s.control s.masters h)
 
-  master_here : (waiting : Bool) (ms : List Master) (f : Frame Value) → is_master f ≡ true → waiting ≡ true → FrameAnywhere types callees waiting ms f → InnermostOwnsNone ms
-  master_here waiting ms (frame.Elaborates ds fs hs) is waits own = (own waits).1
-  master_here waiting ms frame.Closes is waits own = own waits
-  master_here waiting ms f is waits own = absurd (cc is)
-
   unwound_good : (f : Frame Value) (mode : Mode) (s : State) → LandsHere (some_waits s.control) (landing mode f) → OwnsNoneHere (is_master f) s → Anywhere types callees s.control (outside (is_master f) s.masters) → Good types callees (pass_next named (is_master f) (landing mode f) mode (unwound named mode f s))
   unwound_good (frame.Returns actuals references) mode s here own h =
       left_good mode actuals references (landing {V = Value} mode (frame.Returns actuals references)) s here h
@@ -354,6 +349,10 @@ module _ (types : List TypeForm) (callees : Callees) (bodies : List BodyForm) (n
   or_false true b is = refl
   or_false false b is = is
 
+  or_true : (a b : Bool) → a ≡ true → (a || b) ≡ true
+  or_true true b is = refl
+  or_true false b is = absurd (cc is)
+
   -- It comes to no master that is being left: the body of a Finalize stands in front of that, and no jump leaves it.
   abbrev LeavesNone : List (Frame Value) → Type 0
   LeavesNone [] = Unit {0}
@@ -362,7 +361,7 @@ module _ (types : List TypeForm) (callees : Callees) (bodies : List BodyForm) (n
   jump_good : (mode : Mode) (k : List (Frame Value)) (s : State) → LeavesNone k → Anywhere types callees k s.masters → Good types callees (jump_next named mode k s)
   jump_good mode [] s stays h = tt
   jump_good mode (f ∷ k) s stays h =
-      unwound_good f mode (at k s) (lands (some_waits k) s.masters mode f h.0) (λ is waits. master_here (some_waits k) s.masters f is waits h.0)
+      unwound_good f mode (at k s) (lands (some_waits k) s.masters mode f h.0) (λ is waits. master_owns_none types callees (some_waits k) s.masters f (or_true (is_master f) (is_departure f) is) waits h.0)
       (subst (λ (b : Bool). Anywhere types callees k (outside b s.masters)) (or_false (is_master f) (is_departure f) stays) h.1)
 
   -- So it is in a state that nests.
