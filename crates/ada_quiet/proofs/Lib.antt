@@ -8,3 +8,5 @@ pub mod Untracked
 pub mod InUse
 -- quiet bodies are frugal
 pub mod QuietFrugal
+-- procedures that are frugal have frugal bodies
+pub mod FrugalAt

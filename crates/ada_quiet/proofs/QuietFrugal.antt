@@ -11,7 +11,7 @@ use Rattle.ada_quiet.specs.Frugal.{is_there_already, is_frugal_declaration, are_
 use Rattle.ada_quiet.specs.Quiet.{is_elementary, holds_elementary, is_quiet_expression, is_quiet_condition, is_quiet_right, is_quiet_declaration, are_quiet_declarations, is_quiet_stmt, are_quiet, are_quiet_branches, are_quiet_handlers, is_plain_body, is_quiet_body}
 use Rattle.ada_quiet.proofs.InUse.{first_of_both, second_of_both, others}
 
-module _ (types : List TypeForm) (variables : List VariableForm) where
+module _ (frugal : List Bool) (types : List TypeForm) (variables : List VariableForm) where
   right_there : (right : RightForm) → is_quiet_right types variables right ≡ true → is_there_already right ≡ true
   right_there nothing quiet = refl
   right_there (value_of path) quiet = refl
@@ -33,7 +33,7 @@ module _ (types : List TypeForm) (variables : List VariableForm) where
       (declaration_frugal d) (declarations_frugal ds) quiet
 
   mutual
-    stmt_frugal : (f : StmtForm) → is_quiet_stmt types variables f ≡ true → is_frugal_stmt f ≡ true
+    stmt_frugal : (f : StmtForm) → is_quiet_stmt types variables f ≡ true → is_frugal_stmt frugal f ≡ true
     stmt_frugal skips quiet = refl
     stmt_frugal (assigns target right) quiet = refl
     stmt_frugal (assigns_record target items) quiet = absurd (cc quiet)
@@ -53,38 +53,38 @@ module _ (types : List TypeForm) (variables : List VariableForm) where
     stmt_frugal (raises e) quiet = refl
     stmt_frugal (encloses ds fs hs) quiet =
         others (are_quiet_declarations types variables ds && are_quiet types variables fs) (are_quiet_handlers types variables hs)
-        (are_frugal_declarations ds && are_frugal fs) (are_frugal_handlers hs)
-        (others (are_quiet_declarations types variables ds) (are_quiet types variables fs) (are_frugal_declarations ds) (are_frugal fs)
+        (are_frugal_declarations ds && are_frugal frugal fs) (are_frugal_handlers frugal hs)
+        (others (are_quiet_declarations types variables ds) (are_quiet types variables fs) (are_frugal_declarations ds) (are_frugal frugal fs)
         (declarations_frugal ds) (stmts_frugal fs))
         (handlers_frugal hs) quiet
 
-    stmts_frugal : (fs : StmtsForm) → are_quiet types variables fs ≡ true → are_frugal fs ≡ true
+    stmts_frugal : (fs : StmtsForm) → are_quiet types variables fs ≡ true → are_frugal frugal fs ≡ true
     stmts_frugal no_stmts quiet = refl
     stmts_frugal (a_stmt f fs) quiet =
-        others (is_quiet_stmt types variables f) (are_quiet types variables fs) (is_frugal_stmt f) (are_frugal fs) (stmt_frugal f) (stmts_frugal fs) quiet
+        others (is_quiet_stmt types variables f) (are_quiet types variables fs) (is_frugal_stmt frugal f) (are_frugal frugal fs) (stmt_frugal f) (stmts_frugal fs) quiet
 
-    branches_frugal : (branches : BranchesForm) → are_quiet_branches types variables branches ≡ true → are_frugal_branches branches ≡ true
+    branches_frugal : (branches : BranchesForm) → are_quiet_branches types variables branches ≡ true → are_frugal_branches frugal branches ≡ true
     branches_frugal (otherwise fs) quiet = stmts_frugal fs quiet
     branches_frugal (a_branch e fs branches) quiet =
         let condition = is_quiet_expression types variables e in
-        others (condition && are_quiet types variables fs) (are_quiet_branches types variables branches) (are_frugal fs) (are_frugal_branches branches)
+        others (condition && are_quiet types variables fs) (are_quiet_branches types variables branches) (are_frugal frugal fs) (are_frugal_branches frugal branches)
         (λ both. stmts_frugal fs (second_of_both condition (are_quiet types variables fs) both))
         (branches_frugal branches) quiet
 
-    handlers_frugal : (hs : HandlersForm) → are_quiet_handlers types variables hs ≡ true → are_frugal_handlers hs ≡ true
+    handlers_frugal : (hs : HandlersForm) → are_quiet_handlers types variables hs ≡ true → are_frugal_handlers frugal hs ≡ true
     handlers_frugal no_handlers quiet = refl
     handlers_frugal (a_handler choices fs hs) quiet =
-        others (are_quiet types variables fs) (are_quiet_handlers types variables hs) (are_frugal fs) (are_frugal_handlers hs)
+        others (are_quiet types variables fs) (are_quiet_handlers types variables hs) (are_frugal frugal fs) (are_frugal_handlers frugal hs)
         (stmts_frugal fs) (handlers_frugal hs) quiet
 
 -- All variables of a quiet body but its formal parameter are Integers and Booleans, and no exception comes out of it: of a frugal one this is not asked.
-pub frugal_body : (types : List TypeForm) (b : BodyForm) → is_quiet_body types b ≡ true → is_frugal_body b ≡ true
-frugal_body types b quiet =
-    others (elementary && declarations && statements) handlers (are_frugal_declarations b.declarations && are_frugal b.statements) (are_frugal_handlers b.handlers)
-    (others (elementary && declarations) statements (are_frugal_declarations b.declarations) (are_frugal b.statements)
-    (λ both. declarations_frugal types b.variables b.declarations (second_of_both elementary declarations both))
-    (stmts_frugal types b.variables b.statements))
-    (handlers_frugal types b.variables b.handlers)
+pub frugal_body : (frugal : List Bool) (types : List TypeForm) (b : BodyForm) → is_quiet_body types b ≡ true → is_frugal_body frugal b ≡ true
+frugal_body frugal types b quiet =
+    others (elementary && declarations && statements) handlers (are_frugal_declarations b.declarations && are_frugal frugal b.statements) (are_frugal_handlers frugal b.handlers)
+    (others (elementary && declarations) statements (are_frugal_declarations b.declarations) (are_frugal frugal b.statements)
+    (λ both. declarations_frugal frugal types b.variables b.declarations (second_of_both elementary declarations both))
+    (stmts_frugal frugal types b.variables b.statements))
+    (handlers_frugal frugal types b.variables b.handlers)
     (first_of_both (is_plain_body types b) (not (body_raises no_calls b (λ e. true))) quiet)
   where
     elementary : Bool

@@ -13,7 +13,7 @@ use Rattle.ada_program.specs.declared.program.ProcedureNo.{ProcedureNo}
 use Rattle.ada_program.specs.ProgramForm.{TypeForm, BodyForm, ProgramForm}
 use Rattle.ada_program.specs.WellFormed.{finalization_in, finalization_of}
 use Rattle.ada_quiet.specs.First.{initializes_in_use, finalizes_in_use, IsUnused, HasUnused, stands_before, IsFirst, first_of, start_unless, unused_in}
-use Rattle.ada_quiet.specs.Frugal.{is_frugal_procedure, is_silent_procedure}
+use Rattle.ada_quiet.specs.Frugal.{is_frugal_operation, own_effects, is_silent_procedure}
 use Rattle.ada_quiet.specs.InUse.{may_be_frugal, uses_initialize, uses_finalize, uses_operations, operations_are_in_use}
 use Rattle.ada_quiet.specs.Quiet.{is_quiet_body, is_plain_procedure, is_quiet_procedure, is_quiet_operation, has_quiet_operations, has_access, operation_body, adjust_body, adjusts_access, operations_are_quiet}
 use Rattle.ada_quiet.proofs.Firsts.{IsOrder, either_first, same_first, AnyBelow, any_none, any_more}
@@ -74,20 +74,21 @@ quiet_as : (p : ProgramForm) (o : Option ProcedureNo) (procedure : ProcedureNo) 
 quiet_as p o procedure b is at = ap (is_quiet_operation p) is ∙ ap (is_quiet_procedure p.types) at
 
 -- An Initialize is in use as its body is.
-abbrev begun_procedure : ProgramForm → Option BodyForm → Bool
-begun_procedure p o = is_plain_procedure p.types o || (may_be_frugal p && is_frugal_procedure o)
+abbrev begun_procedure : ProgramForm → (procedure : ProcedureNo) → Option BodyForm → Bool
+begun_procedure p procedure o = is_plain_procedure p.types o || (may_be_frugal p && is_frugal_operation p (Some procedure))
 
 begun_as : (p : ProgramForm) (o : Option ProcedureNo) (procedure : ProcedureNo) (b : BodyForm) → o ≡ Some procedure → slice_get p.bodies procedure.0 ≡ Some b →
-    uses_initialize p o ≡ initializes_in_use p b
-begun_as p o procedure b is at = ap (uses_initialize p) is ∙ ap (begun_procedure p) at
+    uses_initialize p o ≡ initializes_in_use p procedure b
+begun_as p o procedure b is at = ap (uses_initialize p) is ∙ ap (begun_procedure p procedure) at
 
 -- A Finalize is in use as its body is.
-abbrev used_procedure : ProgramForm → Option BodyForm → Bool
-used_procedure p o = is_quiet_procedure p.types o || (may_be_frugal p && is_frugal_procedure o && is_silent_procedure o)
+abbrev used_procedure : ProgramForm → (procedure : ProcedureNo) → Option BodyForm → Bool
+used_procedure p procedure o =
+    is_quiet_procedure p.types o || (may_be_frugal p && is_frugal_operation p (Some procedure) && is_silent_procedure (own_effects p) o)
 
 used_as : (p : ProgramForm) (o : Option ProcedureNo) (procedure : ProcedureNo) (b : BodyForm) → o ≡ Some procedure → slice_get p.bodies procedure.0 ≡ Some b →
-    uses_finalize p o ≡ finalizes_in_use p b
-used_as p o procedure b is at = ap (uses_finalize p) is ∙ ap (used_procedure p) at
+    uses_finalize p o ≡ finalizes_in_use p procedure b
+used_as p o procedure b is at = ap (uses_finalize p) is ∙ ap (used_procedure p procedure) at
 
 -- One type.
 
@@ -327,7 +328,7 @@ body_of p (Some b) fits fine h = (b, refl)
 
 loud_begun : (p : ProgramForm) (o : Option ProcedureNo) → uses_initialize p o ≡ false → (b : BodyForm) × (operation_body p o ≡ Some b)
 loud_begun p None h = absurd (cc h)
-loud_begun p (Some procedure) h = body_of p (slice_get p.bodies procedure.0) (begun_procedure p) refl h
+loud_begun p (Some procedure) h = body_of p (slice_get p.bodies procedure.0) (begun_procedure p procedure) refl h
 
 loud_quiet : (p : ProgramForm) (o : Option ProcedureNo) → is_quiet_operation p o ≡ false → (b : BodyForm) × (operation_body p o ≡ Some b)
 loud_quiet p None h = absurd (cc h)
@@ -335,7 +336,7 @@ loud_quiet p (Some procedure) h = body_of p (slice_get p.bodies procedure.0) (is
 
 loud_used : (p : ProgramForm) (o : Option ProcedureNo) → uses_finalize p o ≡ false → (b : BodyForm) × (operation_body p o ≡ Some b)
 loud_used p None h = absurd (cc h)
-loud_used p (Some procedure) h = body_of p (slice_get p.bodies procedure.0) (used_procedure p) refl h
+loud_used p (Some procedure) h = body_of p (slice_get p.bodies procedure.0) (used_procedure p procedure) refl h
 
 body_some : (o : Option BodyForm) → is_some o ≡ true → (b : BodyForm) × (o ≡ Some b)
 body_some None h = absurd (cc h)

@@ -10,7 +10,7 @@ use Rattle.ada_program.specs.declared.program.ProcedureNo.{ProcedureNo}
 use Rattle.ada_program.specs.ProgramForm.{BodyForm, ProgramForm}
 use Rattle.ada_program.specs.WellFormed.{finalization_of}
 use Rattle.ada_quiet.specs.Quiet.{is_plain_body, is_quiet_body, is_plain_operation, is_quiet_operation, has_access, operation_body, adjust_body}
-use Rattle.ada_quiet.specs.Frugal.{is_frugal_body, is_frugal_operation, is_silent_body, is_silent_operation}
+use Rattle.ada_quiet.specs.Frugal.{is_frugal_operation, own_effects, is_silent_body, is_silent_operation}
 use Rattle.ada_quiet.specs.InUse.{may_be_frugal}
 
 -- A procedure overrides Initialize of some type (7.6).
@@ -31,18 +31,18 @@ AdjustsAccess p procedure = (t : ℕ) × (f : Finalization) × (finalization_of 
     × (f.operations.adjust ≡ Some procedure) × (has_access (slice_get p.types t) ≡ true)
 
 -- A body initializes in use: it is plain, or frugal, where it may be.
-abbrev pub initializes_in_use : ProgramForm → BodyForm → Bool
-initializes_in_use p b = is_plain_body p.types b || (may_be_frugal p && is_frugal_body b)
+abbrev pub initializes_in_use : ProgramForm → (procedure : ProcedureNo) → BodyForm → Bool
+initializes_in_use p procedure b = is_plain_body p.types b || (may_be_frugal p && is_frugal_operation p (Some procedure))
 
 -- A body finalizes in use: it is quiet, or frugal and silent, where it may be.
-abbrev pub finalizes_in_use : ProgramForm → BodyForm → Bool
-finalizes_in_use p b = is_quiet_body p.types b || (may_be_frugal p && is_frugal_body b && is_silent_body b)
+abbrev pub finalizes_in_use : ProgramForm → (procedure : ProcedureNo) → BodyForm → Bool
+finalizes_in_use p procedure b = is_quiet_body p.types b || (may_be_frugal p && is_frugal_operation p (Some procedure) && is_silent_body (own_effects p) b)
 
 -- The body of a procedure overrides an operation and is not in use: it overrides Initialize and is neither plain nor frugal, where it may be, or Adjust and
 -- is not quiet, or Finalize and is neither quiet nor, where it may be, frugal and silent, or Adjust of such a type.
 abbrev pub IsUnused : ProgramForm → (procedure : ProcedureNo) → BodyForm → Type 0
-IsUnused p procedure b = (Initializes p procedure × (initializes_in_use p b ≡ false)) ⊎ ((Adjusts p procedure × (is_quiet_body p.types b ≡ false))
-    ⊎ ((Finalizes p procedure × (finalizes_in_use p b ≡ false)) ⊎ AdjustsAccess p procedure))
+IsUnused p procedure b = (Initializes p procedure × (initializes_in_use p procedure b ≡ false)) ⊎ ((Adjusts p procedure × (is_quiet_body p.types b ≡ false))
+    ⊎ ((Finalizes p procedure × (finalizes_in_use p procedure b ≡ false)) ⊎ AdjustsAccess p procedure))
 
 -- Such a body begins here.
 abbrev pub HasUnused : ProgramForm → (spot : Spot) → Type 0

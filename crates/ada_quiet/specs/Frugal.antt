@@ -1,11 +1,12 @@
--- Bodies of Initialize and Finalize that touch storage (7.6, 4.8, 13.11.2): they allocate, move, follow and free, and neither call nor declare more than variables.
+-- Bodies of Initialize and Finalize that touch storage, and of procedures that they call (7.6, 4.8, 6.4, 13.11.2): they allocate, move, follow and free, and declare
+-- variables alone.
 
-use Rattle.std.specs.Prelude.{Bool, true, false, not, ◌&&◌, List, Option, Some, None}
-use Rattle.std.specs.List.{list_all, slice_get}
+use Rattle.std.specs.Prelude.{Bool, true, false, not, ◌&&◌, List, [], ◌∷◌, ◌++◌, Option, Some, None}
+use Rattle.std.specs.List.{list_all, slice_get, slice_index_or}
 use Rattle.ada_program.specs.Form.{RightForm, nothing, value_of, allocates, allocates_default, computes, StmtForm, skips, assigns, assigns_record, frees, gets, writes, writes_text, chooses, repeats, counts, exits, calls, returns, raises, encloses, StmtsForm, no_stmts, a_stmt, BranchesForm, otherwise, a_branch, HandlersForm, no_handlers, a_handler, DeclarationForm, creates_pool, collects, declares, declares_record}
 use Rattle.ada_program.specs.declared.program.ProcedureNo.{ProcedureNo}
 use Rattle.ada_program.specs.ProgramForm.{BodyForm, ProgramForm}
-use Rattle.ada_effects.specs.Effects.{no_calls, body_raises}
+use Rattle.ada_effects.specs.Effects.{Effects, no_implicit, effects_of, body_raises}
 
 -- What a variable is given at first is there already (3.3.1): it is no allocator.
 abbrev pub is_there_already : RightForm → Bool
@@ -26,64 +27,74 @@ is_frugal_declaration (declares_record x t initial) = false
 abbrev pub are_frugal_declarations : List DeclarationForm → Bool
 are_frugal_declarations ds = list_all is_frugal_declaration ds
 
-abbrev mutual
-  -- A statement calls nothing, and assigns no record as a whole (5.1).
-  pub is_frugal_stmt : StmtForm → Bool
-  is_frugal_stmt skips = true
-  is_frugal_stmt (assigns target right) = true
-  is_frugal_stmt (assigns_record target items) = false
-  is_frugal_stmt (frees access path) = true
-  is_frugal_stmt (gets target) = true
-  is_frugal_stmt (writes e) = true
-  is_frugal_stmt (writes_text text) = true
-  is_frugal_stmt (chooses branches) = are_frugal_branches branches
-  is_frugal_stmt (repeats condition fs spot) = are_frugal fs
-  is_frugal_stmt (counts x low high fs spot) = are_frugal fs
-  is_frugal_stmt (exits condition spot) = true
-  is_frugal_stmt (calls procedure actuals) = false
-  is_frugal_stmt (returns spot) = true
-  is_frugal_stmt (raises e) = true
-  is_frugal_stmt (encloses ds fs hs) = are_frugal_declarations ds && are_frugal fs && are_frugal_handlers hs
+-- Of each procedure, by its number, whether its body is so.
+module _ (frugal : List Bool) where
+  abbrev mutual
+    -- A statement assigns no record as a whole (5.1), and calls procedures with frugal bodies alone (6.4).
+    pub is_frugal_stmt : StmtForm → Bool
+    is_frugal_stmt skips = true
+    is_frugal_stmt (assigns target right) = true
+    is_frugal_stmt (assigns_record target items) = false
+    is_frugal_stmt (frees access path) = true
+    is_frugal_stmt (gets target) = true
+    is_frugal_stmt (writes e) = true
+    is_frugal_stmt (writes_text text) = true
+    is_frugal_stmt (chooses branches) = are_frugal_branches branches
+    is_frugal_stmt (repeats condition fs spot) = are_frugal fs
+    is_frugal_stmt (counts x low high fs spot) = are_frugal fs
+    is_frugal_stmt (exits condition spot) = true
+    is_frugal_stmt (calls procedure actuals) = slice_index_or frugal procedure false
+    is_frugal_stmt (returns spot) = true
+    is_frugal_stmt (raises e) = true
+    is_frugal_stmt (encloses ds fs hs) = are_frugal_declarations ds && are_frugal fs && are_frugal_handlers hs
 
-  -- So it is with statements.
-  pub are_frugal : StmtsForm → Bool
-  are_frugal no_stmts = true
-  are_frugal (a_stmt f fs) = is_frugal_stmt f && are_frugal fs
+    -- So it is with statements.
+    pub are_frugal : StmtsForm → Bool
+    are_frugal no_stmts = true
+    are_frugal (a_stmt f fs) = is_frugal_stmt f && are_frugal fs
 
-  -- So it is with branches (5.3).
-  pub are_frugal_branches : BranchesForm → Bool
-  are_frugal_branches (otherwise fs) = are_frugal fs
-  are_frugal_branches (a_branch e fs branches) = are_frugal fs && are_frugal_branches branches
+    -- So it is with branches (5.3).
+    pub are_frugal_branches : BranchesForm → Bool
+    are_frugal_branches (otherwise fs) = are_frugal fs
+    are_frugal_branches (a_branch e fs branches) = are_frugal fs && are_frugal_branches branches
 
-  -- So it is with handlers (11.2).
-  pub are_frugal_handlers : HandlersForm → Bool
-  are_frugal_handlers no_handlers = true
-  are_frugal_handlers (a_handler choices fs hs) = are_frugal fs && are_frugal_handlers hs
+    -- So it is with handlers (11.2).
+    pub are_frugal_handlers : HandlersForm → Bool
+    are_frugal_handlers no_handlers = true
+    are_frugal_handlers (a_handler choices fs hs) = are_frugal fs && are_frugal_handlers hs
 
 -- All of a body is so.
-abbrev pub is_frugal_body : BodyForm → Bool
-is_frugal_body b = are_frugal_declarations b.declarations && are_frugal b.statements && are_frugal_handlers b.handlers
+abbrev pub is_frugal_body : (frugal : List Bool) → BodyForm → Bool
+is_frugal_body frugal b = are_frugal_declarations b.declarations && are_frugal frugal b.statements && are_frugal_handlers frugal b.handlers
 
--- A procedure that was found has a frugal body.
-abbrev pub is_frugal_procedure : Option BodyForm → Bool
-is_frugal_procedure None = true
-is_frugal_procedure (Some b) = is_frugal_body b
+-- Of these procedures, behind others: each calls those before it.
+abbrev pub frugal_from : (frugal : List Bool) → List BodyForm → List Bool
+frugal_from frugal [] = frugal
+frugal_from frugal (b ∷ bs) = frugal_from (frugal ++ is_frugal_body frugal b ∷ []) bs
 
--- What overrides an operation has, if one is overridden (7.6).
+-- Of the procedures of a program.
+abbrev pub frugal_procedures : ProgramForm → List Bool
+frugal_procedures p = frugal_from [] p.bodies
+
+-- What overrides an operation has such a body, if one is overridden (7.6).
 abbrev pub is_frugal_operation : ProgramForm → Option ProcedureNo → Bool
 is_frugal_operation p None = true
-is_frugal_operation p (Some procedure) = is_frugal_procedure (slice_get p.bodies procedure.0)
+is_frugal_operation p (Some procedure) = slice_index_or (frugal_procedures p) procedure.0 false
 
--- No exception comes out of a body, if it calls nothing (11.4).
-abbrev pub is_silent_body : BodyForm → Bool
-is_silent_body b = not (body_raises no_calls b (λ e. true))
+-- What the procedures of a program may raise, but for what is called implicitly: in frugal bodies nothing is.
+abbrev pub own_effects : ProgramForm → Effects
+own_effects p = effects_of no_implicit p
+
+-- No exception comes out of a body (11.4).
+abbrev pub is_silent_body : Effects → BodyForm → Bool
+is_silent_body effects b = not (body_raises effects b (λ e. true))
 
 -- A procedure that was found has a body that lets no exception out.
-abbrev pub is_silent_procedure : Option BodyForm → Bool
-is_silent_procedure None = true
-is_silent_procedure (Some b) = is_silent_body b
+abbrev pub is_silent_procedure : Effects → Option BodyForm → Bool
+is_silent_procedure effects None = true
+is_silent_procedure effects (Some b) = is_silent_body effects b
 
 -- So has what overrides an operation, if one is overridden (7.6).
 abbrev pub is_silent_operation : ProgramForm → Option ProcedureNo → Bool
 is_silent_operation p None = true
-is_silent_operation p (Some procedure) = is_silent_procedure (slice_get p.bodies procedure.0)
+is_silent_operation p (Some procedure) = is_silent_procedure (own_effects p) (slice_get p.bodies procedure.0)

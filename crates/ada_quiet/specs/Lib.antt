@@ -6,6 +6,8 @@ pub mod Quiet
 pub mod Frugal
 -- what is in use
 pub mod InUse
+-- what is known of all bodies, as the code holds it
+pub mod Known
 -- the first one in the text that is not in use
 pub mod First
 -- laws of what is in use

@@ -2,7 +2,8 @@
 
 ghost use Rattle.std.specs.Prelude.{◌≡◌, drop, true, IfOk};
 ghost use Rattle.std.specs.List.{list_all};
-ghost use Rattle.ada_effects.specs.Effects.{body_raises, no_calls};
+ghost use Rattle.ada_effects.specs.Effects.{body_raises};
+ghost use Rattle.ada_effects.specs.Found.{effects_in};
 ghost use Rattle.ada_program.specs.Kept.{types_in, variables_in};
 ghost use Rattle.ada_program.specs.ProgramForm.{body_form};
 ghost use Rattle.ada_quiet.specs.Frugal as frugal;
@@ -36,35 +37,32 @@ fn has_elementary(variables: &[Variable]) -> bool
     }
 }
 
-/// Whether a body raises an exception that none of its handlers takes, if it calls nothing.
+/// Whether a body raises an exception that none of its handlers takes, where this is known of calls.
 fn raises_some(
     alloc: Global,
     types: &[TypeDefinition],
+    effects: Effects<'_>,
     procedure: &Procedure,
 ) -> Result<bool, AllocError>
-    ensures { IfOk result (λ answer. answer ≡ body_raises no_calls (body_form procedure.now) (λ e. true)) }
+    ensures { IfOk result (λ answer. answer ≡ body_raises (effects_in effects.entry) (body_form procedure.now) (λ e. true)) }
 {
-    let implicit = Implicit::nothing(alloc);
-    let effects = Effects {
-        implicit: &implicit,
-        calls: &[],
-    };
     let effect = effect_of(alloc, types, effects, procedure)?;
     Ok(!effect.raises.is_empty())
 }
 
-/// Whether a body is silent: no exception comes out of it, if it calls nothing (11.4).
+/// Whether a body is silent: no exception comes out of it, where this is known of calls (11.4).
 ///
 /// # Errors
 /// `AllocError` where memory for the exceptions that it raises was refused.
 pub(crate) fn is_silent_body(
     alloc: Global,
     types: &[TypeDefinition],
+    effects: Effects<'_>,
     procedure: &Procedure,
 ) -> Result<bool, AllocError>
-    ensures { IfOk result (λ answer. answer ≡ frugal.is_silent_body (body_form procedure.now)) }
+    ensures { IfOk result (λ answer. answer ≡ frugal.is_silent_body (effects_in effects.entry) (body_form procedure.now)) }
 {
-    let raises = raises_some(alloc, types, procedure)?;
+    let raises = raises_some(alloc, types, effects, procedure)?;
     Ok(!raises)
 }
 
@@ -93,5 +91,10 @@ pub(crate) fn is_quiet_body(
     if !is_plain_body(types, procedure) {
         return Ok(false);
     }
-    is_silent_body(alloc, types, procedure)
+    let implicit = Implicit::nothing(alloc);
+    let effects = Effects {
+        implicit: &implicit,
+        calls: &[],
+    };
+    is_silent_body(alloc, types, effects, procedure)
 }

@@ -7,10 +7,13 @@ ghost use Rattle.ada_program.specs.ProgramForm.{program_form};
 ghost use Rattle.ada_quiet.specs.First as rules;
 ghost use Rattle.ada_quiet.specs.First.{IsFirstUntracked, IsFirstUnused};
 ghost use Rattle.ada_quiet.specs.InUse.{operations_are_in_use};
+ghost use Rattle.ada_quiet.specs.Known.{IsKnown};
 ghost use Rattle.ada_quiet.specs.Quiet as quiet;
 
+use crate::known::{Known, frugal_procedures, known_calls};
 use crate::operations::{has_access, is_quiet_operation};
 use crate::uses::{may_be_frugal, uses_finalize, uses_initialize};
+use ada_effects::{Effects, Implicit};
 use ada_program::parts::finalization_of;
 use ada_program::program::Finalization;
 use ada_program::{ProcedureNo, Program, Spot};
@@ -55,19 +58,21 @@ fn start_unless(program: &Program, fits: bool, operation: Option<ProcedureNo>) -
 fn unused_in(
     alloc: Global,
     program: &Program,
+    known: Known<'_>,
     frugal: bool,
     leaves: bool,
     finalization: Option<Finalization>,
 ) -> Result<Option<Spot>, AllocError>
+    requires { IsKnown (program_form program.now) known }
     ensures { IfOk result (λ first. first ≡ rules.unused_in (program_form program.now) frugal leaves finalization) }
 {
     let Some(finalization) = finalization else {
         return Ok(None);
     };
     let operations = finalization.operations;
-    let begins = uses_initialize(program, frugal, operations.initialize);
+    let begins = uses_initialize(program, known, frugal, operations.initialize);
     let adjusts = is_quiet_operation(alloc, program, operations.adjust)?;
-    let ends = uses_finalize(alloc, program, frugal, operations.finalize)?;
+    let ends = uses_finalize(alloc, program, known, frugal, operations.finalize)?;
     let initialize = start_unless(program, begins, operations.initialize);
     let adjust = start_unless(program, adjusts && !leaves, operations.adjust);
     let finalize = start_unless(program, ends, operations.finalize);
@@ -78,16 +83,26 @@ fn unused_in(
 /// overrides Initialize and is not plain, since it touches storage or calls, nor frugal in a program in which operations may be; one
 /// that overrides Adjust and is not quiet, since it is not plain or lets an exception out; one that overrides Finalize and is
 /// neither quiet nor, in such a program, frugal and silent; or one that overrides Adjust of a type with a component of an access
-/// type, declared in it directly, which a quiet one leaves as it is. Linear in the types, their components, and the bodies of their
-/// operations.
+/// type, declared in it directly, which a quiet one leaves as it is. Linear in the types, their components, and all bodies; a call
+/// costs the size of what is known of it.
 ///
 /// # Errors
-/// `AllocError` where memory for the exceptions that a body raises was refused.
+/// `AllocError` where memory for what bodies raise and free was refused.
 #[tactic(auto, using(std::proofs::lemmas::Grind::common_steps, crate::proofs::Unused::first_steps))]
 pub fn first_unused(alloc: Global, program: &Program) -> Result<Option<Spot>, AllocError>
     ensures first { IfOk result (IsFirstUnused (program_form program.now)) }
     ensures used { IfOk result (λ first. (first ≡ None) ↔ (operations_are_in_use (program_form program.now) ≡ true)) }
 {
+    let procedures = frugal_procedures(alloc, program)?;
+    let implicit = Implicit::nothing(alloc);
+    let calls = known_calls(alloc, program, &implicit)?;
+    let known = Known {
+        frugal: &procedures,
+        effects: Effects {
+            implicit: &implicit,
+            calls: &calls,
+        },
+    };
     let frugal = may_be_frugal(program);
     let mut first = None;
     'types: for number in 0..program.types.len() {
@@ -95,6 +110,7 @@ pub fn first_unused(alloc: Global, program: &Program) -> Result<Option<Spot>, Al
         let found = unused_in(
             alloc,
             program,
+            known,
             frugal,
             leaves,
             finalization_of(&program.types, number),

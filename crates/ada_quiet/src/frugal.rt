@@ -1,13 +1,13 @@
-//! Declarations, statements and bodies, where they are frugal: they allocate, move, follow and free (7.6, 4.8, 13.11.2), and neither
-//! call nor declare more than variables, which are given what is there.
+//! Declarations, statements and bodies, where they are frugal: they allocate, move, follow and free (7.6, 4.8, 13.11.2), call procedures
+//! with frugal bodies alone (6.4), and declare no more than variables, which are given what is there.
 
-ghost use Rattle.std.specs.Prelude.{◌≡◌, ◌&&◌, map};
+ghost use Rattle.std.specs.Prelude.{◌≡◌, ◌&&◌, false, map, slice_index_or};
 ghost use Rattle.ada_program.specs.Form.{StmtsForm, branches_form, declaration_form, handlers_form, initial_form, right_form, stmt_form, stmts_form};
 ghost use Rattle.ada_program.specs.ProgramForm.{body_form};
 ghost use Rattle.ada_quiet.specs.Frugal as rules;
 
-use ada_program::Stmt;
 use ada_program::program::{Branch, Declaration, Handler, Procedure, Right};
+use ada_program::{ProcedureNo, Stmt};
 
 /// Whether what a variable is given at first is there already (3.3.1): it is no allocator.
 fn is_there_already(right: &Right) -> bool
@@ -54,11 +54,21 @@ fn are_frugal_declarations(declarations: &[Declaration]) -> bool
     true
 }
 
-/// Whether a statement calls nothing, and assigns no record as a whole (5.1).
+/// Whether what is called has a frugal body, by what is known of the procedures (6.4).
+pub(crate) fn is_frugal_call(frugal: &[bool], procedure: ProcedureNo) -> bool
+    ensures { result ≡ slice_index_or frugal.now procedure.0 false }
+{
+    match frugal.get(procedure.0) {
+        Some(is_frugal) => *is_frugal,
+        None => false,
+    }
+}
+
+/// Whether a statement assigns no record as a whole (5.1), and calls procedures with frugal bodies alone (6.4).
 #[cycle(statements)]
 #[tactic(auto, using(std::proofs::lemmas::Grind::common_steps, ada_program::specs::Form::statement_rules))]
-fn is_frugal_stmt(statement: &Stmt) -> bool
-    ensures { result ≡ rules.is_frugal_stmt (stmt_form statement.now) }
+fn is_frugal_stmt(frugal: &[bool], statement: &Stmt) -> bool
+    ensures { result ≡ rules.is_frugal_stmt frugal.now (stmt_form statement.now) }
 {
     match statement {
         Stmt::Null
@@ -70,40 +80,44 @@ fn is_frugal_stmt(statement: &Stmt) -> bool
         | Stmt::Exit { .. }
         | Stmt::Return(_)
         | Stmt::Raise(_) => true,
-        Stmt::AssignRecord { .. } | Stmt::Call { .. } => false,
+        Stmt::AssignRecord { .. } => false,
+        Stmt::Call {
+            procedure,
+            actuals: _,
+        } => is_frugal_call(frugal, *procedure),
         Stmt::If {
             branches,
             otherwise,
-        } => are_frugal_branches(branches) && are_frugal(otherwise),
+        } => are_frugal_branches(frugal, branches) && are_frugal(frugal, otherwise),
         Stmt::Loop {
             condition: _,
             statements,
             end: _,
-        } => are_frugal(statements),
+        } => are_frugal(frugal, statements),
         Stmt::For {
             parameter: _,
             first: _,
             last: _,
             statements,
             end: _,
-        } => are_frugal(statements),
+        } => are_frugal(frugal, statements),
         Stmt::Block {
             declarations,
             statements,
             handlers,
         } => are_frugal_declarations(declarations)
-            && are_frugal(statements)
-            && are_frugal_handlers(handlers),
+            && are_frugal(frugal, statements)
+            && are_frugal_handlers(frugal, handlers),
     }
 }
 
 /// Whether statements are frugal.
 #[cycle(statements)]
-fn are_frugal(statements: &[Stmt]) -> bool
-    ensures { result ≡ rules.are_frugal (stmts_form statements.now) }
+fn are_frugal(frugal: &[bool], statements: &[Stmt]) -> bool
+    ensures { result ≡ rules.are_frugal frugal.now (stmts_form statements.now) }
 {
     'statements: for statement in statements {
-        if !is_frugal_stmt(statement) {
+        if !is_frugal_stmt(frugal, statement) {
             return false;
         }
     }
@@ -112,12 +126,12 @@ fn are_frugal(statements: &[Stmt]) -> bool
 
 /// Whether branches are (5.3).
 #[cycle(statements)]
-fn are_frugal_branches(branches: &[Branch]) -> bool
+fn are_frugal_branches(frugal: &[bool], branches: &[Branch]) -> bool
     ensures { (others : StmtsForm) →
-        rules.are_frugal_branches (branches_form branches.now others) ≡ (result && rules.are_frugal others) }
+        rules.are_frugal_branches frugal.now (branches_form branches.now others) ≡ (result && rules.are_frugal frugal.now others) }
 {
     'branches: for branch in branches {
-        if !are_frugal(&branch.statements) {
+        if !are_frugal(frugal, &branch.statements) {
             return false;
         }
     }
@@ -126,23 +140,24 @@ fn are_frugal_branches(branches: &[Branch]) -> bool
 
 /// Whether handlers are (11.2).
 #[cycle(statements)]
-fn are_frugal_handlers(handlers: &[Handler]) -> bool
-    ensures { result ≡ rules.are_frugal_handlers (handlers_form handlers.now) }
+fn are_frugal_handlers(frugal: &[bool], handlers: &[Handler]) -> bool
+    ensures { result ≡ rules.are_frugal_handlers frugal.now (handlers_form handlers.now) }
 {
     'handlers: for handler in handlers {
-        if !are_frugal(&handler.statements) {
+        if !are_frugal(frugal, &handler.statements) {
             return false;
         }
     }
     true
 }
 
-/// Whether a body is frugal: it allocates in its statements, moves, follows and frees; it calls nothing, assigns no record as a whole,
-/// and declares variables alone, which are given what is there. An exception may come out of it. Linear in the body.
-pub(crate) fn is_frugal_body(procedure: &Procedure) -> bool
-    ensures { result ≡ rules.is_frugal_body (body_form procedure.now) }
+/// Whether a body is frugal: it allocates in its statements, moves, follows and frees; it calls procedures with frugal bodies alone,
+/// assigns no record as a whole, and declares variables alone, which are given what is there. An exception may come out of it. Linear
+/// in the body.
+pub(crate) fn is_frugal_body(frugal: &[bool], procedure: &Procedure) -> bool
+    ensures { result ≡ rules.is_frugal_body frugal.now (body_form procedure.now) }
 {
     are_frugal_declarations(&procedure.declarations)
-        && are_frugal(&procedure.statements)
-        && are_frugal_handlers(&procedure.handlers)
+        && are_frugal(frugal, &procedure.statements)
+        && are_frugal_handlers(frugal, &procedure.handlers)
 }

@@ -1,7 +1,9 @@
 //! Plain and quiet operations: those procedures that override Initialize, Adjust or Finalize of a controlled type (7.6), read and write
 //! Integers and Booleans alone, and call nothing, are plain; and quiet, where they let no exception out. An Initialize or a Finalize
-//! is frugal that allocates, moves, follows and frees, but calls nothing, assigns no record as a whole, and declares variables alone,
-//! which are given what is there. An exception may come out of a frugal Initialize; a Finalize is to be silent too: none comes out.
+//! is frugal that allocates, moves, follows and frees, and calls procedures with frugal bodies, but assigns no record as a whole, and
+//! declares variables alone, which are given what is there. An exception may come out of a frugal Initialize; a Finalize is to be
+//! silent too: none comes out. What procedures may raise, and which are frugal, is found once for all, in the order in which they
+//! call each other.
 //!
 //! `first_unused` finds the first body in the text that overrides an operation and is not in use: Initialize is to be plain or, where
 //! it may be, frugal, Adjust is to be quiet, Finalize is to be quiet or, where it may be, frugal and silent, and no Adjust is to be
@@ -9,9 +11,9 @@
 //! limited, and no access type designates a record type that has some: then each part is initialized at a declaration (7.6), and
 //! finalized at the leaving of its object's master, or where an exception comes out of the initialization of its object (7.6.1), and
 //! nowhere else. A program with another body is refused (F23): an Adjust that touches storage, an Initialize or a Finalize that
-//! touches storage in another program, operations that call, and an Adjust or a Finalize that lets an exception out, are not in use
-//! yet, since no theorem covers them so far; and an Adjust that leaves such a component as it is would have two records name one
-//! object.
+//! touches storage in another program, operations that call procedures that are not frugal, and an Adjust or a Finalize that lets an
+//! exception out, are not in use yet, since no theorem covers them so far; and an Adjust that leaves such a component as it is would
+//! have two records name one object.
 //!
 //! `first_untracked` finds the first one that overrides such an Adjust, quiet or not: flow does not follow what it does to that
 //! component, so the checker asks for it before flow, and for the others behind.
@@ -20,6 +22,7 @@
 mod bodies;
 mod first;
 mod frugal;
+mod known;
 pub mod laws;
 mod operations;
 mod statements;

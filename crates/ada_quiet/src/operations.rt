@@ -3,13 +3,15 @@
 ghost use Rattle.std.specs.Prelude.{◌≡◌, ◌&&◌, Some, is_some, map, not, IfOk};
 ghost use Rattle.std.specs.List.{list_any, slice_get};
 ghost use Rattle.ada_program.specs.Kept.{types_in};
-ghost use Rattle.ada_program.specs.ProgramForm.{part_form, program_form, type_form};
+ghost use Rattle.ada_program.specs.ProgramForm.{ProgramForm, part_form, program_form, type_form};
 ghost use Rattle.ada_program.specs.WellFormed.{finalization_in};
 ghost use Rattle.ada_quiet.specs.Frugal as frugal;
+ghost use Rattle.ada_quiet.specs.Known.{IsKnown};
 ghost use Rattle.ada_quiet.specs.Quiet as rules;
 
 use crate::bodies::{is_plain_body, is_quiet_body, is_silent_body};
-use crate::frugal::is_frugal_body;
+use crate::frugal::is_frugal_call;
+use crate::known::Known;
 use ada_program::program::{ComponentKind, Finalization, Part, PartKind, TypeDefinition};
 use ada_program::{ProcedureNo, Program};
 use std::alloc::{AllocError, Global};
@@ -47,17 +49,14 @@ pub(crate) fn is_quiet_operation(
     is_quiet_body(alloc, &program.types, procedure)
 }
 
-/// Whether it has a frugal one.
-pub(crate) fn is_frugal_operation(program: &Program, operation: Option<ProcedureNo>) -> bool
-    ensures { result ≡ frugal.is_frugal_operation (program_form program.now) operation }
+/// Whether it has a frugal one, by what is known of the bodies of the program.
+pub(crate) fn is_frugal_operation(known: Known<'_>, operation: Option<ProcedureNo>) -> bool
+    ensures { (p : ProgramForm) → IsKnown p known.entry → result ≡ frugal.is_frugal_operation p operation }
 {
-    let Some(number) = operation else {
-        return true;
-    };
-    let Some(procedure) = program.procedures.get(number.0) else {
-        return true;
-    };
-    is_frugal_body(procedure)
+    match operation {
+        None => true,
+        Some(procedure) => is_frugal_call(known.frugal, procedure),
+    }
 }
 
 /// Whether it has a silent one: no exception comes out of it.
@@ -67,8 +66,10 @@ pub(crate) fn is_frugal_operation(program: &Program, operation: Option<Procedure
 pub(crate) fn is_silent_operation(
     alloc: Global,
     program: &Program,
+    known: Known<'_>,
     operation: Option<ProcedureNo>,
 ) -> Result<bool, AllocError>
+    requires { IsKnown (program_form program.now) known }
     ensures { IfOk result (λ answer. answer ≡ frugal.is_silent_operation (program_form program.now) operation) }
 {
     let Some(number) = operation else {
@@ -77,7 +78,7 @@ pub(crate) fn is_silent_operation(
     let Some(procedure) = program.procedures.get(number.0) else {
         return Ok(true);
     };
-    is_silent_body(alloc, &program.types, procedure)
+    is_silent_body(alloc, &program.types, known.effects, procedure)
 }
 
 /// Whether all those have a quiet one that override the operations of a type.

@@ -6,7 +6,9 @@ ghost use Rattle.ada_program.specs.ProgramForm.{program_form, type_form};
 ghost use Rattle.ada_program.specs.WellFormed.{finalization_in};
 ghost use Rattle.ada_quiet.specs.First as first;
 ghost use Rattle.ada_quiet.specs.InUse as rules;
+ghost use Rattle.ada_quiet.specs.Known.{IsKnown};
 
+use crate::known::Known;
 use crate::operations::{
     is_frugal_operation, is_plain_operation, is_quiet_operation, is_silent_operation,
 };
@@ -61,12 +63,14 @@ pub(crate) fn may_be_frugal(program: &Program) -> bool
 /// Whether what overrides Initialize is plain, or frugal, where it may be.
 pub(crate) fn uses_initialize(
     program: &Program,
+    known: Known<'_>,
     frugal: bool,
     operation: Option<ProcedureNo>,
 ) -> bool
+    requires { IsKnown (program_form program.now) known }
     ensures { result ≡ first.initializes (program_form program.now) frugal operation }
 {
-    is_plain_operation(program, operation) || frugal && is_frugal_operation(program, operation)
+    is_plain_operation(program, operation) || frugal && is_frugal_operation(known, operation)
 }
 
 /// Whether what overrides Finalize is quiet, or frugal and silent, where it may be.
@@ -76,16 +80,18 @@ pub(crate) fn uses_initialize(
 pub(crate) fn uses_finalize(
     alloc: Global,
     program: &Program,
+    known: Known<'_>,
     frugal: bool,
     operation: Option<ProcedureNo>,
 ) -> Result<bool, AllocError>
+    requires { IsKnown (program_form program.now) known }
     ensures { IfOk result (λ answer. answer ≡ first.finalizes (program_form program.now) frugal operation) }
 {
     if is_quiet_operation(alloc, program, operation)? {
         return Ok(true);
     }
-    if !(frugal && is_frugal_operation(program, operation)) {
+    if !(frugal && is_frugal_operation(known, operation)) {
         return Ok(false);
     }
-    is_silent_operation(alloc, program, operation)
+    is_silent_operation(alloc, program, known, operation)
 }

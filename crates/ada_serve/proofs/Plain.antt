@@ -1,8 +1,8 @@
 -- Operations that are in use create no objects in their declarations (7.6).
 
-use Rattle.std.proofs.Common.{◌≡◌, Bool, true, false, not, ◌&&◌, ◌||◌, if◌then◌else◌, List, [], ◌∷◌, map, Option, Some, None, refl}
+use Rattle.std.proofs.Common.{◌≡◌, ℕ, Bool, true, false, not, ◌&&◌, ◌||◌, if◌then◌else◌, List, [], ◌∷◌, map, Option, Some, None, refl}
 use Rattle.std.specs.Prelude.{find, drop}
-use Rattle.std.specs.List.{list_all, slice_get}
+use Rattle.std.specs.List.{list_all, slice_get, slice_index_or}
 use Rattle.ada_program.specs.declared.program.Finalization.{Finalization}
 use Rattle.ada_program.specs.declared.program.Operations.{Operations}
 use Rattle.ada_program.specs.declared.program.ProcedureNo.{ProcedureNo}
@@ -16,8 +16,9 @@ use Rattle.ada_program.specs.WellFormed.{finalization_in, variable_kind}
 use Rattle.ada_meaning.specs.Pace.{right_creates, declaration_creates, declarations_create, body_creates, operation_creates, OperationsDeclareNoParts}
 use Rattle.ada_quiet.specs.Quiet.{is_elementary, holds_elementary, is_quiet_right, is_quiet_declaration, are_quiet_declarations, are_quiet, are_quiet_handlers, is_plain_body, is_plain_procedure, is_plain_operation, is_quiet_operation, adjusts_access}
 use Rattle.ada_quiet.specs.InUse.{may_be_frugal, uses_initialize, uses_finalize, uses_operations, operations_are_in_use}
-use Rattle.ada_quiet.specs.Frugal.{is_there_already, is_frugal_declaration, are_frugal_declarations, are_frugal, are_frugal_handlers, is_frugal_body, is_frugal_procedure, is_frugal_operation, is_silent_operation}
+use Rattle.ada_quiet.specs.Frugal.{is_there_already, is_frugal_declaration, are_frugal_declarations, are_frugal, are_frugal_handlers, is_frugal_body, frugal_procedures, is_frugal_operation, is_silent_operation}
 use Rattle.ada_quiet.proofs.InUse.{plain_operation}
+use Rattle.ada_quiet.proofs.FrugalAt.{frugal_at}
 
 -- Both tests are passed where their conjunction is.
 left_of : (a b : Bool) → (a && b) ≡ true → a ≡ true
@@ -93,20 +94,21 @@ declarations_frugal types (d ∷ ds) frugal =
     rw (declaration_frugal types d (left_of here later frugal)) (declarations_frugal types ds (right_of here later frugal))
 
 -- So do those of a frugal body.
-body_frugal : (types : List TypeDefinition) (b : BodyForm) → is_frugal_body b ≡ true → declarations_create types b.declarations ≡ false
-body_frugal types b frugal =
+body_frugal : (known : List Bool) (types : List TypeDefinition) (b : BodyForm) → is_frugal_body known b ≡ true → declarations_create types b.declarations ≡ false
+body_frugal known types b frugal =
     let declarations = are_frugal_declarations b.declarations in
-    let statements = are_frugal b.statements in
-    let handlers = are_frugal_handlers b.handlers in
+    let statements = are_frugal known b.statements in
+    let handlers = are_frugal_handlers known b.handlers in
     declarations_frugal types b.declarations (left_of declarations statements (left_of (declarations && statements) handlers frugal))
 
-procedure_frugal : (types : List TypeDefinition) (found : Option BodyForm) → is_frugal_procedure found ≡ true → body_creates types found ≡ false
-procedure_frugal types None frugal = refl
-procedure_frugal types (Some b) frugal = body_frugal types b frugal
+procedure_frugal : (p : ProgramForm) (types : List TypeDefinition) (n : ℕ) (found : Option BodyForm) → slice_index_or (frugal_procedures p) n false ≡ true
+    → slice_get p.bodies n ≡ found → body_creates types found ≡ false
+procedure_frugal p types n None frugal at = refl
+procedure_frugal p types n (Some b) frugal at = body_frugal (frugal_procedures p) types b (frugal_at p n b frugal at)
 
 operation_frugal : (p : ProgramForm) (types : List TypeDefinition) (o : Option ProcedureNo) → is_frugal_operation p o ≡ true → operation_creates types p.bodies o ≡ false
 operation_frugal p types None frugal = refl
-operation_frugal p types (Some procedure) frugal = procedure_frugal types (slice_get p.bodies procedure.0) frugal
+operation_frugal p types (Some procedure) frugal = procedure_frugal p types procedure.0 (slice_get p.bodies procedure.0) frugal refl
 
 -- So it is with an operation that passes a test by which it creates nothing, or another one by which it is frugal.
 operation_either : (p : ProgramForm) (types : List TypeDefinition) (o : Option ProcedureNo) (passes frugal : Bool)

@@ -38,7 +38,7 @@ use Rattle.ada_owners.proofs.Objects.{present_at}
 use Rattle.ada_owners.proofs.Changes.{store_access, store_reads}
 use Rattle.ada_finalized.specs.Law.{NoOperationRuns}
 use Rattle.ada_sound.specs.Always.{AgreesThere}
-use Rattle.ada_sound.specs.Agreement.{IsAtHome, Exists, IsValid, IsAs, Turning, here, IsFlowAt, IsBehind, IsSpokenOf, running_procedure, component_access, IsKept, IsOwning, IsCleared, Agrees, value_in}
+use Rattle.ada_sound.specs.Agreement.{Exists, IsValid, IsAs, Turning, here, IsFlowAt, IsBehind, IsSpokenOf, running_procedure, component_access, IsKept, IsOwning, IsCleared, Agrees, value_in}
 use Rattle.ada_sound.specs.Agreement as agreement
 use Rattle.ada_sound.proofs.Items as items
 use Rattle.ada_sound.proofs.Stored.{Stored, exists_out}
@@ -47,12 +47,11 @@ use Rattle.ada_sound.proofs.Calm.{filled_in}
 use Rattle.ada_sound.proofs.Steps.{heap_typed}
 use Rattle.ada_sound.proofs.Fits.{Outsiders, Fit, IsRelied, none_spared, hold_in, stacked, component_value, access_is, names_object}
 use Rattle.ada_sound.proofs.Scalars.{scalars_lost}
-use Rattle.ada_sound.proofs.Invariant.{Known, Control, Ready, RunsOn, Working, Half, Resumes, outers, front, final}
+use Rattle.ada_sound.proofs.Invariant.{Known, Control, RunsOn, Working, Half, Resumes, outers, front, final}
 use Rattle.ada_typed.proofs.Bodies.{SeenFits, seen_fits}
 use Rattle.ada_sound.proofs.Callers.{Suspension, rest_of, known_in}
 use Rattle.ada_sound.proofs.Returns.{same_types}
 use Rattle.ada_sound.proofs.Touching.{Touching, waiting_for}
-use Rattle.ada_sound.proofs.TouchingSteps.{touching_runs}
 use Rattle.ada_sound.proofs.Operating.{Sight, WaitsFor, Quietly, Comes, Body, Operates}
 use Rattle.ada_sound.proofs.Starts.{Ordinary, Sound}
 
@@ -309,9 +308,5 @@ agrees_at program s sound b spoken = by sound.goes
     by (inl o) =
         resumes_agrees program s o.suspensions (seen_fits (program_form program) sound.well (running_procedure s)) sound.typed.inside o.stands.behind b (rw (b.runs, b.first) at (o.ready.1))
     by (inr (inr f)) =
-        let runs = sym (touching_runs program s f) in
-        let suspensions = waiting_for program s f in
-        let ready = subst (λ (procedure : Option ℕ). Ready (known_in program procedure suspensions) s) runs f.ready in
-        resumes_agrees program s suspensions (seen_fits (program_form program) sound.well (running_procedure s)) sound.typed.inside
-        (subst (λ (procedure : Option ℕ). IsBehind procedure (rest_of suspensions)) runs ([], [], f.behind, refl)) b (rw (b.runs, b.first) at (ready.1))
+        resumes_agrees program s (waiting_for program s f) (seen_fits (program_form program) sound.well (running_procedure s)) sound.typed.inside f.stands.behind b (rw (b.runs, b.first) at (f.ready.1))
     by (inr (inl o)) = absurd (unspoken o spoken)

@@ -18,7 +18,7 @@ use Rattle.ada_scopes.specs.Scopes.{is_number_of}
 use Rattle.ada_sound.proofs.Fits.{outer_hold, outer_value, IsRelied, IsReferred, referred_either}
 use Rattle.ada_sound.proofs.Items.{Counted, height_is}
 use Rattle.ada_sound.proofs.Leavings.{NamedBelow}
-use Rattle.ada_sound.proofs.Invariant.{Known, Control, Caller, Rooms, Roomed, RunsOn, Parting, AllWait, LieBelow, below, below_callers, outers, outer_in, referenced_in, under_in}
+use Rattle.ada_sound.proofs.Invariant.{Known, Control, Caller, Rooms, Roomed, RunsOn, Parting, AllWait, waits_roomed, LieBelow, below, below_callers, outers, outer_in, referenced_in, under_in}
 use Rattle.ada_sound.proofs.Stored.{IsUnder}
 
 -- Masters with rooms stand above those of the callers.
@@ -48,7 +48,7 @@ low_at heap implicit body (w ∷ ws) waits low zero x o object relied names foun
     some_same x y e = cc e
 low_at heap implicit body (w ∷ ws) waits low (suc d) x o object relied names found =
     let lower = low_at heap w.implicit w.program ws waits.1 low.3 d x o object relied names found in
-    let high = roomed_high (below_callers ws) w.masters w.rooms waits.0.roomed in
+    let high = roomed_high (below_callers ws) w.masters w.rooms (waits_roomed waits.0) in
     omega (arith, lower, high)
 
 -- So does what its call refers to.
@@ -68,7 +68,7 @@ lower_or_here heap w ws low o t object found roomed before (inr there) =
 referred_low : (heap : List Object) (implicit : Implicit) (body : ProgramForm) (callers : List Caller) → AllWait implicit body callers → LieBelow heap callers → (o : Id) (t : ℕ) (object : Object) → IsReferred (referenced_in callers) o t → object_at heap o ≡ Some object → suc object.cell.home.item ≤ height (below_callers callers)
 referred_low heap implicit body [] waits low o t object is found = absurd is
 referred_low heap implicit body (w ∷ ws) waits low o t object is found =
-    lower_or_here heap w ws low.1 o t object found waits.0.roomed (λ before. referred_low heap w.implicit w.program ws waits.1 low.3 o t object before found) (referred_either w.referenced (referenced_in ws) o t is)
+    lower_or_here heap w ws low.1 o t object found (waits_roomed waits.0) (λ before. referred_low heap w.implicit w.program ws waits.1 low.3 o t object before found) (referred_either w.referenced (referenced_in ws) o t is)
 
 -- So does what is under way in it.
 either_one : (us vs : List Id) (o : Id) → IsUnder (us ++ vs) o → IsUnder us o ⊎ IsUnder vs o
@@ -92,7 +92,7 @@ under_or_here heap w ws low o object found roomed before (inr there) =
 under_low : (heap : List Object) (implicit : Implicit) (body : ProgramForm) (callers : List Caller) → AllWait implicit body callers → LieBelow heap callers → (o : Id) (object : Object) → IsUnder (under_in callers) o → object_at heap o ≡ Some object → suc object.cell.home.item ≤ height (below_callers callers)
 under_low heap implicit body [] waits low o object is found = absurd is
 under_low heap implicit body (w ∷ ws) waits low o object is found =
-    under_or_here heap w ws low.2 o object found waits.0.roomed (λ before. under_low heap w.implicit w.program ws waits.1 low.3 o object before found) (either_one w.under (under_in ws) o is)
+    under_or_here heap w ws low.2 o object found (waits_roomed waits.0) (λ before. under_low heap w.implicit w.program ws waits.1 low.3 o object before found) (either_one w.under (under_in ws) o is)
 
 -- So none of it is an item of a master that a body is to leave.
 module _ (known : Known) (heap : List Object) (waits : AllWait known.implicit known.program known.callers) (low : LieBelow heap known.callers) where
@@ -122,8 +122,3 @@ module _ (known : Known) (heap : List Object) (waits : AllWait known.implicit kn
 
   pub named_below : {places : List _} (mode : Mode) (k : Control) (ms : List Master) → Parting known heap places ms (RunsOn known (Leaves mode ∷ k)) → NamedBelow (outers known) heap ms
   named_below mode k ms p = below_by mode k p.rooms p.holds ms p.stored.counted p.roomed p.rest
-
--- No object is under way in callers that wait for calls.
-pub none_under : (implicit : Implicit) (body : ProgramForm) (callers : List Caller) → AllWait implicit body callers → under_in callers ≡ []
-none_under implicit body [] waits = refl
-none_under implicit body (w ∷ ws) waits = rw (waits.0.settled) (none_under w.implicit w.program ws waits.1)

@@ -43,10 +43,10 @@ use Rattle.ada_sound.proofs.Ready.{stays}
 use Rattle.ada_sound.proofs.Bodies.{effect_at, callee_get, callee_sees}
 use Rattle.ada_sound.proofs.Invariant.{CoveredIn, begun, along, Known, Control, Rooms, RunsOn, Working, CallsOn, ArePassed, handed_at, Hands, Waits, body_among, effect_in, kept_in, left_in, outers, outer_of}
 use Rattle.ada_sound.proofs.Callers.{Suspension, caller_of, callers_of, known_in, Stands}
-use Rattle.ada_sound.proofs.Returns.{Crosses}
+use Rattle.ada_sound.proofs.Returns.{Crosses, CrossesTo, crosses_to}
 
 -- What a variable is relied on to name is there, and its home is an item of a master that is entered.
-home_low : {under : List Id} (heap : List Object) (masters : List Master) (o : Id) → Stored under heap masters → IsThere heap o → (object : Object) × (object_at heap o ≡ Some object) × (suc object.cell.home.item ≤ height masters)
+pub home_low : {under : List Id} (heap : List Object) (masters : List Master) (o : Id) → Stored under heap masters → IsThere heap o → (object : Object) × (object_at heap o ≡ Some object) × (suc object.cell.home.item ≤ height masters)
 home_low {under} heap masters o stored (object, found, there) =
     let sane = stored.sane o object found in
     let housed = sane.housed (out object sane object.out refl there) in
@@ -58,7 +58,7 @@ home_low {under} heap masters o stored (object, found, there) =
     out object sane true e there = e
     out object sane false e there = let gone = sane.back_gone e in let exists = sane.there_exists there in absurd (cc (gone, exists))
 
-relied_says : (heap : List Object) (h : Hold) (kind : Option ℕ) (o : Id) → IsRelied h → Says (access_at heap) h kind o → IsOf (access_at heap) kind o
+pub relied_says : (heap : List Object) (h : Hold) (kind : Option ℕ) (o : Id) → IsRelied h → Says (access_at heap) h kind o → IsOf (access_at heap) kind o
 relied_says heap hold.Null kind o relied s = absurd relied
 relied_says heap (hold.Kept r) kind o relied s = s
 relied_says heap (hold.Own r) kind o relied s = s
@@ -309,9 +309,8 @@ module _ (program : Program) (number : ℕ) (b : BodyForm) (given : List ActualF
         referred_low o t is = home_low s.heap s.masters o w.stored (there_by s.heap (Some t) o (referred_there o t is))
 
         -- The body begins, if it runs from where its formal parameters are relied on to be what the call gave them.
-        pub calls_fine : RunsOn callee (Elaborates b.declarations b.statements b.handlers ∷ Returns given references ∷ k) (gone_with b.declarations ∷ []) (first_holds b.formals b.variables) → Crosses program s.heap Quiet (steps.begun named number b given arrived (record s { activations = a ∷ rest; control = k; mode = Running }))
-        calls_fine runs = record {
-          suspensions = waiting ∷ gs;
+        pub calls_to : RunsOn callee (Elaborates b.declarations b.statements b.handlers ∷ Returns given references ∷ k) (gone_with b.declarations ∷ []) (first_holds b.formals b.variables) → CrossesTo program (waiting ∷ gs) s.heap Quiet (steps.begun named number b given arrived (record s { activations = a ∷ rest; control = k; mode = Running }))
+        calls_to runs = record {
           stepped = stays callee Quiet (steps.begun named number b given arrived (record s { activations = a ∷ rest; control = k; mode = Running })) (
             tt,
             record {
@@ -328,12 +327,15 @@ module _ (program : Program) (number : ℕ) (b : BodyForm) (given : List ActualF
             behind = (given, references, k, refl);
             bodies = (refl, stands.body, stands.behind, stands.bodies);
             standing = record {
-              suspended = (refl, refl, stands.standing.suspended);
-              waiting = (caller_waits, stands.standing.waiting);
+              suspended = (refl, stands.standing.suspended);
+              waiting = (inl caller_waits, stands.standing.waiting);
               low = (caller_low, referred_low, (λ o none. absurd none), stands.standing.low);
             };
           };
         }
+
+        pub calls_fine : RunsOn callee (Elaborates b.declarations b.statements b.handlers ∷ Returns given references ∷ k) (gone_with b.declarations ∷ []) (first_holds b.formals b.variables) → Crosses program s.heap Quiet (steps.begun named number b given arrived (record s { activations = a ∷ rest; control = k; mode = Running }))
+        calls_fine runs = crosses_to (calls_to runs)
 
     module _ (stands : Stands program gs (record s { activations = a ∷ rest })) where
       -- What may be freed by the body may be freed by the call.

@@ -1,6 +1,6 @@
 -- Effects cover what calls do: each activation that waits may free what the running one may.
 
-use Rattle.std.proofs.Common.{ap, sym, ◌≡◌, ℕ, zero, suc, true, List, [], ◌∷◌, refl, subst, ◌∙◌, ◌⊎◌, inl, inr}
+use Rattle.std.proofs.Common.{◌≡◌, ℕ, zero, suc, true, List, [], ◌∷◌, refl, subst, ◌∙◌, ◌⊎◌, inl, inr}
 use Rattle.std.specs.Prelude.{ℤ, Option, Some}
 use Rattle.std.specs.List.{slice_get}
 use Rattle.ada_program.specs.declared.program.Program.{Program}
@@ -26,15 +26,14 @@ use Rattle.ada_sound.specs.Always.{IsChecked}
 use Rattle.ada_sound.specs.Callees as callees
 use Rattle.ada_sound.specs.Callees.{IsCovered, FreesAreCovered, RaisesAreCovered}
 use Rattle.ada_sound.proofs.Bodies.{IsBody, seen_is, effect_at}
-use Rattle.ada_sound.proofs.Invariant.{Control, Rooms, Working, GoesOn, ReadyIn, Says, CoveredIn, AllWait, body_among}
+use Rattle.ada_sound.proofs.Invariant.{Control, Rooms, Working, GoesOn, ReadyIn, Says, CoveredIn, AllWait, waits_covers, body_among}
 use Rattle.ada_sound.proofs.Callers.{Suspension, callers_of, known_in, AreOf, Stands}
 use Rattle.ada_sound.proofs.Starts.{Ordinary, Sound, sound_first}
 use Rattle.ada_sound.proofs.Touching.{Touching, waiting_for}
-use Rattle.ada_sound.proofs.Operating.{Sight, Comes, Body, Operates, behind_operation}
+use Rattle.ada_sound.proofs.Operating.{Sight, Comes, Body, Operates}
 use Rattle.ada_sound.proofs.Uncalled.{body_called}
 use Rattle.ada_sound.proofs.Runs.{Led}
 use Rattle.ada_sound.proofs.Runs as runs
-use Rattle.ada_sound.proofs.TouchingSteps.{touching_runs}
 
 module _ (program : Program) where
   -- What a body may free, calls of its procedure may; and what it may raise.
@@ -56,9 +55,9 @@ module _ (program : Program) where
   waiting_frees implicit body (b ∷ rest) [] t of waits may depth a number at is = absurd of
   waiting_frees implicit body (b ∷ rest) (g ∷ gs) t of waits may zero a number at is =
       let own : g.procedure ≡ Some number = cc (at, is, of.0) in
-      called_frees number t (rw own at (of.1)) (rw own at (waits.0.covers t may))
+      called_frees number t (rw own at (of.1)) (rw own at (waits_covers waits.0 t may))
   waiting_frees implicit body (b ∷ rest) (g ∷ gs) t of waits may (suc depth) a number at is =
-      waiting_frees (implicit_of (program_form program)) (seen_in g.procedure (program_form program)) rest gs t of.3 waits.1 (waits.0.covers t may) depth a number at is
+      waiting_frees (implicit_of (program_form program)) (seen_in g.procedure (program_form program)) rest gs t of.3 waits.1 (waits_covers waits.0 t may) depth a number at is
 
   -- What goes back by a Free is covered in each activation.
   all_free : (all : List (Activation Value)) (s : State) (gs : List Suspension) (t : ℕ) → s.activations ≡ all → Stands program gs s → CoveredIn (implicit_of (program_form program)) (seen_in (running_procedure s) (program_form program)) t → (depth : ℕ) (a : Activation Value) (number : ℕ) → slice_get all depth ≡ Some a → a.procedure ≡ Some number → call_frees (callees.effect_at program number) t ≡ true
@@ -83,30 +82,6 @@ module _ (program : Program) where
   covered_by Quiet before s gs stands says depth a n at is = tt
 
   -- What leaves a body is among what it may raise.
-  -- Where the body of a Finalize runs, what that frees is covered in its activation and in all that wait for it.
-  touching_frees : (s : State) (f : Touching program s) (t : ℕ) → CoveredIn (implicit_of (program_form program)) (seen_in (Some f.procedure) (program_form program)) t → (depth : ℕ) (a : Activation Value) (number : ℕ) → slice_get s.activations depth ≡ Some a → a.procedure ≡ Some number → call_frees (callees.effect_at program number) t ≡ true
-  touching_frees s f t may depth a number at is = by depth (rw f.frugal.active at at)
-    where
-      by : (n : ℕ) → slice_get (f.frugal.acting ∷ f.caller ∷ f.rest) n ≡ Some a → call_frees (callees.effect_at program number) t ≡ true
-      by zero here =
-          let one : f.frugal.acting ≡ a = cc here in
-          let own : Some f.procedure ≡ Some number = sym f.frugal.same ∙ (ap (λ (b : Activation Value). b.procedure) one ∙ is) in
-          let same : f.procedure ≡ number = cc own in
-          rw same at (called_frees f.procedure t f.is_body may)
-      by (suc n) here = all_free (f.caller ∷ f.rest) (behind_operation (f.caller ∷ f.rest) f.behind f.lower s) f.suspensions t refl f.stands (f.covers t may) n a number here is
-
-  touching_covers : (e : Event) (before : List Object) (s : State) (f : Touching program s) → Says (implicit_of (program_form program)) (seen_in (Some f.procedure) (program_form program)) e before s → (depth : ℕ) (a : Activation Value) (number : ℕ) → slice_get s.activations depth ≡ Some a → a.procedure ≡ Some number → IsCovered program number e
-  touching_covers (Born object part turn type number by) before s f says depth a n at is = tt
-  touching_covers (Finalized object part turn type number cause) before s f says depth a n at is = tt
-  touching_covers (Back object access number pool subpool (Leaving m item)) before s f says depth a n at is = tt
-  touching_covers (Back object access number pool subpool (Freeing g)) before s f says depth a n at is = touching_frees s f access says.covered.0 depth a n at is
-  touching_covers (Back object access number pool subpool (Assigning b)) before s f says depth a n at is = tt
-  touching_covers (Back object access number pool subpool (Undoing b)) before s f says depth a n at is = tt
-  touching_covers (Followed object) before s f says depth a n at is = tt
-  touching_covers (Left master) before s f says depth a n at is = tt
-  touching_covers (Line line) before s f says depth a n at is = tt
-  touching_covers Quiet before s f says depth a n at is = tt
-
   raised_by : (procedure : Option ℕ) (gs : List Suspension) (e : Exception) (actuals : List ActualForm) (references : List Value) (k : Control) (rooms : Rooms) (holds : Holds) → GoesOn (known_in program procedure gs) (Raising e) (Returns actuals references ∷ k) rooms holds → body_among (implicit_of (program_form program)) (seen_in procedure (program_form program)) e ≡ true
   raised_by procedure [] e actuals references k [] holds g = absurd g
   raised_by procedure [] e actuals references k (gone ∷ rooms) holds g = absurd g
@@ -127,19 +102,17 @@ module _ (program : Program) (accepted : IsChecked program) where
       by (runs.led program before choice e after (runs.sound_run run (first input)) step)
     where
       by : Led program before.heap e after → IsCovered program number e
-      by (inl (c, calm)) = covered_by program e before.heap after c.suspensions c.stands c.stepped.says depth a number at is
+      by (inl (c, calm, settled)) = covered_by program e before.heap after c.suspensions c.stands c.stepped.says depth a number at is
       by (inr (inl c)) = c.covered number
-      by (inr (inr c)) = touching_covers program e before.heap after c.touching c.says depth a number at is
+      by (inr (inr c)) = covered_by program e before.heap after (waiting_for program after c.touching) c.touching.stands c.says depth a number at is
 
   raises_in : (s : State) → Ordinary program s ⊎ (Operates program s ⊎ Touching program s) → (procedure : Option ℕ) (number : ℕ) (e : Exception) → running_procedure s ≡ procedure → procedure ≡ Some number → EndsBody s → s.mode ≡ Raising e → call_raises (callees.effect_at program number) (is_same e) ≡ true
   raises_in s (inl o) procedure number e runs is ends mode =
       let may = leaves_by program (running_procedure s) o.suspensions e ends.actuals ends.references ends.outer s.control s.mode s.heap _ _ s.masters (o.ready.1) mode ends.first in
       called_raises program number e (rw (runs ∙ is) at (o.stands.body)) (rw (runs ∙ is) at may)
   raises_in s (inr (inr f)) procedure number e runs is ends mode =
-      let may = leaves_by program (Some f.procedure) (waiting_for program s f) e ends.actuals ends.references ends.outer s.control s.mode s.heap _ _ s.masters (f.ready.1) mode ends.first in
-      let here : Some f.procedure ≡ Some number = sym (touching_runs program s f) ∙ (runs ∙ is) in
-      let same : f.procedure ≡ number = cc here in
-      subst (λ (called : ℕ). call_raises (callees.effect_at program called) (is_same e) ≡ true) same (called_raises program f.procedure e f.is_body may)
+      let may = leaves_by program (running_procedure s) (waiting_for program s f) e ends.actuals ends.references ends.outer s.control s.mode s.heap _ _ s.masters (f.ready.1) mode ends.first in
+      called_raises program number e (rw (runs ∙ is) at (f.stands.body)) (rw (runs ∙ is) at may)
   raises_in s (inr (inl o)) procedure number e runs is ends mode =
       let body : Body (record { program = seen_in (Some o.procedure) (program_form program); object = o.object; access = o.access }) o.behind o.upper s.heap o.places o.operands (Raising e) (Returns ends.actuals ends.references ∷ ends.outer) = rw (mode, ends.first) at o.body in
       let here : Some o.procedure ≡ Some number = (rw o.active at runs) ∙ is in

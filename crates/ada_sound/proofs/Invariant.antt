@@ -1,6 +1,6 @@
 -- What every step keeps: control typed by its flow, places that fit, objects that are stored.
 
-use Rattle.std.proofs.Common.{◌≡◌, ◌≢◌, ℕ, zero, suc, ◌≤◌, Bool, true, false, ◌&&◌, ◌||◌, List, [], ◌∷◌, ◌++◌, length, take, drop, reverse, ◌⊎◌}
+use Rattle.std.proofs.Common.{◌≡◌, ◌≢◌, ℕ, zero, suc, ◌≤◌, Bool, true, false, ◌&&◌, ◌||◌, List, [], ◌∷◌, ◌++◌, length, take, drop, reverse, ◌⊎◌, inl, inr}
 use Rattle.std.specs.Prelude.{ℤ, Option, Some, None}
 use Rattle.ada_text.specs.declared.spot.Spot.{Spot}
 use Rattle.std.specs.List.{list_any, slice_get, slice_index_or, slice_set}
@@ -1377,17 +1377,42 @@ pub record Waits (implicit : Implicit) (body : ProgramForm) (w : Caller) (ws : L
   pub covers : (t : ℕ) → CoveredIn implicit body t → CoveredIn w.implicit w.program t
   pub settled : w.under ≡ []
 
+-- The body of an operation comes to its end in front of this (7.6, 7.6.1).
+abbrev pub IsAwaited : Control → Type 0
+IsAwaited [] = ⊥
+IsAwaited (frame.Awaits v by done of part tasks ∷ k) = Unit {0}
+IsAwaited (frame.Confines ∷ k) = Unit {0}
+IsAwaited (f ∷ k) = ⊥
+
+-- A caller waits for the body of an operation that is called implicitly: its masters have their rooms, and it may free what the body may.
+pub record WaitsForOperation (implicit : Implicit) (body : ProgramForm) (w : Caller) (ws : List Caller) : Type 0 where
+  pub roomed : Roomed (below_callers ws) w.masters w.rooms
+  pub covers : (t : ℕ) → CoveredIn implicit body t → CoveredIn w.implicit w.program t
+  pub operated : IsAwaited w.control
+
+-- A caller waits for a call, or for an operation.
+abbrev pub WaitsSo : Implicit → ProgramForm → Caller → List Caller → Type 0
+WaitsSo implicit body w ws = Waits implicit body w ws ⊎ WaitsForOperation implicit body w ws
+
 -- So does each caller, for the body that it called.
 abbrev pub AllWait : Implicit → ProgramForm → List Caller → Type 0
 AllWait implicit body [] = Unit {0}
-AllWait implicit body (w ∷ ws) = Waits implicit body w ws × AllWait w.implicit w.program ws
+AllWait implicit body (w ∷ ws) = WaitsSo implicit body w ws × AllWait w.implicit w.program ws
 
--- The suspended activations are those of the callers: no form of them waits for a value.
+pub waits_roomed : {implicit : Implicit} {body : ProgramForm} {w : Caller} {ws : List Caller} → WaitsSo implicit body w ws → Roomed (below_callers ws) w.masters w.rooms
+waits_roomed (inl call) = call.roomed
+waits_roomed (inr operation) = operation.roomed
+
+pub waits_covers : {implicit : Implicit} {body : ProgramForm} {w : Caller} {ws : List Caller} → WaitsSo implicit body w ws → (t : ℕ) → CoveredIn implicit body t → CoveredIn w.implicit w.program t
+waits_covers (inl call) t may = call.covers t may
+waits_covers (inr operation) t may = operation.covers t may
+
+-- The suspended activations are those of the callers, whose variables hold what is said of them.
 abbrev pub AreSuspended : List (Activation Value) → List Caller → Type 0
 AreSuspended [] [] = Unit {0}
 AreSuspended [] (w ∷ ws) = ⊥
 AreSuspended (a ∷ rest) [] = ⊥
-AreSuspended (a ∷ rest) (w ∷ ws) = (a.places ≡ w.places) × (a.operands ≡ []) × AreSuspended rest ws
+AreSuspended (a ∷ rest) (w ∷ ws) = (a.places ≡ w.places) × AreSuspended rest ws
 
 -- What a caller's variable is relied on to name, what its call refers to, and what is under way in it lies in an item of a master that was entered before its call.
 abbrev pub LieBelow : List Object → List Caller → Type 0

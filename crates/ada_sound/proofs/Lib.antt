@@ -197,6 +197,8 @@ pub mod Callers
 pub mod Returns
 -- its beginning
 pub mod Calls
+-- and its body
+pub mod CallBegins
 -- bodies run
 pub mod BodyRuns
 -- programs that meet the premises, and that need the rules
@@ -223,6 +225,7 @@ pub mod ExampleControlled
 pub mod ExampleOperations
 pub mod ExampleUndone
 pub mod ExampleTidying
+pub mod ExampleEmptying
 pub mod ExampleAllocating
 pub mod ExampleUndoing
 -- where flow is not agreed with

@@ -25,7 +25,7 @@ use Rattle.ada_meaning.specs.declared.state.Stage.{Stage}
 use Rattle.ada_meaning.specs.declared.state.Stage.TheVariants.{Building, Existing, Gone}
 use Rattle.ada_meaning.specs.declared.state.Mode.{Mode}
 use Rattle.ada_meaning.specs.declared.state.Mode.TheVariants.{Running, Raising, Exiting, Returning}
-use Rattle.ada_meaning.specs.Frame.{Frame, Treatment, begins, ends, Elaborates, Does, Decides, Repeats, Turns, Ranges, Counts, Exits, Handles, Closes, Leaves, Returns, Evaluates, Computes, Continues, Applies, AppliesAlone, Stores, Targets, StoresIn, Receives, Declares, Writes}
+use Rattle.ada_meaning.specs.Frame.{Treatment, begins, ends, Elaborates, Does, Decides, Repeats, Turns, Ranges, Counts, Exits, Handles, Closes, Leaves, Returns, Evaluates, Computes, Continues, Applies, AppliesAlone, Stores, Targets, StoresIn, Receives, Declares, Writes}
 use Rattle.ada_meaning.specs.Frame as frame
 use Rattle.ada_meaning.specs.State.{Activation, Owned, declared, collection, record_object, storage_pool, Item, Master}
 use Rattle.ada_parts.specs.Task.{Task}
@@ -36,8 +36,8 @@ use Rattle.ada_finalized.specs.Law.{NoOperationRuns}
 use Rattle.ada_quiet.specs.Quiet.{is_elementary, holds_elementary, is_quiet_expression, are_quiet_links, is_quiet_condition, are_quiet_declarations, are_quiet, are_quiet_branches, are_quiet_handlers, is_plain_body}
 use Rattle.ada_sound.proofs.Bodies.{IsBody}
 use Rattle.ada_sound.proofs.Fits.{IsWithin, place_at}
-use Rattle.ada_sound.proofs.Invariant.{Control, TreatsBy}
-use Rattle.ada_sound.proofs.Callers.{Suspension, known_in, Stands}
+use Rattle.ada_sound.proofs.Invariant.{Control, TreatsBy, under_in}
+use Rattle.ada_sound.proofs.Callers.{Suspension, callers_of, known_in, Stands}
 
 -- A value is an Integer or a Boolean, or null, where none has been computed: it names nothing.
 abbrev pub IsScalar : Value → Type 0
@@ -249,7 +249,8 @@ lets_out implicit access (begins Copy done) e = false
 lets_out implicit access (begins (Adjustment number) done) e = false
 lets_out implicit access (ends cause) e = false
 
--- The object that an operation is called for is treated; and what waits for it goes on behind that, whatever the body does.
+-- The object that an operation is called for is treated; and what waits for it goes on behind that, whatever the body does. No object
+-- is under way in what waits.
 pub record Suspended (program : Program) (object : Id) (treatment : Treatment) (caller : Activation Value) (rest : List (Activation Value)) (behind : Control) (lower : List Master) (s : State) : Type 0 where
   pub suspensions : List Suspension
   pub after : Control
@@ -258,6 +259,7 @@ pub record Suspended (program : Program) (object : Id) (treatment : Treatment) (
   pub treats : TreatsBy (known_in program caller.procedure suspensions) (Names object) treatment after s.heap caller.places caller.operands lower
   pub stands : Stands program suspensions (behind_operation (caller ∷ rest) behind lower s)
   pub calm : IsCalm (behind_call behind)
+  pub settled : under_in (callers_of program suspensions) ≡ []
 
 -- The body of an operation runs that touches Integers and Booleans alone.
 pub record Operates (program : Program) (s : State) : Type 0 where

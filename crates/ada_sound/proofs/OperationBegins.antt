@@ -43,9 +43,9 @@ use Rattle.ada_typed.proofs.Runs.{typed_holds}
 use Rattle.ada_quiet.specs.Quiet.{holds_elementary}
 use Rattle.ada_sound.proofs.Begins.{record_kind}
 use Rattle.ada_sound.proofs.Calm.{filled_in}
-use Rattle.ada_sound.proofs.Callers.{Suspension, known_in, Stands}
+use Rattle.ada_sound.proofs.Callers.{Suspension, known_in, Stands, callers_of}
 use Rattle.ada_sound.proofs.Fits.{IsWithin}
-use Rattle.ada_sound.proofs.Invariant.{Control}
+use Rattle.ada_sound.proofs.Invariant.{Control, under_in}
 use Rattle.ada_sound.proofs.OperationStarts.{operation_begins}
 use Rattle.ada_sound.proofs.Operating.{Sight, WaitsFor, IsCalled, IsCalm, PlainBody, IsScalar, Holds, HoldScalars, lets_out, Operates}
 use Rattle.ada_sound.proofs.QuietOperations.{LetsNothingOut}
@@ -161,14 +161,14 @@ module _ (program : Program) (well : IsWellFormed (program_form program)) (of nu
 
 -- The body begins.
 module _ (program : Program) (well : IsWellFormed (program_form program)) (a : Activation Value) (rest : List (Activation Value)) (gs : List Suspension) (s : State) (k : Control) where
-  pub begins_operation : (IsOperated : Treatment → Id → ℕ → Type 0) (e : Event) (after : State) → Stands program gs (record s { activations = a ∷ rest }) → IsCalm (behind_call k)
+  pub begins_operation : (IsOperated : Treatment → Id → ℕ → Type 0) (e : Event) (after : State) → Stands program gs (record s { activations = a ∷ rest }) → IsCalm (behind_call k) → under_in (callers_of program gs) ≡ []
       → typed.Typed (program_form program) after → (c : Begins (known_in program a.procedure gs) a rest s program.types.items (body_forms program) k IsOperated e after) → PlainBody (program_form program).types c.b × LetsNothingOut c.treatment c.b → Operates program after
-  begins_operation IsOperated e after stands calm typing c (plain, quiet) =
+  begins_operation IsOperated e after stands calm settled typing c (plain, quiet) =
       let begun = operating named c.number c.b (Part c.o c.place) c.behind (record (running k a rest s) { heap = c.heap }) in
       let now : typed.Typed (program_form program) begun = rw c.is at typing in
       let inside : typed.TypedIn (seen_in (Some c.number) (program_form program)) begun = now.inside in
       let own : typed.TypedIn (seen_by c.number c.b (program_form program)) begun = rw (seen_as (program_form program) c.number c.b c.there) at inside in
       rw c.is (operation_begins program c.number c.b c.there plain a rest gs s stands c.o c.of c.treatment k c.behind (Part c.o c.place)
       e c.heap c.x c.found c.live c.alters c.waits c.treats
-      (formal_holds program c.number c.b c.o c.place begun (_, refl) c.x c.found own) (scalars_hold program c.number c.b c.o c.place begun (_, refl) c.x c.found own) calm
+      (formal_holds program c.number c.b c.o c.place begun (_, refl) c.x c.found own) (scalars_hold program c.number c.b c.o c.place begun (_, refl) c.x c.found own) calm settled
       (comes_out program well c.of c.number c.b c.there a rest c.o c.heap c.x c.found c.treatment k c.behind quiet c.called c.waits (now.waiting)))

@@ -20,7 +20,7 @@ use Rattle.ada_sound.proofs.Alters.{alters_same, alters_set}
 use Rattle.ada_sound.proofs.Invariant.{Known, Control, IsLive, TreatsBy, ReadyIn}
 use Rattle.ada_sound.proofs.Callers.{known_in}
 use Rattle.ada_sound.proofs.Ready.{stays}
-use Rattle.ada_sound.proofs.Returns.{Crosses}
+use Rattle.ada_sound.proofs.Returns.{CrossesTo}
 use Rattle.ada_sound.proofs.Waiting.{stands_kept}
 use Rattle.ada_sound.proofs.Written.{treats_written}
 use Rattle.ada_sound.proofs.OperationStarts.{found_by}
@@ -45,19 +45,17 @@ ready_raising known o of (ends cause) access k behind heap places operands ms e 
 
 module _ (program : Program) (o : Id) (treatment : Treatment) (caller : Activation Value) (rest : List (Activation Value)) (behind : Control) (lower : List Master) where
   -- The body ends: what waits for it goes on.
-  pub goes_behind : (s : State) (x : Object) → object_at s.heap o ≡ Some x → StaysLive x.stage → Suspended program o treatment caller rest behind lower s → Crosses program s.heap Quiet (behind_operation (caller ∷ rest) behind lower s)
+  pub goes_behind : (s : State) (x : Object) → object_at s.heap o ≡ Some x → StaysLive x.stage → (w : Suspended program o treatment caller rest behind lower s) → CrossesTo program w.suspensions s.heap Quiet (behind_operation (caller ∷ rest) behind lower s)
   goes_behind s x found live w = record {
-    suspensions = w.suspensions;
     stepped = stays (known_in program caller.procedure w.suspensions) Quiet (behind_operation (caller ∷ rest) behind lower s)
         (tt, ready_for (known_in program caller.procedure w.suspensions) o w.of treatment w.after behind s.heap caller.places caller.operands lower (is_live s.heap o x found live) w.waits w.treats) tt;
     stands = w.stands;
   }
 
   -- An exception comes out of the body: the object is undone next.
-  pub raises_behind : (s : State) (access : ℕ) (e : Exception) (x : Object) → object_at s.heap o ≡ Some x → x.cell.access ≡ access → StaysLive x.stage → lets_out (implicit_of (program_form program)) access treatment e ≡ true → Suspended program o treatment caller rest behind lower s
-      → Crosses program s.heap Quiet (record (behind_operation (caller ∷ rest) behind lower s) { mode = Raising e })
+  pub raises_behind : (s : State) (access : ℕ) (e : Exception) (x : Object) → object_at s.heap o ≡ Some x → x.cell.access ≡ access → StaysLive x.stage → lets_out (implicit_of (program_form program)) access treatment e ≡ true → (w : Suspended program o treatment caller rest behind lower s)
+      → CrossesTo program w.suspensions s.heap Quiet (record (behind_operation (caller ∷ rest) behind lower s) { mode = Raising e })
   raises_behind s access e x found same live out w = record {
-    suspensions = w.suspensions;
     stepped = stays (known_in program caller.procedure w.suspensions) Quiet (record (behind_operation (caller ∷ rest) behind lower s) { mode = Raising e })
         (tt, ready_raising (known_in program caller.procedure w.suspensions) o w.of treatment access w.after behind s.heap caller.places caller.operands lower e x found same (is_live s.heap o x found live) w.waits out w.treats) tt;
     stands = stands_kept program (behind_operation (caller ∷ rest) behind lower s) (record (behind_operation (caller ∷ rest) behind lower s) { mode = Raising e }) w.suspensions w.stands Quiet
@@ -76,6 +74,7 @@ module _ (program : Program) (o : Id) (treatment : Treatment) (caller : Activati
         (record { procedure = refl; suspended = refl })
         (rw heap (alters_set s.heap Quiet o x (filled c v x) found (refl, refl, refl) (λ h. h) (λ h. inl h)));
     calm = w.calm;
+    settled = w.settled;
   }
 
   -- It writes nothing.
@@ -89,4 +88,5 @@ module _ (program : Program) (o : Id) (treatment : Treatment) (caller : Activati
     stands = stands_kept program (behind_operation (caller ∷ rest) behind lower s) (behind_operation (caller ∷ rest) behind lower after) w.suspensions w.stands Quiet
         (record { procedure = refl; suspended = refl }) (rw heap (alters_same s.heap Quiet));
     calm = w.calm;
+    settled = w.settled;
   }

@@ -23,7 +23,7 @@ use Rattle.ada_meaning.specs.Step.{returned, halts, moves, tells, asks, picks, f
 use Rattle.ada_meaning.specs.Named.{State, Next, named}
 use Rattle.ada_meaning.specs.Run.{Event}
 use Rattle.ada_sound.proofs.Invariant.{Control}
-use Rattle.ada_sound.proofs.Returns.{Crosses}
+use Rattle.ada_sound.proofs.Returns.{CrossesTo}
 use Rattle.ada_sound.proofs.OperationCalls.{goes_behind, raises_behind, waits_on, waits_written}
 use Rattle.ada_sound.proofs.Operating.{Sight, IsScalar, Finds, Comes, Body, Suspended, Operates, behind_operation}
 use Rattle.ada_sound.proofs.OperationSteps.{acting, After, Wrote, GoesOnIn}
@@ -75,12 +75,12 @@ ends_is s a caller rest behind lower = refl
 
 -- So its caller goes on.
 pub operation_ends : (program : Program) (s : State) (o : Operates program s)
-    → Crosses program s.heap Quiet (behind_operation (o.caller ∷ o.rest) o.behind o.lower s)
+    → CrossesTo program o.suspended.suspensions s.heap Quiet (behind_operation (o.caller ∷ o.rest) o.behind o.lower s)
 operation_ends program s o = goes_behind program o.object o.treatment o.caller o.rest o.behind o.lower s o.body.x o.body.found o.body.live o.suspended
 
 -- An exception comes out of it: the object that is treated is undone next (7.6.1).
 pub operation_raises : (program : Program) (s : State) (o : Operates program s) (x : Exception) → body_raises no_calls (main_body (seen_in (Some o.procedure) (program_form program))) (is_same x) ≡ true
-    → Crosses program s.heap Quiet (record (behind_operation (o.caller ∷ o.rest) o.behind o.lower s) { mode = Raising x })
+    → CrossesTo program o.suspended.suspensions s.heap Quiet (record (behind_operation (o.caller ∷ o.rest) o.behind o.lower s) { mode = Raising x })
 operation_raises program s o x may =
     raises_behind program o.object o.treatment o.caller o.rest o.behind o.lower s o.access x o.body.x o.body.found o.body.of_access o.body.live (o.prepared x may) o.suspended
 

@@ -29,9 +29,9 @@ use Rattle.ada_typed.proofs.Bodies.{seen_as}
 use Rattle.ada_typed.proofs.Kept.{behind_call, behind_treating}
 use Rattle.ada_quiet.specs.Quiet.{is_elementary}
 use Rattle.ada_sound.proofs.Alters.{Alters}
-use Rattle.ada_sound.proofs.Callers.{Suspension, known_in, Stands}
+use Rattle.ada_sound.proofs.Callers.{Suspension, known_in, Stands, callers_of}
 use Rattle.ada_sound.proofs.Fits.{place_at}
-use Rattle.ada_sound.proofs.Invariant.{Control, TreatsBy}
+use Rattle.ada_sound.proofs.Invariant.{Control, TreatsBy, under_in}
 use Rattle.ada_sound.proofs.Raising.{or_left, or_right, both, same_is, stmts_more}
 use Rattle.ada_sound.proofs.Waiting.{stands_kept}
 use Rattle.ada_sound.proofs.Operating.{Sight, StaysLive, StaysIn, WaitsFor, Holds, HoldScalars, Quietly, Body, lets_out, Operates, PlainBody, IsCalm, behind_operation}
@@ -107,10 +107,10 @@ module _ (program : Program) (number : ℕ) (b : BodyForm) (there : slice_get (b
 
   pub operation_begins : (e : Event) (heap : List Object) (x : Object) → object_at heap o ≡ Some x → StaysLive x.stage → Alters s.heap e heap → WaitsFor o of treatment k behind
       → TreatsBy (known_in program caller.procedure gs) (Names o) treatment k heap caller.places caller.operands s.masters
-      → Holds (sight x) (variable_kind b.variables 0) reference → HoldScalars (sight x) x → IsCalm (behind_call k)
+      → Holds (sight x) (variable_kind b.variables 0) reference → HoldScalars (sight x) x → IsCalm (behind_call k) → under_in (callers_of program gs) ≡ []
       → ((e' : Exception) → body_raises no_calls b (is_same e') ≡ true → lets_out (implicit_of (program_form program)) x.cell.access treatment e' ≡ true)
       → Operates program (operating named number b reference behind (record s { activations = caller ∷ rest; heap = heap; mode = Running }))
-  operation_begins e heap x found live alters waits treats formal scalars calm out =
+  operation_begins e heap x found live alters waits treats formal scalars calm settled out =
       let after = operating named number b reference behind (record s { activations = caller ∷ rest; heap = heap; mode = Running }) in
       let body : Body (sight x) behind (record { number = s.next; items = [] } ∷ []) heap (given_places named (reference ∷ []) b.variables) [] Running (Elaborates b.declarations b.statements b.handlers ∷ Returns [] [] ∷ behind) = record {
         x = x;
@@ -148,6 +148,7 @@ module _ (program : Program) (number : ℕ) (b : BodyForm) (there : slice_get (b
           stands = stands_kept program (record s { activations = caller ∷ rest }) (behind_operation (caller ∷ rest) behind s.masters after) gs stands e
               (record { procedure = refl; suspended = refl }) alters;
           calm = calm_behind o of treatment k behind waits calm;
+          settled = settled;
         };
         prepared = rw (seen_as (program_form program) number b there) out;
       }

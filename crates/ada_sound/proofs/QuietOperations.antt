@@ -1,9 +1,9 @@
--- What overrides an operation is plain or frugal (7.6): so it creates no collection and no record object, and calls nothing. What overrides Adjust or Finalize
--- lets no exception out either.
+-- What overrides an operation is plain or frugal (7.6): so it creates no collection and no record object, and calls frugal bodies alone. What overrides Adjust or
+-- Finalize lets no exception out either.
 
 use Rattle.std.proofs.Common.{◌≡◌, ℕ, zero, suc, ◌+◌, Bool, true, false, ◌&&◌, ◌||◌, if◌then◌else◌, List, [], ◌∷◌, ◌++◌, length, map, refl, sym, ap, ◌∙◌, arith, length-append, ◌⊎◌, inl, inr}
 use Rattle.std.specs.Prelude.{Option, Some, None, not, find}
-use Rattle.std.specs.List.{list_all, slice_get}
+use Rattle.std.specs.List.{list_all, slice_get, slice_index_or}
 use Rattle.std.specs.Option.{option_map}
 use Rattle.std.proofs.lemmas.Option.{slice_get-map}
 use Rattle.ada_program.specs.declared.program.Finalization.{Finalization}
@@ -22,8 +22,9 @@ use Rattle.ada_flow.specs.Flow.{have_exit, handlers_have_exit}
 use Rattle.ada_typed.proofs.Bodies.{seen_as, seen_fits}
 use Rattle.ada_scopes.specs.Scopes.{NestsAnywhere, AllNestAnywhere, OperationsNest}
 use Rattle.ada_quiet.specs.Quiet.{is_quiet_stmt, are_quiet, are_quiet_branches, are_quiet_handlers, are_quiet_declarations, is_plain_body, is_plain_procedure, is_quiet_procedure, is_plain_operation, is_quiet_operation, adjusts_access}
-use Rattle.ada_quiet.specs.Frugal.{is_frugal_body, is_frugal_procedure, is_frugal_operation, is_silent_procedure, is_silent_operation}
+use Rattle.ada_quiet.specs.Frugal.{is_frugal_body, frugal_procedures, is_frugal_operation, own_effects, is_silent_procedure, is_silent_operation}
 use Rattle.ada_quiet.specs.InUse.{may_be_frugal, uses_initialize, uses_finalize, uses_operations, operations_are_in_use}
+use Rattle.ada_quiet.proofs.FrugalAt.{frugal_at}
 use Rattle.ada_quiet.proofs.InUse.{plain_procedure, plain_operation}
 use Rattle.ada_sound.proofs.Exits.{no_exits, no_exit_handlers}
 use Rattle.ada_sound.proofs.OperationStarts.{apart}
@@ -123,10 +124,10 @@ module _ (p : ProgramForm) where
   IsQuiet number = is_quiet_procedure p.types (slice_get p.bodies number) ≡ true
 
   abbrev IsFrugal : ℕ → Type 0
-  IsFrugal number = (may_be_frugal p ≡ true) × (is_frugal_procedure (slice_get p.bodies number) ≡ true)
+  IsFrugal number = (may_be_frugal p ≡ true) × (slice_index_or (frugal_procedures p) number false ≡ true)
 
   abbrev IsSilent : ℕ → Type 0
-  IsSilent number = is_silent_procedure (slice_get p.bodies number) ≡ true
+  IsSilent number = is_silent_procedure (own_effects p) (slice_get p.bodies number) ≡ true
 
   -- What overrides Initialize is plain or frugal, what overrides Adjust is quiet, and what overrides Finalize is quiet, or frugal and silent.
   record AreUsed (o : Operations) (number : ℕ) : Type 0 where
@@ -142,7 +143,7 @@ module _ (p : ProgramForm) where
   quiet_one None number quiet is = absurd (cc is)
   quiet_one (Some procedure) number quiet is = let same : procedure.0 ≡ number = cc is in rw same at quiet
 
-  frugal_one : (o : Option ProcedureNo) (number : ℕ) → is_frugal_operation p o ≡ true → procedure_number o ≡ Some number → is_frugal_procedure (slice_get p.bodies number) ≡ true
+  frugal_one : (o : Option ProcedureNo) (number : ℕ) → is_frugal_operation p o ≡ true → procedure_number o ≡ Some number → slice_index_or (frugal_procedures p) number false ≡ true
   frugal_one None number frugal is = absurd (cc is)
   frugal_one (Some procedure) number frugal is = let same : procedure.0 ≡ number = cc is in rw same at frugal
 
@@ -248,23 +249,17 @@ module _ (p : ProgramForm) where
   initialize_nests t None right uses = tt
   initialize_nests t (Some procedure) right uses = by (initialize_one (Some procedure) procedure.0 uses refl)
     where
-      b : (c : BodyForm) × (slice_get p.bodies procedure.0 ≡ Some c)
-      b = there_one t (Some procedure) procedure.0 right refl
-
       by : IsPlain procedure.0 ⊎ IsFrugal procedure.0 → NestsAnywhere (callees_of p) (Some procedure)
       by (inl plain) = plain_nests t (Some procedure) right plain
-      by (inr frugal) = nests_there procedure.0 b.0 b.1 (λ callees around. frugal_nests p.types callees b.0 around (rw (b.1) at (frugal.1)))
+      by (inr frugal) = frugal_nests p procedure.0 frugal.1
 
   finalize_nests : (t : ℕ) (o : Option ProcedureNo) → overrides_rightly p.types (callable_in p) t o ≡ true → uses_finalize p o ≡ true → NestsAnywhere (callees_of p) o
   finalize_nests t None right uses = tt
   finalize_nests t (Some procedure) right uses = by (finalize_one (Some procedure) procedure.0 uses refl)
     where
-      b : (c : BodyForm) × (slice_get p.bodies procedure.0 ≡ Some c)
-      b = there_one t (Some procedure) procedure.0 right refl
-
       by : IsQuiet procedure.0 ⊎ (IsFrugal procedure.0 × IsSilent procedure.0) → NestsAnywhere (callees_of p) (Some procedure)
       by (inl quiet) = plain_nests t (Some procedure) right (plain_operation p (Some procedure) quiet)
-      by (inr both) = nests_there procedure.0 b.0 b.1 (λ callees around. frugal_nests p.types callees b.0 around (rw (b.1) at (both.0.1)))
+      by (inr both) = frugal_nests p procedure.0 both.0.1
 
   nests_three : (t : ℕ) (f : Option Finalization) → has_operations p.types (callable_in p) t f ≡ true → uses_operations p f ≡ true → AllNestAnywhere (callees_of p) (operations_in f)
   nests_three t None right uses = (tt, tt, tt)
@@ -297,11 +292,16 @@ MayTouch (begins Copy done) = ⊥
 MayTouch (begins (Adjustment number) done) = ⊥
 MayTouch (ends cause) = Unit {0}
 
+-- The body of an operation that touches storage lets no exception out, unless it initializes a new object (7.6).
+abbrev pub LetsNone : ProgramForm → Treatment → BodyForm → Type 0
+LetsNone p (begins by done) b = Unit {0}
+LetsNone p (ends cause) b = body_raises (own_effects p) b (λ e. true) ≡ false
+
 -- What is called is plain, or it is a frugal Initialize or Finalize.
 abbrev pub IsUsedAs : ProgramForm → Treatment → BodyForm → Type 0
 IsUsedAs p treatment b =
     (PlainBody p.types b × LetsNothingOut treatment b)
-    ⊎ (MayTouch treatment × (may_be_frugal p ≡ true) × (is_frugal_body b ≡ true) × LetsNothingOut treatment b)
+    ⊎ (MayTouch treatment × (may_be_frugal p ≡ true) × (is_frugal_body (frugal_procedures p) b ≡ true) × LetsNone p treatment b)
 
 -- What overrides an operation, by the number of the type among the controlled ones.
 module _ (program : Program) (uses : operations_are_in_use (program_form program) ≡ true) (well : IsWellFormed (program_form program)) (of number : ℕ) (b : BodyForm) (there : slice_get (body_forms program) number ≡ Some b) where
@@ -323,16 +323,16 @@ module _ (program : Program) (uses : operations_are_in_use (program_form program
   quiet_body : IsQuiet whole number → PlainBody whole.types b × (body_raises no_calls b (λ e. true) ≡ false)
   quiet_body quiet = (plain_body (plain_procedure whole.types (slice_get whole.bodies number) quiet), no_no (body_raises no_calls b (λ e. true)) (apart _ _ (rw there at quiet)).1)
 
-  silent_body : IsSilent whole number → body_raises no_calls b (λ e. true) ≡ false
-  silent_body silent = no_no (body_raises no_calls b (λ e. true)) (rw there at silent)
+  silent_body : IsSilent whole number → body_raises (own_effects whole) b (λ e. true) ≡ false
+  silent_body silent = no_no (body_raises (own_effects whole) b (λ e. true)) (rw there at silent)
 
   finalizes_as : (cause : Cause) → IsQuiet whole number ⊎ (IsFrugal whole number × IsSilent whole number) → IsUsedAs whole (ends cause) b
   finalizes_as cause (inl quiet) = inl (quiet_body quiet)
-  finalizes_as cause (inr both) = inr (tt, both.0.0, rw there at (both.0.1), silent_body both.1)
+  finalizes_as cause (inr both) = inr (tt, both.0.0, frugal_at whole number b both.0.1 there, silent_body both.1)
 
   initializes_as : (done : List parts.Part) → IsPlain whole number ⊎ IsFrugal whole number → IsUsedAs whole (begins Creation done) b
   initializes_as done (inl plain) = inl (plain_body plain, tt)
-  initializes_as done (inr frugal) = inr (tt, frugal.0, rw there at (frugal.1), tt)
+  initializes_as done (inr frugal) = inr (tt, frugal.0, frugal_at whole number b frugal.1 there, tt)
 
   pub used_as : (treatment : Treatment) → IsCalled (operations_of program.types.items of) treatment number → IsUsedAs whole treatment b
   used_as (begins Creation done) called = initializes_as done (used.initializes called)

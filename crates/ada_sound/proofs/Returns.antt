@@ -1,6 +1,6 @@
 -- The body of a call comes to its end, by a return or by an exception: its caller goes on.
 
-use Rattle.std.proofs.Common.{◌≡◌, ℕ, true, List, [], ◌∷◌, ◌++◌, refl, sym, ap, ◌∙◌, subst}
+use Rattle.std.proofs.Common.{◌≡◌, ℕ, true, List, [], ◌∷◌, ◌++◌, refl, sym, ap, ◌∙◌, subst, inl, inr}
 use Rattle.std.specs.Prelude.{Option, Some, None}
 use Rattle.std.specs.List.{slice_get}
 use Rattle.ada_deeds.specs.Implicit.{implicit_of}
@@ -28,7 +28,7 @@ use Rattle.ada_sound.proofs.Stored.{Stored}
 use Rattle.ada_sound.proofs.Activations.{returned_fit}
 use Rattle.ada_sound.proofs.GivenBack.{gives_some, ArePlaced, since_back, said_back, objects_back, since_left, said_left, objects_left}
 use Rattle.ada_sound.proofs.Ready.{at_work, at_less, runs_stores, stores_ready, goes_ready, stays}
-use Rattle.ada_sound.proofs.Invariant.{Known, Control, Rooms, Roomed, RunsOn, GoesOn, StoresOn, AreOpened, ReadyIn, Working, Stepped, Waits, AllWait, KeepsAll, below, outers, outer_of, owed_in, handed_at}
+use Rattle.ada_sound.proofs.Invariant.{Known, Control, Rooms, Roomed, RunsOn, GoesOn, StoresOn, AreOpened, ReadyIn, Working, Stepped, Waits, WaitsSo, AllWait, IsAwaited, KeepsAll, below, outers, under_in, outer_of, owed_in, handed_at}
 use Rattle.ada_sound.proofs.Callers.{Suspension, caller_of, callers_of, known_in, Stands}
 
 -- What a step from one body to another keeps: it is known what it leads to, and so are the callers.
@@ -36,6 +36,14 @@ pub record Crosses (program : Program) (before : List Object) (e : Event) (after
   pub suspensions : List Suspension
   pub stepped : Stepped (known_in program (running_procedure after) suspensions) before e after
   pub stands : Stands program suspensions after
+
+-- A step from one body to another, where these activations wait then.
+pub record CrossesTo (program : Program) (gs : List Suspension) (before : List Object) (e : Event) (after : State) : Type 0 where
+  pub stepped : Stepped (known_in program (running_procedure after) gs) before e after
+  pub stands : Stands program gs after
+
+abbrev pub crosses_to : {program : Program} {gs : List Suspension} {before : List Object} {e : Event} {after : State} → CrossesTo program gs before e after → Crosses program before e after
+crosses_to {program} {gs} c = record { suspensions = gs; stepped = c.stepped; stands = c.stands }
 
 -- All bodies of a program see its types.
 same_at : (number : ℕ) (b : Option BodyForm) (p : ProgramForm) → (seen_at number b p).types ≡ p.types
@@ -59,6 +67,17 @@ module _ (program : Program) (procedure : Option ℕ) (g : Suspension) (gs : Lis
 
   same_here : callee.program.types ≡ caller.program.types
   same_here = same_types procedure (program_form program) ∙ sym (same_types g.procedure (program_form program))
+
+  -- What is left to do behind the body is left to do in its caller.
+  pub same_control : (mode : Mode) (actuals : List ActualForm) (references : List Value) (k : Control) (rooms : Rooms) (holds : Holds) → GoesOn callee mode (Returns actuals references ∷ k) rooms holds → k ≡ g.control
+  same_control Running actuals references k [] holds is = is.2
+  same_control Running actuals references k (gone ∷ rooms) holds is = absurd is
+  same_control (Raising e) actuals references k [] holds is = is.1
+  same_control (Raising e) actuals references k (gone ∷ rooms) holds is = absurd is
+  same_control Exiting actuals references k [] holds is = absurd is
+  same_control Exiting actuals references k (gone ∷ rooms) holds is = absurd is
+  same_control Returning actuals references k [] holds is = is.2
+  same_control Returning actuals references k (gone ∷ rooms) holds is = absurd is
 
   module _ (heap : List Object) (places : List Value) (masters : List Master) where
     -- The places of the caller's variables once they get something back, and what is known of them then.
@@ -176,14 +195,18 @@ behind_body (Raising e) actuals values rest = rest
 behind_body Exiting actuals values rest = rest
 behind_body Returning actuals values rest = ended actuals values rest
 
+-- Where a whole list is empty, its rest is.
+pub none_later : (us vs : List Id) → us ++ vs ≡ [] → vs ≡ []
+none_later [] vs e = e
+none_later (u ∷ us) vs e = absurd (cc e)
+
 module _ (program : Program) (a : Activation Value) (actuals : List ActualForm) (references : List Value) (k : Control) (s : State) where
   -- Whatever goes on in the caller is known there, with what its variables hold then.
-  resumes : (mode : Mode) (behind : Control) (held waiting : List Value) (b : Activation Value) (rest : List (Activation Value)) (g : Suspension) (gs : List Suspension) → Stands program (g ∷ gs) (record s { activations = a ∷ b ∷ rest }) → ReadyIn (known_in program g.procedure gs) mode behind s.heap held waiting s.masters → Crosses program s.heap Quiet (resumed_in mode behind (record b { places = held; operands = waiting } ∷ rest) s)
+  resumes : (mode : Mode) (behind : Control) (held waiting : List Value) (b : Activation Value) (rest : List (Activation Value)) (g : Suspension) (gs : List Suspension) → Stands program (g ∷ gs) (record s { activations = a ∷ b ∷ rest }) → ReadyIn (known_in program g.procedure gs) mode behind s.heap held waiting s.masters → CrossesTo program gs s.heap Quiet (resumed_in mode behind (record b { places = held; operands = waiting } ∷ rest) s)
   resumes mode behind held waiting b rest g gs stands r =
       let of = stands.bodies.0 in
       let after = resumed_in mode behind (record b { places = held; operands = waiting } ∷ rest) s in
       record {
-        suspensions = gs;
         stepped = subst (λ (procedure : Option ℕ). Stepped (known_in program procedure gs) s.heap Quiet after) (sym of)
             (stays (known_in program g.procedure gs) Quiet after (tt, r) tt);
         stands = record {
@@ -191,7 +214,7 @@ module _ (program : Program) (a : Activation Value) (actuals : List ActualForm) 
           behind = rw of stands.bodies.2;
           bodies = stands.bodies.3;
           standing = record {
-            suspended = stands.standing.suspended.2;
+            suspended = stands.standing.suspended.1;
             waiting = subst (λ (procedure : Option ℕ). AllWait (implicit_of (program_form program)) (seen_in procedure (program_form program)) (callers_of program gs)) (sym of) stands.standing.waiting.1;
             low = stands.standing.low.3;
           };
@@ -199,27 +222,43 @@ module _ (program : Program) (a : Activation Value) (actuals : List ActualForm) 
       }
 
   -- The caller goes on with what it held, or with what it gets back.
-  goes_back : (mode : Mode) (b : Activation Value) (rest : List (Activation Value)) (g : Suspension) (gs : List Suspension) → Stands program (g ∷ gs) (record s { activations = a ∷ b ∷ rest }) → Working (known_in program g.procedure gs) s.heap g.places s.masters (GoesOn (known_in program g.procedure gs) mode k) → Crosses program s.heap Quiet (resumed_in mode k (b ∷ rest) s)
+  goes_back : (mode : Mode) (b : Activation Value) (rest : List (Activation Value)) (g : Suspension) (gs : List Suspension) → Stands program (g ∷ gs) (record s { activations = a ∷ b ∷ rest }) → Working (known_in program g.procedure gs) s.heap g.places s.masters (GoesOn (known_in program g.procedure gs) mode k) → CrossesTo program gs s.heap Quiet (resumed_in mode k (b ∷ rest) s)
   goes_back mode b rest g gs stands w =
       let places = stands.standing.suspended.0 in
       resumes mode k b.places b.operands b rest g gs stands (rw places (goes_ready (known_in program g.procedure gs) mode k s.heap g.places b.operands s.masters w))
 
-  gets_on : (b : Activation Value) (rest : List (Activation Value)) (g : Suspension) (gs : List Suspension) → Stands program (g ∷ gs) (record s { activations = a ∷ b ∷ rest }) → Working (known_in program g.procedure gs) s.heap (copied_back actuals a.places g.places) s.masters (StoresOn (known_in program g.procedure gs) s.heap (storing named references k)) → Crosses program s.heap Quiet (resumed_in Running (storing named references k) (ended actuals a.places (b ∷ rest)) s)
+  gets_on : (b : Activation Value) (rest : List (Activation Value)) (g : Suspension) (gs : List Suspension) → Stands program (g ∷ gs) (record s { activations = a ∷ b ∷ rest }) → Working (known_in program g.procedure gs) s.heap (copied_back actuals a.places g.places) s.masters (StoresOn (known_in program g.procedure gs) s.heap (storing named references k)) → CrossesTo program gs s.heap Quiet (resumed_in Running (storing named references k) (ended actuals a.places (b ∷ rest)) s)
   gets_on b rest g gs stands w =
       let places = stands.standing.suspended.0 in
       let waiting = stored_back actuals a.places ++ b.operands in
       resumes Running (storing named references k) (copied_back actuals a.places b.places) waiting b rest g gs stands
       (rw places (stores_ready (known_in program g.procedure gs) (storing named references k) s.heap (copied_back actuals a.places g.places) waiting s.masters w))
 
-  -- A body is left, in whatever mode: its caller goes on. Each variable of the body has a place, from which it gives something back.
-  pub left_fine : (mode : Mode) (rest : List (Activation Value)) (gs : List Suspension) → Stands program gs (record s { activations = a ∷ rest }) → ArePlaced (seen_in a.procedure (program_form program)).variables a.places → Working (known_in program a.procedure gs) s.heap a.places s.masters (GoesOn (known_in program a.procedure gs) mode (Returns actuals references ∷ k)) → Crosses program s.heap Quiet (resumed_in (behind_call mode) (behind_frames mode references k) (behind_body mode actuals a.places rest) s)
-  left_fine mode [] [] stands placed w = absurd (no_caller program a.procedure mode actuals references k w.rooms w.holds w.rest)
-  left_fine mode [] (g ∷ gs) stands placed w = absurd stands.bodies
-  left_fine mode (b ∷ rest) [] stands placed w = absurd stands.bodies
-  left_fine Running (b ∷ rest) (g ∷ gs) stands placed w =
-      gets_on b rest g gs stands (returns_by program a.procedure g gs s.heap a.places s.masters actuals references k stands.standing.waiting.0 w.rooms w.holds w.stored w.roomed placed w.fit w.rest)
-  left_fine (Raising e) (b ∷ rest) (g ∷ gs) stands placed w =
-      goes_back (Raising e) b rest g gs stands (raising_by program a.procedure g gs s.heap a.places s.masters actuals references k stands.standing.waiting.0 e w.rooms w.holds w.stored w.roomed w.fit w.rest)
-  left_fine Exiting (b ∷ rest) (g ∷ gs) stands placed w = absurd (exiting_by program a.procedure g gs s.heap a.places s.masters actuals references k stands.standing.waiting.0 w.rooms w.holds w.rest)
-  left_fine Returning (b ∷ rest) (g ∷ gs) stands placed w =
-      gets_on b rest g gs stands (returning_by program a.procedure g gs s.heap a.places s.masters actuals references k stands.standing.waiting.0 w.rooms w.holds w.stored w.roomed placed w.fit w.rest)
+  -- A body is left, in whatever mode: its caller goes on, which waits for a call, as the body of no operation comes to its end here. Each variable of the
+  -- body has a place, from which it gives something back.
+  left_by : (mode : Mode) (b : Activation Value) (rest : List (Activation Value)) (g : Suspension) (gs : List Suspension) → Stands program (g ∷ gs) (record s { activations = a ∷ b ∷ rest }) → (IsAwaited k → ⊥) → ArePlaced (seen_in a.procedure (program_form program)).variables a.places → Working (known_in program a.procedure (g ∷ gs)) s.heap a.places s.masters (GoesOn (known_in program a.procedure (g ∷ gs)) mode (Returns actuals references ∷ k)) → WaitsSo (implicit_of (program_form program)) (seen_in a.procedure (program_form program)) (caller_of program g gs) (callers_of program gs) → CrossesTo program gs s.heap Quiet (resumed_in (behind_call mode) (behind_frames mode references k) (behind_body mode actuals a.places (b ∷ rest)) s)
+  left_by Running b rest g gs stands none placed w (inl waits) =
+      gets_on b rest g gs stands (returns_by program a.procedure g gs s.heap a.places s.masters actuals references k waits w.rooms w.holds w.stored w.roomed placed w.fit w.rest)
+  left_by (Raising e) b rest g gs stands none placed w (inl waits) =
+      goes_back (Raising e) b rest g gs stands (raising_by program a.procedure g gs s.heap a.places s.masters actuals references k waits e w.rooms w.holds w.stored w.roomed w.fit w.rest)
+  left_by Exiting b rest g gs stands none placed w (inl waits) = absurd (exiting_by program a.procedure g gs s.heap a.places s.masters actuals references k waits w.rooms w.holds w.rest)
+  left_by Returning b rest g gs stands none placed w (inl waits) =
+      gets_on b rest g gs stands (returning_by program a.procedure g gs s.heap a.places s.masters actuals references k waits w.rooms w.holds w.stored w.roomed placed w.fit w.rest)
+  left_by mode b rest g gs stands none placed w (inr operation) =
+      absurd (none (subst IsAwaited (sym (same_control program a.procedure g gs mode actuals references k w.rooms w.holds w.rest)) operation.operated))
+
+  pub left_to : (mode : Mode) (b : Activation Value) (rest : List (Activation Value)) (g : Suspension) (gs : List Suspension) → Stands program (g ∷ gs) (record s { activations = a ∷ b ∷ rest }) → (IsAwaited k → ⊥) → ArePlaced (seen_in a.procedure (program_form program)).variables a.places → Working (known_in program a.procedure (g ∷ gs)) s.heap a.places s.masters (GoesOn (known_in program a.procedure (g ∷ gs)) mode (Returns actuals references ∷ k)) → CrossesTo program gs s.heap Quiet (resumed_in (behind_call mode) (behind_frames mode references k) (behind_body mode actuals a.places (b ∷ rest)) s)
+  left_to mode b rest g gs stands none placed w = left_by mode b rest g gs stands none placed w stands.standing.waiting.0
+
+  -- Where nothing is under way in what waits for the body, nothing is in what waits behind it.
+  abbrev pub LeftSettled : List Suspension → State → Type 0
+  LeftSettled gs after = (hs : List Suspension) × CrossesTo program hs s.heap Quiet after × (under_in (callers_of program gs) ≡ [] → under_in (callers_of program hs) ≡ [])
+
+  pub left_settled : (mode : Mode) (rest : List (Activation Value)) (gs : List Suspension) → Stands program gs (record s { activations = a ∷ rest }) → (IsAwaited k → ⊥) → ArePlaced (seen_in a.procedure (program_form program)).variables a.places → Working (known_in program a.procedure gs) s.heap a.places s.masters (GoesOn (known_in program a.procedure gs) mode (Returns actuals references ∷ k)) → LeftSettled gs (resumed_in (behind_call mode) (behind_frames mode references k) (behind_body mode actuals a.places rest) s)
+  left_settled mode [] [] stands none placed w = absurd (no_caller program a.procedure mode actuals references k w.rooms w.holds w.rest)
+  left_settled mode [] (g ∷ gs) stands none placed w = absurd stands.bodies
+  left_settled mode (b ∷ rest) [] stands none placed w = absurd stands.bodies
+  left_settled mode (b ∷ rest) (g ∷ gs) stands none placed w = (gs, left_to mode b rest g gs stands none placed w, none_later g.under (under_in (callers_of program gs)))
+
+  pub left_fine : (mode : Mode) (rest : List (Activation Value)) (gs : List Suspension) → Stands program gs (record s { activations = a ∷ rest }) → (IsAwaited k → ⊥) → ArePlaced (seen_in a.procedure (program_form program)).variables a.places → Working (known_in program a.procedure gs) s.heap a.places s.masters (GoesOn (known_in program a.procedure gs) mode (Returns actuals references ∷ k)) → Crosses program s.heap Quiet (resumed_in (behind_call mode) (behind_frames mode references k) (behind_body mode actuals a.places rest) s)
+  left_fine mode rest gs stands none placed w = crosses_to (left_settled mode rest gs stands none placed w).1

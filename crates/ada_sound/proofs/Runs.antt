@@ -1,19 +1,17 @@
 -- Runs keep the invariant, and what each step tells of objects adds up.
 
-use Rattle.std.proofs.Common.{◌≡◌, ℕ, suc, ◌≤◌, Bool, true, false, List, [], ◌∷◌, ◌++◌, refl, sym, ap, subst, ◌∙◌, ◌⊎◌, inl, inr, arith, reverse}
+use Rattle.std.proofs.Common.{◌≡◌, ℕ, suc, ◌≤◌, Bool, true, false, List, [], ◌∷◌, ◌++◌, refl, sym, ap, subst, ◌∙◌, ◌⊎◌, inl, inr, arith}
 use Rattle.std.specs.Prelude.{◌↔◌, Option, Some, None}
-use Rattle.std.specs.List.{All, AllPairs, slice_get, slice_index_or}
+use Rattle.std.specs.List.{All, AllPairs, slice_index_or}
 use Rattle.std.proofs.lemmas.Option.{slice_get-get_or}
 use Rattle.std.proofs.lemmas.List.Elements.{All-nil, All-cons}
 use Rattle.std.proofs.lemmas.List.Kept.{AllPairs-cons}
 use Rattle.ada_deeds.specs.Implicit.{implicit_of}
 use Rattle.ada_program.specs.declared.program.Program.{Program}
 use Rattle.ada_program.specs.Form.{ActualForm}
-use Rattle.ada_program.specs.ProgramForm.{TypeForm, BodyForm, ProgramForm, program_form, body_forms, main_body, seen_by, seen_in}
-use Rattle.ada_program.specs.WellFormed.{IsWellFormed}
+use Rattle.ada_program.specs.ProgramForm.{TypeForm, ProgramForm, program_form, body_forms, seen_in}
 use Rattle.ada_parts.specs.Task.{Task, next as task_next}
-use Rattle.ada_effects.specs.Effects.{Implicit, body_frees, effects_of}
-use Rattle.ada_flow.specs.Flow.{first_holds, gone_with, ObeysRules}
+use Rattle.ada_effects.specs.Effects.{Implicit}
 use Rattle.ada_meaning.specs.declared.state.Id.{Id}
 use Rattle.ada_meaning.specs.declared.state.Value.{Value}
 use Rattle.ada_meaning.specs.declared.state.Value.TheVariants.{Names}
@@ -26,7 +24,8 @@ use Rattle.ada_meaning.specs.Event.{Born, Finalized, Back, Followed, Left, Line,
 use Rattle.ada_meaning.specs.State.{Activation, Master}
 use Rattle.ada_meaning.specs.declared.state.Mode.{Mode}
 use Rattle.ada_meaning.specs.declared.state.Mode.TheVariants.{Running, Raising, Exiting, Returning}
-use Rattle.ada_meaning.specs.Frame.{Frame, Treatment, Elaborates, Calls, Returns, Treats, is_master, landing}
+use Rattle.ada_meaning.specs.Frame as frame
+use Rattle.ada_meaning.specs.Frame.{Frame, Treatment, Calls, Returns, Treats, is_master, landing}
 use Rattle.ada_finalized.specs.Law.{NoOperationRuns}
 use Rattle.ada_sound.specs.Agreement.{running_procedure}
 use Rattle.ada_sound.specs.Callees.{IsCovered}
@@ -36,8 +35,7 @@ use Rattle.ada_meaning.specs.Named.{Object, State, Next, named, object_at, fille
 use Rattle.ada_meaning.specs.Run.{Event, Choice, settled, grants, takes, Leads, Step, Run, here, there, Halts, run_more}
 use Rattle.ada_meaning.specs.Law.{named_by, back_of, followed_of, Differ, BackTwoObjects, FollowedBeforeBack, leaving_by, IsBackHome, GoesHome, GivesBackOf, Happened, IsBack, HasEnded, items_of}
 use Rattle.ada_typed.specs.Holding.{cells_of}
-use Rattle.ada_typed.proofs.Values.{filled_at, active_placed}
-use Rattle.ada_sound.proofs.GivenBack.{ArePlaced}
+use Rattle.ada_typed.proofs.Values.{filled_at}
 use Rattle.ada_typed.proofs.Control as typed
 use Rattle.ada_typed.proofs.Evaluations as typing
 use Rattle.ada_typed.proofs.Bodies.{own_bodies}
@@ -59,27 +57,24 @@ use Rattle.ada_sound.proofs.Touching.{Touching, waiting_for}
 use Rattle.ada_sound.proofs.Operated.{OperatedOn, operated_by}
 use Rattle.ada_parts.specs.declared.tasks.Next.TheVariants.{Perform}
 use Rattle.ada_sound.proofs.Alters.{BackIn, StaysItself, Alters, alters_same, alters_set}
-use Rattle.ada_sound.proofs.Invariant.{Known, Control, Working, RunsOn, CallsOn, Spares, Says, GoesOn, Stepped, EndsWell, Fine, outers, ArePassed, under_in}
+use Rattle.ada_sound.proofs.Invariant.{Known, Control, Working, CallsOn, Says, GoesOn, Stepped, EndsWell, Fine, outers, IsAwaited, under_in}
 use Rattle.ada_sound.proofs.Callers.{Suspension, callers_of, known_in, Stands}
-use Rattle.ada_sound.proofs.Bodies.{IsBody, seen_is, callee_get}
-use Rattle.ada_sound.proofs.Returns.{Crosses, same_types, resumed_in, behind_call as behind_mode, behind_frames, behind_body, left_fine}
-use Rattle.ada_sound.proofs.Fits.{NoOuterAlias}
-use Rattle.ada_sound.proofs.Calls.{callee, values, waiting, freed_by_call, calls_fine, references, referenced, passes_spared}
+use Rattle.ada_sound.proofs.Returns.{Crosses, same_types, resumed_in, behind_call as behind_mode, behind_frames, behind_body, crosses_to, left_settled}
+use Rattle.ada_sound.proofs.Calls.{waiting, calls_to, references}
 use Rattle.ada_sound.proofs.Waiting.{SameBody, stands_kept}
-use Rattle.ada_sound.proofs.Keepings.{callee_keeps}
 use Rattle.ada_sound.proofs.Ready.{at_work}
-use Rattle.ada_sound.proofs.BodyRuns.{body_runs, call_spares}
-use Rattle.ada_sound.proofs.Below.{named_below, none_under}
+use Rattle.ada_sound.proofs.Below.{named_below}
 use Rattle.ada_sound.proofs.Steps as inside
 use Rattle.ada_sound.proofs.StoredStates.{IsStored, ready_stored}
 use Rattle.ada_sound.proofs.Finalization.{finalizes_in}
-use Rattle.ada_sound.proofs.Starts.{IsReached, Ordinary, Sound, body_obeys, none_out, none_on}
+use Rattle.ada_sound.proofs.Starts.{IsReached, Ordinary, Sound}
 use Rattle.ada_sound.proofs.Calm.{filled_in, typed_calm, behind_calm}
 use Rattle.ada_sound.proofs.Treatments.{TellsNothing, Begins, StaysHere, Treated, treats_fine}
 use Rattle.ada_sound.proofs.Operating.{Sight, StaysLive, IsCalm, Operates, behind_operation}
 use Rattle.ada_sound.proofs.OperationBegins.{begins_operation}
 use Rattle.ada_sound.proofs.OperationSteps.{acting, Wrote, IsMild}
 use Rattle.ada_sound.proofs.OperationLaw.{operates_on, operation_ends, operation_raises, StepsOn, steps_on}
+use Rattle.ada_sound.proofs.CallBegins.{runs_called, placed_in}
 
 -- An object whose words are out.
 OutIn : List Object → Id → Type 0
@@ -201,7 +196,7 @@ pub record InOperation (program : Program) (before : List Object) (e : Event) (a
 -- What a step leads to: the ordinary invariant, or the body of an operation runs.
 abbrev pub Led : Program → List Object → Event → State → Type 0
 Led program before e after =
-    (Crosses program before e after × IsCalm (behind_call after.control)) ⊎ (InOperation program before e after ⊎ InTouching program before e after)
+    ((c : Crosses program before e after) × IsCalm (behind_call after.control) × (under_in (callers_of program c.suspensions) ≡ [])) ⊎ (InOperation program before e after ⊎ InTouching program before e after)
 
 -- What tells of no storage says nothing of objects, and covers nothing.
 told_says : (e : Event) (before : List Object) (after : State) → TellsNothing e → (implicit : Implicit) (p : ProgramForm) → Says implicit p e before after
@@ -223,7 +218,7 @@ told_covered program (Line line) told n = tt
 told_covered program Quiet told n = tt
 
 -- A step that begins no call and ends none keeps what is known of callers.
-module _ (program : Program) (s after : State) (gs : List Suspension) (stands : Stands program gs s) (calm : IsCalm (behind_call s.control)) (e : Event) (kept : Stays s after) where
+module _ (program : Program) (s after : State) (gs : List Suspension) (stands : Stands program gs s) (calm : IsCalm (behind_call s.control)) (none : under_in (callers_of program gs) ≡ []) (e : Event) (kept : Stays s after) where
   kept_on : Stepped (known_in program (running_procedure s) gs) s.heap e after → Led program s.heap e after
   kept_on st = inl (
     record {
@@ -232,6 +227,7 @@ module _ (program : Program) (s after : State) (gs : List Suspension) (stands : 
       stands = stands_kept program s after gs stands e kept.same st.alters;
     },
     rw kept.behind calm,
+    none,
   )
 
 -- What comes next is known, whichever body runs then.
@@ -242,48 +238,12 @@ FineIn program s (tells request e after) = Led program s.heap e after
 FineIn program s (asks request answered) = (granted : Bool) → Led program s.heap Quiet (answered granted)
 FineIn program s (picks n taken) = (i : ℕ) → suc i ≤ n → Led program s.heap Quiet (taken i)
 
-fine_in : (program : Program) (s : State) (gs : List Suspension) → Stands program gs s → IsCalm (behind_call s.control) → (n : Next) → Each (Stays s) n → Fine (known_in program (running_procedure s) gs) s.heap s.masters n → FineIn program s n
-fine_in program s gs stands calm (halts halt) same fine = fine
-fine_in program s gs stands calm (moves e after) same fine = kept_on program s after gs stands calm e same fine
-fine_in program s gs stands calm (tells request e after) same fine = kept_on program s after gs stands calm e same fine
-fine_in program s gs stands calm (asks request answered) same fine = λ granted. kept_on program s (answered granted) gs stands calm Quiet (same granted) (fine granted)
-fine_in program s gs stands calm (picks n taken) same fine = λ i lt. kept_on program s (taken i) gs stands calm Quiet (same i lt) (fine i lt)
-
--- Each variable of the running body has a place.
-placed_in : (p : ProgramForm) (a : Activation Value) (rest : List (Activation Value)) (s : State) → s.activations ≡ a ∷ rest → typed.TypedIn p s → ArePlaced p.variables a.places
-placed_in p a rest s is (typed.running kinds ready fits) x kind at = active_placed p.types (cells_of s.heap) p.variables kinds (a ∷ rest) x kind (rw is at ready.active) at
-placed_in p a rest s is (typed.on_jump mode jumps goes) x kind at = active_placed p.types (cells_of s.heap) p.variables [] (a ∷ rest) x kind (rw is at jumps.active) at
-placed_in p a rest s is (typed.operated kinds ready ended) x kind at = active_placed p.types (cells_of s.heap) p.variables kinds (a ∷ rest) x kind (rw is at ready.active) at
-placed_in p a rest s is (typed.out_of_operation e kinds jumps ended) x kind at = active_placed p.types (cells_of s.heap) p.variables [] (a ∷ rest) x kind (rw is at jumps.active) at
-
--- The body of a procedure runs when it is called.
-module _ (program : Program) (number : ℕ) (b : BodyForm) (given : List ActualForm) (k : Control) (a : Activation Value) (gs : List Suspension) (s : State) (well : IsWellFormed (program_form program)) (obeys : ObeysRules program)
-    (w : Working (known_in program a.procedure gs) s.heap a.places s.masters (CallsOn (known_in program a.procedure gs) number b given k)) (is : IsBody (program_form program) a.procedure) (passed : ArePassed s.heap a.places (reverse given) a.operands) where
-  abbrev called : Known
-  called = callee program number b given k a [] gs s w
-
-  seen_body : slice_get (program_form program).bodies number ≡ Some b
-  seen_body = callee_get (program_form program) a.procedure number b is w.rest.0
-
-  same_body : main_body called.program ≡ main_body (seen_by number b (program_form program))
-  same_body = ap main_body (seen_is (program_form program) number b seen_body)
-
-  spares_called : (rest : List (Activation Value)) → Stands program gs (record s { activations = a ∷ rest }) → Spares called (body_frees called.program.types (effects_of called.implicit called.program) (main_body called.program))
-  spares_called rest stands t may =
-      let freed = freed_by_call program number b given k a rest gs s w stands t may in
-      let caller = known_in program a.procedure gs in
-      let same = same_types a.procedure (program_form program) ∙ sym (same_types (Some number) (program_form program)) in
-      let refers = referenced program number b given k a [] gs s in (
-        subst (λ (types : List TypeForm). NoOuterAlias types (outers called) t) same
-            (call_spares caller.program.types caller.program.variables (slice_get (effects_of caller.implicit caller.program).calls number) given a.places (values program number b given k a [] gs s) refers w.holds (outers caller) t freed (w.rest.3 t freed).0
-            (λ of o is. passes_spared program number b given k a [] gs s w passed t freed of o is)),
-        may,
-      )
-
-  runs_called : (rest : List (Activation Value)) → Stands program gs (record s { activations = a ∷ rest }) → RunsOn called (Elaborates b.declarations b.statements b.handlers ∷ Returns given (references program number b given k a [] gs s) ∷ k) (gone_with b.declarations ∷ []) (first_holds b.formals b.variables)
-  runs_called rest stands =
-      subst (λ (c : BodyForm). RunsOn called (Elaborates c.declarations c.statements c.handlers ∷ Returns given (references program number b given k a [] gs s) ∷ k) (gone_with c.declarations ∷ []) (first_holds c.formals c.variables)) same_body
-      (body_runs program (Some number) (waiting program number b given k a [] gs s w ∷ gs) (body_obeys program (Some number) (b, seen_body) obeys) (none_out program (Some number) well) (none_on program (Some number) well) (spares_called rest stands) (callee_keeps (implicit_of (program_form program)) (program_form program) a.procedure number b is w.rest.0))
+fine_in : (program : Program) (s : State) (gs : List Suspension) → Stands program gs s → IsCalm (behind_call s.control) → under_in (callers_of program gs) ≡ [] → (n : Next) → Each (Stays s) n → Fine (known_in program (running_procedure s) gs) s.heap s.masters n → FineIn program s n
+fine_in program s gs stands calm none (halts halt) same fine = fine
+fine_in program s gs stands calm none (moves e after) same fine = kept_on program s after gs stands calm none e same fine
+fine_in program s gs stands calm none (tells request e after) same fine = kept_on program s after gs stands calm none e same fine
+fine_in program s gs stands calm none (asks request answered) same fine = λ granted. kept_on program s (answered granted) gs stands calm none Quiet (same granted) (fine granted)
+fine_in program s gs stands calm none (picks n taken) same fine = λ i lt. kept_on program s (taken i) gs stands calm none Quiet (same i lt) (fine i lt)
 
 are_of_kinds : (p : ProgramForm) (s : State) → typed.TypedIn p s → AreOfKinds p.types s
 are_of_kinds p s t o x found = filled_at p.types (cells_of s.heap) (cells_of s.heap) o.0 x.cell (filled_in p s t) (typing.cell_at s.heap o.0 x found)
@@ -298,9 +258,8 @@ held_inside_it program s sound o =
     held_inside s (items_fall (items_of s.masters) (stored_in program s o).1.counted)
     (held_outside (program_form program) s sound.nested (subst (λ (ts : List TypeForm). AreOfKinds ts s) (same_types (running_procedure s) (program_form program)) (are_of_kinds own s sound.typed.inside)))
 
-none_is_under : (program : Program) (procedure : Option ℕ) (gs : List Suspension) (s : State) → Stands program gs s → (o : Id) → IsUnder (outers (known_in program procedure gs)).under o → ⊥
-none_is_under program procedure gs s stands o under =
-    let none : under_in (callers_of program gs) ≡ [] = none_under (implicit_of (program_form program)) (seen_in (running_procedure s) (program_form program)) (callers_of program gs) stands.standing.waiting in
+none_is_under : (program : Program) (procedure : Option ℕ) (gs : List Suspension) → under_in (callers_of program gs) ≡ [] → (o : Id) → IsUnder (outers (known_in program procedure gs)).under o → ⊥
+none_is_under program procedure gs none o under =
     let nothing : IsUnder [] o = rw none at under in
     nothing
 
@@ -318,13 +277,12 @@ ordinary : (program : Program) (s : State) (sound : Sound program s) (o : Ordina
 unfolding next
 ordinary program s sound o inner n is same =
     let known = known_in program (running_procedure s) o.suspensions in
-    fine_in program s o.suspensions o.stands o.calm n same
+    fine_in program s o.suspensions o.stands o.calm o.settled n same
     (subst (λ (coming : Next). Fine known s.heap s.masters coming) is (inside.fine known program.types.items (reaches_in program (running_procedure s) o.suspensions) (body_forms program) (may_call program (running_procedure s) o.suspensions sound.well) s inner sound.typed.inside (own_bodies (program_form program) sound.frees_own (running_procedure s)) (collect_two (program_form program) s sound.nested) (finalizes_in program sound.well s sound.reached sound.typed o.calm known.program.types)
-    (λ p x under found. absurd (none_is_under program (running_procedure s) o.suspensions s o.stands p under))
+    (λ p x under found. absurd (none_is_under program (running_procedure s) o.suspensions o.settled p under))
     (λ left behind runs at_leaving.
-    let parting = rw (runs, at_leaving) at (o.ready.1) in
-    let none = none_under known.implicit known.program known.callers o.stands.standing.waiting in (
-      held_there s.heap s.masters (rw none at parting.stored) (held_inside_it program s sound o),
+    let parting = rw (runs, at_leaving) at (o.ready.1) in (
+      held_there s.heap s.masters (rw o.settled at parting.stored) (held_inside_it program s sound o),
       named_below known s.heap o.stands.standing.waiting o.stands.standing.low left behind s.masters parting,
       in_order program sound.well s sound.nested known.program.types (same_types (running_procedure s) (program_form program)) s.masters refl,
     ))
@@ -345,6 +303,13 @@ left_calm Running given k calm = storing_calm given k calm
 left_calm (Raising e) given k calm = behind_calm k calm
 left_calm Exiting given k calm = behind_calm k calm
 left_calm Returning given k calm = storing_calm given k calm
+
+-- So the body of no operation comes to its end there.
+never_awaited : (k : Control) → NoOperationRuns k → IsAwaited k → ⊥
+never_awaited [] none is = is
+never_awaited (frame.Awaits v by done of part tasks ∷ k) none is = absurd (cc (none.0))
+never_awaited (frame.Confines ∷ k) none is = absurd (cc (none.0))
+never_awaited (f ∷ k) none is = is
 
 module _ (program : Program) (a : Activation Value) (rest : List (Activation Value)) (k : Control) (s : State) where
   -- What is known of callers is so whatever is left to do.
@@ -376,7 +341,7 @@ module _ (program : Program) (a : Activation Value) (rest : List (Activation Val
 
     goes_here : (e : Event) (after : State) → Stepped treater s.heap e after × StaysHere treater a rest s program.types.items (body_forms program) k IsOperated after → Led program s.heap e after
     goes_here e after (st, (acts, behind)) =
-        kept_on program whole after o.suspensions o.stands o.calm e
+        kept_on program whole after o.suspensions o.stands o.calm o.settled e
         (record { same = record { procedure = ap procedure_of acts; suspended = ap older acts }; behind = behind }) st
 
     calm_here : NoOperationRuns whole.control
@@ -384,14 +349,14 @@ module _ (program : Program) (a : Activation Value) (rest : List (Activation Val
 
     begun_as : (e : Event) (after : State) → next program.types.items (body_forms program) whole ≡ moves e after → (c : Begins treater a rest s program.types.items (body_forms program) k IsOperated e after) → IsUsedAs (program_form program) c.treatment c.b → Led program s.heap e after
     begun_as e after is c (inl plain) = inr (inl (record {
-      operates = begins_operation program sound.well a rest o.suspensions s k IsOperated e after (restand Running (Treats v treatment tasks) o.suspensions o.stands) o.calm
+      operates = begins_operation program sound.well a rest o.suspensions s k IsOperated e after (restand Running (Treats v treatment tasks) o.suspensions o.stands) o.calm o.settled
           (step_typed program sound.well whole after settled e sound.typed (rw is (refl, refl))) c plain;
       alters = rw c.is c.alters;
       says = told_says e s.heap after c.tells;
       covered = told_covered program e c.tells;
     }))
     begun_as e after is c (inr (touches, may, frugal, silent)) = inr (inr (record {
-      touching = touching_starts program a rest s k v treatment tasks o.suspensions may whole refl refl sound calm_here o.calm (restand Running (Treats v treatment tasks) o.suspensions o.stands) e after c touches silent frugal
+      touching = touching_starts program a rest s k v treatment tasks o.suspensions may whole refl refl sound calm_here o.calm o.settled (restand Running (Treats v treatment tasks) o.suspensions o.stands) e after c touches silent frugal
           (step_typed program sound.well whole after settled e sound.typed (rw is (refl, refl)));
       alters = rw c.is c.alters;
       says = told_says e s.heap after c.tells _ _;
@@ -431,10 +396,9 @@ module _ (program : Program) (a : Activation Value) (rest : List (Activation Val
       → Working (known_in program a.procedure o.suspensions) s.heap a.places s.masters (GoesOn (known_in program a.procedure o.suspensions) mode (Returns actuals references ∷ k))
       → Led program s.heap Quiet (resumed_in (behind_mode mode) (behind_frames mode references k) (behind_body mode actuals a.places rest) s)
   leaving_step mode actuals references sound o w =
-      inl (
-        left_fine program a actuals references k s mode rest o.suspensions (restand mode (Returns actuals references) o.suspensions o.stands) (placed_in (seen_in a.procedure (program_form program)) a rest (state_with mode (Returns actuals references ∷ k) (a ∷ rest) s) refl sound.typed.inside) w,
-        left_calm mode references k o.calm,
-      )
+      let left =
+      left_settled program a actuals references k s mode rest o.suspensions (restand mode (Returns actuals references) o.suspensions o.stands) (never_awaited k o.calm) (placed_in (seen_in a.procedure (program_form program)) a rest (state_with mode (Returns actuals references ∷ k) (a ∷ rest) s) refl sound.typed.inside) w in
+      inl (crosses_to left.1, left_calm mode references k o.calm, left.2 o.settled)
 
   -- The step of a frame, where no jump is on its way.
   running_step : (f : Frame Value) → (sound : Sound program (state_with Running (f ∷ k) (a ∷ rest) s)) → Ordinary program (state_with Running (f ∷ k) (a ∷ rest) s) → FineIn program (state_with Running (f ∷ k) (a ∷ rest) s) (mode_next named program.types.items (body_forms program) Running (state_with Running (f ∷ k) (a ∷ rest) s))
@@ -444,8 +408,9 @@ module _ (program : Program) (a : Activation Value) (rest : List (Activation Val
       let w : Working caller s.heap a.places s.masters (CallsOn caller number b actuals k) = at_work ready ready.rest.0 in
       let stands = restand Running (Calls number b actuals) o.suspensions o.stands in
       inl (
-        calls_fine program number b actuals k a rest o.suspensions s w ready.rest.1 (inside.heap_typed (seen_in a.procedure (program_form program)) (state_with Running (Calls number b actuals ∷ k) (a ∷ rest) s) sound.typed.inside).1 stands (runs_called program number b actuals k a o.suspensions s sound.well sound.obeys w stands.body ready.rest.1 rest stands),
+        crosses_to (calls_to program number b actuals k a rest o.suspensions s w ready.rest.1 (inside.heap_typed (seen_in a.procedure (program_form program)) (state_with Running (Calls number b actuals ∷ k) (a ∷ rest) s) sound.typed.inside).1 stands (runs_called program number b actuals k a o.suspensions s sound.well sound.obeys w stands.body ready.rest.1 rest stands)),
         (typed_calm (seen_in a.procedure (program_form program)) (state_with Running (Calls number b actuals ∷ k) (a ∷ rest) s) sound.typed.inside refl o.calm).1,
+        o.settled,
       )
   running_step (Returns actuals references) sound o = leaving_step Running actuals references sound o o.ready.1
   running_step (Treats v treatment tasks) sound o = treating_step v treatment tasks sound o
@@ -486,7 +451,7 @@ module _ (program : Program) (s : State) (o : Operates program s) where
   object_out =
       let behind = behind_operation (o.caller ∷ o.rest) o.behind o.lower s in
       let c = operation_ends program s o in
-      let stored = ready_stored (known_in program o.caller.procedure c.suspensions) behind c.stepped.ready in
+      let stored = ready_stored (known_in program o.caller.procedure o.suspended.suspensions) behind c.stepped.ready in
       by o.body.x.out refl o.body.x.stage o.body.live (stored.1.sane o.object o.body.x o.body.found).back_gone
     where
       by : (out : Bool) → o.body.x.out ≡ out → (stage : Stage) → StaysLive stage → (o.body.x.out ≡ false → o.body.x.stage ≡ Gone) → o.body.x.out ≡ true
@@ -523,8 +488,8 @@ module _ (program : Program) (s : State) (o : Operates program s) where
     says = λ implicit p. mild_says implicit p e after a.mild;
     covered = mild_covered e a.mild;
   }))
-  led_on (moves e after) (inr (quiet, inl is)) = rw (quiet, is) (inl (operation_ends program s o, o.suspended.calm))
-  led_on (moves e after) (inr (quiet, inr (x, may, is))) = rw (quiet, is) (inl (operation_raises program s o x may, o.suspended.calm))
+  led_on (moves e after) (inr (quiet, inl is)) = rw (quiet, is) (inl (crosses_to (operation_ends program s o), o.suspended.calm, o.suspended.settled))
+  led_on (moves e after) (inr (quiet, inr (x, may, is))) = rw (quiet, is) (inl (crosses_to (operation_raises program s o x may), o.suspended.calm, o.suspended.settled))
   led_on (tells request e after) is = absurd is
   led_on (asks request answered) is = absurd is
   led_on (picks n taken) is = absurd is
@@ -584,15 +549,15 @@ pub led : (program : Program) (s : State) (choice : Choice) (e : Event) (after :
 led program s choice e after r step = leads_fine program s (next program.types.items (body_forms program) s) choice e after (step_fine program s r) step
 
 does_so : (program : Program) (before : List Object) (e : Event) (after : State) → Led program before e after → Does before e after
-does_so program before e after (inl (c, calm)) = record { implicit = implicit_of (program_form program); body = (known_in program (running_procedure after) c.suspensions).program; alters = c.stepped.alters; says = c.stepped.says }
-does_so program before e after (inr (inr c)) = record { implicit = implicit_of (program_form program); body = seen_in (Some c.touching.procedure) (program_form program); alters = c.alters; says = c.says }
+does_so program before e after (inl (c, calm, none)) = record { implicit = implicit_of (program_form program); body = (known_in program (running_procedure after) c.suspensions).program; alters = c.stepped.alters; says = c.stepped.says }
+does_so program before e after (inr (inr c)) = record { implicit = implicit_of (program_form program); body = seen_in (running_procedure after) (program_form program); alters = c.alters; says = c.says }
 does_so program before e after (inr (inl c)) = record { implicit = implicit_of (program_form program); body = program_form program; alters = c.alters; says = c.says (implicit_of (program_form program)) (program_form program) }
 
 pub stepped : (program : Program) (s : State) (choice : Choice) (e : Event) (after : State) → Sound program s → Step program s choice e after → Does s.heap e after
 stepped program s choice e after r step = does_so program s.heap e after (led program s choice e after r step)
 
 goes_so : (program : Program) (before : List Object) (e : Event) (after : State) → Led program before e after → Ordinary program after ⊎ (Operates program after ⊎ Touching program after)
-goes_so program before e after (inl (c, calm)) = inl (record { suspensions = c.suspensions; ready = c.stepped.ready; stands = c.stands; calm = calm })
+goes_so program before e after (inl (c, calm, none)) = inl (record { suspensions = c.suspensions; ready = c.stepped.ready; stands = c.stands; calm = calm; settled = none })
 goes_so program before e after (inr (inl c)) = inr (inl c.operates)
 goes_so program before e after (inr (inr c)) = inr (inr c.touching)
 
@@ -625,10 +590,10 @@ housed program s sound o x found out = by sound.goes
   where
     by : Ordinary program s ⊎ (Operates program s ⊎ Touching program s) → HasItem x.cell.home.item x.cell.access x.cell.home.pool (items_of s.masters)
     by (inl n) = ((stored_in program s n).1.sane o x found).housed out
-    by (inr (inr f)) = ((ready_stored (known_in program (Some f.procedure) (waiting_for program s f)) s f.ready).1.sane o x found).housed out
+    by (inr (inr f)) = ((ready_stored (known_in program (running_procedure s) (waiting_for program s f)) s f.ready).1.sane o x found).housed out
     by (inr (inl n)) =
         let c = operation_ends program s n in
-        let stored = ready_stored (known_in program n.caller.procedure c.suspensions) (behind_operation (n.caller ∷ n.rest) n.behind n.lower s) c.stepped.ready in
+        let stored = ready_stored (known_in program n.caller.procedure n.suspended.suspensions) (behind_operation (n.caller ∷ n.rest) n.behind n.lower s) c.stepped.ready in
         rw n.masters (below_has x.cell.home.item x.cell.access x.cell.home.pool n.upper n.lower ((stored.1.sane o x found).housed out))
 
 -- No erroneous action is next, and no exception leaves an operation.

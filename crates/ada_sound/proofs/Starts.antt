@@ -26,8 +26,8 @@ use Rattle.ada_sound.proofs.Fits.{first_fit}
 use Rattle.ada_sound.proofs.Bodies.{IsBody, IsFine, obeys_in}
 use Rattle.ada_sound.proofs.BodyRuns.{body_runs, none_suspended}
 use Rattle.ada_sound.proofs.Exits.{no_exits, no_exit_handlers}
-use Rattle.ada_sound.proofs.Invariant.{Ready}
-use Rattle.ada_sound.proofs.Callers.{Suspension, known_in, Stands}
+use Rattle.ada_sound.proofs.Invariant.{Ready, under_in}
+use Rattle.ada_sound.proofs.Callers.{Suspension, known_in, Stands, callers_of}
 use Rattle.ada_sound.proofs.Touching.{Touching}
 use Rattle.ada_sound.proofs.Operating.{IsCalm, Operates}
 use Rattle.ada_sound.proofs.QuietOperations.{operations_nest}
@@ -37,12 +37,14 @@ use Rattle.ada_sound.proofs.Returns.{same_types}
 abbrev pub IsReached : Program → State → Type 0
 IsReached program s = (input : List ℤ) × (events : List Event) × Run program (first_state program input) events s
 
--- No operation runs, or its body has just come to its end: the invariant holds, for the body that runs and those that have called it.
+-- No operation runs, or its body has just come to its end: the invariant holds, for the body that runs and those that have called it, in which
+-- no object is under way.
 pub record Ordinary (program : Program) (s : State) : Type 0 where
   pub suspensions : List Suspension
   pub ready : Ready (known_in program (running_procedure s) suspensions) s
   pub stands : Stands program suspensions s
   pub calm : IsCalm (behind_call s.control)
+  pub settled : under_in (callers_of program suspensions) ≡ []
 
 -- What every state of a run keeps: that invariant, or the body of an operation runs, one that touches no storage or a Finalize that does; values are of
 -- their kinds, and collections nest.
@@ -106,6 +108,7 @@ sound_first program input well uses nest own obeys = record {
     ready = ready_first program input well obeys;
     stands = record { body = tt; behind = refl; bodies = tt; standing = record { suspended = tt; waiting = tt; low = tt } };
     calm = tt;
+    settled = refl;
   });
   typed = first_typed program input well;
   nested = first_nested program well nest (operations_nest (program_form program) well uses) input;

@@ -1,7 +1,7 @@
 -- The body of an operation runs that touches storage (7.6, 7.6.1, 13.11.2): an Initialize of an object that a declaration creates, or a Finalize of one at the
 -- leaving of its master. What holds there, and what is kept of all that waits for it.
 
-use Rattle.std.proofs.Common.{◌≡◌, ◌≢◌, ℕ, true, false, List, [], ◌∷◌, ◌++◌, ◌⊎◌}
+use Rattle.std.proofs.Common.{◌≡◌, ◌≢◌, ℕ, true, false, List, [], ◌∷◌, ◌++◌, ◌⊎◌, Option}
 use Rattle.std.specs.Prelude.{Bool, Some}
 use Rattle.std.specs.List.{slice_get, slice_set}
 use Rattle.ada_program.specs.declared.program.Exception.{Exception}
@@ -23,16 +23,18 @@ use Rattle.ada_meaning.specs.declared.state.Value.TheVariants.{Names, Part}
 use Rattle.ada_meaning.specs.Finalization.{NothingTreated}
 use Rattle.ada_meaning.specs.Frame.{Treatment, begins, ends, Leaves, Ends, GivesBack, Resumes}
 use Rattle.ada_meaning.specs.Heap.{Home}
-use Rattle.ada_meaning.specs.State.{Activation, Master}
+use Rattle.ada_meaning.specs.State.{Master}
 use Rattle.ada_meaning.specs.Named.{Object, State, object_at}
 use Rattle.ada_typed.proofs.Kept.{behind_call}
 use Rattle.ada_sound.proofs.Bodies.{IsBody}
-use Rattle.ada_sound.proofs.Callers.{Suspension, known_in, Stands}
+use Rattle.ada_sound.proofs.Callers.{Suspension, known_in, Stands, callers_of}
 use Rattle.ada_sound.proofs.Fits.{Fit, Outsiders, IsPlace, IsRelied, IsSaid, IsUnreferred, none_spared, outer_hold, outer_value, place_at}
 use Rattle.ada_sound.proofs.FrugalControl.{Frugally}
-use Rattle.ada_sound.proofs.Invariant.{body_among, Control, Rooms, Roomed, RunsOn, Known, CoveredIn, IsNewest, Ready, Spares, StartsTo, Unaliased, below, innermost, outers, BeginsWell, CameOut, To, By, ways}
-use Rattle.ada_sound.proofs.Operating.{WaitsFor, IsCalm, behind_operation, lets_out}
+use Rattle.ada_sound.proofs.Invariant.{body_among, Control, Rooms, Roomed, RunsOn, Known, IsNewest, Ready, Spares, StartsTo, Unaliased, below, innermost, outers, BeginsWell, CameOut, To, By, ways, IsAwaited, under_in}
+use Rattle.ada_sound.proofs.Operating.{WaitsFor, IsCalm, lets_out}
 use Rattle.ada_sound.proofs.Stored.{Stored}
+use Rattle.ada_sound.specs.Agreement.{running_procedure}
+use Rattle.ada_quiet.specs.Frugal.{frugal_procedures}
 
 -- Neither a variable of the running activation nor one of a suspended one is relied on to name this object.
 pub record IsNamedNowhere (outer : Outsiders) (places : List Value) (holds : Holds) (o : Id) : Type 0 where
@@ -111,9 +113,9 @@ pub record Enters (known : Known) (treatment : Treatment) (o : Id) (x : Object) 
   pub unaliased : Unaliased known.program.variables may holds
 
 -- The activation that waits for the body, whose formal parameter stands for a record in the object.
-abbrev pub resting : (caller : Activation Value) (treatment : Treatment) (object : Id) (access : ℕ) (place : Place) (behind : Control) (lower : List Master) → Keeping → Rooms → Holds → Suspension
-resting caller treatment object access place behind lower kept rooms holds = record {
-  procedure = caller.procedure;
+abbrev pub resting : (procedure : Option ℕ) (places : List Value) (treatment : Treatment) (object : Id) (access : ℕ) (place : Place) (behind : Control) (lower : List Master) → Keeping → Rooms → Holds → Suspension
+resting procedure places treatment object access place behind lower kept rooms holds = record {
+  procedure = procedure;
   actuals = [];
   passed = Part object place ∷ [];
   references = [];
@@ -123,16 +125,29 @@ resting caller treatment object access place behind lower kept rooms holds = rec
   control = behind;
   masters = lower;
   rooms = rooms;
-  places = caller.places;
+  places = places;
   before = holds;
 }
 
--- The body of such an operation runs.
+-- The procedure that the outermost one of these calls was made by: the operation, where they are those that it has made.
+abbrev pub called_by : (running : Option ℕ) → (inner : List Suspension) → Option ℕ
+called_by running [] = running
+called_by running (g ∷ gs) = called_by g.procedure gs
+
+-- These activations wait for calls, and nothing is under way in them.
+abbrev pub AreCalls : List Suspension → Type 0
+AreCalls [] = Unit {0}
+AreCalls (g ∷ gs) = (IsAwaited g.control → ⊥) × (g.under ≡ []) × AreCalls gs
+
+-- The body of such an operation runs, or one that it has called: `inner` are the activations that wait for calls since then, the nearest one first.
 pub record Touching (program : Program) (s : State) : Type 0 where
-  pub procedure : ℕ
-  pub is_body : IsBody (program_form program) (Some procedure)
-  pub caller : Activation Value
-  pub rest : List (Activation Value)
+  pub number : ℕ
+  pub is_body : IsBody (program_form program) (Some number)
+  pub inner : List Suspension
+  pub calls : AreCalls inner
+  pub operates : called_by (running_procedure s) inner ≡ Some number
+  pub procedure : Option ℕ
+  pub places : List Value
   pub suspensions : List Suspension
   pub object : Id
   pub place : Place
@@ -151,16 +166,20 @@ pub record Touching (program : Program) (s : State) : Type 0 where
   pub kept : Keeping
   pub rooms : Rooms
   pub holds : Holds
-  pub frugal : Frugally (Some procedure) (caller ∷ rest) lower behind s
-  pub waits : Paused (known_in program caller.procedure suspensions) object access caller.places after lower rooms holds
-  pub rests : Rests (known_in program caller.procedure suspensions) treatment object access home caller.places after lower rooms holds
-  pub stands : Stands program suspensions (behind_operation (caller ∷ rest) behind lower s)
+  pub frugal : Frugally (frugal_procedures (program_form program)) lower behind s
+  pub waits : Paused (known_in program procedure suspensions) object access places after lower rooms holds
+  pub rests : Rests (known_in program procedure suspensions) treatment object access home places after lower rooms holds
+  pub stands : Stands program (inner ++ resting procedure places treatment object access place behind lower kept rooms holds ∷ suspensions) s
   pub calm : IsCalm (behind_call behind)
+  pub settled : under_in (callers_of program suspensions) ≡ []
   pub may : may_be_frugal (program_form program) ≡ true
-  pub lets : (e : Exception) → body_among (implicit_of (program_form program)) (seen_in (Some procedure) (program_form program)) e ≡ true → lets_out (implicit_of (program_form program)) access treatment e ≡ true
-  pub covers : (t : ℕ) → CoveredIn (implicit_of (program_form program)) (seen_in (Some procedure) (program_form program)) t → CoveredIn (implicit_of (program_form program)) (seen_in caller.procedure (program_form program)) t
-  pub ready : Ready (known_in program (Some procedure) (resting caller treatment object access place behind lower kept rooms holds ∷ suspensions)) s
+  pub lets : (e : Exception) → body_among (implicit_of (program_form program)) (seen_in (Some number) (program_form program)) e ≡ true → lets_out (implicit_of (program_form program)) access treatment e ≡ true
+  pub ready : Ready (known_in program (running_procedure s) (inner ++ resting procedure places treatment object access place behind lower kept rooms holds ∷ suspensions)) s
 
--- The activations that wait for it, the nearest one first.
+-- The activation that waits for the operation.
+abbrev pub origin : (program : Program) (s : State) → Touching program s → Suspension
+origin program s f = resting f.procedure f.places f.treatment f.object f.access f.place f.behind f.lower f.kept f.rooms f.holds
+
+-- The activations that wait for what runs, the nearest one first.
 abbrev pub waiting_for : (program : Program) (s : State) → Touching program s → List Suspension
-waiting_for program s f = resting f.caller f.treatment f.object f.access f.place f.behind f.lower f.kept f.rooms f.holds ∷ f.suspensions
+waiting_for program s f = f.inner ++ origin program s f ∷ f.suspensions

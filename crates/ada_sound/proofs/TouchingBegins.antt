@@ -2,7 +2,7 @@
 -- what it may free no suspended activation has an alias.
 
 use Rattle.ada_meaning.specs.declared.state.Mode.TheVariants.{Running}
-use Rattle.std.proofs.Common.{◌≡◌, ◌≢◌, ℕ, zero, suc, true, List, [], ◌∷◌, ◌++◌, length, map, take, refl, sym, ap, subst, ◌∙◌, inl, inr}
+use Rattle.std.proofs.Common.{◌≡◌, ◌≢◌, ◌≤◌, ℕ, zero, suc, true, List, [], ◌∷◌, ◌++◌, length, map, take, refl, sym, ap, subst, ◌∙◌, inl, inr}
 use Rattle.std.specs.Prelude.{Some}
 use Rattle.std.specs.List.{slice_get}
 use Rattle.ada_deeds.specs.Implicit.{implicit_of}
@@ -14,7 +14,7 @@ use Rattle.ada_program.specs.declared.program.TypeNo.{TypeNo}
 use Rattle.ada_program.specs.declared.program.VariableKind.TheVariants as variable_kinds
 use Rattle.ada_program.specs.ProgramForm.{TypeForm, VariableForm, BodyForm, ProgramForm, program_form, body_forms, main_body, seen_in, seen_by}
 use Rattle.ada_program.specs.WellFormed.{IsWellFormed, formal_kinds, is_access, variable_kind}
-use Rattle.ada_quiet.specs.Frugal.{is_frugal_body}
+use Rattle.ada_quiet.specs.Frugal.{is_frugal_body, frugal_procedures}
 use Rattle.ada_quiet.specs.InUse.{may_be_frugal}
 use Rattle.ada_flow.specs.declared.rule.Hold.TheVariants as hold
 use Rattle.ada_flow.specs.declared.rule.Region.TheVariants.{Whole}
@@ -23,12 +23,13 @@ use Rattle.ada_meaning.specs.declared.state.Id.{Id}
 use Rattle.ada_meaning.specs.declared.state.Place.{Place}
 use Rattle.ada_meaning.specs.declared.state.Value.{Value}
 use Rattle.ada_meaning.specs.declared.state.Value.TheVariants.{Names, Part}
+use Rattle.ada_meaning.specs.Frame as frame
 use Rattle.ada_meaning.specs.Frame.{Elaborates, Returns, Treatment}
-use Rattle.ada_meaning.specs.State.{Activation}
+use Rattle.ada_meaning.specs.State.{Activation, height}
 use Rattle.ada_meaning.specs.Step.{given_places, operating}
 use Rattle.ada_meaning.specs.Named.{Object, State, named, object_at}
 use Rattle.ada_meaning.specs.Run.{Event}
-use Rattle.ada_owners.specs.Places.{access_at, is_there}
+use Rattle.ada_owners.specs.Places.{access_at, is_there, variable}
 use Rattle.ada_owners.specs.Reliance.{Owns, Borrows, Says}
 use Rattle.ada_typed.proofs.Bodies.{seen_as}
 use Rattle.ada_typed.proofs.Kept.{behind_call}
@@ -36,16 +37,17 @@ use Rattle.ada_sound.proofs.Activations.{called_fit}
 use Rattle.ada_sound.proofs.Alters.{Alters}
 use Rattle.ada_sound.proofs.Bodies.{IsBody, seen_is}
 use Rattle.ada_sound.proofs.BodyRuns.{body_runs}
-use Rattle.ada_sound.proofs.Callers.{Suspension, caller_of, known_in, Stands}
+use Rattle.ada_sound.proofs.Calls.{home_low, relied_says}
+use Rattle.ada_sound.proofs.Callers.{Suspension, caller_of, known_in, Stands, callers_of}
 use Rattle.ada_sound.proofs.Touching.{Enters, under_way, Touching, resting}
-use Rattle.ada_sound.proofs.Fits.{Fit, IsPlace, IsReferred, IsSaid, IsWithin, NoOuterAlias, none_spared, outer_access, outer_hold, place_at}
+use Rattle.ada_sound.proofs.Fits.{Fit, IsPlace, IsReferred, IsSaid, IsWithin, NoOuterAlias, none_spared, outer_access, outer_hold, place_at, IsRelied, there_by}
 use Rattle.ada_sound.proofs.FrugalControl.{frugal_starts}
-use Rattle.ada_sound.proofs.Invariant.{Control, CoveredIn, Known, RunsOn, Spares, outer_of, outers, body_among}
+use Rattle.ada_sound.proofs.Invariant.{Control, CoveredIn, Known, RunsOn, Spares, outer_of, outers, body_among, IsAwaited, under_in}
 use Rattle.ada_sound.proofs.Operating.{IsCalm, WaitsFor, behind_operation, lets_out}
 use Rattle.ada_sound.proofs.Orderings.{as_good}
 use Rattle.ada_sound.proofs.Returns.{same_types}
 use Rattle.ada_sound.proofs.Starts.{body_obeys, lost_first, none_out, none_on}
-use Rattle.ada_sound.proofs.Stored.{stored_entered}
+use Rattle.ada_sound.proofs.Stored.{stored_entered, IsUnder}
 use Rattle.ada_sound.proofs.Waiting.{stands_kept}
 use Rattle.ada_program.specs.declared.program.Exception.{Exception}
 
@@ -80,7 +82,7 @@ alone_by (m ∷ ms) (v ∷ vs) object is = (ap Some kind, rw kind (borrowed m), 
 pub alone : (b : BodyForm) (object : TypeNo) → formal_kinds b ≡ variable_kinds.Record object ∷ [] → IsAlone b
 alone b object is = let by = alone_by b.formals b.variables object is in record { object = object; is = by.0; first = by.1; others = by.2 }
 
-module _ (program : Program) (well : IsWellFormed (program_form program)) (obeys : ObeysRules program) (number : ℕ) (b : BodyForm) (there : slice_get (body_forms program) number ≡ Some b) (may : may_be_frugal (program_form program) ≡ true) (frugal : is_frugal_body b ≡ true) (lone : IsAlone b) (a : Activation Value) (rest : List (Activation Value)) (gs : List Suspension) (s : State) (k : Control) (o : Id) (x : Object) (heap : List Object) (found : object_at heap o ≡ Some x) (exists : is_there x.stage ≡ true) (place : Place)
+module _ (program : Program) (well : IsWellFormed (program_form program)) (obeys : ObeysRules program) (number : ℕ) (b : BodyForm) (there : slice_get (body_forms program) number ≡ Some b) (may : may_be_frugal (program_form program) ≡ true) (frugal : is_frugal_body (frugal_procedures (program_form program)) b ≡ true) (lone : IsAlone b) (a : Activation Value) (rest : List (Activation Value)) (gs : List Suspension) (s : State) (k : Control) (o : Id) (x : Object) (heap : List Object) (found : object_at heap o ≡ Some x) (exists : is_there x.stage ≡ true) (place : Place)
     (within : IsWithin (program_form program).types (variable_kind b.variables 0) x.cell.access place.component) (treatment : Treatment) (at : Enters (known_in program a.procedure gs) treatment o x k heap a.places s.masters) (behind : Control) where
   abbrev p : ProgramForm
   p = program_form program
@@ -92,7 +94,7 @@ module _ (program : Program) (well : IsWellFormed (program_form program)) (obeys
   own = seen_in (Some number) p
 
   abbrev waiting : Suspension
-  waiting = resting a treatment o x.cell.access place behind s.masters (body_keeps own.types (effects_of (implicit_of p) own) (keeping_of (implicit_of p) own) (main_body own)) at.rooms at.holds
+  waiting = resting a.procedure a.places treatment o x.cell.access place behind s.masters (body_keeps own.types (effects_of (implicit_of p) own) (keeping_of (implicit_of p) own) (main_body own)) at.rooms at.holds
 
   abbrev body : Known
   body = known_in program (Some number) (waiting ∷ gs)
@@ -170,15 +172,35 @@ module _ (program : Program) (well : IsWellFormed (program_form program)) (obeys
         subst (λ (c : BodyForm). RunsOn body (Elaborates c.declarations c.statements c.handlers ∷ Returns [] [] ∷ behind) (gone_with c.declarations ∷ []) (first_holds c.formals c.variables)) same_body
         (body_runs program (Some number) (waiting ∷ gs) (body_obeys program (Some number) is_body obeys) (none_out program (Some number) well) (none_on program (Some number) well) spares refl)
 
-    pub touching_begins : (e : Event) (of : ℕ) → Alters s.heap e heap → WaitsFor o of treatment k behind → Stands program gs (record s { activations = a ∷ rest }) → IsCalm (behind_call behind)
+    -- What the waiting activation relies on lies in masters that were entered before.
+    variables_low : (y : ℕ) (q : Id) → IsRelied (hold_at at.holds y) → place_at a.places y ≡ Names q → (object : Object) × (object_at heap q ≡ Some object) × (suc object.cell.home.item ≤ height s.masters)
+    variables_low y q relied names =
+        home_low heap s.masters q at.stored (there_by heap _ q (relied_says heap (hold_at at.holds y) _ q relied (at.fit.owners.fit.relied (variable y) q names)))
+
+    object_low : (object : Object) × (object_at heap o ≡ Some object) × (suc object.cell.home.item ≤ height s.masters)
+    object_low = home_low heap s.masters o at.stored (x, found, exists)
+
+    referred_low : (q : Id) (t : ℕ) → IsReferred (record { object = o; access = x.cell.access } ∷ []) q t → (object : Object) × (object_at heap q ≡ Some object) × (suc object.cell.home.item ≤ height s.masters)
+    referred_low q t (inl (same, of)) = rw (← same) object_low
+    referred_low q t (inr none) = absurd none
+
+    under_low : (by : Treatment) (q : Id) → IsUnder (under_way by o) q → (object : Object) × (object_at heap q ≡ Some object) × (suc object.cell.home.item ≤ height s.masters)
+    under_low (frame.begins by done) q none = absurd none
+    under_low (frame.ends cause) q (inl same) = rw (← same) object_low
+    under_low (frame.ends cause) q (inr none) = absurd none
+
+    pub touching_begins : (e : Event) (of : ℕ) → Alters s.heap e heap → WaitsFor o of treatment k behind → IsAwaited behind → Stands program gs (record s { activations = a ∷ rest }) → IsCalm (behind_call behind) → under_in (callers_of program gs) ≡ []
         → Touching program (operating named number b (Part o place) behind (record s { activations = a ∷ rest; heap = heap; mode = Running }))
-    touching_begins e of alters awaited stands calm =
+    touching_begins e of alters awaited waited stands calm settled =
         let after = operating named number b (Part o place) behind (record s { activations = a ∷ rest; heap = heap; mode = Running }) in
+        let still = stands_kept program (record s { activations = a ∷ rest }) (behind_operation (a ∷ rest) behind s.masters after) gs stands e (record { procedure = refl; suspended = refl }) alters in
         record {
-          procedure = number;
+          number = number;
           is_body = is_body;
-          caller = a;
-          rest = rest;
+          inner = [];
+          operates = refl;
+          procedure = a.procedure;
+          places = a.places;
           suspensions = gs;
           object = o;
           place = place;
@@ -195,16 +217,26 @@ module _ (program : Program) (well : IsWellFormed (program_form program)) (obeys
           awaited = awaited;
           lower = s.masters;
           kept = waiting.kept;
-          frugal = frugal_starts number b frugal (Part o place) behind (record s { activations = a ∷ rest; heap = heap; mode = Running });
           rooms = at.rooms;
           holds = at.holds;
+          frugal = frugal_starts (frugal_procedures p) number b frugal (Part o place) behind (record s { activations = a ∷ rest; heap = heap; mode = Running });
           waits = at.waits;
           rests = at.rests;
-          stands = stands_kept program (record s { activations = a ∷ rest }) (behind_operation (a ∷ rest) behind s.masters after) gs stands e (record { procedure = refl; suspended = refl }) alters;
+          calls = tt;
+          stands = record {
+            body = is_body;
+            behind = ([], [], behind, refl);
+            bodies = (refl, stands.body, stands.behind, stands.bodies);
+            standing = record {
+              suspended = (refl, stands.standing.suspended);
+              waiting = (inr (record { roomed = at.waits.roomed; covers = covers; operated = waited }), stands.standing.waiting);
+              low = (variables_low, referred_low, under_low treatment, still.standing.low);
+            };
+          };
           calm = calm;
+          settled = settled;
           may = may;
           lets = lets;
-          covers = covers;
           ready = (
             tt,
             record {

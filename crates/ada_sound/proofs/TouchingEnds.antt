@@ -8,7 +8,7 @@ use Rattle.std.specs.Prelude.{Option, Some, None}
 use Rattle.std.specs.List.{list_all, slice_get}
 use Rattle.ada_program.specs.declared.program.Exception.{Exception}
 use Rattle.ada_program.specs.declared.program.Program.{Program}
-use Rattle.ada_program.specs.ProgramForm.{TypeForm, program_form, body_forms}
+use Rattle.ada_program.specs.ProgramForm.{TypeForm, program_form, body_forms, seen_in}
 use Rattle.ada_program.specs.WellFormed.{IsWellFormed, type_fits, is_access}
 use Rattle.ada_deeds.specs.Implicit.{implicit_of}
 use Rattle.ada_flow.specs.Flow.{Holds, hold_at}
@@ -25,10 +25,10 @@ use Rattle.ada_meaning.specs.declared.state.Value.{Value}
 use Rattle.ada_meaning.specs.declared.state.Value.TheVariants.{Names}
 use Rattle.ada_meaning.specs.Event.{Quiet}
 use Rattle.ada_parts.specs.Part as parts
-use Rattle.ada_meaning.specs.Frame.{Returns, Ends, ends, begins, Treatment, Stores}
+use Rattle.ada_meaning.specs.Frame.{Returns, Ends, ends, begins, Treatment}
 use Rattle.ada_meaning.specs.Frame as frame
 use Rattle.ada_meaning.specs.State.{Activation, Master}
-use Rattle.ada_meaning.specs.Step.{moves, operands, places, mode_next}
+use Rattle.ada_meaning.specs.Step.{moves, operands, places, mode_next, procedure_of, places_of, operands_of, older}
 use Rattle.ada_meaning.specs.Named.{Object, State, named, next}
 use Rattle.ada_owners.specs.Places.{Place, variable, component, elsewhere, value_at, access_at}
 use Rattle.ada_owners.specs.Reliance.{Owns, Borrows, IsOf, component_kind}
@@ -36,20 +36,20 @@ use Rattle.ada_owners.proofs.Ends.{IsUnnamed}
 use Rattle.ada_owners.proofs.Kernel as kernel
 use Rattle.ada_owners.proofs.Objects.{present_at}
 use Rattle.ada_sound.proofs.Activations.{returned_fit}
-use Rattle.ada_sound.proofs.Callers.{Suspension, caller_of, known_in}
-use Rattle.ada_sound.proofs.Touching.{IsNamedNowhere, resting, Touching, Resting, Rests, Starting, under_way, Undoes}
+use Rattle.ada_sound.proofs.Callers.{rest_of, Suspension, caller_of, known_in, Stands, AreOf, callers_of}
+use Rattle.ada_sound.proofs.Touching.{IsNamedNowhere, Touching, Resting, Rests, Starting, under_way, Undoes, origin, called_by}
 use Rattle.ada_sound.proofs.Fits.{Fit, kinds_of, hold_in, stacked, none_spared, sparing, outer_hold, outer_value_at, spare_fit, weaker_fit}
-use Rattle.ada_sound.proofs.FrugalControl.{is_return_first, frugal_ends}
 use Rattle.ada_sound.proofs.InOrder.{component_is_access}
-use Rattle.ada_sound.proofs.Invariant.{Control, Known, Rooms, GoesOn, Working, Ending, EndsTo, ReadyIn, TreatsBy, innermost, outer_of, outers, IsLive, Beginning, StartsTo, BeginsWell}
+use Rattle.ada_sound.proofs.Invariant.{AllWait, Control, Known, Rooms, GoesOn, Working, Ending, EndsTo, ReadyIn, TreatsBy, innermost, outer_of, outers, IsLive, Beginning, StartsTo, BeginsWell, Ready, IsActive, AreSuspended}
 use Rattle.ada_sound.proofs.Operating.{behind_operation, lets_out}
-use Rattle.ada_sound.proofs.Ready.{stays}
-use Rattle.ada_sound.proofs.Returns.{Crosses, same_types}
+use Rattle.ada_sound.proofs.Waiting.{stands_behind}
+use Rattle.ada_sound.proofs.Returns.{CrossesTo, same_types}
 use Rattle.ada_sound.proofs.Stored.{Stored}
 use Rattle.ada_sound.proofs.Orderings.{AsGood, good_to_lost, as_good}
 use Rattle.ada_sound.proofs.Undone.{beginning_undone}
-use Rattle.ada_sound.proofs.Waiting.{stands_kept}
-use Rattle.ada_sound.proofs.Alters.{alters_same}
+use Rattle.ada_sound.proofs.Alters.{Alters, alters_same}
+use Rattle.ada_sound.specs.Agreement.{running_procedure, IsBehind}
+use Rattle.ada_sound.proofs.Bodies.{IsBody}
 
 -- No place names an object of a type of which no component is, where no variable is relied on to name it.
 module _ (known : Known) (heap : List Object) (held : List Value) (holds : Holds) (spared : Id → Bool) (fit : Fit known.program.types known.program.variables (outers known) spared heap held holds) (types_fit : list_all (type_fits known.program.types) known.program.types ≡ true) (o : Id) (access : ℕ) (there : access_at heap o ≡ Some access) (declared : is_access known.program.types access ≡ false) (nowhere : IsNamedNowhere (outers known) held holds o) where
@@ -84,18 +84,49 @@ module _ (known : Known) (heap : List Object) (held : List Value) (holds : Holds
 ends_first : (known : Known) (o : Id) (after k : Control) (heap : List Object) (held : List Value) (ms : List Master) → after ≡ Ends (Names o) ∷ k → Ending known o k heap held ms → EndsTo known (Names o) after heap held ms
 ends_first known o after k heap held ms is ending = rw is (refl, ending)
 
-module _ (program : Program) (well : IsWellFormed (program_form program)) (s : State) (f : Touching program s) (parted : (cause : Cause) → f.treatment ≡ ends cause → f.x.listed ≡ false) (ends_now : is_return_first s.control ≡ true) where
+module _ (program : Program) (well : IsWellFormed (program_form program)) (s : State) (f : Touching program s) (parted : (cause : Cause) → f.treatment ≡ ends cause → f.x.listed ≡ false) (a b : Activation Value) (rest : List (Activation Value)) (acts_so : s.activations ≡ a ∷ b ∷ rest) (none : f.inner ≡ []) (ends_now : s.control ≡ Returns [] [] ∷ f.behind) (masters_are : s.masters ≡ f.lower) where
   abbrev own : Known
-  own = known_in program f.caller.procedure f.suspensions
+  own = known_in program f.procedure f.suspensions
 
   abbrev waiting : Suspension
-  waiting = resting f.caller f.treatment f.object f.access f.place f.behind f.lower f.kept f.rooms f.holds
+  waiting = origin program s f
 
   abbrev running : Known
-  running = known_in program (Some f.procedure) (waiting ∷ f.suspensions)
+  running = known_in program (Some f.number) (waiting ∷ f.suspensions)
 
   abbrev Works : List Value → Type 0
   Works held = Working running s.heap held f.lower (λ rooms holds. Unit {0})
+
+  -- It has called no other one.
+  operates : running_procedure s ≡ Some f.number
+  operates = subst (λ (inner : List Suspension). called_by (running_procedure s) inner ≡ Some f.number) none f.operates
+
+  stands_now : Stands program (waiting ∷ f.suspensions) s
+  stands_now = subst (λ (inner : List Suspension). Stands program (inner ++ waiting ∷ f.suspensions) s) none f.stands
+
+  ready_there : Ready running s
+  ready_there =
+      subst (λ (procedure : Option ℕ). Ready (known_in program procedure (waiting ∷ f.suspensions)) s) operates
+      (subst (λ (inner : List Suspension). Ready (known_in program (running_procedure s) (inner ++ waiting ∷ f.suspensions)) s) none f.ready)
+
+  stands_parts : Stands program (waiting ∷ f.suspensions) (record s { activations = a ∷ b ∷ rest })
+  stands_parts = record {
+    body = subst (λ (all : List (Activation Value)). IsBody (program_form program) (procedure_of all)) acts_so stands_now.body;
+    behind = subst (λ (all : List (Activation Value)). IsBehind (procedure_of all) (rest_of (waiting ∷ f.suspensions))) acts_so stands_now.behind;
+    bodies = subst (λ (all : List (Activation Value)). AreOf program (older all) (waiting ∷ f.suspensions)) acts_so stands_now.bodies;
+    standing = record {
+      suspended = subst (λ (all : List (Activation Value)). AreSuspended (older all) (callers_of program (waiting ∷ f.suspensions))) acts_so stands_now.standing.suspended;
+      waiting = subst (λ (all : List (Activation Value)). AllWait (implicit_of (program_form program)) (seen_in (procedure_of all) (program_form program)) (callers_of program (waiting ∷ f.suspensions))) acts_so stands_now.standing.waiting;
+      low = stands_now.standing.low;
+    };
+  }
+
+  -- Its caller is that of the operation.
+  procedure_is : b.procedure ≡ f.procedure
+  procedure_is = stands_parts.bodies.0
+
+  places_are : b.places ≡ f.places
+  places_are = stands_parts.standing.suspended.0
 
   -- No exit leads out of the body.
   none_exited : (k : Control) (rooms : Rooms) (holds : Holds) → GoesOn running Exiting (Returns [] [] ∷ k) rooms holds → ⊥
@@ -110,48 +141,41 @@ module _ (program : Program) (well : IsWellFormed (program_form program)) (s : S
 
   -- So what is behind it is next.
   abbrev acts : Mode → Control → Activation Value → State
-  acts mode k a = record s { mode = mode; control = k; activations = a ∷ f.caller ∷ f.rest; masters = f.lower }
+  acts mode k c = record s { mode = mode; control = k; activations = c ∷ b ∷ rest; masters = f.lower }
 
   -- Behind the body: an exception goes on.
   abbrev left_in : Mode → State
-  left_in Running = behind_operation (f.caller ∷ f.rest) f.behind f.lower s
-  left_in (Raising e) = record (behind_operation (f.caller ∷ f.rest) f.behind f.lower s) { mode = Raising e }
-  left_in Exiting = behind_operation (f.caller ∷ f.rest) f.behind f.lower s
-  left_in Returning = behind_operation (f.caller ∷ f.rest) f.behind f.lower s
+  left_in Running = behind_operation (b ∷ rest) f.behind f.lower s
+  left_in (Raising e) = record (behind_operation (b ∷ rest) f.behind f.lower s) { mode = Raising e }
+  left_in Exiting = behind_operation (b ∷ rest) f.behind f.lower s
+  left_in Returning = behind_operation (b ∷ rest) f.behind f.lower s
 
-  goes_by : (mode : Mode) (a : Activation Value) (held computed : List Value) → ReadyIn running mode (Returns [] [] ∷ f.behind) s.heap held computed f.lower → mode_next named program.types.items (body_forms program) mode (acts mode (Returns [] [] ∷ f.behind) a) ≡ moves Quiet (left_in mode)
-  goes_by Running a held computed w = refl
-  goes_by (Raising e) a held computed w = refl
-  goes_by Exiting a held computed w = absurd (none_exited f.behind w.rooms w.holds w.rest)
-  goes_by Returning a held computed w = refl
-
-  -- The masters of the body have been left.
-  at_end : (s.control ≡ Returns [] [] ∷ f.behind) × (f.frugal.upper ≡ [])
-  at_end = frugal_ends f.behind s.mode s.control f.frugal.upper f.frugal.frugal ends_now
-
-  masters_are : s.masters ≡ f.lower
-  masters_are = f.frugal.masters ∙ ap (λ ms. ms ++ f.lower) at_end.1
+  goes_by : (mode : Mode) (c : Activation Value) (held computed : List Value) → ReadyIn running mode (Returns [] [] ∷ f.behind) s.heap held computed f.lower → mode_next named program.types.items (body_forms program) mode (acts mode (Returns [] [] ∷ f.behind) c) ≡ moves Quiet (left_in mode)
+  goes_by Running c held computed w = refl
+  goes_by (Raising e) c held computed w = refl
+  goes_by Exiting c held computed w = absurd (none_exited f.behind w.rooms w.holds w.rest)
+  goes_by Returning c held computed w = refl
 
   ready_now : ReadyIn running s.mode (Returns [] [] ∷ f.behind) s.heap (places s) (operands s) f.lower
   ready_now =
       subst (λ (ms : List Master). ReadyIn running s.mode (Returns [] [] ∷ f.behind) s.heap (places s) (operands s) ms) masters_are
-      (subst (λ (k : Control). ReadyIn running s.mode k s.heap (places s) (operands s) s.masters) at_end.0 f.ready.1)
+      (subst (λ (k : Control). ReadyIn running s.mode k s.heap (places s) (operands s) s.masters) ends_now ready_there.1)
 
   works : Works (places s)
   works = works_by s.mode f.behind (places s) (operands s) ready_now
 
   -- What its caller relies on.
   same_here : running.program.types ≡ own.program.types
-  same_here = same_types (Some f.procedure) (program_form program) ∙ sym (same_types f.caller.procedure (program_form program))
+  same_here = same_types (Some f.number) (program_form program) ∙ sym (same_types f.procedure (program_form program))
 
-  own_fit : Fit own.program.types own.program.variables (outers own) none_spared s.heap f.caller.places f.holds
+  own_fit : Fit own.program.types own.program.variables (outers own) none_spared s.heap f.places f.holds
   own_fit =
-      returned_fit (outer_of (caller_of program waiting f.suspensions)) running.program.variables (places s) works.holds (λ i. None) f.caller.places f.holds own.program.types (outers own) waiting.passed waiting.referenced waiting.under none_spared s.heap
+      returned_fit (outer_of (caller_of program waiting f.suspensions)) running.program.variables (places s) works.holds (λ i. None) f.places f.holds own.program.types (outers own) waiting.passed waiting.referenced waiting.under none_spared s.heap
       (λ x. inr (inl (refl, refl))) (subst (λ (types : List TypeForm). Fit types running.program.variables (outers running) none_spared s.heap (places s) works.holds) same_here works.fit)
       f.waits.said f.waits.objects
 
   own_types_fit : list_all (type_fits own.program.types) own.program.types ≡ true
-  own_types_fit = subst (λ (types : List TypeForm). list_all (type_fits types) types ≡ true) (sym (same_types f.caller.procedure (program_form program))) well.types_fit
+  own_types_fit = subst (λ (types : List TypeForm). list_all (type_fits types) types ≡ true) (sym (same_types f.procedure (program_form program))) well.types_fit
 
   there : access_at s.heap f.object ≡ Some f.access
   there = works.fit.referred f.object f.access (inl (refl, refl))
@@ -163,14 +187,14 @@ module _ (program : Program) (well : IsWellFormed (program_form program)) (s : S
       (works.stored.sane f.object f.x f.found).there_exists (rw same at present.there)
 
   -- No place names the object, where nothing is relied on to name it.
-  unnamed_by : (holds : Holds) (spared : Id → Bool) → Fit own.program.types own.program.variables (outers own) spared s.heap f.caller.places holds → IsNamedNowhere (outers own) f.caller.places holds f.object → IsUnnamed s.heap (stacked f.caller.places (outers own)) (hold_in (outers own) spared holds) f.object
-  unnamed_by holds spared fit nowhere = unnamed_here own s.heap f.caller.places holds spared fit own_types_fit f.object f.access there f.waits.declared nowhere
+  unnamed_by : (holds : Holds) (spared : Id → Bool) → Fit own.program.types own.program.variables (outers own) spared s.heap f.places holds → IsNamedNowhere (outers own) f.places holds f.object → IsUnnamed s.heap (stacked f.places (outers own)) (hold_in (outers own) spared holds) f.object
+  unnamed_by holds spared fit nowhere = unnamed_here own s.heap f.places holds spared fit own_types_fit f.object f.access there f.waits.declared nowhere
 
   own_stored : (treatment : Treatment) → f.treatment ≡ treatment → Stored (under_way treatment f.object ++ (outers own).under) s.heap f.lower
   own_stored treatment is = subst (λ (by : Treatment). Stored (under_way by f.object ++ (outers own).under) s.heap f.lower) is works.stored
 
   -- The object is to cease to exist, and its words go back, before what is left of its master.
-  resting_ends : (cause : Cause) → f.treatment ≡ ends cause → (r : Resting own f.object f.home f.caller.places f.after f.lower f.rooms f.holds) → Ending own f.object (frame.GivesBack (Names f.object) (Leaving r.master r.item) f.home.pool ∷ frame.Leaves r.mode ∷ r.rest) s.heap f.caller.places f.lower
+  resting_ends : (cause : Cause) → f.treatment ≡ ends cause → (r : Resting own f.object f.home f.places f.after f.lower f.rooms f.holds) → Ending own f.object (frame.GivesBack (Names f.object) (Leaving r.master r.item) f.home.pool ∷ frame.Leaves r.mode ∷ r.rest) s.heap f.places f.lower
   resting_ends cause is r =
       let fit = spare_fit (sparing s.heap (innermost f.lower)) own_fit in
       record {
@@ -199,7 +223,7 @@ module _ (program : Program) (well : IsWellFormed (program_form program)) (s : S
       }
 
   -- So it is, before the exception goes on that came out of its initialization.
-  undoing_ends : (cause : Cause) → f.treatment ≡ ends cause → (r : Undoes own f.object f.access f.home f.caller.places f.after f.rooms f.holds) → Ending own f.object (frame.GivesBack (Names f.object) (Undoing r.number) f.home.pool ∷ frame.Resumes r.mode ∷ r.rest) s.heap f.caller.places f.lower
+  undoing_ends : (cause : Cause) → f.treatment ≡ ends cause → (r : Undoes own f.object f.access f.home f.places f.after f.rooms f.holds) → Ending own f.object (frame.GivesBack (Names f.object) (Undoing r.number) f.home.pool ∷ frame.Resumes r.mode ∷ r.rest) s.heap f.places f.lower
   undoing_ends cause is r = record {
     object = f.x;
     found = f.found;
@@ -227,7 +251,7 @@ module _ (program : Program) (well : IsWellFormed (program_form program)) (s : S
   }
 
   -- Its initialization goes on, or what is left does.
-  beginning : (done : List parts.Part) → f.treatment ≡ begins Creation done → Starting own f.object f.access f.caller.places f.after f.rooms f.holds → Beginning own (Names f.object) f.after s.heap f.caller.places f.lower
+  beginning : (done : List parts.Part) → f.treatment ≡ begins Creation done → Starting own f.object f.access f.places f.after f.rooms f.holds → Beginning own (Names f.object) f.after s.heap f.places f.lower
   beginning done is r =
       let less : AsGood f.holds (slice_set f.holds r.x hold.Lost) = good_to_lost r.x f.holds f.holds (as_good f.holds) in
       record {
@@ -247,74 +271,89 @@ module _ (program : Program) (well : IsWellFormed (program_form program)) (s : S
         well = subst (λ (t : ℕ). BeginsWell own t f.holds) (sym f.of_access) r.well;
       }
 
-  treats_by : (treatment : Treatment) → f.treatment ≡ treatment → Rests own treatment f.object f.access f.home f.caller.places f.after f.lower f.rooms f.holds → TreatsBy own (Names f.object) treatment f.after s.heap f.caller.places f.caller.operands f.lower
+  treats_by : (treatment : Treatment) → f.treatment ≡ treatment → Rests own treatment f.object f.access f.home f.places f.after f.lower f.rooms f.holds → TreatsBy own (Names f.object) treatment f.after s.heap f.places b.operands f.lower
   treats_by (begins Creation done) is (creation, r) =
       let b = beginning done is r in (
         inl b,
-        (own_stored (begins Creation done) is, λ e raises. beginning_undone own (Names f.object) f.after s.heap f.caller.places f.lower b e raises),
+        (own_stored (begins Creation done) is, λ e raises. beginning_undone own (Names f.object) f.after s.heap f.places f.lower b e raises),
       )
   treats_by (begins Copy done) is (creation, r) = absurd (cc creation)
   treats_by (begins (Adjustment number) done) is (creation, r) = absurd (cc creation)
-  treats_by (ends cause) is (inl r) = inl (ends_first own f.object f.after _ s.heap f.caller.places f.lower r.is (resting_ends cause is r))
-  treats_by (ends cause) is (inr r) = inl (ends_first own f.object f.after _ s.heap f.caller.places f.lower r.is (undoing_ends cause is r))
+  treats_by (ends cause) is (inl r) = inl (ends_first own f.object f.after _ s.heap f.places f.lower r.is (resting_ends cause is r))
+  treats_by (ends cause) is (inr r) = inl (ends_first own f.object f.after _ s.heap f.places f.lower r.is (undoing_ends cause is r))
 
   live : IsLive s.heap (Names f.object)
   live = (f.x.cell, rw (f.found, exists_still) refl)
 
-  behind_ready : ReadyIn own Running f.behind s.heap f.caller.places f.caller.operands f.lower
+  behind_ready : ReadyIn own Running f.behind s.heap f.places b.operands f.lower
   behind_ready =
-      ready_for own f.object f.of f.treatment f.after f.behind s.heap f.caller.places f.caller.operands f.lower live f.awaited (treats_by f.treatment refl f.rests)
+      ready_for own f.object f.of f.treatment f.after f.behind s.heap f.places b.operands f.lower live f.awaited (treats_by f.treatment refl f.rests)
 
-  crosses_back : Crosses program s.heap Quiet (behind_operation (f.caller ∷ f.rest) f.behind f.lower s)
-  crosses_back = record {
-    suspensions = f.suspensions;
-    stepped = stays own Quiet (behind_operation (f.caller ∷ f.rest) f.behind f.lower s) (tt, behind_ready) tt;
-    stands = f.stands;
+  -- What waits goes on.
+  crosses : (after : State) → after.activations ≡ b ∷ rest → after.heap ≡ s.heap → ReadyIn own after.mode after.control after.heap f.places b.operands after.masters → CrossesTo program f.suspensions s.heap Quiet after
+  crosses after active same r = record {
+    stepped = record {
+      ready = goes_ready_there;
+      alters = subst (λ (heap : List Object). Alters s.heap Quiet heap) (sym same) (alters_same s.heap Quiet);
+      says = tt;
+    };
+    stands = stands_behind program waiting f.suspensions a b rest s stands_parts after active same;
   }
+    where
+      by_parts : (all : List (Activation Value)) → all ≡ b ∷ rest → IsActive all × ReadyIn (known_in program (procedure_of all) f.suspensions) after.mode after.control after.heap (places_of all) (operands_of all) after.masters
+      by_parts all is =
+          subst (λ (acts : List (Activation Value)). IsActive acts × ReadyIn (known_in program (procedure_of acts) f.suspensions) after.mode after.control after.heap (places_of acts) (operands_of acts) after.masters) (sym is)
+          (tt, rw (procedure_is, places_are) r)
+
+      goes_ready_there : Ready (known_in program (running_procedure after) f.suspensions) after
+      goes_ready_there = by_parts after.activations active
+
+  left_control : (mode : Mode) → (left_in mode).control ≡ f.behind
+  left_control Running = refl
+  left_control (Raising e) = refl
+  left_control Exiting = refl
+  left_control Returning = refl
+
+  crosses_back : CrossesTo program f.suspensions s.heap Quiet (behind_operation (b ∷ rest) f.behind f.lower s)
+  crosses_back = crosses (behind_operation (b ∷ rest) f.behind f.lower s) refl refl behind_ready
 
   -- An exception comes out of an Initialize: the object is undone next.
-  raises_back : (e : Exception) → lets_out (implicit_of (program_form program)) f.access f.treatment e ≡ true → Crosses program s.heap Quiet (left_in (Raising e))
-  raises_back e out = record {
-    suspensions = f.suspensions;
-    stepped = stays own Quiet (left_in (Raising e))
-        (tt, ready_raising own f.object f.of f.treatment f.access f.after f.behind s.heap f.caller.places f.caller.operands f.lower e f.x f.found f.of_access live f.awaited out (treats_by f.treatment refl f.rests)) tt;
-    stands = stands_kept program (behind_operation (f.caller ∷ f.rest) f.behind f.lower s) (left_in (Raising e)) f.suspensions f.stands Quiet
-        (record { procedure = refl; suspended = refl }) (alters_same s.heap Quiet);
-  }
+  raises_back : (e : Exception) → lets_out (implicit_of (program_form program)) f.access f.treatment e ≡ true → CrossesTo program f.suspensions s.heap Quiet (left_in (Raising e))
+  raises_back e out =
+      crosses (left_in (Raising e)) refl refl
+      (ready_raising own f.object f.of f.treatment f.access f.after f.behind s.heap f.places b.operands f.lower e f.x f.found f.of_access live f.awaited out (treats_by f.treatment refl f.rests))
 
   raised_out : (e : Exception) (rooms : Rooms) (holds : Holds) → GoesOn running (Raising e) (Returns [] [] ∷ f.behind) rooms holds → lets_out (implicit_of (program_form program)) f.access f.treatment e ≡ true
   raised_out e [] holds (may, is, keeps) = f.lets e may
   raised_out e (gone ∷ rooms) holds is = absurd is
 
-  crosses_by : (mode : Mode) (held computed : List Value) → ReadyIn running mode (Returns [] [] ∷ f.behind) s.heap held computed f.lower → Crosses program s.heap Quiet (left_in mode)
+  crosses_by : (mode : Mode) (held computed : List Value) → ReadyIn running mode (Returns [] [] ∷ f.behind) s.heap held computed f.lower → CrossesTo program f.suspensions s.heap Quiet (left_in mode)
   crosses_by Running held computed w = crosses_back
   crosses_by (Raising e) held computed w = raises_back e (raised_out e w.rooms w.holds w.rest)
   crosses_by Exiting held computed w = crosses_back
   crosses_by Returning held computed w = crosses_back
 
   -- The state, by its parts.
-  state_is : acts s.mode (Returns [] [] ∷ f.behind) f.frugal.acting ≡ s
+  state_is : acts s.mode (Returns [] [] ∷ f.behind) a ≡ s
   state_is =
-      subst (λ (k : Control). acts s.mode k f.frugal.acting ≡ s) at_end.0
-      (subst (λ (all : List (Activation Value)). record s { activations = all; masters = f.lower } ≡ s) f.frugal.active
+      subst (λ (k : Control). acts s.mode k a ≡ s) ends_now
+      (subst (λ (all : List (Activation Value)). record s { activations = all; masters = f.lower } ≡ s) acts_so
       (subst (λ (ms : List Master). record s { masters = ms } ≡ s) masters_are refl))
 
   goes_now : next program.types.items (body_forms program) s ≡ moves Quiet (left_in s.mode)
   unfolding next
   goes_now =
       subst (λ (t : State). mode_next named program.types.items (body_forms program) s.mode t ≡ moves Quiet (left_in s.mode)) state_is
-      (goes_by s.mode f.frugal.acting (places s) (operands s) ready_now)
+      (goes_by s.mode a (places s) (operands s) ready_now)
 
 -- When the end of the body is next, what waits for the operation goes on, perhaps with an exception.
 pub touching_ends :
     (program : Program) → IsWellFormed (program_form program) → (s : State) → (f : Touching program s) → ((cause : Cause) → f.treatment ≡ ends cause → f.x.listed ≡ false)
-    → is_return_first s.control ≡ true
-    → (after : State) × (next program.types.items (body_forms program) s ≡ moves Quiet after) × Crosses program s.heap Quiet after × (after.control ≡ f.behind)
-touching_ends program well s f parted ends_now =
-    (left_in program well s f parted ends_now s.mode, goes_now program well s f parted ends_now, crosses_by program well s f parted ends_now s.mode (places s) (operands s) (ready_now program well s f parted ends_now), same_control s.mode)
-  where
-    same_control : (mode : Mode) → (left_in program well s f parted ends_now mode).control ≡ f.behind
-    same_control Running = refl
-    same_control (Raising e) = refl
-    same_control Exiting = refl
-    same_control Returning = refl
+    → (a b : Activation Value) (rest : List (Activation Value)) → s.activations ≡ a ∷ b ∷ rest → f.inner ≡ [] → s.control ≡ Returns [] [] ∷ f.behind → s.masters ≡ f.lower
+    → (after : State) × (next program.types.items (body_forms program) s ≡ moves Quiet after) × CrossesTo program f.suspensions s.heap Quiet after × (after.control ≡ f.behind)
+touching_ends program well s f parted a b rest acts_so none ends_now masters_are = (
+  left_in program well s f parted a b rest acts_so none ends_now masters_are s.mode,
+  goes_now program well s f parted a b rest acts_so none ends_now masters_are,
+  crosses_by program well s f parted a b rest acts_so none ends_now masters_are s.mode (places s) (operands s) (ready_now program well s f parted a b rest acts_so none ends_now masters_are),
+  left_control program well s f parted a b rest acts_so none ends_now masters_are s.mode,
+)

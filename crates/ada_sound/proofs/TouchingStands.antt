@@ -13,14 +13,14 @@ use Rattle.ada_meaning.specs.declared.state.Mode.{Mode}
 use Rattle.ada_meaning.specs.declared.state.Mode.TheVariants.{Running, Raising, Exiting, Returning}
 use Rattle.ada_meaning.specs.declared.state.Value.{Value}
 use Rattle.ada_meaning.specs.declared.state.Value.TheVariants.{Names}
-use Rattle.ada_meaning.specs.Frame.{Frame, ends, Treatment, begins}
+use Rattle.ada_meaning.specs.Frame.{Frame, ends, Treatment, begins, Returns}
 use Rattle.ada_meaning.specs.Frame as frame
 use Rattle.ada_meaning.specs.State.{Master}
 use Rattle.ada_meaning.specs.Step.{treating}
 use Rattle.ada_meaning.specs.Named.{State, Object, object_at}
 use Rattle.ada_sound.proofs.Finalization.{parts_alive}
 use Rattle.ada_sound.proofs.Touching.{Touching, Rests}
-use Rattle.ada_sound.proofs.FrugalControl.{Frugal, FrugalLeads, is_return_first, frugal_ends}
+use Rattle.ada_sound.proofs.FrugalControl.{Frugal, FrugalLeads}
 use Rattle.ada_sound.proofs.Invariant.{Control}
 use Rattle.ada_meaning.specs.declared.state.Id.{Id}
 use Rattle.ada_sound.proofs.Standing.{AllStand, FinalizesBy, FinalizesIn}
@@ -28,28 +28,31 @@ use Rattle.ada_sound.proofs.Starts.{IsReached}
 use Rattle.ada_sound.proofs.Operating.{WaitsFor}
 use Rattle.ada_sound.proofs.Returns.{same_types}
 use Rattle.ada_sound.proofs.Callers.{known_in}
+use Rattle.ada_quiet.specs.Frugal.{frugal_procedures}
 
 -- In front of the end of a frugal body, nothing begins.
-leads_begin : (v : Value) (behind k : Control) (ms : List Master) → NothingBegins v behind → FrugalLeads behind k ms → NothingBegins v k
-leads_begin v behind [] ms none q = absurd q
-leads_begin v behind (frame.Returns actuals references ∷ k) ms none q = subst (NothingBegins v) (sym q.2) none
-leads_begin v behind (frame.Elaborates ds fs hs ∷ k) [] none q = absurd q
-leads_begin v behind (frame.Elaborates ds fs hs ∷ k) (m ∷ ms) none q = leads_begin v behind k ms none q.1
-leads_begin v behind (frame.Closes ∷ k) [] none q = absurd q
-leads_begin v behind (frame.Closes ∷ k) (m ∷ ms) none q = leads_begin v behind k ms none q.1
-leads_begin v behind (frame.Declares x ∷ k) [] none q = absurd q
-leads_begin v behind (frame.Declares x ∷ k) (m ∷ ms) none q = leads_begin v behind k (m ∷ ms) none q.1
-leads_begin v behind (frame.Treats w treatment tasks ∷ k) ms none q = absurd q.0
-leads_begin v behind (frame.Awaits w by done of part tasks ∷ k) ms none q = absurd q.0
-leads_begin v behind (f ∷ k) ms none q = leads_begin v behind k ms none q.1
+module _ (frugal : List Bool) where
+  leads_begin : (v : Value) (behind k : Control) (ms : List Master) → NothingBegins v behind → FrugalLeads frugal behind k ms → NothingBegins v k
+  leads_begin v behind [] ms none q = absurd q
+  leads_begin v behind (frame.Returns actuals references ∷ k) ms none (inl q) = subst (NothingBegins v) (sym q.2) none
+  leads_begin v behind (frame.Returns actuals references ∷ k) ms none (inr q) = leads_begin v behind k ms none q
+  leads_begin v behind (frame.Elaborates ds fs hs ∷ k) [] none q = absurd q
+  leads_begin v behind (frame.Elaborates ds fs hs ∷ k) (m ∷ ms) none q = leads_begin v behind k ms none q.1
+  leads_begin v behind (frame.Closes ∷ k) [] none q = absurd q
+  leads_begin v behind (frame.Closes ∷ k) (m ∷ ms) none q = leads_begin v behind k ms none q.1
+  leads_begin v behind (frame.Declares x ∷ k) [] none q = absurd q
+  leads_begin v behind (frame.Declares x ∷ k) (m ∷ ms) none q = leads_begin v behind k (m ∷ ms) none q.1
+  leads_begin v behind (frame.Treats w treatment tasks ∷ k) ms none q = absurd q.0
+  leads_begin v behind (frame.Awaits w by done of part tasks ∷ k) ms none q = absurd q.0
+  leads_begin v behind (f ∷ k) ms none q = leads_begin v behind k ms none q.1
 
-frugal_begin :
-    (v : Value) (behind : Control) (mode : Mode) (k : Control) (ms : List Master) → NothingBegins v behind → Frugal behind mode k ms → NothingBegins v k
-frugal_begin v behind mode k ms none (inl q) = leads_begin v behind k ms none q
-frugal_begin v behind mode [] ms none (inr (runs, leaving)) = absurd leaving
-frugal_begin v behind mode (frame.Leaves left ∷ k) [] none (inr (runs, leaving)) = absurd leaving
-frugal_begin v behind mode (frame.Leaves left ∷ k) (m ∷ ms) none (inr (runs, leaving)) = leads_begin v behind k ms none leaving
-frugal_begin v behind mode (f ∷ k) ms none (inr (runs, leaving)) = absurd leaving
+  frugal_begin :
+      (v : Value) (behind : Control) (mode : Mode) (k : Control) (ms : List Master) → NothingBegins v behind → Frugal frugal behind mode k ms → NothingBegins v k
+  frugal_begin v behind mode k ms none (inl q) = leads_begin v behind k ms none q
+  frugal_begin v behind mode [] ms none (inr (runs, leaving)) = absurd leaving
+  frugal_begin v behind mode (frame.Leaves left ∷ k) [] none (inr (runs, leaving)) = absurd leaving
+  frugal_begin v behind mode (frame.Leaves left ∷ k) (m ∷ ms) none (inr (runs, leaving)) = leads_begin v behind k ms none leaving
+  frugal_begin v behind mode (f ∷ k) ms none (inr (runs, leaving)) = absurd leaving
 
 -- Nor does anything begin where an object is finalized.
 treating_begin : (v w : Value) (cause : Cause) (tasks : List Task) (k : Control) → NothingBegins v k → NothingBegins v (treating w (ends cause) tasks k)
@@ -70,14 +73,14 @@ module _ (program : Program) (s : State) (f : Touching program s) where
 
   -- What is left to do initializes and adjusts no other object.
   begins_nothing : (v : Value) → (v ≢ Names f.object) → NothingBegins v s.control
-  begins_nothing v ne = frugal_begin v f.behind s.mode s.control f.frugal.upper (waits_begin v ne f.treatment f.awaited) f.frugal.frugal
+  begins_nothing v ne = frugal_begin (frugal_procedures (program_form program)) v f.behind s.mode s.control f.frugal.upper (waits_begin v ne f.treatment f.awaited) f.frugal.frugal
 
   -- Where an object is finalized, it does so to none.
   finalizes_nothing : (cause : Cause) → f.treatment ≡ ends cause → (v : Value) → NothingBegins v s.control
   finalizes_nothing cause is v =
       let waits : WaitsFor f.object f.of (ends cause) f.after f.behind = rw is at f.awaited in
       let behind = subst (NothingBegins v) (sym waits.1) (treating_begin v (Names f.object) cause waits.0 f.after (nothing_begins v f.after f.waits.untreated)) in
-      frugal_begin v f.behind s.mode s.control f.frugal.upper behind f.frugal.frugal
+      frugal_begin (frugal_procedures (program_form program)) v f.behind s.mode s.control f.frugal.upper behind f.frugal.frugal
 
 -- Each object that may be freed stands.
 module _ (program : Program) (well : IsWellFormed (program_form program)) (s : State) (reached : IsReached program s) (f : Touching program s) where
@@ -93,7 +96,7 @@ module _ (program : Program) (well : IsWellFormed (program_form program)) (s : S
       let one : o ≡ f.object = cc same in
       let x_is : x ≡ f.x = let here = f.found in let there = found in cc (one, here, there) in
       let declared = f.waits.declared in
-      let object : is_access (program_form program).types f.access ≡ false = rw (same_types f.caller.procedure (program_form program)) at declared in
+      let object : is_access (program_form program).types f.access ≡ false = rw (same_types f.procedure (program_form program)) at declared in
       let access : is_access (program_form program).types f.access ≡ true = rw (are, x_is, f.of_access) at of in
       cc (object, access)
 
@@ -103,7 +106,7 @@ module _ (program : Program) (well : IsWellFormed (program_form program)) (s : S
       (listed_stand program reached.0 reached.1 s reached.2 o x found listed (begins_nothing program s f (Names o) (other_object forms are o x found of)))
 
   by_frame :
-      (g : Frame Value) (k : Control) (mode : Mode) (ms : List Master) → Frugal f.behind mode (g ∷ k) ms → (forms : List TypeForm) → forms ≡ (program_form program).types
+      (g : Frame Value) (k : Control) (mode : Mode) (ms : List Master) → Frugal (frugal_procedures (program_form program)) f.behind mode (g ∷ k) ms → (forms : List TypeForm) → forms ≡ (program_form program).types
       → FinalizesBy forms types bodies g (record s { mode = Running; control = k })
   by_frame (frame.Does fs) k mode ms q forms are = stand forms are
   by_frame (frame.FreesIn access c) k mode ms q forms are = stand forms are
@@ -111,7 +114,7 @@ module _ (program : Program) (well : IsWellFormed (program_form program)) (s : S
   by_frame (frame.Treats v treatment tasks) k mode ms (inr (runs, leaving)) forms are = absurd leaving
   by_frame g k mode ms q forms are = tt
 
-  by_mode : (mode : Mode) (k : Control) (ms : List Master) → Frugal f.behind mode k ms → (forms : List TypeForm) → forms ≡ (program_form program).types → FinalizesIn forms types bodies mode k s
+  by_mode : (mode : Mode) (k : Control) (ms : List Master) → Frugal (frugal_procedures (program_form program)) f.behind mode k ms → (forms : List TypeForm) → forms ≡ (program_form program).types → FinalizesIn forms types bodies mode k s
   by_mode Running [] ms q forms are = tt
   by_mode Running (g ∷ k) ms q forms are = by_frame g k Running ms q forms are
   by_mode (Raising e) k ms q forms are = tt
@@ -123,14 +126,14 @@ module _ (program : Program) (well : IsWellFormed (program_form program)) (s : S
 
 -- An object that is finalized has left its collection by the end of the body.
 pub touching_unlisted :
-    (program : Program) (s : State) → IsReached program s → (f : Touching program s) → is_return_first s.control ≡ true → (cause : Cause) → f.treatment ≡ ends cause
+    (program : Program) (s : State) → IsReached program s → (f : Touching program s) → s.control ≡ Returns [] [] ∷ f.behind → (cause : Cause) → f.treatment ≡ ends cause
     → f.x.listed ≡ false
 touching_unlisted program s reached f ends_next cause is = go f.x.listed refl
   where
     waits : WaitsFor f.object f.of (ends cause) f.after f.behind
     waits = rw is at f.awaited
 
-    before_by : Rests (known_in program f.caller.procedure f.suspensions) (ends cause) f.object f.access f.home f.caller.places f.after f.lower f.rooms f.holds → finalized_before f.after ≡ Names f.object
+    before_by : Rests (known_in program f.procedure f.suspensions) (ends cause) f.object f.access f.home f.places f.after f.lower f.rooms f.holds → finalized_before f.after ≡ Names f.object
     before_by (inl resting) = subst (λ (k : Control). finalized_before k ≡ Names f.object) (sym resting.is) refl
     before_by (inr undoes) = subst (λ (k : Control). finalized_before k ≡ Names f.object) (sym undoes.is) refl
 
@@ -140,9 +143,8 @@ touching_unlisted program s reached f ends_next cause is = go f.x.listed refl
     never : f.x.listed ≡ true → ⊥
     never listed =
         let o = Names f.object in
-        let at_end = frugal_ends f.behind s.mode s.control f.frugal.upper f.frugal.frugal ends_next in
         let none = none_runs_on_listed program reached.0 reached.1 s reached.2 f.object f.x f.found listed (finalizes_nothing program s f cause is o) in
-        let behind : NoOperationRunsOn o f.behind = subst (NoOperationRunsOn o) at_end.0 none in
+        let behind : NoOperationRunsOn o f.behind = subst (NoOperationRunsOn o) ends_next none in
         let confined : NoOperationRunsOn o (frame.Confines ∷ treating o (ends cause) waits.0 f.after) =
         subst (NoOperationRunsOn o) waits.1 behind in
         confined.0 (treating_before o cause waits.0 f.after before)

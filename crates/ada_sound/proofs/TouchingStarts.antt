@@ -1,6 +1,6 @@
 -- The treatment of an object calls an operation that touches storage: its body begins in a sound state (7.6, 7.6.1).
 
-use Rattle.std.proofs.Common.{◌≡◌, ℕ, true, false, List, ◌∷◌, refl, sym, ap, subst, ◌∙◌}
+use Rattle.std.proofs.Common.{◌≡◌, ℕ, true, false, List, ◌∷◌, refl, sym, ap, subst, ◌∙◌, []}
 use Rattle.std.specs.Prelude.{Option, Some, None}
 use Rattle.std.specs.Option.{option_map}
 use Rattle.std.proofs.lemmas.Option.{slice_get-map}
@@ -15,7 +15,7 @@ use Rattle.ada_program.specs.declared.program.VariableKind.TheVariants as variab
 use Rattle.ada_program.specs.Controlled.{operations_of}
 use Rattle.ada_program.specs.ProgramForm.{TypeForm, ProgramForm, program_form, body_forms, seen_by, seen_in}
 use Rattle.ada_program.specs.WellFormed.{finalization_of, is_access, variable_kind}
-use Rattle.ada_quiet.specs.Frugal.{is_frugal_body}
+use Rattle.ada_quiet.specs.Frugal.{is_frugal_body, frugal_procedures}
 use Rattle.ada_quiet.specs.InUse.{may_be_frugal}
 use Rattle.ada_meaning.specs.declared.event.Birth.TheVariants.{Creation, Copy, Adjustment}
 use Rattle.ada_program.specs.declared.program.Exception.{Exception}
@@ -43,20 +43,20 @@ use Rattle.ada_typed.proofs.Control as typed
 use Rattle.ada_typed.proofs.Kept.{behind_call}
 use Rattle.ada_typed.proofs.Overridings.{OperationFor, beginning_for, ending_for}
 use Rattle.ada_sound.proofs.Alters.{Alters}
-use Rattle.ada_sound.proofs.Callers.{Suspension, known_in, Stands}
+use Rattle.ada_sound.proofs.Callers.{Suspension, known_in, Stands, callers_of}
 use Rattle.ada_sound.proofs.Touching.{Enters, Touching}
 use Rattle.ada_sound.proofs.TouchingBegins.{IsAlone, alone, touching_begins}
 use Rattle.ada_sound.proofs.TouchingRests.{at_rest, at_start}
 use Rattle.ada_sound.proofs.Fits.{IsWithin}
 use Rattle.ada_sound.proofs.FrugalUseCopies.{limited_parts}
 use Rattle.ada_sound.proofs.FrugalUseEnds.{treated_frees_of}
-use Rattle.ada_sound.proofs.QuietOperations.{LetsNothingOut, MayTouch}
+use Rattle.ada_sound.proofs.QuietOperations.{LetsNone, MayTouch}
 use Rattle.ada_sound.proofs.FrugalUseParts.{operable_is_object}
 use Rattle.ada_sound.proofs.FrugalUseEnds.{ends_in_starts}
 use Rattle.ada_sound.proofs.FrugalUseLets.{touches_let}
-use Rattle.ada_sound.proofs.Invariant.{Control, CoveredIn, IsCopied, Known, TreatsBy, body_among}
+use Rattle.ada_sound.proofs.Invariant.{Control, CoveredIn, IsCopied, Known, TreatsBy, body_among, under_in, IsAwaited}
 use Rattle.ada_sound.proofs.Operated.{OperatedOn}
-use Rattle.ada_sound.proofs.Operating.{IsCalled, IsCalm, StaysLive, lets_out}
+use Rattle.ada_sound.proofs.Operating.{IsCalled, IsCalm, StaysLive, lets_out, WaitsFor}
 use Rattle.ada_sound.proofs.OperationBegins.{formal_holds}
 use Rattle.ada_sound.proofs.OperationStarts.{calm_behind}
 use Rattle.ada_sound.proofs.Returns.{same_types}
@@ -89,6 +89,11 @@ within_by types kind o access place object is (at, same, within) =
     let one : at ≡ place = cc same in
     rw (is, ← one) within
 
+-- What waits for an operation is behind the end of its body.
+is_awaited : (o : Id) (of : ℕ) (treatment : Treatment) (k behind : Control) → WaitsFor o of treatment k behind → IsAwaited behind
+is_awaited o of (begins by done) k behind (part, tasks, is) = subst IsAwaited (sym is) tt
+is_awaited o of (ends cause) k behind (tasks, is) = subst IsAwaited (sym is) tt
+
 -- The operation of a controlled type that a treatment calls, by its number (7.6).
 operation_for : (program : Program) → IsWellFormed (program_form program) → (of number : ℕ) (treatment : Treatment) → MayTouch treatment → IsCalled (operations_of program.types.items of) treatment number → OperationFor (program_form program) of number
 operation_for program well of number (begins Creation done) may called = beginning_for (program_form program) program.types.items refl well.operations_fit Creation of number called
@@ -110,7 +115,7 @@ module _ (program : Program) (a : Activation Value) (rest : List (Activation Val
       cc (limited, other)
 
   -- The body of an operation begins.
-  module _ (whole : State) (is : whole.control ≡ Treats v treatment tasks ∷ k) (same : whole.masters ≡ s.masters) (sound : Sound program whole) (still : NoOperationRuns whole.control) (calm : IsCalm (behind_call k)) (stands : Stands program gs (record s { activations = a ∷ rest })) where
+  module _ (whole : State) (is : whole.control ≡ Treats v treatment tasks ∷ k) (same : whole.masters ≡ s.masters) (sound : Sound program whole) (still : NoOperationRuns whole.control) (calm : IsCalm (behind_call k)) (settled : under_in (callers_of program gs) ≡ []) (stands : Stands program gs (record s { activations = a ∷ rest })) where
     abbrev IsOperated : Treatment → Id → ℕ → Type 0
     IsOperated by object of = (by ≡ treatment) × OperatedOn p.types (cells_of s.heap) object of
 
@@ -131,7 +136,7 @@ module _ (program : Program) (a : Activation Value) (rest : List (Activation Val
         (λ w behind at. untreated_end program sound.reached.0 sound.reached.1 whole still sound.reached.2 v w cause tasks behind
         (is ∙ (ap (λ (t : Treatment). Treats v t tasks ∷ k) (sym one) ∙ ap (λ (j : Control). Treats v (ends cause) tasks ∷ j) at)))
 
-    pub touching_starts : (e : Event) (after : State) (c : Begins known a rest s program.types.items (body_forms program) k IsOperated e after) → MayTouch c.treatment → LetsNothingOut c.treatment c.b → is_frugal_body c.b ≡ true → typed.Typed p after → Touching program after
+    pub touching_starts : (e : Event) (after : State) (c : Begins known a rest s program.types.items (body_forms program) k IsOperated e after) → MayTouch c.treatment → LetsNone p c.treatment c.b → is_frugal_body (frugal_procedures p) c.b ≡ true → typed.Typed p after → Touching program after
     touching_starts e after c touches silent frugal typing =
         let operated = c.operated.1 in
         let of_type : c.x.cell.access ≡ operated.0 = kept_type s.heap c.heap e c.o c.x operated.0 c.alters c.found operated.2 in
@@ -151,5 +156,5 @@ module _ (program : Program) (a : Activation Value) (rest : List (Activation Val
         λ t covered. at.includes t (treated_frees_of program sound.well c.x.cell.access c.of operated.1 c.number c.b (rw of_type operated.3) c.treatment touches c.called c.there t covered) in
         let lets : (raised : Exception) → body_among (implicit_of p) (seen_in (Some c.number) p) raised ≡ true → lets_out (implicit_of p) c.x.cell.access c.treatment raised ≡ true =
         touches_let program sound.well may c.x.cell.access c.of operated.1 c.number c.b (rw of_type operated.3) c.treatment touches silent c.called c.there frugal in
-        rw c.is (touching_begins program sound.well sound.obeys c.number c.b c.there may frugal lone a rest gs s k c.o c.x c.heap c.found (live_there c.x.stage c.live) c.place within c.treatment at c.behind frees lets e c.of c.alters c.waits stands
-        (calm_behind c.o c.of c.treatment k c.behind c.waits calm))
+        rw c.is (touching_begins program sound.well sound.obeys c.number c.b c.there may frugal lone a rest gs s k c.o c.x c.heap c.found (live_there c.x.stage c.live) c.place within c.treatment at c.behind frees lets e c.of c.alters c.waits (is_awaited c.o c.of c.treatment k c.behind c.waits) stands
+        (calm_behind c.o c.of c.treatment k c.behind c.waits calm) settled)

@@ -1,51 +1,64 @@
--- Each step of the body of an operation that touches storage, and its end (7.6, 7.6.1).
+-- Each step of the body of an operation that touches storage, or of one that it has called, and their ends (7.6, 7.6.1).
 
-use Rattle.ada_sound.proofs.Below.{none_under}
-use Rattle.std.proofs.Common.{◌≡◌, ℕ, Bool, true, false, List, [], ◌∷◌, refl, sym, ap, subst, ◌∙◌, ◌⊎◌, inl, inr, ◌++◌}
+use Rattle.std.proofs.Common.{◌≡◌, ℕ, Bool, false, List, [], ◌∷◌, refl, sym, ap, subst, ◌∙◌, ◌⊎◌, inl, inr, ◌++◌}
 use Rattle.std.specs.Prelude.{Option, Some}
 use Rattle.ada_deeds.specs.Implicit.{implicit_of}
+use Rattle.ada_program.specs.declared.program.Exception.{Exception}
 use Rattle.ada_program.specs.declared.program.Program.{Program}
-use Rattle.ada_program.specs.ProgramForm.{ProgramForm, program_form, body_forms, seen_in}
+use Rattle.ada_program.specs.declared.program.TypeDefinition.{TypeDefinition}
+use Rattle.ada_program.specs.Form.{ActualForm}
+use Rattle.ada_program.specs.ProgramForm.{ProgramForm, BodyForm, program_form, body_forms, seen_in}
 use Rattle.ada_program.specs.WellFormed.{is_access}
 use Rattle.ada_meaning.specs.declared.state.Id.{Id}
-use Rattle.ada_meaning.specs.Step.{halts, moves, tells, asks, picks, procedure_of}
-use Rattle.ada_meaning.specs.Named.{Object, State, Next, object_at, next}
+use Rattle.ada_meaning.specs.declared.state.Mode.{Mode}
+use Rattle.ada_meaning.specs.declared.state.Mode.TheVariants.{Running, Raising, Exiting, Returning}
+use Rattle.ada_meaning.specs.declared.state.Value.{Value}
+use Rattle.ada_meaning.specs.Event.{Quiet}
+use Rattle.ada_meaning.specs.Frame as frame
+use Rattle.ada_meaning.specs.Frame.{Frame, Treatment, begins, ends, Calls, Returns, is_return, is_master, landing}
+use Rattle.ada_meaning.specs.State.{Activation, Master}
+use Rattle.ada_meaning.specs.Step.{halts, moves, tells, asks, picks, older, procedure_of, storing, frame_next, pass_next, jump_next, mode_next}
+use Rattle.ada_meaning.specs.Named.{Object, State, Next, named, object_at, next}
 use Rattle.ada_meaning.specs.Run.{Event}
+use Rattle.ada_quiet.specs.Frugal.{frugal_procedures}
 use Rattle.ada_scopes.proofs.Components.{collect_two}
 use Rattle.ada_typed.proofs.Bodies.{own_bodies}
 use Rattle.ada_typed.proofs.Control as typed
-use Rattle.ada_typed.proofs.Kept.{behind_call}
+use Rattle.ada_typed.proofs.Kept.{behind_call, crosses, is_treatment, Each, Keeps}
+use Rattle.ada_typed.proofs.KeptSteps.{step_keeps, pass_keeps}
 use Rattle.ada_sound.specs.Agreement.{running_procedure}
 use Rattle.ada_sound.proofs.Alters.{Alters}
-use Rattle.ada_sound.proofs.Callers.{Suspension, callers_of, known_in}
-use Rattle.ada_sound.proofs.Touching.{Touching, waiting_for, under_way}
-use Rattle.ada_sound.proofs.TouchingEnds.{touching_ends}
-use Rattle.ada_sound.proofs.TouchingLeaves.{touching_leaves}
-use Rattle.ada_sound.proofs.TouchingStands.{touching_stands, touching_unlisted}
-use Rattle.ada_sound.proofs.FrugalControl.{Frugally, GoesFrugally, is_return_first}
-use Rattle.ada_sound.proofs.FrugalSteps.{frugal_goes, frugal_crosses}
+use Rattle.ada_sound.proofs.CallBegins.{runs_called, placed_in}
+use Rattle.ada_sound.proofs.Callers.{Suspension, callers_of, known_in, Stands, AreOf}
+use Rattle.ada_sound.proofs.Calls.{calls_to, waiting}
+use Rattle.ada_sound.proofs.FrugalControl.{Frugally, GoesFrugally, Frugal, FrugalLeads, is_return_first, frugal_ends, frugal_returns, never_awaited}
+use Rattle.ada_sound.proofs.FrugalSteps.{frugal_goes}
 use Rattle.ada_sound.proofs.FrugalUseParts.{no_access_to_parts}
 use Rattle.ada_sound.proofs.InOrder.{in_order}
-use Rattle.ada_sound.proofs.Invariant.{EndsWell, Fine, Known, Says, Stepped, outers, under_in, Control}
-use Rattle.ada_sound.proofs.Operating.{IsCalm, behind_operation}
-use Rattle.ada_sound.proofs.Returns.{Crosses, same_types}
+use Rattle.ada_sound.proofs.Invariant.{CallsOn, Control, EndsWell, Fine, GoesOn, IsAwaited, Says, Stepped, Working, under_in}
+use Rattle.ada_sound.proofs.Operating.{IsCalm, WaitsFor}
+use Rattle.ada_sound.proofs.Ready.{at_work}
+use Rattle.ada_sound.proofs.Returns.{Crosses, CrossesTo, crosses_to, same_types, same_control, left_to, resumed_in, behind_call as behind_mode, behind_frames, behind_body}
 use Rattle.ada_sound.proofs.Sees.{reaches_in, may_call}
 use Rattle.ada_sound.proofs.Starts.{Sound}
 use Rattle.ada_sound.proofs.Steps as inside
 use Rattle.ada_sound.proofs.Stored.{IsUnder}
-use Rattle.ada_sound.proofs.Waiting.{stands_kept}
-use Rattle.ada_meaning.specs.Event.{Quiet}
-use Rattle.ada_meaning.specs.Frame.{Treatment, begins, ends}
+use Rattle.ada_sound.proofs.Touching.{AreCalls, Touching, called_by, origin, waiting_for, under_way}
+use Rattle.ada_sound.proofs.TouchingEnds.{touching_ends}
+use Rattle.ada_sound.proofs.TouchingLeaves.{touching_leaves}
+use Rattle.ada_sound.proofs.TouchingStands.{touching_stands, touching_unlisted}
+use Rattle.ada_sound.proofs.Waiting.{SameBody, stands_kept}
 
--- The body runs behind a step; and what that does to objects.
+-- The body runs behind a step, or one that it has called; and what that does to objects.
 pub record InTouching (program : Program) (before : List Object) (e : Event) (after : State) : Type 0 where
   pub touching : Touching program after
   pub alters : Alters before e after.heap
-  pub says : Says (implicit_of (program_form program)) (seen_in (Some touching.procedure) (program_form program)) e before after
+  pub says : Says (implicit_of (program_form program)) (seen_in (running_procedure after) (program_form program)) e before after
 
--- It runs on, or what waits for it goes on.
+-- It runs on, or what waits for it goes on, and in what waits behind that nothing is under way.
 abbrev pub Went : Program → List Object → Event → State → Type 0
-Went program before e after = InTouching program before e after ⊎ (Crosses program before e after × IsCalm (behind_call after.control))
+Went program before e after =
+    InTouching program before e after ⊎ ((c : Crosses program before e after) × IsCalm (behind_call after.control) × (under_in (callers_of program c.suspensions) ≡ []))
 
 abbrev pub GoesTouching : Program → State → Next → Type 0
 GoesTouching program s (halts halt) = EndsWell halt s.heap s.masters
@@ -54,54 +67,45 @@ GoesTouching program s (tells request e after) = Went program s.heap e after
 GoesTouching program s (asks request answered) = (granted : Bool) → Went program s.heap Quiet (answered granted)
 GoesTouching program s (picks n taken) = ⊥
 
--- It is that body that runs.
-pub touching_runs : (program : Program) (s : State) (f : Touching program s) → running_procedure s ≡ Some f.procedure
-touching_runs program s f = ap procedure_of f.frugal.active ∙ f.frugal.same
+-- What waits for the body of an operation awaits it.
+awaits : (o : Id) (of : ℕ) (treatment : Treatment) (after behind : Control) → WaitsFor o of treatment after behind → IsAwaited behind
+awaits o of (begins by done) after behind (part, tasks, is) = subst IsAwaited (sym is) tt
+awaits o of (ends cause) after behind (tasks, is) = subst IsAwaited (sym is) tt
 
-module _ (program : Program) (s : State) (sound : Sound program s) (f : Touching program s) where
+-- Where components get something back, that goes on in front.
+storing_leads : (frugal : List Bool) (behind : Control) (references : List Value) (k : Control) (ms : List Master) → FrugalLeads frugal behind k ms → FrugalLeads frugal behind (storing named references k) ms
+storing_leads frugal behind [] k ms q = q
+storing_leads frugal behind (v ∷ vs) k ms q = (tt, storing_leads frugal behind vs k ms q)
+
+-- Behind the end of a body that was called, the body goes on that called it.
+back_frugal : (frugal : List Bool) (behind : Control) (mode : Mode) (references : List Value) (k : Control) (ms : List Master) → FrugalLeads frugal behind k ms → Frugal frugal behind (behind_mode mode) (behind_frames mode references k) ms
+back_frugal frugal behind Running references k ms q = inl (storing_leads frugal behind references k ms q)
+back_frugal frugal behind (Raising e) references k ms q = inl q
+back_frugal frugal behind Exiting references k ms q = inl q
+back_frugal frugal behind Returning references k ms q = inl (storing_leads frugal behind references k ms q)
+
+module _ (program : Program) (s : State) (f : Touching program s) where
   abbrev p : ProgramForm
   p = program_form program
 
-  abbrev suspensions : List Suspension
-  suspensions = waiting_for program s f
+  abbrev frugal : List Bool
+  frugal = frugal_procedures p
 
-  abbrev body : Known
-  body = known_in program (Some f.procedure) suspensions
-
-  runs : running_procedure s ≡ Some f.procedure
-  runs = touching_runs program s f
-
-  typing : typed.TypedIn body.program s
-  typing = subst (λ (procedure : Option ℕ). typed.TypedIn (seen_in procedure p) s) runs sound.typed.inside
-
-  -- The object is of no access type, and no other is under way.
-  none_waits : (q : Id) → IsUnder (under_in (callers_of program f.suspensions)) q → ⊥
-  none_waits q other =
-      let none = none_under (implicit_of p) (seen_in f.caller.procedure p) (callers_of program f.suspensions) f.stands.standing.waiting in
-      let nothing : IsUnder [] q = rw none at other in
-      nothing
-
-  none_treated : (treatment : Treatment) (q : Id) (y : Object) → IsUnder (under_way treatment f.object ++ under_in (callers_of program f.suspensions)) q → object_at s.heap q ≡ Some y → is_access body.program.types y.cell.access ≡ false
-  none_treated (begins by done) q y other found = absurd (none_waits q other)
-  none_treated (ends cause) q y (inl same) found =
-      let one : y ≡ f.x = let here = f.found in cc (rw same at here, found) in
-      let declared = f.waits.declared in
-      let types = same_types f.caller.procedure p ∙ sym (same_types (Some f.procedure) p) in
-      rw (one, f.of_access) (rw types at declared)
-  none_treated (ends cause) q y (inr other) found = absurd (none_waits q other)
-
-  none_is_under : (q : Id) (y : Object) → IsUnder (outers body).under q → object_at s.heap q ≡ Some y → is_access body.program.types y.cell.access ≡ false
-  none_is_under q y under found = none_treated f.treatment q y under found
-
-  on : (e : Event) (after : State) → Stepped body s.heap e after → Frugally (Some f.procedure) (f.caller ∷ f.rest) f.lower f.behind after → InTouching program s.heap e after
-  on e after st goes =
-      let y = st.alters.kept f.object f.x f.found in
+  -- Whatever is called from now on, and whoever goes on: the same object is treated.
+  touching_on :
+      (inner : List Suspension) (e : Event) (after : State) → AreCalls inner → called_by (running_procedure after) inner ≡ Some f.number → Frugally frugal f.lower f.behind after
+      → CrossesTo program (inner ++ origin program s f ∷ f.suspensions) s.heap e after → InTouching program s.heap e after
+  touching_on inner e after calls operates goes c =
+      let y = c.stepped.alters.kept f.object f.x f.found in
       record {
         touching = record {
-          procedure = f.procedure;
+          number = f.number;
           is_body = f.is_body;
-          caller = f.caller;
-          rest = f.rest;
+          inner = inner;
+          calls = calls;
+          operates = operates;
+          procedure = f.procedure;
+          places = f.places;
           suspensions = f.suspensions;
           object = f.object;
           place = f.place;
@@ -123,45 +127,265 @@ module _ (program : Program) (s : State) (sound : Sound program s) (f : Touching
           frugal = goes;
           waits = f.waits;
           rests = f.rests;
-          stands = stands_kept program (behind_operation (f.caller ∷ f.rest) f.behind f.lower s) (behind_operation (f.caller ∷ f.rest) f.behind f.lower after) f.suspensions f.stands e (record { procedure = refl; suspended = refl }) st.alters;
+          stands = c.stands;
           calm = f.calm;
+          settled = f.settled;
           may = f.may;
           lets = f.lets;
-          covers = f.covers;
-          ready = st.ready;
+          ready = c.stepped.ready;
         };
-        alters = st.alters;
-        says = st.says;
+        alters = c.stepped.alters;
+        says = c.stepped.says;
       }
 
-  on_next : (n : Next) → Fine body s.heap s.masters n → GoesFrugally (Some f.procedure) (f.caller ∷ f.rest) f.lower f.behind n → GoesTouching program s n
-  on_next (halts halt) fine goes = fine
-  on_next (moves e after) fine goes = inl (on e after fine goes)
-  on_next (tells request e after) fine goes = inl (on e after fine goes)
-  on_next (asks request answered) fine goes = λ granted. inl (on Quiet (answered granted) (fine granted) (goes granted))
-  on_next (picks n taken) fine goes = goes
+  -- Where the same body runs on.
+  stays_on : (e : Event) (after : State) → SameBody s after → Stepped (known_in program (running_procedure s) (waiting_for program s f)) s.heap e after → Frugally frugal f.lower f.behind after → InTouching program s.heap e after
+  stays_on e after same st goes =
+      let all = waiting_for program s f in
+      touching_on f.inner e after f.calls (ap (λ (running : Option ℕ). called_by running f.inner) same.procedure ∙ f.operates) goes (record {
+        stepped = subst (λ (procedure : Option ℕ). Stepped (known_in program procedure all) s.heap e after) (sym same.procedure) st;
+        stands = stands_kept program s after all f.stands e same st.alters;
+      })
 
-  inner : is_return_first s.control ≡ false → GoesTouching program s (next program.types.items (body_forms program) s)
-  inner not_end =
-      on_next (next program.types.items (body_forms program) s)
-      (inside.fine body program.types.items (reaches_in program (Some f.procedure) suspensions) (body_forms program) (may_call program (Some f.procedure) suspensions sound.well) s
-      (frugal_crosses f.behind s.mode s.control f.frugal.upper f.frugal.frugal not_end) typing (own_bodies p sound.frees_own (Some f.procedure)) (collect_two p s sound.nested)
-      (touching_stands program sound.well s sound.reached f body.program.types (same_types (Some f.procedure) p)) none_is_under
-      (λ left behind running at. (
-      let leaves = touching_leaves program s f running left behind at in
-      (leaves.0, leaves.1, in_order program sound.well s sound.nested body.program.types (same_types (Some f.procedure) p) s.masters refl)
-      ))
-      f.ready)
-      (frugal_goes program sound.well (no_access_to_parts p f.may) (Some f.procedure) (f.caller ∷ f.rest) f.lower f.behind s f.frugal not_end sound.typed.inside body refl f.ready)
+  pub stays_next : (n : Next) → Each (SameBody s) n → Fine (known_in program (running_procedure s) (waiting_for program s f)) s.heap s.masters n → GoesFrugally frugal f.lower f.behind n → GoesTouching program s n
+  stays_next (halts halt) same fine goes = fine
+  stays_next (moves e after) same fine goes = inl (stays_on e after same fine goes)
+  stays_next (tells request e after) same fine goes = inl (stays_on e after same fine goes)
+  stays_next (asks request answered) same fine goes = λ granted. inl (stays_on Quiet (answered granted) (same granted) (fine granted) (goes granted))
+  stays_next (picks n taken) same fine goes = goes
 
-  ending : is_return_first s.control ≡ true → GoesTouching program s (next program.types.items (body_forms program) s)
-  ending end =
-      let ends = touching_ends program sound.well s f (touching_unlisted program s sound.reached f end) end in
-      rw ends.1 (inr (ends.2, subst (λ (k : Control). IsCalm (behind_call k)) (sym ends.3) f.calm))
-
-  pub touching_step : GoesTouching program s (next program.types.items (body_forms program) s)
-  touching_step = by (is_return_first s.control) refl
+  -- The object is of no access type, and no other is under way.
+  settled_none : (inner : List Suspension) → AreCalls inner → under_in (callers_of program (inner ++ origin program s f ∷ f.suspensions)) ≡ under_way f.treatment f.object
+  settled_none [] calls = by f.treatment
     where
-      by : (end : Bool) → is_return_first s.control ≡ end → GoesTouching program s (next program.types.items (body_forms program) s)
-      by true end = ending end
-      by false end = inner end
+      by : (treatment : Treatment) → under_way treatment f.object ++ under_in (callers_of program f.suspensions) ≡ under_way treatment f.object
+      by (begins origin done) = f.settled
+      by (ends cause) = ap (λ (none : List Id). f.object ∷ none) f.settled
+  settled_none (g ∷ gs) calls = rw calls.1 (settled_none gs calls.2)
+
+  treated_at : (types : List _) → types ≡ p.types → (treatment : Treatment) (q : Id) (y : Object) → IsUnder (under_way treatment f.object) q → object_at s.heap q ≡ Some y → is_access types y.cell.access ≡ false
+  treated_at types are (begins by done) q y under found = absurd under
+  treated_at types are (ends cause) q y (inl same) found =
+      let one : y ≡ f.x = let here = f.found in cc (rw same at here, found) in
+      let declared = f.waits.declared in
+      let object : is_access p.types f.access ≡ false = rw (same_types f.procedure p) at declared in
+      rw (are, one, f.of_access) object
+  treated_at types are (ends cause) q y (inr none) found = absurd none
+
+  none_is_under : (q : Id) (y : Object) → IsUnder (under_in (callers_of program (waiting_for program s f))) q → object_at s.heap q ≡ Some y → is_access (seen_in (running_procedure s) p).types y.cell.access ≡ false
+  none_is_under q y under found =
+      treated_at (seen_in (running_procedure s) p).types (same_types (running_procedure s) p) f.treatment q y (rw (settled_none f.inner f.calls) at under) found
+
+  module _ (sound : Sound program s) (not_end : is_return_first s.control ≡ false) where
+    -- What is left to do is so behind each step but the end of a body.
+    goes_on : GoesFrugally frugal f.lower f.behind (next program.types.items (body_forms program) s)
+    goes_on =
+        frugal_goes program sound.well (no_access_to_parts p f.may) f.lower f.behind s f.frugal (λ actuals references k is. absurd (let end = not_end in cc (rw is at end)))
+        sound.typed.inside (known_in program (running_procedure s) (waiting_for program s f)) refl f.ready
+
+    -- Where no body begins and none ends.
+    inner_step : inside.crosses s.mode s.control ≡ false → Each (SameBody s) (next program.types.items (body_forms program) s) → GoesTouching program s (next program.types.items (body_forms program) s)
+    inner_step none same =
+        let running = running_procedure s in
+        let known = known_in program running (waiting_for program s f) in
+        stays_next (next program.types.items (body_forms program) s) same
+        (inside.fine known program.types.items (reaches_in program running (waiting_for program s f)) (body_forms program) (may_call program running (waiting_for program s f) sound.well) s
+        none sound.typed.inside (own_bodies p sound.frees_own running) (collect_two p s sound.nested)
+        (touching_stands program sound.well s sound.reached f known.program.types (same_types running p)) none_is_under
+        (λ left behind runs at. (
+        let leaves = touching_leaves program s f runs left behind at in
+        (leaves.0, leaves.1, in_order program sound.well s sound.nested known.program.types (same_types running p) s.masters refl)
+        ))
+        f.ready)
+        goes_on
+
+-- Whatever keeps activations keeps what runs and what waits.
+same_by : (s mid after : State) → mid.activations ≡ s.activations → Keeps mid after → SameBody s after
+same_by s mid after same keeps = record {
+  procedure = keeps.procedure ∙ ap procedure_of same;
+  suspended = keeps.suspended ∙ ap older same;
+}
+
+each_same : (s mid : State) (n : Next) → mid.activations ≡ s.activations → Each (Keeps mid) n → Each (SameBody s) n
+each_same s mid (halts halt) same keeps = tt
+each_same s mid (moves e after) same keeps = same_by s mid after same keeps
+each_same s mid (tells request e after) same keeps = same_by s mid after same keeps
+each_same s mid (asks request answered) same keeps = λ granted. same_by s mid (answered granted) same (keeps granted)
+each_same s mid (picks n taken) same keeps = λ i lt. same_by s mid (taken i) same (keeps i lt)
+
+-- The activation that goes on behind a body is of the procedure that it was of.
+back_runs : (mode : Mode) (actuals : List ActualForm) (values : List Value) (b : Activation Value) (rest : List (Activation Value)) → procedure_of (behind_body mode actuals values (b ∷ rest)) ≡ b.procedure
+back_runs Running actuals values b rest = refl
+back_runs (Raising e) actuals values b rest = refl
+back_runs Exiting actuals values b rest = refl
+back_runs Returning actuals values b rest = refl
+
+-- What waits for a body has an activation.
+no_rest : (program : Program) (inner : List Suspension) (g : Suspension) (gs : List Suspension) → AreOf program [] (inner ++ g ∷ gs) → ⊥
+no_rest program [] g gs of = of
+no_rest program (h ∷ hs) g gs of = of
+
+-- A state with these parts.
+abbrev with_parts : Mode → Control → List (Activation Value) → State → State
+with_parts mode k all s = record s { mode = mode; control = k; activations = all }
+
+module _ (program : Program) (a : Activation Value) (k : Control) (s : State) where
+  abbrev tds : List TypeDefinition
+  tds = program.types.items
+
+  abbrev bodies : List BodyForm
+  bodies = body_forms program
+
+  -- What is known of what waits is so whatever is left to do.
+  restand : (mode : Mode) (g : Frame Value) (rest : List (Activation Value)) (gs : List Suspension) → Stands program gs (with_parts mode (g ∷ k) (a ∷ rest) s) → Stands program gs (record s { activations = a ∷ rest })
+  restand mode g rest gs stands = record {
+    body = stands.body;
+    behind = stands.behind;
+    bodies = stands.bodies;
+    standing = record { suspended = stands.standing.suspended; waiting = stands.standing.waiting; low = stands.standing.low };
+  }
+
+  -- The end of a body: that of the operation, or one that it has called.
+  module _ (mode : Mode) (actuals : List ActualForm) (references : List Value) (b : Activation Value) (rest : List (Activation Value)) where
+    abbrev ending : State
+    ending = with_parts mode (Returns actuals references ∷ k) (a ∷ b ∷ rest) s
+
+    abbrev back : State
+    back = resumed_in (behind_mode mode) (behind_frames mode references k) (behind_body mode actuals a.places (b ∷ rest)) s
+
+    abbrev Leaving : List Suspension → Type 0
+    Leaving gs = Working (known_in program a.procedure gs) s.heap a.places s.masters (GoesOn (known_in program a.procedure gs) mode (Returns actuals references ∷ k))
+
+    module _ (sound : Sound program ending) (f : Touching program ending) where
+      abbrev behind_it : List Suspension
+      behind_it = origin program ending f ∷ f.suspensions
+
+      -- That of one that it has called: its caller goes on.
+      inner_returns : (g : Suspension) (gs : List Suspension) → AreCalls (g ∷ gs) → called_by g.procedure gs ≡ Some f.number → Stands program (g ∷ gs ++ behind_it) ending → Leaving (g ∷ gs ++ behind_it) → InTouching program s.heap Quiet back
+      inner_returns g gs calls operates stands w =
+          let control = same_control program a.procedure g (gs ++ behind_it) mode actuals references k w.rooms w.holds w.rest in
+          let none : IsAwaited k → ⊥ = λ awaited. calls.0 (subst IsAwaited control awaited) in
+          let placed = placed_in (seen_in a.procedure (program_form program)) a (b ∷ rest) ending refl sound.typed.inside in
+          let leads = frugal_returns (frugal_procedures (program_form program)) f.behind mode actuals references k f.frugal.upper (awaits f.object f.of f.treatment f.after f.behind f.awaited) none f.frugal.frugal in
+          touching_on program ending f gs Quiet back calls.2
+          (ap (λ (running : Option ℕ). called_by running gs) (back_runs mode actuals a.places b rest ∙ stands.bodies.0) ∙ operates)
+          (record {
+            upper = f.frugal.upper;
+            masters = f.frugal.masters;
+            own = f.frugal.own;
+            frugal = back_frugal (frugal_procedures (program_form program)) f.behind mode references k f.frugal.upper leads;
+          })
+          (left_to program a actuals references k s mode b rest g (gs ++ behind_it) (restand mode (Returns actuals references) (b ∷ rest) (g ∷ gs ++ behind_it) stands) none placed w)
+
+      -- Its own: what waits for it goes on.
+      own_ends : f.inner ≡ [] → Leaving behind_it → next tds bodies ending ≡ moves Quiet back → Went program s.heap Quiet back
+      own_ends none w is =
+          let control = same_control program a.procedure (origin program ending f) f.suspensions mode actuals references k w.rooms w.holds w.rest in
+          let awaited : IsAwaited k = subst IsAwaited (sym control) (awaits f.object f.of f.treatment f.after f.behind f.awaited) in
+          let end = frugal_ends (frugal_procedures (program_form program)) f.behind mode actuals references k f.frugal.upper awaited f.frugal.frugal in
+          let next_is : ending.control ≡ Returns [] [] ∷ f.behind = rw (end.0, end.1, end.2) refl in
+          let masters_are : ending.masters ≡ f.lower = f.frugal.masters ∙ ap (λ (upper : List Master). upper ++ f.lower) end.3 in
+          let ended = touching_ends program sound.well ending f (touching_unlisted program ending sound.reached f next_is) a b rest refl none next_is masters_are in
+          let same : ended.0 ≡ back = cc (ended.1, is) in
+          subst (Went program s.heap Quiet) same (inr (
+            crosses_to ended.2,
+            subst (λ (behind : Control). IsCalm (behind_call behind)) (sym ended.3) f.calm,
+            f.settled,
+          ))
+
+      ends_by : (inner : List Suspension) → f.inner ≡ inner → Leaving (waiting_for program ending f) → next tds bodies ending ≡ moves Quiet back → Went program s.heap Quiet back
+      ends_by [] none w is = own_ends none (subst (λ (all : List Suspension). Leaving (all ++ behind_it)) none w) is
+      ends_by (g ∷ gs) are w is =
+          inl (inner_returns g gs (subst AreCalls are f.calls) (subst (λ (all : List Suspension). called_by a.procedure all ≡ Some f.number) are f.operates)
+          (subst (λ (all : List Suspension). Stands program (all ++ behind_it) ending) are f.stands) (subst (λ (all : List Suspension). Leaving (all ++ behind_it)) are w))
+
+  body_ends :
+      (mode : Mode) (actuals : List ActualForm) (references : List Value) (rest : List (Activation Value)) → Sound program (with_parts mode (Returns actuals references ∷ k) (a ∷ rest) s) → (f : Touching program (with_parts mode (Returns actuals references ∷ k) (a ∷ rest) s))
+      → Working (known_in program a.procedure (waiting_for program (with_parts mode (Returns actuals references ∷ k) (a ∷ rest) s) f)) s.heap a.places s.masters (GoesOn (known_in program a.procedure (waiting_for program (with_parts mode (Returns actuals references ∷ k) (a ∷ rest) s) f)) mode (Returns actuals references ∷ k))
+      → next tds bodies (with_parts mode (Returns actuals references ∷ k) (a ∷ rest) s) ≡ moves Quiet (resumed_in (behind_mode mode) (behind_frames mode references k) (behind_body mode actuals a.places rest) s)
+      → Went program s.heap Quiet (resumed_in (behind_mode mode) (behind_frames mode references k) (behind_body mode actuals a.places rest) s)
+  body_ends mode actuals references [] sound f w is = absurd (no_rest program f.inner _ f.suspensions f.stands.bodies)
+  body_ends mode actuals references (b ∷ rest) sound f w is = ends_by mode actuals references b rest sound f f.inner refl w is
+
+  module _ (rest : List (Activation Value)) where
+    abbrev whole : Mode → Frame Value → State
+    whole mode g = with_parts mode (g ∷ k) (a ∷ rest) s
+
+    -- A call: its body begins.
+    call_begins : (number : ℕ) (b : BodyForm) (given : List ActualForm) → Sound program (whole Running (Calls number b given)) → Touching program (whole Running (Calls number b given)) → GoesTouching program (whole Running (Calls number b given)) (mode_next named tds bodies Running (whole Running (Calls number b given)))
+    unfolding next
+    call_begins number b given sound f =
+        let ready = f.ready.1 in
+        let gs = waiting_for program (whole Running (Calls number b given)) f in
+        let caller = known_in program a.procedure gs in
+        let w : Working caller s.heap a.places s.masters (CallsOn caller number b given k) = at_work ready ready.rest.0 in
+        let stands = restand Running (Calls number b given) rest gs f.stands in
+        inl (touching_on program (whole Running (Calls number b given)) f (waiting program number b given k a rest gs s w ∷ f.inner) Quiet _
+        (calls_back f.frugal.upper f.frugal.frugal, refl, f.calls)
+        f.operates
+        (goes_on program (whole Running (Calls number b given)) f sound refl)
+        (calls_to program number b given k a rest gs s w ready.rest.1 (inside.heap_typed (seen_in a.procedure (program_form program)) (whole Running (Calls number b given)) sound.typed.inside).1 stands
+        (runs_called program number b given k a gs s sound.well sound.obeys w stands.body ready.rest.1 rest stands)))
+      where
+        calls_back : (ms : List Master) → Frugal (frugal_procedures (program_form program)) f.behind Running (Calls number b given ∷ k) ms → IsAwaited k → ⊥
+        calls_back ms (inl q) awaited = never_awaited (frugal_procedures (program_form program)) f.behind k ms awaited q.1
+        calls_back ms (inr (runs, leaving)) awaited = leaving
+
+    -- A frame at which no body begins and none ends.
+    frame_on : (g : Frame Value) → crosses g ≡ false → is_treatment g ≡ false → is_return g ≡ false → (sound : Sound program (whole Running g)) (f : Touching program (whole Running g)) → GoesTouching program (whole Running g) (frame_next named tds bodies g (with_parts Running k (a ∷ rest) s))
+    unfolding next
+    frame_on g none plain not_end sound f =
+        inner_step program (whole Running g) f sound not_end (rw (none, plain) refl)
+        (each_same (whole Running g) (with_parts Running k (a ∷ rest) s) _ refl (step_keeps tds bodies g (with_parts Running k (a ∷ rest) s) (λ treats. absurd (cc (plain, treats))) none))
+
+    -- So is one that a jump passes.
+    passed_on : (mode : Mode) (g : Frame Value) → inside.crosses mode (g ∷ k) ≡ false → is_return g ≡ false → (n : Next) → mode_next named tds bodies mode (whole mode g) ≡ n → n ≡ pass_next named (is_master g) (landing mode g) mode (with_parts mode k (a ∷ rest) s) → (sound : Sound program (whole mode g)) (f : Touching program (whole mode g)) → GoesTouching program (whole mode g) n
+    unfolding next
+    passed_on mode g none not_end n is passes sound f =
+        subst (GoesTouching program (whole mode g)) is
+        (inner_step program (whole mode g) f sound not_end none
+        (subst (Each (SameBody (whole mode g))) (sym is) (each_same (whole mode g) (with_parts mode k (a ∷ rest) s) n refl (subst (λ (coming : Next). Each (Keeps (with_parts mode k (a ∷ rest) s)) coming) (sym passes) (pass_keeps (is_master g) (landing mode g) mode (with_parts mode k (a ∷ rest) s))))))
+
+    running_step : (g : Frame Value) → (sound : Sound program (whole Running g)) (f : Touching program (whole Running g)) → GoesTouching program (whole Running g) (mode_next named tds bodies Running (whole Running g))
+    unfolding next
+    running_step (Calls number b given) sound f = call_begins number b given sound f
+    running_step (Returns actuals references) sound f = body_ends Running actuals references rest sound f f.ready.1 refl
+    running_step (frame.Treats v treatment tasks) sound f = absurd (by f.frugal.upper f.frugal.frugal)
+      where
+        by : (ms : List Master) → Frugal (frugal_procedures (program_form program)) f.behind Running (frame.Treats v treatment tasks ∷ k) ms → ⊥
+        by ms (inl q) = q.0
+        by ms (inr (runs, leaving)) = leaving
+    running_step g sound f = frame_on g refl refl refl sound f
+
+    raising_step : (e : Exception) (g : Frame Value) → (sound : Sound program (whole (Raising e) g)) (f : Touching program (whole (Raising e) g)) → GoesTouching program (whole (Raising e) g) (jump_next named (Raising e) (g ∷ k) (whole (Raising e) g))
+    unfolding next
+    raising_step e (Returns actuals references) sound f = body_ends (Raising e) actuals references rest sound f f.ready.1 refl
+    raising_step e g sound f = passed_on (Raising e) g refl refl _ refl refl sound f
+
+    exiting_step : (g : Frame Value) → (sound : Sound program (whole Exiting g)) (f : Touching program (whole Exiting g)) → GoesTouching program (whole Exiting g) (jump_next named Exiting (g ∷ k) (whole Exiting g))
+    unfolding next
+    exiting_step (Returns actuals references) sound f = body_ends Exiting actuals references rest sound f f.ready.1 refl
+    exiting_step g sound f = passed_on Exiting g refl refl _ refl refl sound f
+
+    returning_step : (g : Frame Value) → (sound : Sound program (whole Returning g)) (f : Touching program (whole Returning g)) → GoesTouching program (whole Returning g) (jump_next named Returning (g ∷ k) (whole Returning g))
+    unfolding next
+    returning_step (Returns actuals references) sound f = body_ends Returning actuals references rest sound f f.ready.1 refl
+    returning_step g sound f = passed_on Returning g refl refl _ refl refl sound f
+
+-- Nothing is left to do of no body.
+nothing_left : (frugal : List Bool) (behind : Control) (mode : Mode) (ms : List Master) → Frugal frugal behind mode [] ms → ⊥
+nothing_left frugal behind mode ms (inl q) = q
+nothing_left frugal behind mode ms (inr (runs, leaving)) = leaving
+
+-- Any step while the body of such an operation runs, or one that it has called.
+step_by : (program : Program) (mode : Mode) (k : Control) (all : List (Activation Value)) (s : State) → (sound : Sound program (with_parts mode k all s)) (f : Touching program (with_parts mode k all s)) → GoesTouching program (with_parts mode k all s) (mode_next named program.types.items (body_forms program) mode (with_parts mode k all s))
+step_by program mode k [] s sound f = absurd f.ready.0
+step_by program mode [] (a ∷ rest) s sound f = absurd (nothing_left (frugal_procedures (program_form program)) f.behind mode f.frugal.upper f.frugal.frugal)
+step_by program Running (g ∷ k) (a ∷ rest) s sound f = running_step program a k s rest g sound f
+step_by program (Raising e) (g ∷ k) (a ∷ rest) s sound f = raising_step program a k s rest e g sound f
+step_by program Exiting (g ∷ k) (a ∷ rest) s sound f = exiting_step program a k s rest g sound f
+step_by program Returning (g ∷ k) (a ∷ rest) s sound f = returning_step program a k s rest g sound f
+
+pub touching_step : (program : Program) (s : State) → Sound program s → Touching program s → GoesTouching program s (next program.types.items (body_forms program) s)
+unfolding next
+touching_step program s sound f = step_by program s.mode s.control s.activations s sound f

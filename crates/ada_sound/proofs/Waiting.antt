@@ -53,3 +53,18 @@ module _ (program : Program) (s after : State) (gs : List Suspension) (stands : 
       low = low_kept (callers_of program gs) stands.standing.low;
     };
   }
+
+-- The rest of the callers stand, too.
+pub stands_behind : (program : Program) (g : Suspension) (gs : List Suspension) (a b : Activation Value) (rest : List (Activation Value)) (s : State) → Stands program (g ∷ gs) (record s { activations = a ∷ b ∷ rest }) → (after : State) → after.activations ≡ b ∷ rest → after.heap ≡ s.heap → Stands program gs after
+stands_behind program g gs a b rest s stands after active heap =
+    let of : running_procedure after ≡ g.procedure = rw active stands.bodies.0 in
+    record {
+      body = rw of stands.bodies.1;
+      behind = rw of stands.bodies.2;
+      bodies = rw active stands.bodies.3;
+      standing = record {
+        suspended = rw active stands.standing.suspended.1;
+        waiting = subst (λ (procedure : Option ℕ). AllWait (implicit_of (program_form program)) (seen_in procedure (program_form program)) (callers_of program gs)) (sym of) stands.standing.waiting.1;
+        low = rw heap stands.standing.low.3;
+      };
+    }

@@ -10,7 +10,7 @@ use Rattle.ada_program.specs.declared.program.FormalMode.TheVariants.{InOut}
 use Rattle.ada_program.specs.declared.program.Operations.{Operations}
 use Rattle.ada_program.specs.declared.program.Program.{Program}
 use Rattle.ada_program.specs.declared.program.VariableKind.TheVariants as variable
-use Rattle.ada_program.specs.Form.{PathForm, integer, reads, is_null, item_of_record, nothing, allocates_default, value_of, computes, DeclarationForm, collects, declares, declares_record, StmtForm, skips, assigns, assigns_record, frees, writes, writes_text, chooses, raises, encloses, StmtsForm, no_stmts, a_stmt, otherwise, a_branch, HandlersForm, no_handlers, a_handler}
+use Rattle.ada_program.specs.Form.{PathForm, RecordPathForm, in_out_record, integer, reads, is_null, item_of_record, nothing, allocates_default, value_of, computes, DeclarationForm, collects, declares, declares_record, StmtForm, skips, assigns, assigns_record, frees, writes, writes_text, chooses, calls, raises, encloses, StmtsForm, no_stmts, a_stmt, otherwise, a_branch, HandlersForm, no_handlers, a_handler}
 use Rattle.ada_program.specs.ProgramForm.{BodyForm}
 use Rattle.ada_meaning.specs.declared.state.Value.{Value}
 use Rattle.ada_meaning.specs.declared.state.Value.TheVariants.{Names}
@@ -245,6 +245,44 @@ tidying_events =
     ∷ Followed object_h
     ∷ Back new_cell 1 1 (Some 0) None (Freeing 2)
     ∷ Followed object_h
+    ∷ Left 1
+    ∷ Back object_h 3 0 None None (Leaving 0 1)
+    ∷ Left 0
+    ∷ []
+
+-- The same types, but that Holder overrides Finalize by the second of two procedures, which calls the first one. H : Holder has number 0 in the main
+-- procedure.
+abbrev pub emptying_operations : Operations
+emptying_operations = record { initialize = None; adjust = None; finalize = Some (record { 0 = 1 }) }
+
+-- procedure Empty (G : in out Holder) is begin Free (G.Head); end Empty;
+abbrev pub emptying_empty : BodyForm
+emptying_empty = operation_body 4 (a_stmt (frees 1 head_now) no_stmts) no_handlers
+
+-- The record of type Holder that the formal parameter H is.
+abbrev pub holder_now : RecordPathForm
+holder_now = record { object = object_path 0 []; first = 0; part = 0; record_type = 2 }
+
+-- procedure Finalize (H : in out Holder) is begin Empty (H); end Finalize;
+abbrev pub emptying_finalize : BodyForm
+emptying_finalize = operation_body 5 (a_stmt (calls 0 (in_out_record holder_now ∷ [])) no_stmts) no_handlers
+
+-- Both, in order.
+abbrev pub emptying_bodies : List BodyForm
+emptying_bodies = emptying_empty ∷ emptying_finalize ∷ []
+
+-- H is initialized, for which nothing is called, and is followed where its Head is found as a target, and where that is written. At the leaving of the main
+-- procedure H is finalized: its Finalize, a master of its own, follows H to pass it, and Empty, one more master, follows H to what Head names, the words of that
+-- cell go back, and H is followed where Head becomes null. Empty is left, and then Finalize. Then the words of H go back. Nothing is left in the collection.
+abbrev pub emptying_events : List Event
+emptying_events =
+    Born object_h 0 0 0 1 Creation
+    ∷ replicate 2 (Followed object_h)
+    ++ Finalized object_h 0 0 0 1 (Leaving 0 1)
+    ∷ replicate 2 (Followed object_h)
+    ++ Back new_cell 1 1 (Some 0) None (Freeing 3)
+    ∷ Followed object_h
+    ∷ Left 2
     ∷ Left 1
     ∷ Back object_h 3 0 None None (Leaving 0 1)
     ∷ Left 0

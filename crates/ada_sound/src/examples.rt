@@ -153,9 +153,13 @@ pub fn premises_are_met()
 /// Where the main procedure is left, Finalize frees the cell, whose words go back before those of the record object, so that
 /// none are left to go back with the collection; and `flow_invariant` speaks of where the Free begins.
 ///
-/// And one is accepted whose Initialize does so, too (7.6, 4.8): it allocates the cell that its record object owns, and
-/// handles `Storage_Error`, so that the program finishes where the cell is granted, and is freed by Finalize, and where it
-/// is refused, and nothing is freed.
+/// And one is accepted whose Finalize calls a procedure that does so (6.4.1): it passes its object on, by reference, and that
+/// procedure frees the cell, in a master of its own, which is left before that of Finalize is; then the words of the object
+/// go back. `flow_invariant` speaks of where that Free begins, too.
+///
+/// And one is accepted whose Initialize touches storage, too (7.6, 4.8): it allocates the cell that its record object owns,
+/// and handles `Storage_Error`, so that the program finishes where the cell is granted, and is freed by Finalize, and where
+/// it is refused, and nothing is freed.
 ///
 /// And one is accepted whose Initialize lets `Storage_Error` out (7.6.1): of a declared object with two components of such a
 /// limited type, the first one is initialized and owns a cell, and for the second one the cell is refused, so that the first
@@ -175,6 +179,13 @@ pub fn operations_are_accepted()
         × (declaration_forms program ≡ operation_examples.tidying_declarations)
         × (stmt_forms program ≡ operation_examples.tidying_stmts)
         × IsChecked program × FinishesAfter operation_examples.tidying_events program
+        × always.InSomeRun program (λ events last. operation_examples.IsSpokenOfInside program last) }
+    ensures empties { (program : Program)
+        × (operations_of program.types.items 0 ≡ operation_examples.emptying_operations)
+        × (body_forms program ≡ operation_examples.emptying_bodies)
+        × (declaration_forms program ≡ operation_examples.tidying_declarations)
+        × (stmt_forms program ≡ operation_examples.tidying_stmts)
+        × IsChecked program × FinishesAfter operation_examples.emptying_events program
         × always.InSomeRun program (λ events last. operation_examples.IsSpokenOfInside program last) }
     ensures allocates { (program : Program)
         × (operations_of program.types.items 0 ≡ operation_examples.allocating_operations)

@@ -15,11 +15,11 @@ ghost use Rattle.ada_sound.specs.ImplicitCalls as implicit_calls;
 
 /// In every run of a program that is accepted, wherever a statement begins, in the main procedure's body or in that of one
 /// that is called, flow comes to what is left to do in that body, and each of its variables holds what flow says of it:
-/// null, or null or an object that exists; and a record object that flow does not call lost is there. So it is in the body
-/// of an operation of a controlled type, too, but in that of one that touches Integers and Booleans alone. Components of
-/// objects in their collections hold null, or name objects that exist. No object has two owners among variables and
-/// components, but for a component that the statement sets to null. A way through the statements leads to one place, and
-/// flow says one thing there.
+/// null, or null or an object that exists; and a record object that flow does not call lost is there. So it is while an
+/// operation of a controlled type runs, too, but in the body of one that touches Integers and Booleans alone, or of a
+/// procedure that does. Components of objects in their collections hold null, or name objects that exist. No object has
+/// two owners among variables and components, but for a component that the statement sets to null. A way through the
+/// statements leads to one place, and flow says one thing there.
 pub fn flow_invariant()
     ensures agrees { (program : Program) → IsChecked program → AgreesWithFlow program }
     ensures one_flow { OneFlow }

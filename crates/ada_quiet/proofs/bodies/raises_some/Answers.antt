@@ -1,7 +1,6 @@
 use Rattle.std.proofs.Common.{◌≡◌, ℕ, true, not, ◌==◌, List, [], ◌∷◌, length, vec_len, refl, ap, ◌∙◌, arith}
 use Rattle.std.specs.List.{list_any}
-use Rattle.ada_effects.specs.Effects.{Effect, Implicit, known_of, body_raises}
-use Rattle.ada_program.specs.ProgramForm.{body_form}
+use Rattle.ada_effects.specs.Effects.{Effect}
 use Rattle.ada_quiet.proofs.bodies.raises_some.Goals as goal
 
 -- one of some things is there, if there are some
@@ -13,6 +12,4 @@ pub returns : goal.returns
 returns c =
     let raised = c.in_ok-effect.effect.raises in
     let size : vec_len raised ≡ length raised.items = omega (arith, raised.ok.0) in
-    let b = body_form c.args.procedure.now in
     ap not (c.is_empty.ensures ∙ ap (λ (n : ℕ). n == 0) size) ∙ some_there raised.items ∙ ap (λ (e : Effect). e.raises (λ x. true)) c.in_ok-effect.ensures
-    ∙ ap (λ (i : Implicit). body_raises (known_of i []) b (λ x. true)) c.nothing-implicit.ensures

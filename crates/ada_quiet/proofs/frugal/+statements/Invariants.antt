@@ -5,14 +5,14 @@ use Rattle.ada_quiet.proofs.frugal.+statements.Given as goal
 
 -- what is left tells of all
 abbrev pub invariant-are_frugal-statements : goal.invariant-are_frugal-statements
-invariant-are_frugal-statements l = are_frugal (stmts_form (drop l.statement-index l.statements)) ≡ are_frugal (stmts_form l.statements)
+invariant-are_frugal-statements l = are_frugal l.fn.frugal (stmts_form (drop l.statement-index l.statements)) ≡ are_frugal l.fn.frugal (stmts_form l.statements)
 
 -- what is left tells of all
 abbrev pub invariant-are_frugal_branches-branches : goal.invariant-are_frugal_branches-branches
 invariant-are_frugal_branches-branches l = (others : StmtsForm) →
-    are_frugal_branches (branches_form (drop l.branch-index l.branches) others) ≡ are_frugal_branches (branches_form l.branches others)
+    are_frugal_branches l.fn.frugal (branches_form (drop l.branch-index l.branches) others) ≡ are_frugal_branches l.fn.frugal (branches_form l.branches others)
 
 -- what is left tells of all
 abbrev pub invariant-are_frugal_handlers-handlers : goal.invariant-are_frugal_handlers-handlers
 invariant-are_frugal_handlers-handlers l =
-    are_frugal_handlers (handlers_form (drop l.handler-index l.handlers)) ≡ are_frugal_handlers (handlers_form l.handlers)
+    are_frugal_handlers l.fn.frugal (handlers_form (drop l.handler-index l.handlers)) ≡ are_frugal_handlers l.fn.frugal (handlers_form l.handlers)

@@ -1,6 +1,7 @@
--- By four programs and their runs.
+-- By five programs and their runs.
 use Rattle.ada_sound.proofs.ExampleOperations as operations
 use Rattle.ada_sound.proofs.ExampleTidying as tidying
+use Rattle.ada_sound.proofs.ExampleEmptying as emptying
 use Rattle.ada_sound.proofs.ExampleAllocating as allocating
 use Rattle.ada_sound.proofs.ExampleUndoing as undoing
 use Rattle.ada_sound.proofs.examples.operations_are_accepted.Goals as goal
@@ -26,6 +27,16 @@ returns c = record {
     tidying.tidying_accepted,
     tidying.tidies,
     tidying.is_spoken_of,
+  );
+  empties = (
+    emptying.emptying,
+    emptying.emptying_overrides,
+    emptying.emptying_has,
+    emptying.emptying_declares,
+    emptying.emptying_does,
+    emptying.emptying_accepted,
+    emptying.empties,
+    emptying.is_spoken_of,
   );
   allocates = (
     allocating.allocating,

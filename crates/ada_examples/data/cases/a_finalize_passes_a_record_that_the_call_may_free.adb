@@ -1,0 +1,22 @@
+with Ada.Finalization; with Ada.Text_IO; with Ada.Unchecked_Deallocation;
+procedure Main is
+   type Node;
+   type Link is access Node;
+   type Node is record Value : Integer := 0; Next : Link; end record;
+   type List is new Ada.Finalization.Limited_Controlled with record Head : Link; Count : Integer := 0; end record;
+   overriding procedure Finalize (Object : in out List);
+   procedure Free is new Ada.Unchecked_Deallocation (Node, Link);
+   procedure Pop (From : in out Node) is
+   begin
+      Free (From.Next);
+   end Pop;
+   overriding procedure Finalize (Object : in out List) is
+   begin
+      Pop (Object.Head.all);
+   exception
+      when Constraint_Error => null;
+   end Finalize;
+   A : List;
+begin
+   A.Head := new Node;
+end Main;

@@ -1,0 +1,11 @@
+-- What is known of all bodies of a program, as the code holds it.
+
+use Rattle.std.specs.Prelude.{◌≡◌}
+use Rattle.ada_effects.specs.Found.{effects_in}
+use Rattle.ada_program.specs.ProgramForm.{ProgramForm}
+use Rattle.ada_quiet.specs.declared.known.Known.{Known}
+use Rattle.ada_quiet.specs.Frugal.{frugal_procedures, own_effects}
+
+-- It is what the definitions say: which bodies are frugal, and what each may raise.
+abbrev pub IsKnown : ProgramForm → Known → Type 0
+IsKnown p known = (known.frugal.now ≡ frugal_procedures p) × (effects_in known.effects ≡ own_effects p)
