@@ -24,7 +24,7 @@ some_waits (f ∷ k) = waits f || some_waits k
 abbrev pub has_master : Frame Value → Bool
 has_master f = is_master f || is_departure f
 
--- So many masters, and the one of a frame, if an operation waits behind that and it has one (7.6.1).
+-- This number of masters, and the one of a frame, if an operation waits behind that and it has one (7.6.1).
 abbrev pub masters_if_waits : (behind master : Bool) → ℕ → ℕ
 masters_if_waits true true n = suc n
 masters_if_waits true false n = n

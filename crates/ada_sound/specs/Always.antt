@@ -63,7 +63,8 @@ AgreesThere program s =
     × IsFlowAt program (running_procedure s) rest way s.control holds
     × Agrees (program_form program).types (seen_in (running_procedure s) (program_form program)).variables s holds
 
--- So it is wherever a statement begins, in the main body or in that of a procedure, but in that of an operation that touches Integers and Booleans alone.
+-- So it is wherever a statement begins, in the main body or in that of a procedure; but, while an operation runs, not in that of a procedure that touches
+-- Integers and Booleans alone.
 abbrev pub AgreesWithFlow : Program → Type 0
 AgreesWithFlow program = InEveryRun program (λ events last. BeginsStatement last → IsSpokenOf program last → AgreesThere program last)
 
