@@ -15,20 +15,11 @@ designates_no_parts types (record_of name parts components finalization) = true
 designates_no_parts types (access_to name designated pool) = not (is_some (finalization_of types designated))
 designates_no_parts types (object_of record_type) = true
 
--- What has controlled parts is limited (7.5, 7.6).
-abbrev pub is_limited : Option Finalization → Bool
-is_limited None = true
-is_limited (Some f) = f.limited
-
--- A type lets operations be frugal: it designates no record type with controlled parts, and its own parts are limited.
-abbrev pub lets_be_frugal : ProgramForm → TypeForm → Bool
-lets_be_frugal p t = designates_no_parts p.types t && is_limited (finalization_in (Some t))
-
--- An Initialize and a Finalize may be frugal in a program whose controlled parts are limited and lie in declared objects alone: so each of them is initialized at a
--- declaration, and finalized at the leaving of its object's master, or where an exception comes out of the initialization of its object, and never where an object
--- is freed or assigned to (7.6, 7.6.1).
+-- An Initialize and a Finalize may be frugal in a program whose controlled parts lie in declared objects alone: so each of them is initialized at a declaration, and
+-- finalized where its object's master is left, an exception comes out of the initialization of its object, or another record is assigned to it, and never where an
+-- object is freed (7.6, 7.6.1).
 abbrev pub may_be_frugal : ProgramForm → Bool
-may_be_frugal p = list_all (lets_be_frugal p) p.types
+may_be_frugal p = list_all (designates_no_parts p.types) p.types
 
 -- Finalize is quiet, or frugal and silent, where it may be.
 abbrev pub uses_finalize : ProgramForm → Option ProcedureNo → Bool

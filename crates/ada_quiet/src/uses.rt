@@ -1,9 +1,7 @@
 //! Where an Initialize and a Finalize may be frugal, and where they are in use (7.6, 7.6.1).
 
 ghost use Rattle.std.specs.Prelude.{◌≡◌, Some, IfOk};
-ghost use Rattle.ada_program.specs.Kept.{types_in};
 ghost use Rattle.ada_program.specs.ProgramForm.{program_form, type_form};
-ghost use Rattle.ada_program.specs.WellFormed.{finalization_in};
 ghost use Rattle.ada_quiet.specs.First as first;
 ghost use Rattle.ada_quiet.specs.InUse as rules;
 ghost use Rattle.ada_quiet.specs.Known.{IsKnown};
@@ -13,47 +11,31 @@ use crate::operations::{
     is_frugal_operation, is_plain_operation, is_quiet_operation, is_silent_operation,
 };
 use ada_program::parts::finalization_of;
-use ada_program::program::{Finalization, TypeDefinition};
+use ada_program::program::TypeDefinition;
 use ada_program::{ProcedureNo, Program};
 use std::alloc::{AllocError, Global};
 
-/// Whether controlled parts are limited (7.5), where there are some.
-fn is_limited(finalization: Option<Finalization>) -> bool
-    ensures { result ≡ rules.is_limited finalization }
-{
-    match finalization {
-        None => true,
-        Some(finalization) => finalization.limited,
-    }
-}
-
-/// Whether a type lets operations be frugal: it designates no record type with controlled parts, and its own parts are limited.
-fn lets_be_frugal(program: &Program, definition: &TypeDefinition) -> bool
-    ensures { result ≡ rules.lets_be_frugal (program_form program.now) (type_form definition.now) }
+/// Whether a type designates no record type with controlled parts (3.10, 7.6), if it is an access type.
+fn designates_no_parts(program: &Program, definition: &TypeDefinition) -> bool
+    ensures { result ≡ rules.designates_no_parts (program_form program.now).types (type_form definition.now) }
 {
     match definition {
-        TypeDefinition::Record {
-            name: _,
-            parts: _,
-            components: _,
-            finalization,
-        } => is_limited(*finalization),
         TypeDefinition::Access {
             name: _,
             designated,
             pool: _,
         } => finalization_of(&program.types, designated.0).is_none(),
-        TypeDefinition::Object { record: _ } => true,
+        _ => true,
     }
 }
 
-/// Whether an Initialize and a Finalize may be frugal in a program: all controlled parts are limited, and no access type designates a
-/// record type that has some. Linear in the types.
+/// Whether an Initialize and a Finalize may be frugal in a program: no access type designates a record type with controlled parts.
+/// Linear in the types.
 pub(crate) fn may_be_frugal(program: &Program) -> bool
     ensures { result ≡ rules.may_be_frugal (program_form program.now) }
 {
     'types: for definition in &program.types {
-        if !lets_be_frugal(program, definition) {
+        if !designates_no_parts(program, definition) {
             return false;
         }
     }

@@ -1,10 +1,10 @@
 use Rattle.std.proofs.Common.{◌≡◌, map, drop}
 use Rattle.std.specs.List.{list_all}
 use Rattle.ada_program.specs.ProgramForm.{program_form, type_form}
-use Rattle.ada_quiet.specs.InUse.{lets_be_frugal, may_be_frugal}
+use Rattle.ada_quiet.specs.InUse.{designates_no_parts, may_be_frugal}
 use Rattle.ada_quiet.proofs.uses.may_be_frugal.Given as goal
 
 -- what is left tells of all
 abbrev pub invariant-types : goal.invariant-types
 invariant-types l =
-    list_all (lets_be_frugal (program_form l.program)) (map type_form (drop l.definition-index l.definition-items)) ≡ may_be_frugal (program_form l.program)
+    list_all (designates_no_parts (program_form l.program).types) (map type_form (drop l.definition-index l.definition-items)) ≡ may_be_frugal (program_form l.program)
