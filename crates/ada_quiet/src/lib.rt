@@ -7,13 +7,13 @@
 //!
 //! `first_unused` finds the first body in the text that overrides an operation and is not in use: Initialize is to be plain or, where
 //! it may be, frugal, Adjust is to be quiet, Finalize is to be quiet or, where it may be, frugal and silent, and no Adjust is to be
-//! overridden of a type with a component of an access type. Operations may be frugal in a program in which all controlled parts are
-//! limited, and no access type designates a record type that has some: then each part is initialized at a declaration (7.6), and
-//! finalized at the leaving of its object's master, or where an exception comes out of the initialization of its object (7.6.1), and
-//! nowhere else. A program with another body is refused (F23): an Adjust that touches storage, an Initialize or a Finalize that
-//! touches storage in another program, operations that call procedures that are not frugal, and an Adjust or a Finalize that lets an
-//! exception out, are not in use yet, since no theorem covers them so far; and an Adjust that leaves such a component as it is would
-//! have two records name one object.
+//! overridden of a type with a component of an access type. Operations may be frugal in a program in which no access type designates
+//! a record type with controlled parts: then each part is initialized at a declaration (7.6), and finalized where its object's master
+//! is left, an exception comes out of the initialization of its object (7.6.1), or another record is assigned to it (7.6), and nowhere
+//! else. A program with another body is refused (F23): an Adjust that touches storage, an Initialize or a Finalize that touches
+//! storage in another program, operations that call procedures that are not frugal, and an Adjust or a Finalize that lets an exception
+//! out, are not in use yet, since no theorem covers them so far; and an Adjust that leaves such a component as it is would have two
+//! records name one object.
 //!
 //! `first_untracked` finds the first one that overrides such an Adjust, quiet or not: flow does not follow what it does to that
 //! component, so the checker asks for it before flow, and for the others behind.
