@@ -26,7 +26,7 @@ use Rattle.ada_meaning.specs.Finalization.{NothingTreated, HasParts}
 use Rattle.ada_finalized.specs.Law.{waits_for_operation, NoOperationRuns, AllPartsStand, NothingBegins, ListedObjectsStand, NoOperationRunsOn, NoOperationRunsOnListed, StatementsTreatNothing}
 use Rattle.ada_finalized.proofs.Ranks.{Heap}
 use Rattle.ada_finalized.proofs.Doings.{name, same_name, Calm, Ending, doings, rest, rest_doings, Of, Lasts, lasting_gain, gains, losses}
-use Rattle.ada_finalized.proofs.Stacks.{Acts, Control, Kind, code, guard, finalization, Stack, nothing, calm, comes_back, operates, awaits, confines, to_end, to_copy, ending_then, guard_never, none_behind, of_treating, on_treating, none_of_lasting}
+use Rattle.ada_finalized.proofs.Stacks.{Acts, Control, Kind, code, guard, finalization, Stack, nothing, calm, comes_back, operates, awaits, confines, to_end, to_copy, ending_then, storing_then, guard_never, none_behind, of_treating, on_treating, none_of_lasting}
 use Rattle.ada_finalized.proofs.Claims.{Claimed}
 use Rattle.ada_finalized.proofs.Invariant.{Sane, exists, is_gone, Fine, AssignsThen, Stands, runs, finding, passing, ends_operation, beginning, ending, leaving, storing, Fits}
 use Rattle.ada_finalized.proofs.Going.{alive_of, listed_exists}
@@ -167,6 +167,23 @@ still_rest (frame.GivesBack v cause pool ∷ k) still = still
 still_rest (frame.Returns actuals references ∷ k) still = still
 still_rest (f ∷ k) still = still_rest k still.1
 
+-- What is left of a treatment waits for no operation.
+treating_still : (v : Value) (treatment : Treatment) (tasks : List Task) (k : Control) → NoOperationRuns (treating v treatment tasks k) → NoOperationRuns k
+treating_still v treatment [] k none = none
+treating_still v treatment (task ∷ tasks) k none = none.1
+
+-- The components of a record get those of another one, it is adjusted, and then nothing is treated.
+pub record AdjustsAlone (v : Value) (k : Control) : Type 0 where
+  pub object : Id
+  pub number : ℕ
+  pub to : ℕ
+  pub width : ℕ
+  pub tasks : List Task
+  pub behind : Control
+  pub named : v ≡ Names object
+  pub is : k ≡ frame.StoresRecord (Names object) to width ∷ treating (Names object) (begins (Adjustment number) []) tasks behind
+  pub untreated : NothingTreated behind
+
 -- While no operation runs, nothing is treated but in front of all else.
 module _ (types : List TypeDefinition) (s : State) (still : NoOperationRuns s.control) where
   pub code_nothing : (k : Control) (acts : Acts) → NoOperationRuns k → Stack types s.heap code acts k → NothingTreated k
@@ -256,6 +273,41 @@ module _ (types : List TypeDefinition) (s : State) (still : NoOperationRuns s.co
   behind_start v by done tasks k is (leaving o x because pool j running c own st at_o gone) = let e = sym is ∙ c in absurd (cc e)
   behind_start v by done tasks k is (storing o n to width left j running c st) = let e = sym is ∙ c in absurd (cc e)
 
+  -- Behind the finalization of the value of a record that is assigned to, that record alone is adjusted.
+  copying_finalization :
+      (acts : Acts) (v : Value) (cause : Cause) (tasks : List Task) (first t : ℕ) (k : Control) → NoOperationRuns (frame.Treats v (ends cause) tasks ∷ frame.Copies first t ∷ k)
+      → Stack types s.heap finalization acts (frame.Treats v (ends cause) tasks ∷ frame.Copies first t ∷ k) → AdjustsAlone v k
+  copying_finalization acts v cause tasks first t k none (to_end o because pool [] j is own once st) = absurd (cc is)
+  copying_finalization acts v cause tasks first t k none (to_end o because pool (task ∷ left) j is own once st) = absurd (cc is)
+  copying_finalization acts v cause tasks first t k none (to_copy o n from u to width source [] later j is less once operand st) = absurd (cc is)
+  copying_finalization acts v cause tasks first t k none (to_copy o n from u to width source (task ∷ left) later j is less once operand st) =
+      let named : v ≡ name o = cc is in
+      let e : k ≡ storing_then o n to width later j = cc is in
+      record {
+        object = record { 0 = o };
+        number = n;
+        to = to;
+        width = width;
+        tasks = later;
+        behind = j;
+        named = named;
+        is = e;
+        untreated = code_nothing j acts (treating_still (name o) (begins (Adjustment n) []) later j (subst NoOperationRuns e none.1.1).1) st;
+      }
+
+  pub behind_copy :
+      (v : Value) (cause : Cause) (tasks : List Task) (first t : ℕ) (k : Control) → s.control ≡ frame.Treats v (ends cause) tasks ∷ frame.Copies first t ∷ k
+      → Stands types s.heap s → AdjustsAlone v k
+  behind_copy v cause tasks first t k is (runs st) = absurd (subst NothingTreated is (code_nothing s.control s.activations still st))
+  behind_copy v cause tasks first t k is (finding running g after) = absurd (subst NothingTreated is (assigns_nothing s.activations s.control still after))
+  behind_copy v cause tasks first t k is (passing e raises p after) = absurd (subst NothingTreated is (assigns_nothing s.activations s.control still after))
+  behind_copy v cause tasks first t k is (ends_operation st) = absurd (guard_never types s.heap s.activations s.control st still)
+  behind_copy v cause tasks first t k is (beginning o by done task left j running c st) = let e = sym is ∙ c in absurd (cc e)
+  behind_copy v cause tasks first t k is (ending running st) =
+      copying_finalization s.activations v cause tasks first t k (subst NoOperationRuns is still) (subst (Stack types s.heap finalization s.activations) is st)
+  behind_copy v cause tasks first t k is (leaving o x because pool j running c own st at_o gone) = let e = sym is ∙ c in absurd (cc e)
+  behind_copy v cause tasks first t k is (storing o n to width left j running c st) = let e = sym is ∙ c in absurd (cc e)
+
 -- So it is at any frame that treats nothing, as one of a Free does.
 pub nothing_treated_at :
     (program : Program) (input : List ℤ) (events : List Event) (last : State) → NoOperationRuns last.control
@@ -279,6 +331,14 @@ pub untreated_start :
     → last.control ≡ frame.Treats v (begins by done) tasks ∷ k → NothingTreated k
 untreated_start program input events last still run v by done tasks k is =
     behind_start program.types.items last still v by done tasks k is (last_holds program input events last run).fits.stands
+
+-- Where the value of a record is finalized that is assigned to, that record alone is adjusted behind it (5.2, 7.6).
+pub adjusts_alone :
+    (program : Program) (input : List ℤ) (events : List Event) (last : State) → NoOperationRuns last.control
+    → Run program (first_state program input) events last → (v : Value) (cause : Cause) (tasks : List Task) (first t : ℕ) (k : Control)
+    → last.control ≡ frame.Treats v (ends cause) tasks ∷ frame.Copies first t ∷ k → AdjustsAlone v k
+adjusts_alone program input events last still run v cause tasks first t k is =
+    behind_copy program.types.items last still v cause tasks first t k is (last_holds program input events last run).fits.stands
 
 -- And so it is where a statement begins.
 beginning_in : (mode : Mode) (k : Control) → begins_in mode k ≡ true → begins_among k ≡ true

@@ -279,9 +279,9 @@ waits_for_end sight behind (frame.Writes ∷ k) ms leads none = waits_for_end si
 waits_for_end sight behind (frame.Returns actuals references ∷ k) ms leads none = rw (leads.2) at (none.1)
 waits_for_end sight behind (f ∷ k) ms leads none = absurd leads
 
-none_waits : (o : Id) (of : ℕ) (treatment : Treatment) (k behind : Control) → WaitsFor o of treatment k behind → NoOperationRuns behind → ⊥
-none_waits o of (frame.begins by done) k behind (part, tasks, is) none = let there : NoOperationRuns (frame.Awaits (Names o) by done of part tasks ∷ k) = rw is at none in absurd (cc (there.0))
-none_waits o of (frame.ends cause) k behind (tasks, is) none = let there : NoOperationRuns (frame.Confines ∷ treating (Names o) (frame.ends cause) tasks k) = rw is at none in absurd (cc (there.0))
+none_waits : (types : List TypeForm) (o : Id) (of : ℕ) (treatment : Treatment) (k behind : Control) → WaitsFor types o of treatment k behind → NoOperationRuns behind → ⊥
+none_waits types o of (frame.begins by done) k behind (part, tasks, is) none = let there : NoOperationRuns (frame.Awaits (Names o) by done of part tasks ∷ k) = rw is at none in absurd (cc (there.0))
+none_waits types o of (frame.ends cause) k behind (tasks, is, inside) none = let there : NoOperationRuns (frame.Confines ∷ treating (Names o) (frame.ends cause) tasks k) = rw is at none in absurd (cc (there.0))
 
 -- Wherever a statement begins, but in the body of an operation that touches Integers and Booleans alone.
 pub agrees_at : (program : Program) (s : State) → Sound program s → BeginsStatement s → IsSpokenOf program s → AgreesThere program s
@@ -297,7 +297,7 @@ agrees_at program s sound b spoken = by sound.goes
         let sight : Sight = record { program = seen_in (Some o.procedure) (program_form program); object = o.object; access = o.access } in
         let body : Body sight o.behind o.upper s.heap o.places o.operands Running (Does (a_stmt b.stmt b.later) ∷ b.outer) = rw (b.runs, b.first) at o.body in
         let none_here : NoOperationRuns (Does (a_stmt b.stmt b.later) ∷ b.outer) = rw b.first at none in
-        none_waits o.object o.suspended.of o.treatment o.suspended.after o.behind o.suspended.waits
+        none_waits (program_form program).types o.object o.suspended.of o.treatment o.suspended.after o.behind o.suspended.waits
         (waits_for_end sight o.behind (Does (a_stmt b.stmt b.later) ∷ b.outer) o.upper (no_statement sight o.behind o.upper o.operands body.comes) none_here)
 
     unspoken : Operates program s → IsSpokenOf program s → ⊥

@@ -26,6 +26,7 @@ use Rattle.ada_meaning.specs.Named.{Object, named}
 use Rattle.ada_typed.proofs.Shown.{same_components}
 use Rattle.ada_sound.proofs.Invariant.{Known, Control, Rooms, ItemsKeep, FilledBy, Filling}
 use Rattle.ada_sound.proofs.Copied.{default_item, fill_one}
+use Rattle.ada_sound.proofs.InsideRecords.{TasksInside}
 
 -- Such items are those of an object.
 pub defaults_fit : (types : List TypeForm) (variables : List VariableForm) (kinds : List ComponentKind) → items_fit types variables kinds (map default_item kinds) ≡ true
@@ -92,12 +93,14 @@ default_for types variables (variable.Access t) access takes =
     let f = there (reached_components types t.0) h.1 in
     record { goes = ap Some (sym same); components = f.0; reached = ap (λ u. reached_components types u) same ∙ f.1 }
 
--- The types that a run has lead to the components that flow speaks of; and nothing is done for a record without controlled parts (7.6).
+-- The types that a run has lead to the components that flow speaks of; nothing is done for a record without controlled parts, and for one with some what is done
+-- speaks of records that lie in it (7.6).
 abbrev pub Reaches : Known → List TypeDefinition → Type 0
 Reaches known types =
     ((access : ℕ) → reached_of types access ≡ reached_components known.program.types access)
     × ((t : ℕ) → components_of types t ≡ record_components known.program.types t)
     × ((t : ℕ) → finalization_of known.program.types t ≡ None → (direction : Direction) (first : ℕ) → record_tasks types t direction first ≡ [])
+    × ((t : ℕ) (direction : Direction) (first : ℕ) → TasksInside known.program.types t (record_tasks types t direction first))
 
 components_shown : (o : Option TypeDefinition) → components_in (option_map type_form o) ≡ components_by o
 components_shown None = refl

@@ -337,7 +337,7 @@ module _ (known : Known) where
         rw is (rw (member.found, exists) (rw (member.found) (record {
           ready = (
             tt,
-            treats_ready known (Names o) (ends (Leaving number item.number)) (all_tasks types x.cell.access WholeFirst) (Ends (Names o) ∷ GivesBack (Names o) (Leaving number item.number) pool ∷ Leaves mode ∷ k) (slice_set s.heap o.0 (parted x)) a.places a.operands (record { number = number; items = item ∷ items } ∷ ms) (inl (refl, under)),
+            treats_ready known (Names o) (ends (Leaving number item.number)) (all_tasks types x.cell.access WholeFirst) (Ends (Names o) ∷ GivesBack (Names o) (Leaving number item.number) pool ∷ Leaves mode ∷ k) (slice_set s.heap o.0 (parted x)) a.places a.operands (record { number = number; items = item ∷ items } ∷ ms) (refl, under) tt,
           );
           alters = alters_set s.heap Quiet o x (parted x) member.found (refl, refl, refl) (λ h. h) (λ h. inl h);
           says = tt;

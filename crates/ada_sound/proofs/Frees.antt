@@ -76,7 +76,7 @@ module _ (known : Known) (a : Activation Value) (rest : List (Activation Value))
       rw (found, stands.0, stands.1) (rw (same_one (Some (pool_freed_to (home_of access s.masters))) there.0.cell.home.pool home) (rw found (record {
         ready = (
           tt,
-          treats_ready known (Names o) (ends (Freeing s.next)) (all_tasks types there.0.cell.access WholeFirst) (Ends (Names o) ∷ GivesBack (Names o) (Freeing s.next) (Some (pool_freed_to (home_of access s.masters))) ∷ Clears x ∷ Does fs ∷ k) (slice_set s.heap o.0 (parted there.0)) a.places a.operands s.masters (inl (refl, under)),
+          treats_ready known (Names o) (ends (Freeing s.next)) (all_tasks types there.0.cell.access WholeFirst) (Ends (Names o) ∷ GivesBack (Names o) (Freeing s.next) (Some (pool_freed_to (home_of access s.masters))) ∷ Clears x ∷ Does fs ∷ k) (slice_set s.heap o.0 (parted there.0)) a.places a.operands s.masters (refl, under) tt,
         );
         alters = alters_set s.heap Quiet o there.0 (parted there.0) found (refl, refl, refl) (λ h. h) (λ h. inl h);
         says = tt;

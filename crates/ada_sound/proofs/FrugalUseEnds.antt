@@ -24,13 +24,8 @@ use Rattle.ada_program.specs.declared.program.Program.{Program}
 use Rattle.ada_program.specs.Controlled.{number_of, operations_of, procedure_number}
 use Rattle.ada_program.specs.ProgramForm.{BodyForm, ProgramForm, program_form, body_forms, seen_in}
 use Rattle.ada_program.specs.WellFormed.{IsWellFormed, named_in}
-use Rattle.ada_meaning.specs.declared.event.Birth.TheVariants.{Creation, Copy, Adjustment}
-use Rattle.ada_meaning.specs.Frame.{Treatment, begins, ends}
 use Rattle.ada_sound.proofs.Bodies.{effect_at, seen_is}
 use Rattle.ada_sound.proofs.Invariant.{CoveredIn}
-use Rattle.ada_sound.proofs.Operating.{IsCalled}
-use Rattle.ada_sound.proofs.QuietOperations.{MayTouch}
-use Rattle.ada_sound.proofs.Touching.{treated_frees}
 use Rattle.ada_typed.specs.Holding.{WalksTo}
 use Rattle.ada_typed.proofs.Inner.{lies_at}
 use Rattle.ada_typed.proofs.Lying.{IsOperable}
@@ -102,16 +97,6 @@ ends_in_starts p access t frees =
     let known = does_by p (deed t) in
     let o = record_at p.types access in
     or_right (parts_do known Initialize o) (parts_do known Finalize o) frees
-
--- What the body of such an operation may free, the treatment may that calls it (7.6, 7.6.1).
-pub treated_frees_of : (program : Program) → IsWellFormed (program_form program) → (access of part number : ℕ) (b : BodyForm) → IsOperable (program_form program).types access of part
-    → (treatment : Treatment) → MayTouch treatment → IsCalled (operations_of program.types.items of) treatment number → slice_get (body_forms program) number ≡ Some b
-    → (t : ℕ) → CoveredIn (implicit_of (program_form program)) (seen_in (Some number) (program_form program)) t
-    → treated_frees (implicit_of (program_form program)) treatment access t ≡ true
-treated_frees_of program well access of part number b operable (begins Creation done) may called there t covered = starts_free program well access of part number b operable called there t covered
-treated_frees_of program well access of part number b operable (begins Copy done) may called there t covered = absurd may
-treated_frees_of program well access of part number b operable (begins (Adjustment n) done) may called there t covered = absurd may
-treated_frees_of program well access of part number b operable (ends cause) may called there t covered = ends_free program well access of part number b operable called there t covered
 
 -- What the end of the objects of a type may free, that of the objects of some types may, of which it is one.
 pub any_end : (may : ℕ → Bool) (access : ℕ) (types : List ℕ) → is_among types (Some access) ≡ true → may access ≡ true → list_any may types ≡ true

@@ -9,9 +9,8 @@ use Rattle.ada_program.specs.declared.program.Program.{Program}
 use Rattle.ada_program.specs.ProgramForm.{TypeForm, record_of, access_to, object_of, ProgramForm, program_form}
 use Rattle.ada_program.specs.Walks.{Walks, ends, into}
 use Rattle.ada_program.specs.WellFormed.{IsWellFormed, designated_in, finalization_in, finalization_of, is_access, named_in}
-use Rattle.ada_quiet.specs.InUse.{lets_be_frugal, may_be_frugal}
+use Rattle.ada_quiet.specs.InUse.{designates_no_parts, may_be_frugal}
 use Rattle.ada_sound.proofs.FrugalFrees.{NoAccessToParts}
-use Rattle.ada_sound.proofs.OperationStarts.{apart}
 use Rattle.ada_typed.specs.Holding.{WalksTo}
 use Rattle.ada_typed.proofs.Inner.{lies_at}
 use Rattle.ada_typed.proofs.Lying.{IsOperable}
@@ -20,14 +19,10 @@ no_no : (b : Bool) → not b ≡ true → b ≡ false
 no_no true e = absurd (cc e)
 no_no false e = refl
 
--- Each type of the program lets one be frugal.
-pub each_lets : (p : ProgramForm) → may_be_frugal p ≡ true → (t : ℕ) (u : TypeForm) → slice_get p.types t ≡ Some u → lets_be_frugal p u ≡ true
-each_lets p may t u at = all_at (lets_be_frugal p) p.types t u may at
-
--- So no access type designates a record type whose objects have controlled parts.
+-- No access type designates a record type whose objects have controlled parts.
 pub no_access_to_parts : (p : ProgramForm) → may_be_frugal p ≡ true → NoAccessToParts p.types
 no_access_to_parts p may t name designated pool at =
-    no_no (is_some (finalization_of p.types designated)) (apart _ _ (each_lets p may t (access_to name designated pool) at)).0
+    no_no (is_some (finalization_of p.types designated)) (all_at (designates_no_parts p.types) p.types t (access_to name designated pool) may at)
 
 -- A record in which one with controlled parts lies has some, too.
 pub walked_parts : (types : List TypeForm) (t first part u : ℕ) → Walks types t first part u → is_some (finalization_of types u) ≡ true → is_some (finalization_of types t) ≡ true

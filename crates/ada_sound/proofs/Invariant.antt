@@ -14,9 +14,9 @@ use Rattle.ada_program.specs.ProgramForm.{TypeForm, VariableForm, BodyForm, Prog
 use Rattle.ada_program.specs.declared.program.VariableKind.{VariableKind}
 use Rattle.ada_program.specs.declared.program.VariableKind.TheVariants as variable
 use Rattle.ada_program.specs.declared.program.TypeNo.{TypeNo}
-use Rattle.ada_program.specs.WellFormed.{finalization_of, is_access, access_of, kind_among, selectors_kind, variable_kind, record_components, reached_components, items_fit, is_record_object, profile_of, suits_profile}
+use Rattle.ada_program.specs.WellFormed.{finalization_of, is_access, access_of, kind_among, selectors_kind, variable_kind, record_components, reached_components, items_fit, is_record_object, object_named, profile_of, suits_profile}
 use Rattle.ada_program.specs.Handling.{is_same, handler_of}
-use Rattle.ada_effects.specs.Effects.{expression_raises, links_raise, items_raise, path_raises, record_path_raises, condition_raises, unary_raises, binary_raises, right_raises, right_starts, declaration_raises, stmts_raise, branches_raise, handlers_raise, Effect, Implicit, call_raises, body_raises, stmts_free, branches_free, handlers_free, body_frees, call_frees, effects_of, endings_free, declaration_frees}
+use Rattle.ada_effects.specs.Effects.{expression_raises, links_raise, items_raise, path_raises, record_path_raises, condition_raises, unary_raises, binary_raises, right_raises, right_starts, declaration_raises, stmts_raise, branches_raise, handlers_raise, Effect, Implicit, call_raises, body_raises, stmts_free, branches_free, handlers_free, body_frees, call_frees, effects_of, endings_free, declaration_frees, assignment_frees}
 use Rattle.ada_flow.specs.declared.rule.Hold.TheVariants as hold
 use Rattle.ada_flow.specs.declared.rule.Region.TheVariants.{Whole}
 use Rattle.ada_flow.specs.Flow.{Holds, hold_at, variable_access, lost_by, Outcome, faults, goes, Use, uses_in, uses_in_links, uses_in_item, named_by_item, is_owning, is_owning_record, owns_at_first, broken_among, without_values, moved_by_items, passes_type, behind_end, gives, gives_component, clears, compares_it, uses_in_actuals, Keeping, keeping_of, kept_at, is_kept, handed_back, left_unkept, owed_from, gives_back, all_give_back, are_as_good, have_exit, branches_have_exit, handlers_have_exit, is_left, condition_flow, stmts_flow, branches_flow, handlers_flow, declaration_flow, Gone as GoneWith, collected, is_among, left, left_finalized, left_by_call, nothing_gone, Around}
@@ -52,6 +52,8 @@ use Rattle.ada_owners.proofs.Ends.{IsUnnamed}
 use Rattle.ada_owners.specs.Walks.{walk}
 use Rattle.ada_sound.proofs.Fits.{Outer, Reference, IsReferred, IsPlace, Outsiders, NoOuterAlias, IsSaid, place_at, Fit, IsRelied, IsUnreferred, MayFollow, component_access, is_object, hold_in, stacked, none_spared, sparing}
 use Rattle.ada_sound.proofs.Orderings.{AsGood}
+use Rattle.ada_sound.proofs.InsideRecords.{TasksInside}
+use Rattle.ada_typed.specs.Holding.{PartsLie}
 use Rattle.ada_sound.proofs.Alters.{BackIn, Alters}
 
 -- What is left to do, over names.
@@ -844,6 +846,15 @@ AreAssigned known heap t operands =
     (kinds : List ComponentKind) × (record_components known.program.types t ≡ Some kinds)
     × IsTarget known heap (length kinds) (first_or Null (older operands)) × IsSource heap (first_or Null operands) × MayCopy known t
 
+-- Of what the assignment of a record of this type may free, no suspended activation and no variable has an alias, and the running body may free it (5.2, 7.6).
+abbrev pub AssignsWell : Known → (record_type : ℕ) → Holds → Type 0
+AssignsWell known t holds =
+    Spares known (λ access. assignment_frees known.implicit access t) × Unaliased known.program.variables (λ access. assignment_frees known.implicit access t) holds
+
+-- What is left goes on behind it.
+abbrev pub AssignsTo : Known → (record_type : ℕ) → Control → Rooms → Holds → Type 0
+AssignsTo known t k rooms holds = RunsOn known k rooms holds × AssignsWell known t holds
+
 -- Actual parameters are evaluated next, with these operands, and then comes the call; or records are found, of which one is assigned to the other.
 abbrev pub PassesTo : Known → List Object → List Value → (operands : List Value) → Control → Rooms → Holds → Type 0
 PassesTo known heap places operands [] rooms holds = ⊥
@@ -860,7 +871,7 @@ PassesTo known heap places operands (Opens path ∷ k) rooms holds =
     × ((v r : Value) → OpenedBy heap places path r → PassesTo known heap places (v ∷ r ∷ operands) k rooms holds)
 PassesTo known heap places operands (Calls procedure b actuals ∷ k) rooms holds =
     CallsOn known procedure b actuals k rooms holds × ArePassed heap places (reverse actuals) operands
-PassesTo known heap places operands (Assigns t ∷ k) rooms holds = AreAssigned known heap t operands × To (RunsOn known k rooms) holds
+PassesTo known heap places operands (Assigns t ∷ k) rooms holds = AreAssigned known heap t operands × To (AssignsTo known t k rooms) holds
 PassesTo known heap places operands (f ∷ k) rooms holds = ⊥
 
 -- What is left of an expression, or of an allocator's items, breaks no rule; and nothing relies on an expression's value. These are the operands
@@ -1196,10 +1207,21 @@ StoresBehind known heap [] rooms holds = ⊥
 StoresBehind known heap (StoresRecord o first count ∷ k) rooms holds = IsPlainIn known heap o first count × RunsBehind known k rooms holds
 StoresBehind known heap (f ∷ k) rooms holds = ⊥
 
+-- A record of this type lies in the objects that are known by this one, with its controlled parts (7.6).
+abbrev pub LiesAmong : Known → (access record_type : ℕ) → Type 0
+LiesAmong known access t = (first part : ℕ) × PartsLie known.program.types (object_named known.program.types (Some access)) (Some t) first part
+
+-- It lies in an object that is there.
+abbrev pub LiesIn : Known → List Object → (record_type : ℕ) → Value → Type 0
+LiesIn known heap t Null = ⊥
+LiesIn known heap t (Names o) = (x : Object) × (object_at heap o ≡ Some x) × (is_there x.stage ≡ true) × LiesAmong known x.cell.access t
+LiesIn known heap t (Scalar v) = ⊥
+LiesIn known heap t (Part o first) = ⊥
+
 abbrev pub CopiesBehind : Known → Control → List Object → (places operands : List Value) → List Master → Type 0
 CopiesBehind known [] heap places operands masters = ⊥
 CopiesBehind known (Copies first t ∷ k) heap places operands masters =
-    IsCopied known t × Working known heap places masters (λ rooms holds. IsHolder heap (first_or Null operands) × StoresBehind known heap k rooms holds)
+    IsCopied known t × Working known heap places masters (λ rooms holds. LiesIn known heap t (first_or Null operands) × StoresBehind known heap k rooms holds × AssignsWell known t holds)
 CopiesBehind known (f ∷ k) heap places operands masters = ⊥
 
 -- This exception may come out of the initialization of the object that a value names (7.6).
@@ -1222,10 +1244,31 @@ MayUndo known v Creation k heap places masters =
 MayUndo known v Copy k heap places masters = Unit {0}
 MayUndo known v (Adjustment number) k heap places masters = Unit {0}
 
+-- Behind a finalization stands the end of the object, or, where it is that of a record that is assigned to, the copy (5.2, 7.6.1).
+abbrev pub EndsBy : Known → Value → Cause → Control → List Object → (places operands : List Value) → List Master → Type 0
+EndsBy known v (Leaving m item) k heap places operands masters = EndsTo known v k heap places masters
+EndsBy known v (Freeing number) k heap places operands masters = EndsTo known v k heap places masters
+EndsBy known v (Assigning number) k heap places operands masters = CopiesBehind known k heap places operands masters
+EndsBy known v (Undoing number) k heap places operands masters = EndsTo known v k heap places masters
+
+-- What is left of a finalization is that of the record that is assigned to, where it is one at an assignment.
+abbrev pub IsOfCopied : List TypeForm → Cause → List Task → Control → Type 0
+IsOfCopied types (Leaving m item) tasks k = Unit {0}
+IsOfCopied types (Freeing number) tasks k = Unit {0}
+IsOfCopied types (Assigning number) tasks [] = Unit {0}
+IsOfCopied types (Assigning number) tasks (Copies first t ∷ k) = TasksInside types t tasks
+IsOfCopied types (Assigning number) tasks (f ∷ k) = Unit {0}
+IsOfCopied types (Undoing number) tasks k = Unit {0}
+
+-- So it is with what is left of a treatment.
+abbrev pub IsOfAssigned : List TypeForm → Treatment → List Task → Control → Type 0
+IsOfAssigned types (begins by done) tasks k = Unit {0}
+IsOfAssigned types (ends cause) tasks k = IsOfCopied types cause tasks k
+
 -- An object is treated (7.6, 7.6.1): whatever is left of that, what is behind is ready; and so it is where a new object is undone.
 abbrev pub TreatsBy : Known → Value → Treatment → Control → List Object → (places operands : List Value) → List Master → Type 0
 TreatsBy known v (begins by done) k heap places operands masters = BegunTo known v by k heap places operands masters × MayUndo known v by k heap places masters
-TreatsBy known v (ends cause) k heap places operands masters = EndsTo known v k heap places masters ⊎ CopiesBehind known k heap places operands masters
+TreatsBy known v (ends cause) k heap places operands masters = EndsBy known v cause k heap places operands masters
 
 -- An object exists that a value names.
 abbrev pub IsLive : List Object → Value → Type 0
@@ -1235,7 +1278,7 @@ IsLive heap v = (cell : Cell Value) × (look heap v ≡ finds cell)
 abbrev pub ConfinesBy : Known → Control → List Object → (places operands : List Value) → List Master → Type 0
 ConfinesBy known k heap places operands masters =
     (v : Value) × (cause : Cause) × (tasks : List Task) × (behind : Control) × (k ≡ treating v (ends cause) tasks behind)
-    × TreatsBy known v (ends cause) behind heap places operands masters
+    × TreatsBy known v (ends cause) behind heap places operands masters × IsOfCopied known.program.types cause tasks behind
 
 -- What holds where a frame is next. What is awaited counts as stored already.
 abbrev pub ReadyBy : Known → Frame Value → Control → List Object → (places operands : List Value) → List Master → Type 0
@@ -1289,7 +1332,8 @@ ReadyBy known (FreesIn access c) k heap places operands masters =
 ReadyBy known (Declares x) k heap places operands masters =
     Working known heap (slice_set places x (first_or Null operands)) masters (λ rooms holds. HasRoom rooms × RunsOn known k rooms holds)
 ReadyBy known (DeclaresRecord x t) k heap places operands masters = Working known heap places masters (Recording known x t k)
-ReadyBy known (Treats v treatment tasks) k heap places operands masters = TreatsBy known v treatment k heap places operands masters
+ReadyBy known (Treats v treatment tasks) k heap places operands masters =
+    TreatsBy known v treatment k heap places operands masters × IsOfAssigned known.program.types treatment tasks k
 ReadyBy known (frame.Awaits v by done of part tasks) k heap places operands masters = IsLive heap v × TreatsBy known v (begins by done) k heap places operands masters
 ReadyBy known frame.Confines k heap places operands masters = ConfinesBy known k heap places operands masters
 ReadyBy known (frame.Resumes mode) k heap places operands masters = Working known heap places masters (λ rooms holds. To (By mode (ways known k rooms)) holds)

@@ -26,6 +26,8 @@ pub mod Values
 pub mod Orderings
 -- what a step does to objects
 pub mod Alters
+-- which records a treatment speaks of
+pub mod InsideRecords
 -- what every step keeps
 pub mod Invariant
 -- objects are stored in each state
@@ -122,7 +124,8 @@ pub mod FrugalUseParts
 pub mod FrugalUseEnds
 pub mod FrugalUseFrees
 pub mod FrugalUseLets
-pub mod FrugalUseCopies
+-- what is finalized at an assignment
+pub mod AssignedParts
 -- what Free of a component does
 pub mod Releases
 -- record objects are declared
@@ -225,6 +228,7 @@ pub mod ExampleControlled
 pub mod ExampleOperations
 pub mod ExampleUndone
 pub mod ExampleTidying
+pub mod ExampleOverwriting
 pub mod ExampleEmptying
 pub mod ExampleAllocating
 pub mod ExampleUndoing

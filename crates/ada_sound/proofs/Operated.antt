@@ -14,10 +14,15 @@ use Rattle.ada_typed.specs.Holding.{Cells, Designates, cells_of}
 use Rattle.ada_typed.proofs.Control as typed
 use Rattle.ada_typed.proofs.Lying.{IsOperable}
 use Rattle.ada_sound.proofs.Calm.{operation_ends_there}
+use Rattle.ada_sound.proofs.Invariant.{Control, IsOfAssigned}
 
 -- A record of this number lies in objects of the type of this one.
 abbrev pub OperatedOn : List TypeForm → Cells → (o : Id) → (of : ℕ) → Type 0
 OperatedOn types cells o of = (access : ℕ) × (part : ℕ) × Designates cells access o × IsOperable types access of part
+
+-- It is the operation of one by this treatment of what a value names, behind which this stands: at an assignment, of one that lies in the record that is assigned to.
+abbrev pub OperatedAs : List TypeForm → (v : Value) → Treatment → Cells → (behind : Control) → (by : Treatment) → (o : Id) → (of : ℕ) → Type 0
+OperatedAs types v treatment cells k by o of = (by ≡ treatment) × OperatedOn types cells o of × IsOfAssigned types treatment (performs of 0 ∷ []) k × (v ≡ Names o)
 
 operated_on : (types : List TypeForm) (cells : Cells) (o : Id) (treatment : Treatment) (tasks : List Task) → typed.IsTreated types cells (Names o) treatment tasks → (of part : ℕ) → task_next tasks ≡ Perform of part → OperatedOn types cells o of
 operated_on types cells o treatment [] t of part is = absurd (cc is)

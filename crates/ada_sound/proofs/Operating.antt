@@ -36,7 +36,7 @@ use Rattle.ada_finalized.specs.Law.{NoOperationRuns}
 use Rattle.ada_quiet.specs.Quiet.{is_elementary, holds_elementary, is_quiet_expression, are_quiet_links, is_quiet_condition, are_quiet_declarations, are_quiet, are_quiet_branches, are_quiet_handlers, is_plain_body}
 use Rattle.ada_sound.proofs.Bodies.{IsBody}
 use Rattle.ada_sound.proofs.Fits.{IsWithin, place_at}
-use Rattle.ada_sound.proofs.Invariant.{Control, TreatsBy, under_in}
+use Rattle.ada_sound.proofs.Invariant.{Control, TreatsBy, under_in, IsOfCopied}
 use Rattle.ada_sound.proofs.Callers.{Suspension, callers_of, known_in, Stands}
 
 -- A value is an Integer or a Boolean, or null, where none has been computed: it names nothing.
@@ -81,9 +81,10 @@ StaysLive Gone = ⊥
 
 -- The body of an operation of this object is in front of this: it begins a part of the object, of this type, or finalizes one, and then what is left of that
 -- comes, and what is behind.
-abbrev pub WaitsFor : Id → (of : ℕ) → Treatment → (k behind : Control) → Type 0
-WaitsFor o of (begins by done) k behind = (part : ℕ) × (tasks : List Task) × (behind ≡ frame.Awaits (Names o) by done of part tasks ∷ k)
-WaitsFor o of (ends cause) k behind = (tasks : List Task) × (behind ≡ frame.Confines ∷ treating (Names o) (ends cause) tasks k)
+abbrev pub WaitsFor : List TypeForm → Id → (of : ℕ) → Treatment → (k behind : Control) → Type 0
+WaitsFor types o of (begins by done) k behind = (part : ℕ) × (tasks : List Task) × (behind ≡ frame.Awaits (Names o) by done of part tasks ∷ k)
+WaitsFor types o of (ends cause) k behind =
+    (tasks : List Task) × (behind ≡ frame.Confines ∷ treating (Names o) (ends cause) tasks k) × IsOfCopied types cause tasks k
 
 -- The operation that a procedure overrides is the one that is called: what begins a part of a new object calls Initialize of the part's type, what ends one
 -- calls Finalize, and what begins a part of a copy calls Adjust (7.6).
@@ -255,7 +256,7 @@ pub record Suspended (program : Program) (object : Id) (treatment : Treatment) (
   pub suspensions : List Suspension
   pub after : Control
   pub of : ℕ
-  pub waits : WaitsFor object of treatment after behind
+  pub waits : WaitsFor (program_form program).types object of treatment after behind
   pub treats : TreatsBy (known_in program caller.procedure suspensions) (Names object) treatment after s.heap caller.places caller.operands lower
   pub stands : Stands program suspensions (behind_operation (caller ∷ rest) behind lower s)
   pub calm : IsCalm (behind_call behind)

@@ -1,11 +1,11 @@
 -- The body of an operation comes to its end (7.6): what waits for it goes on; and an exception that comes out of an Initialize undoes the object (7.6.1).
 
-use Rattle.std.proofs.Common.{◌≡◌, ℕ, true, List, ◌∷◌, refl, inl}
+use Rattle.std.proofs.Common.{◌≡◌, ℕ, true, List, ◌∷◌, refl, inl, subst, sym}
 use Rattle.std.specs.Prelude.{Some}
 use Rattle.std.specs.List.{slice_set}
 use Rattle.ada_program.specs.declared.program.Exception.{Exception}
 use Rattle.ada_program.specs.declared.program.Program.{Program}
-use Rattle.ada_program.specs.ProgramForm.{program_form}
+use Rattle.ada_program.specs.ProgramForm.{program_form, TypeForm}
 use Rattle.ada_deeds.specs.Implicit.{implicit_of}
 use Rattle.ada_meaning.specs.declared.event.Birth.TheVariants.{Creation, Copy, Adjustment}
 use Rattle.ada_meaning.specs.declared.state.Id.{Id}
@@ -20,7 +20,7 @@ use Rattle.ada_sound.proofs.Alters.{alters_same, alters_set}
 use Rattle.ada_sound.proofs.Invariant.{Known, Control, IsLive, TreatsBy, ReadyIn}
 use Rattle.ada_sound.proofs.Callers.{known_in}
 use Rattle.ada_sound.proofs.Ready.{stays}
-use Rattle.ada_sound.proofs.Returns.{CrossesTo}
+use Rattle.ada_sound.proofs.Returns.{CrossesTo, same_types}
 use Rattle.ada_sound.proofs.Waiting.{stands_kept}
 use Rattle.ada_sound.proofs.Written.{treats_written}
 use Rattle.ada_sound.proofs.OperationStarts.{found_by}
@@ -30,12 +30,12 @@ pub is_live : (heap : List Object) (o : Id) (x : Object) → object_at heap o �
 is_live heap o x found live = (x.cell, rw found (found_by x x.stage live))
 
 -- What is behind the body of an operation is ready.
-pub ready_for : (known : Known) (o : Id) (of : ℕ) (treatment : Treatment) (k behind : Control) (heap : List Object) (places operands : List Value) (ms : List Master) → IsLive heap (Names o) → WaitsFor o of treatment k behind → TreatsBy known (Names o) treatment k heap places operands ms → ReadyIn known Running behind heap places operands ms
+pub ready_for : (known : Known) (o : Id) (of : ℕ) (treatment : Treatment) (k behind : Control) (heap : List Object) (places operands : List Value) (ms : List Master) → IsLive heap (Names o) → WaitsFor known.program.types o of treatment k behind → TreatsBy known (Names o) treatment k heap places operands ms → ReadyIn known Running behind heap places operands ms
 ready_for known o of (begins by done) k behind heap places operands ms live (part, tasks, is) r = rw is (live, r)
-ready_for known o of (ends cause) k behind heap places operands ms live (tasks, is) r = rw is (Names o, cause, tasks, k, refl, r)
+ready_for known o of (ends cause) k behind heap places operands ms live (tasks, is, inside) r = rw is (Names o, cause, tasks, k, refl, r, inside)
 
 -- So it is where an exception comes out of the body: the object is a new one, which is undone then.
-pub ready_raising : (known : Known) (o : Id) (of : ℕ) (treatment : Treatment) (access : ℕ) (k behind : Control) (heap : List Object) (places operands : List Value) (ms : List Master) (e : Exception) (x : Object) → object_at heap o ≡ Some x → x.cell.access ≡ access → IsLive heap (Names o) → WaitsFor o of treatment k behind
+pub ready_raising : (known : Known) (o : Id) (of : ℕ) (treatment : Treatment) (access : ℕ) (k behind : Control) (heap : List Object) (places operands : List Value) (ms : List Master) (e : Exception) (x : Object) → object_at heap o ≡ Some x → x.cell.access ≡ access → IsLive heap (Names o) → WaitsFor known.program.types o of treatment k behind
     → lets_out known.implicit access treatment e ≡ true → TreatsBy known (Names o) treatment k heap places operands ms → ReadyIn known (Raising e) behind heap places operands ms
 ready_raising known o of (begins Creation done) access k behind heap places operands ms e x found same live (part, tasks, is) out r =
     rw is (refl, live, r.1.0, (o, x, refl, found, rw same out), r.1.1 e (o, x, refl, found, rw same out))
@@ -44,11 +44,15 @@ ready_raising known o of (begins (Adjustment number) done) access k behind heap 
 ready_raising known o of (ends cause) access k behind heap places operands ms e x found same live waits out r = absurd (cc out)
 
 module _ (program : Program) (o : Id) (treatment : Treatment) (caller : Activation Value) (rest : List (Activation Value)) (behind : Control) (lower : List Master) where
+  -- The types are those that the caller sees.
+  waits_as : (s : State) (w : Suspended program o treatment caller rest behind lower s) → WaitsFor (known_in program caller.procedure w.suspensions).program.types o w.of treatment w.after behind
+  waits_as s w = subst (λ (types : List TypeForm). WaitsFor types o w.of treatment w.after behind) (sym (same_types caller.procedure (program_form program))) w.waits
+
   -- The body ends: what waits for it goes on.
   pub goes_behind : (s : State) (x : Object) → object_at s.heap o ≡ Some x → StaysLive x.stage → (w : Suspended program o treatment caller rest behind lower s) → CrossesTo program w.suspensions s.heap Quiet (behind_operation (caller ∷ rest) behind lower s)
   goes_behind s x found live w = record {
     stepped = stays (known_in program caller.procedure w.suspensions) Quiet (behind_operation (caller ∷ rest) behind lower s)
-        (tt, ready_for (known_in program caller.procedure w.suspensions) o w.of treatment w.after behind s.heap caller.places caller.operands lower (is_live s.heap o x found live) w.waits w.treats) tt;
+        (tt, ready_for (known_in program caller.procedure w.suspensions) o w.of treatment w.after behind s.heap caller.places caller.operands lower (is_live s.heap o x found live) (waits_as s w) w.treats) tt;
     stands = w.stands;
   }
 
@@ -57,7 +61,7 @@ module _ (program : Program) (o : Id) (treatment : Treatment) (caller : Activati
       → CrossesTo program w.suspensions s.heap Quiet (record (behind_operation (caller ∷ rest) behind lower s) { mode = Raising e })
   raises_behind s access e x found same live out w = record {
     stepped = stays (known_in program caller.procedure w.suspensions) Quiet (record (behind_operation (caller ∷ rest) behind lower s) { mode = Raising e })
-        (tt, ready_raising (known_in program caller.procedure w.suspensions) o w.of treatment access w.after behind s.heap caller.places caller.operands lower e x found same (is_live s.heap o x found live) w.waits out w.treats) tt;
+        (tt, ready_raising (known_in program caller.procedure w.suspensions) o w.of treatment access w.after behind s.heap caller.places caller.operands lower e x found same (is_live s.heap o x found live) (waits_as s w) out w.treats) tt;
     stands = stands_kept program (behind_operation (caller ∷ rest) behind lower s) (record (behind_operation (caller ∷ rest) behind lower s) { mode = Raising e }) w.suspensions w.stands Quiet
         (record { procedure = refl; suspended = refl }) (alters_same s.heap Quiet);
   }

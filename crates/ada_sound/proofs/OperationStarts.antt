@@ -8,7 +8,7 @@ use Rattle.ada_program.specs.declared.program.Program.{Program}
 use Rattle.ada_program.specs.declared.program.VariableKind.{VariableKind}
 use Rattle.ada_program.specs.declared.program.VariableKind.TheVariants as variable
 use Rattle.ada_program.specs.Handling.{is_same, is_taken}
-use Rattle.ada_program.specs.ProgramForm.{VariableForm, BodyForm, main_body, program_form, body_forms, seen_by}
+use Rattle.ada_program.specs.ProgramForm.{VariableForm, BodyForm, main_body, program_form, body_forms, seen_by, TypeForm}
 use Rattle.ada_program.specs.WellFormed.{variable_kind}
 use Rattle.ada_program.specs.Form.{StmtsForm, HandlersForm}
 use Rattle.ada_deeds.specs.Implicit.{implicit_of}
@@ -96,16 +96,16 @@ starts sight b same out plain behind m = (
 )
 
 -- No operation but this one runs.
-pub calm_behind : (o : Id) (of : ℕ) (treatment : Treatment) (k behind : Control) → WaitsFor o of treatment k behind → IsCalm (behind_call k) → IsCalm (behind_call behind)
-calm_behind o of (begins by done) k behind (part, tasks, is) calm = rw is calm
-calm_behind o of (ends cause) k behind (tasks, is) calm = rw (is, behind_treating (Names o) (ends cause) tasks k) calm
+pub calm_behind : (types : List TypeForm) (o : Id) (of : ℕ) (treatment : Treatment) (k behind : Control) → WaitsFor types o of treatment k behind → IsCalm (behind_call k) → IsCalm (behind_call behind)
+calm_behind types o of (begins by done) k behind (part, tasks, is) calm = rw is calm
+calm_behind types o of (ends cause) k behind (tasks, is, inside) calm = rw (is, behind_treating (Names o) (ends cause) tasks k) calm
 
 -- The operation of a part of an object begins: what waits for it is behind the treatment of the object.
 module _ (program : Program) (number : ℕ) (b : BodyForm) (there : slice_get (body_forms program) number ≡ Some b) (plain : PlainBody (program_form program).types b) (caller : Activation Value) (rest : List (Activation Value)) (gs : List Suspension) (s : State) (stands : Stands program gs (record s { activations = caller ∷ rest })) (o : Id) (of : ℕ) (treatment : Treatment) (k behind : Control) (reference : Value) where
   abbrev pub sight : Object → Sight
   sight x = record { program = seen_by number b (program_form program); object = o; access = x.cell.access }
 
-  pub operation_begins : (e : Event) (heap : List Object) (x : Object) → object_at heap o ≡ Some x → StaysLive x.stage → Alters s.heap e heap → WaitsFor o of treatment k behind
+  pub operation_begins : (e : Event) (heap : List Object) (x : Object) → object_at heap o ≡ Some x → StaysLive x.stage → Alters s.heap e heap → WaitsFor (program_form program).types o of treatment k behind
       → TreatsBy (known_in program caller.procedure gs) (Names o) treatment k heap caller.places caller.operands s.masters
       → Holds (sight x) (variable_kind b.variables 0) reference → HoldScalars (sight x) x → IsCalm (behind_call k) → under_in (callers_of program gs) ≡ []
       → ((e' : Exception) → body_raises no_calls b (is_same e') ≡ true → lets_out (implicit_of (program_form program)) x.cell.access treatment e' ≡ true)
@@ -147,7 +147,7 @@ module _ (program : Program) (number : ℕ) (b : BodyForm) (there : slice_get (b
           treats = treats;
           stands = stands_kept program (record s { activations = caller ∷ rest }) (behind_operation (caller ∷ rest) behind s.masters after) gs stands e
               (record { procedure = refl; suspended = refl }) alters;
-          calm = calm_behind o of treatment k behind waits calm;
+          calm = calm_behind (program_form program).types o of treatment k behind waits calm;
           settled = settled;
         };
         prepared = rw (seen_as (program_form program) number b there) out;

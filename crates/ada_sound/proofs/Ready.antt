@@ -6,6 +6,7 @@ use Rattle.ada_program.specs.declared.program.Exception.{Exception}
 use Rattle.ada_flow.specs.declared.rule.Hold.TheVariants as hold
 use Rattle.ada_flow.specs.Flow.{Holds}
 use Rattle.ada_parts.specs.Task.{Task}
+use Rattle.ada_meaning.specs.declared.event.Cause.TheVariants.{Leaving, Freeing, Assigning, Undoing}
 use Rattle.ada_meaning.specs.declared.state.Value.{Value}
 use Rattle.ada_meaning.specs.declared.event.Birth.{Birth}
 use Rattle.ada_meaning.specs.declared.event.Birth.TheVariants.{Creation, Copy, Adjustment}
@@ -24,7 +25,8 @@ use Rattle.ada_sound.proofs.Fits.{MayFollow, weaker_fit, spare_fit, put_lost, sp
 use Rattle.ada_sound.proofs.Orderings.{AsGood}
 use Rattle.ada_sound.proofs.Alters.{alters_same}
 use Rattle.ada_sound.proofs.Stored.{Stored}
-use Rattle.ada_sound.proofs.Invariant.{under_in, outers, StoresOn, Caller, below_callers, below, at_end, nowhere, Known, Control, Rooms, Roomed, To, RunsOn, RunsBehind, GoesOn, RaisesAt, CopiesTo, PassesTo, Awaits, IsHolder, Working, Parting, HalfBy, Resumes, NamesTo, BeginsBy, BegunTo, EndsTo, StoresBehind, CopiesBehind, TreatsBy, RaisesBy, ReadyIn, Ready, Says, Stepped, By, innermost, ways}
+use Rattle.ada_sound.proofs.Invariant.{under_in, outers, StoresOn, Caller, below_callers, below, at_end, nowhere, Known, Control, Rooms, Roomed, To, RunsOn, RunsBehind, GoesOn, RaisesAt, CopiesTo, PassesTo, Awaits, IsHolder, Working, Parting, HalfBy, Resumes, NamesTo, BeginsBy, BegunTo, EndsTo, StoresBehind, CopiesBehind, TreatsBy, RaisesBy, ReadyIn, Ready, Says, Stepped, By, innermost, ways, IsOfAssigned, LiesIn, EndsBy}
+use Rattle.ada_meaning.specs.declared.event.Cause.{Cause}
 
 -- The state at work on something, with a running activation; and in another mode.
 abbrev pub running : Control → Activation Value → List (Activation Value) → State → State
@@ -99,7 +101,7 @@ module _ (known : Known) where
   behind_ready [] heap places operands ms w = runs_ready [] heap places operands ms (at_less w w.rest)
   behind_ready (Treats v (begins Creation done) tasks ∷ k) heap places operands ms w = absurd (w.rest)
   behind_ready (Treats v (begins Copy done) tasks ∷ k) heap places operands ms w = absurd (w.rest)
-  behind_ready (Treats v (begins (Adjustment number) done) tasks ∷ k) heap places operands ms w = (inl (at_less w w.rest), tt)
+  behind_ready (Treats v (begins (Adjustment number) done) tasks ∷ k) heap places operands ms w = ((inl (at_less w w.rest), tt), tt)
   behind_ready (Treats v (ends cause) tasks ∷ k) heap places operands ms w = absurd (w.rest)
   behind_ready (f ∷ k) heap places operands ms w = runs_ready (f ∷ k) heap places operands ms (at_less w w.rest)
 
@@ -182,17 +184,30 @@ module _ (known : Known) where
         stores_copied heap places t (older operands) k w.rooms w.holds w.rest.1,
       )
 
+  -- A record lies in an object that is there.
+  lying_holder : (heap : List Object) (t : ℕ) (v : Value) → LiesIn known heap t v → IsHolder heap v
+  lying_holder heap t Null lies = absurd lies
+  lying_holder heap t (Names o) lies = (lies.0, lies.1, lies.2)
+  lying_holder heap t (Scalar n) lies = absurd lies
+  lying_holder heap t (Part o place) lies = absurd lies
+
   copies_ready : (k : Control) (heap : List Object) (places operands : List Value) (ms : List Master) → CopiesBehind known k heap places operands ms → ReadyIn known Running k heap places operands ms
   copies_ready [] heap places operands ms r = absurd r
-  copies_ready (Copies first t ∷ k) heap places operands ms (copied, w) = copies_on first t k heap places operands ms w
+  copies_ready (Copies first t ∷ k) heap places operands ms (copied, w) =
+      copies_on first t k heap places operands ms (at_work w (lying_holder heap t (first_or Null operands) w.rest.0, w.rest.1))
   copies_ready (f ∷ k) heap places operands ms r = absurd r
 
   -- An object is treated first, if anything is to be done.
-  pub treats_ready : (v : Value) (treatment : Treatment) (tasks : List Task) (k : Control) (heap : List Object) (places operands : List Value) (ms : List Master) → TreatsBy known v treatment k heap places operands ms → ReadyIn known Running (treating v treatment tasks k) heap places operands ms
-  treats_ready v (begins by done) [] k heap places operands ms r = begun_ready v by k heap places operands ms r.0
-  treats_ready v (ends cause) [] k heap places operands ms (inl r) = ends_ready v k heap places operands ms r
-  treats_ready v (ends cause) [] k heap places operands ms (inr r) = copies_ready k heap places operands ms r
-  treats_ready v treatment (task ∷ tasks) k heap places operands ms r = r
+  ended_ready : (v : Value) (cause : Cause) (k : Control) (heap : List Object) (places operands : List Value) (ms : List Master) → EndsBy known v cause k heap places operands ms → ReadyIn known Running k heap places operands ms
+  ended_ready v (Leaving m item) k heap places operands ms r = ends_ready v k heap places operands ms r
+  ended_ready v (Freeing number) k heap places operands ms r = ends_ready v k heap places operands ms r
+  ended_ready v (Assigning number) k heap places operands ms r = copies_ready k heap places operands ms r
+  ended_ready v (Undoing number) k heap places operands ms r = ends_ready v k heap places operands ms r
+
+  pub treats_ready : (v : Value) (treatment : Treatment) (tasks : List Task) (k : Control) (heap : List Object) (places operands : List Value) (ms : List Master) → TreatsBy known v treatment k heap places operands ms → IsOfAssigned known.program.types treatment tasks k → ReadyIn known Running (treating v treatment tasks k) heap places operands ms
+  treats_ready v (begins by done) [] k heap places operands ms r of = begun_ready v by k heap places operands ms r.0
+  treats_ready v (ends cause) [] k heap places operands ms r of = ended_ready v cause k heap places operands ms r
+  treats_ready v treatment (task ∷ tasks) k heap places operands ms r of = (r, of)
 
   -- Any value is stored where nothing relies on it.
   pub lost_stored : (x : ℕ) (k : Control) (v : Value) (heap : List Object) (places : List Value) (ms : List Master) → Working known heap places ms (λ rooms holds. RunsOn known k rooms (slice_set holds x hold.Lost)) → Working known heap (slice_set places x v) ms (RunsOn known k)

@@ -4,7 +4,7 @@
 use Rattle.ada_meaning.specs.declared.state.Mode.TheVariants.{Running}
 use Rattle.ada_parts.specs.Task.{Task}
 use Rattle.ada_program.specs.declared.program.Finalization.{Finalization}
-use Rattle.std.proofs.Common.{not, ◌≡◌, ℕ, suc, ◌+◌, Bool, true, false, ◌||◌, ◌&&◌, List, [], ◌∷◌, ◌++◌, length, take, drop, refl, ◌∙◌, inr}
+use Rattle.std.proofs.Common.{not, ◌≡◌, ℕ, suc, ◌+◌, Bool, true, false, ◌||◌, ◌&&◌, List, [], ◌∷◌, ◌++◌, length, take, drop, refl, ◌∙◌, sym}
 use Rattle.std.proofs.lemmas.Bool.{and_parts}
 use Rattle.std.specs.Prelude.{Option, Some, None}
 use Rattle.std.specs.List.{list_any, list_all}
@@ -21,11 +21,11 @@ use Rattle.ada_program.specs.Handling.{is_same}
 use Rattle.ada_program.specs.Typed.{width_of}
 use Rattle.ada_program.specs.WellFormed.{is_copy, held_kind, kind_among, record_components, reached_components, is_record_path, item_fits, is_filled, item_owns, copies_whole, finalization_of, record_fits}
 use Rattle.ada_effects.specs.Effects.{effects_of, record_path_raises, item_raises, items_raise, stmt_raises, assignment_frees}
-use Rattle.ada_flow.specs.Flow.{Holds, hold_at, lost_by, is_owning, is_owning_record, reaches_it, passes_it, copies_to, uses_in_items, uses_in_record, uses_in_copy, record_passes, gives_record, using_paths, ends_with}
+use Rattle.ada_flow.specs.Flow.{Holds, hold_at, lost_by, is_owning, is_owning_record, reaches_it, passes_it, copies_to, uses_in_items, uses_in_record, uses_in_copy, record_passes, gives_record, using_paths, ends_with, without_freed}
 use Rattle.ada_meaning.specs.declared.event.Birth.TheVariants.{Adjustment}
 use Rattle.ada_meaning.specs.declared.event.Cause.TheVariants.{Assigning}
 use Rattle.ada_meaning.specs.declared.state.Value.{Value}
-use Rattle.ada_meaning.specs.declared.state.Value.TheVariants.{Null}
+use Rattle.ada_meaning.specs.declared.state.Value.TheVariants.{Null, Part}
 use Rattle.ada_meaning.specs.Event.{Quiet}
 use Rattle.ada_meaning.specs.Frame.{Does, Refers, Assigns, Copies, StoresRecord, begins, ends}
 use Rattle.ada_meaning.specs.State.{Activation}
@@ -37,11 +37,18 @@ use Rattle.ada_sound.proofs.Copied.{copied_plain, record_there}
 use Rattle.ada_sound.proofs.Defaults.{Reaches}
 use Rattle.ada_sound.proofs.Followings.{first_kept, kept_apart}
 use Rattle.ada_sound.proofs.Handings.{passed_safe}
-use Rattle.ada_sound.proofs.Invariant.{outers, Known, Control, Rooms, Goes, To, Raised, RunsOn, IsPlainIn, IsHolder, ReferredBy, IsTarget, IsSource, PassesTo, Working, Fine, ways, MayCopy, StoresBehind, ReadyIn}
-use Rattle.ada_sound.proofs.Outcomes.{raised_before, using_goes, ends_goes, loses_to}
+use Rattle.ada_sound.proofs.Invariant.{outers, Known, Control, Rooms, Goes, To, Raised, RunsOn, IsPlainIn, IsHolder, ReferredBy, IsTarget, IsSource, PassesTo, Working, Fine, ways, MayCopy, StoresBehind, ReadyIn, LiesIn, Spares, AssignsTo, AssignsWell}
+use Rattle.ada_sound.proofs.Outcomes.{raised_before, using_goes, ends_goes, before_lost, goes_map, loses_goes, to_here}
 use Rattle.ada_sound.proofs.Raising.{or_left, or_right}
 use Rattle.ada_sound.proofs.Ready.{running, at_work, at_less, stays, ready_on, runs_on, treats_ready, treating_behind, copies_on}
 use Rattle.ada_sound.proofs.Wholes.{width_is}
+use Rattle.ada_meaning.specs.Heap.{Cell}
+use Rattle.ada_typed.proofs.Values.{RefersToRecord}
+use Rattle.ada_sound.proofs.InsideRecords.{TasksInside}
+use Rattle.ada_sound.proofs.LeftFinalized.{freed_none}
+use Rattle.ada_sound.proofs.Orderings.{without_freed_good}
+use Rattle.ada_typed.proofs.Evaluations.{cell_at}
+use Rattle.ada_typed.specs.Holding.{cells_of}
 
 -- Where a record without access values lies in an object, its components there are no access values.
 same_owning : (c d : ComponentKind) → held_kind c ≡ held_kind d → is_owning c ≡ is_owning d
@@ -102,6 +109,9 @@ may_copy types variables t items fits f is = by (finalization_of types t) is who
     by None at copies = absurd (cc at)
     by (Some g) at copies = let same : g ≡ f = cc at in rw (← same) (no_not g.limited (and_parts (not g.limited) (is_copy t items) copies).0)
 
+some_same : {c d : Cell Value} → Some c ≡ Some d → c ≡ d
+some_same e = cc e
+
 module _ (known : Known) (a : Activation Value) (rest : List (Activation Value)) (s : State) where
   module _ {more : Rooms → Holds → Type 0} (w : Working known s.heap a.places s.masters more) where
     -- A record that is found lies in an object that is there.
@@ -131,13 +141,13 @@ module _ (known : Known) (a : Activation Value) (rest : List (Activation Value))
         )
 
   -- The target is found, and then the other record.
-  pub copy_begins : (target : RecordPathForm) (items : List ItemForm) (fs : StmtsForm) (k : Control) → is_record_path known.program.types known.program.variables target ≡ true → record_fits known.program.types known.program.variables target.record_type items ≡ true → Working known s.heap a.places s.masters (λ rooms holds. Goes (gives_record known.program.types known.program.variables (λ u. assignment_frees known.implicit u target.record_type) target items holds) (RunsOn known (Does fs ∷ k) rooms) (Raised (λ e. stmt_raises (effects_of known.implicit known.program) (is_same e) (assigns_record target items)) (ways known k rooms))) → Fine known s.heap s.masters (copy_next named target items (running (Does fs ∷ k) a rest s))
-  copy_begins target [] fs k lies fits w = tt
-  copy_begins target (null_item ∷ is) fs k lies fits w = tt
-  copy_begins target (item_of_path path ∷ is) fs k lies fits w = tt
-  copy_begins target (item_of_value e ∷ is) fs k lies fits w = tt
-  copy_begins target (item_of_record source ∷ i ∷ is) fs k lies fits w = tt
-  copy_begins target (item_of_record source ∷ []) fs k lies fits w =
+  pub copy_begins : (target : RecordPathForm) (items : List ItemForm) (fs : StmtsForm) (k : Control) → Spares known (λ u. assignment_frees known.implicit u target.record_type) → is_record_path known.program.types known.program.variables target ≡ true → record_fits known.program.types known.program.variables target.record_type items ≡ true → Working known s.heap a.places s.masters (λ rooms holds. Goes (gives_record known.program.types known.program.variables (λ u. assignment_frees known.implicit u target.record_type) target items holds) (RunsOn known (Does fs ∷ k) rooms) (Raised (λ e. stmt_raises (effects_of known.implicit known.program) (is_same e) (assigns_record target items)) (ways known k rooms))) → Fine known s.heap s.masters (copy_next named target items (running (Does fs ∷ k) a rest s))
+  copy_begins target [] fs k spares lies fits w = tt
+  copy_begins target (null_item ∷ is) fs k spares lies fits w = tt
+  copy_begins target (item_of_path path ∷ is) fs k spares lies fits w = tt
+  copy_begins target (item_of_value e ∷ is) fs k spares lies fits w = tt
+  copy_begins target (item_of_record source ∷ i ∷ is) fs k spares lies fits w = tt
+  copy_begins target (item_of_record source ∷ []) fs k spares lies fits w =
       let program = known.program in
       let path = target.object in
       let items = item_of_record source ∷ [] in
@@ -146,13 +156,18 @@ module _ (known : Known) (a : Activation Value) (rest : List (Activation Value))
       let may = record_path_raises target || items_raise items in
       let among : Exception → Bool = λ e. stmt_raises (effects_of known.implicit known.program) (is_same e) (assigns_record target items) in
       let out = ways known k w.rooms in
-      let more = To (RunsOn known (Does fs ∷ k) w.rooms) in
+      let next = RunsOn known (Does fs ∷ k) w.rooms in
+      let more = To (AssignsTo known target.record_type (Does fs ∷ k) w.rooms) in
       let frees = λ (u : ℕ). assignment_frees known.implicit u target.record_type in
       let needed = uses_in_record program.types path.spot target.record_type items in
       let copies = uses_in_copy program.types program.variables frees items in
       let reach = passes_it (record_passes program.types program.variables frees target) path in
       let flow = ends_with may w.holds w.holds in
-      let g = loses_to program.variables frees (using_paths (reach ∷ (needed ++ copies)) w.holds flow) (RunsOn known (Does fs ∷ k) w.rooms) (Raised among out) (raised_before among out) w.rest in
+      let passes = using_paths (reach ∷ (needed ++ copies)) w.holds flow in
+      let g = goes_map passes (λ h. next (without_freed program.variables frees h)) (λ h. Raised among out (without_freed program.variables frees h)) more (Raised among out)
+      (λ h m. (without_freed program.variables frees h, without_freed_good program.variables frees h, (m, (spares, freed_none program.variables frees h))))
+      (before_lost program.variables frees (Raised among out) (raised_before among out))
+      (loses_goes program.variables frees passes next (Raised among out) w.rest) in
       let u = using_goes (reach ∷ (needed ++ copies)) w.holds flow more (Raised among out) g in
       let n = ends_goes may w.holds w.holds more (Raised among out) u.1 in
       let found = first_kept w.holds reach (needed ++ copies) u.0 in
@@ -183,31 +198,43 @@ module _ (known : Known) (a : Activation Value) (rest : List (Activation Value))
 
   -- Both are found: nothing is done, where they are one.
   module _ (types : List TypeDefinition) (reaches : Reaches known types) (k : Control) where
-    begins_assigning : (t : ℕ) (v u : Value) (below : List Value) (kinds : List ComponentKind) → record_components known.program.types t ≡ Some kinds → IsTarget known s.heap (length kinds) v → IsSource s.heap u → (found : Option Finalization) → finalization_of known.program.types t ≡ found → MayCopy known t → Working known s.heap a.places s.masters (λ rooms holds. To (RunsOn known k rooms) holds) → Fine known s.heap s.masters (moves Quiet (assigning named types t v u (running k (record a { operands = below }) rest s)))
-    begins_assigning t v u below kinds is (o, place, to, plain) (p, other, from, there) found at may w =
+    begins_assigning : (t : ℕ) (v u : Value) (below : List Value) (kinds : List ComponentKind) → record_components known.program.types t ≡ Some kinds → IsTarget known s.heap (length kinds) v → IsSource s.heap u → LiesIn known s.heap t (whole u) → (found : Option Finalization) → finalization_of known.program.types t ≡ found → MayCopy known t → Working known s.heap a.places s.masters (AssignsTo known t k) → Fine known s.heap s.masters (moves Quiet (assigning named types t v u (running k (record a { operands = below }) rest s)))
+    begins_assigning t v u below kinds is (o, place, to, plain) (p, other, from, there) lies found at may w =
         let adjusts = treating (whole v) (begins (Adjustment s.next) []) (record_tasks types t PartsFirst (part_base v)) k in
         let stores = StoresRecord (whole v) (base v) (width_of types t) ∷ adjusts in
         let holder : IsHolder s.heap (whole u) = rw from there in
         let gets : IsPlainIn known s.heap (whole v) (base v) (width_of types t) = rw (width_is known types reaches k a rest s t kinds is, to) plain in
-        let behind = treating_behind known (whole v) s.next (record_tasks types t PartsFirst (part_base v)) k w.rooms w.holds w.rest in
+        let behind = treating_behind known (whole v) s.next (record_tasks types t PartsFirst (part_base v)) k w.rooms w.holds (to_here (RunsOn known k w.rooms) w.holds w.rest.0) in
         stays known Quiet (assigning named types t v u (running k (record a { operands = below }) rest s)) (
           tt,
-          by found at (record_tasks types t WholeFirst (part_base v)) (λ none. reaches.2 t none WholeFirst (part_base v)) stores (at_work w (holder, (gets, behind))),
+          by found at (record_tasks types t WholeFirst (part_base v)) (λ none. reaches.2 t none WholeFirst (part_base v)) (reaches.3 t WholeFirst (part_base v)) stores
+              (at_work w (holder, (gets, behind), w.rest.1)),
         ) tt
       where
-        by : (f : Option Finalization) → finalization_of known.program.types t ≡ f → (tasks : List Task) → (finalization_of known.program.types t ≡ None → tasks ≡ []) → (stores : Control)
-            → Working known s.heap a.places s.masters (λ rooms holds. IsHolder s.heap (whole u) × StoresBehind known s.heap stores rooms holds)
+        by : (f : Option Finalization) → finalization_of known.program.types t ≡ f → (tasks : List Task) → (finalization_of known.program.types t ≡ None → tasks ≡ []) → TasksInside known.program.types t tasks → (stores : Control)
+            → Working known s.heap a.places s.masters (λ rooms holds. IsHolder s.heap (whole u) × StoresBehind known s.heap stores rooms holds × AssignsWell known t holds)
             → ReadyIn known Running (treating (whole v) (ends (Assigning s.next)) tasks (Copies (base u) t ∷ stores)) s.heap a.places (whole u ∷ below) s.masters
-        by None none tasks empty stores works = rw (empty none) (copies_on known (base u) t stores s.heap a.places (whole u ∷ below) s.masters works)
-        by (Some f) some tasks empty stores works =
-            treats_ready known (whole v) (ends (Assigning s.next)) tasks (Copies (base u) t ∷ stores) s.heap a.places (whole u ∷ below) s.masters (inr ((f, some, may f some), works))
+        by None none tasks empty inside stores works =
+            rw (empty none) (copies_on known (base u) t stores s.heap a.places (whole u ∷ below) s.masters (at_work works (works.rest.0, works.rest.1)))
+        by (Some f) some tasks empty inside stores works =
+            treats_ready known (whole v) (ends (Assigning s.next)) tasks (Copies (base u) t ∷ stores) s.heap a.places (whole u ∷ below) s.masters
+            ((f, some, may f some), at_work works (lies, works.rest.1, works.rest.2)) inside
 
-    pub assigns_fine : (t : ℕ) (operands : List Value) → Working known s.heap a.places s.masters (PassesTo known s.heap a.places operands (Assigns t ∷ k)) → Fine known s.heap s.masters (assigns_next named types t (first_or Null (older operands)) (first_or Null operands) (same (first_or Null (older operands)) (first_or Null operands)) (running k (record a { operands = older (older operands) }) rest s))
-    assigns_fine t operands w = go (same (first_or Null (older operands)) (first_or Null operands))
+    -- Typing says where the other record lies.
+    lies_there : (t : ℕ) (u : Value) → RefersToRecord known.program.types (cells_of s.heap) t u → IsSource s.heap u → LiesIn known s.heap t (whole u)
+    lies_there t u refers (p, other, from, (x, found, there)) =
+        let lies : RefersToRecord known.program.types (cells_of s.heap) t (Part p other) = rw from at refers in
+        let one : lies.0 ≡ x.cell = some_same (sym lies.1 ∙ cell_at s.heap p.0 x found) in
+        rw from (x, found, there, (other.component, other.part, rw one at lies.3))
+
+    pub assigns_fine : (t : ℕ) (operands : List Value) → RefersToRecord known.program.types (cells_of s.heap) t (first_or Null operands) → Working known s.heap a.places s.masters (PassesTo known s.heap a.places operands (Assigns t ∷ k)) → Fine known s.heap s.masters (assigns_next named types t (first_or Null (older operands)) (first_or Null operands) (same (first_or Null (older operands)) (first_or Null operands)) (running k (record a { operands = older (older operands) }) rest s))
+    assigns_fine t operands refers w = go (same (first_or Null (older operands)) (first_or Null operands))
       where
         go : (one : Option Bool) → Fine known s.heap s.masters (assigns_next named types t (first_or Null (older operands)) (first_or Null operands) one (running k (record a { operands = older (older operands) }) rest s))
         go None = tt
-        go (Some true) = runs_on known k (record a { operands = older (older operands) }) rest s (at_less w w.rest.1) Quiet tt
+        go (Some true) =
+            let runs = at_less {other = AssignsTo known t k} w w.rest.1 in
+            runs_on known k (record a { operands = older (older operands) }) rest s (at_work runs runs.rest.0) Quiet tt
         go (Some false) =
             let are = w.rest.0 in
-            begins_assigning t (first_or Null (older operands)) (first_or Null operands) (older (older operands)) are.0 are.1 are.2 are.3 (finalization_of known.program.types t) refl are.4 (at_work w w.rest.1)
+            begins_assigning t (first_or Null (older operands)) (first_or Null operands) (older (older operands)) are.0 are.1 are.2 are.3 (lies_there t (first_or Null operands) refers are.3) (finalization_of known.program.types t) refl are.4 (at_less {other = AssignsTo known t k} w w.rest.1)

@@ -272,7 +272,7 @@ module _ (known : Known) (rest : List (Activation Value)) (s : State) (types : L
     made_fine by w =
         let b = made_begins by w in
         record {
-          ready = (tt, treats_ready known new (begins by []) (all_tasks types t PartsFirst) k heap places a.operands masters (inl b.0, b.1));
+          ready = (tt, treats_ready known new (begins by []) (all_tasks types t PartsFirst) k heap places a.operands masters (inl b.0, b.1) tt);
           alters = alters_new s.heap Quiet (new_object cell) refl;
           says = tt;
         }

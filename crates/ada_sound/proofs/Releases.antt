@@ -219,7 +219,7 @@ module _ (known : Known) (a : Activation Value) (rest : List (Activation Value))
         rw (there.found, stands.0, stands.1) (rw (same_one (Some (pool_freed_to (home_of access s.masters))) there.object.cell.home.pool home) (rw there.found (record {
           ready = (
             tt,
-            treats_ready known (Names p) (ends (Freeing s.next)) (all_tasks types there.object.cell.access WholeFirst) (Ends (Names p) ∷ GivesBack (Names p) (Freeing s.next) (Some (pool_freed_to (home_of access s.masters))) ∷ ClearsIn (Names o) c ∷ k) (slice_set s.heap p.0 (parted there.object)) a.places below s.masters (inl (refl, under)),
+            treats_ready known (Names p) (ends (Freeing s.next)) (all_tasks types there.object.cell.access WholeFirst) (Ends (Names p) ∷ GivesBack (Names p) (Freeing s.next) (Some (pool_freed_to (home_of access s.masters))) ∷ ClearsIn (Names o) c ∷ k) (slice_set s.heap p.0 (parted there.object)) a.places below s.masters (refl, under) tt,
           );
           alters = alters_set s.heap (Followed (Names o)) p there.object (parted there.object) there.found (refl, refl, refl) (λ h. h) (λ h. inl h);
           says = followed o (object, found, held) w.stored;

@@ -10,7 +10,7 @@ use Rattle.ada_deeds.specs.Implicit.{implicit_of}
 use Rattle.ada_program.specs.declared.program.Program.{Program}
 use Rattle.ada_program.specs.Form.{ActualForm}
 use Rattle.ada_program.specs.ProgramForm.{TypeForm, ProgramForm, program_form, body_forms, seen_in}
-use Rattle.ada_parts.specs.Task.{Task, next as task_next}
+use Rattle.ada_parts.specs.Task.{Task, next as task_next, performs}
 use Rattle.ada_effects.specs.Effects.{Implicit}
 use Rattle.ada_meaning.specs.declared.state.Id.{Id}
 use Rattle.ada_meaning.specs.declared.state.Value.{Value}
@@ -30,7 +30,7 @@ use Rattle.ada_finalized.specs.Law.{NoOperationRuns}
 use Rattle.ada_sound.specs.Agreement.{running_procedure}
 use Rattle.ada_sound.specs.Callees.{IsCovered}
 use Rattle.ada_program.specs.declared.program.Exception.{Exception}
-use Rattle.ada_meaning.specs.Step.{halts, moves, tells, asks, picks, older, procedure_of, storing, frame_next, pass_next, jump_next, mode_next}
+use Rattle.ada_meaning.specs.Step.{halts, moves, tells, asks, picks, older, procedure_of, storing, frame_next, pass_next, jump_next, mode_next, picked_task}
 use Rattle.ada_meaning.specs.Named.{Object, State, Next, named, object_at, filled, next}
 use Rattle.ada_meaning.specs.Run.{Event, Choice, settled, grants, takes, Leads, Step, Run, here, there, Halts, run_more}
 use Rattle.ada_meaning.specs.Law.{named_by, back_of, followed_of, Differ, BackTwoObjects, FollowedBeforeBack, leaving_by, IsBackHome, GoesHome, GivesBackOf, Happened, IsBack, HasEnded, items_of}
@@ -54,13 +54,13 @@ use Rattle.ada_sound.proofs.QuietOperations.{IsUsedAs, used_as}
 use Rattle.ada_sound.proofs.TouchingStarts.{touching_starts}
 use Rattle.ada_sound.proofs.TouchingSteps.{InTouching, Went, GoesTouching, touching_step}
 use Rattle.ada_sound.proofs.Touching.{Touching, waiting_for}
-use Rattle.ada_sound.proofs.Operated.{OperatedOn, operated_by}
+use Rattle.ada_sound.proofs.Operated.{OperatedOn, operated_by, OperatedAs}
 use Rattle.ada_parts.specs.declared.tasks.Next.TheVariants.{Perform}
 use Rattle.ada_sound.proofs.Alters.{BackIn, StaysItself, Alters, alters_same, alters_set}
-use Rattle.ada_sound.proofs.Invariant.{Known, Control, Working, CallsOn, Says, GoesOn, Stepped, EndsWell, Fine, outers, IsAwaited, under_in}
+use Rattle.ada_sound.proofs.Invariant.{Known, Control, Working, CallsOn, Says, GoesOn, Stepped, EndsWell, Fine, outers, IsAwaited, under_in, IsOfAssigned}
 use Rattle.ada_sound.proofs.Callers.{Suspension, callers_of, known_in, Stands}
 use Rattle.ada_sound.proofs.Returns.{Crosses, same_types, resumed_in, behind_call as behind_mode, behind_frames, behind_body, crosses_to, left_settled}
-use Rattle.ada_sound.proofs.Calls.{waiting, calls_to, references}
+use Rattle.ada_sound.proofs.Calls.{calls_to, references}
 use Rattle.ada_sound.proofs.Waiting.{SameBody, stands_kept}
 use Rattle.ada_sound.proofs.Ready.{at_work}
 use Rattle.ada_sound.proofs.Below.{named_below}
@@ -69,12 +69,14 @@ use Rattle.ada_sound.proofs.StoredStates.{IsStored, ready_stored}
 use Rattle.ada_sound.proofs.Finalization.{finalizes_in}
 use Rattle.ada_sound.proofs.Starts.{IsReached, Ordinary, Sound}
 use Rattle.ada_sound.proofs.Calm.{filled_in, typed_calm, behind_calm}
-use Rattle.ada_sound.proofs.Treatments.{TellsNothing, Begins, StaysHere, Treated, treats_fine}
+use Rattle.ada_sound.proofs.Treatments.{inside_left, TellsNothing, Begins, StaysHere, Treated, treats_fine}
 use Rattle.ada_sound.proofs.Operating.{Sight, StaysLive, IsCalm, Operates, behind_operation}
 use Rattle.ada_sound.proofs.OperationBegins.{begins_operation}
 use Rattle.ada_sound.proofs.OperationSteps.{acting, Wrote, IsMild}
 use Rattle.ada_sound.proofs.OperationLaw.{operates_on, operation_ends, operation_raises, StepsOn, steps_on}
 use Rattle.ada_sound.proofs.CallBegins.{runs_called, placed_in}
+use Rattle.ada_program.specs.Controlled.{shapes_of}
+use Rattle.ada_sound.proofs.InsideRecords.{TasksInside, next_inside, picked_inside}
 
 -- An object whose words are out.
 OutIn : List Object → Id → Type 0
@@ -337,7 +339,7 @@ module _ (program : Program) (a : Activation Value) (rest : List (Activation Val
 
     -- A record that is controlled itself lies in objects of the type of the one that is treated.
     abbrev IsOperated : Treatment → Id → ℕ → Type 0
-    IsOperated by o of = (by ≡ treatment) × OperatedOn (program_form program).types (cells_of s.heap) o of
+    IsOperated by o of = OperatedAs (program_form program).types v treatment (cells_of s.heap) k by o of
 
     goes_here : (e : Event) (after : State) → Stepped treater s.heap e after × StaysHere treater a rest s program.types.items (body_forms program) k IsOperated after → Led program s.heap e after
     goes_here e after (st, (acts, behind)) =
@@ -374,16 +376,22 @@ module _ (program : Program) (a : Activation Value) (rest : List (Activation Val
     treated_led (picks n taken) is t = λ i lt. goes_here Quiet (taken i) (t i lt)
 
     operated : (of part : ℕ) → task_next tasks ≡ Perform of part → (o : Id) → v ≡ Names o → IsOperated treatment o of
-    operated of part next o named = (
+    operated of part next object named = (
       refl,
-      subst (λ (types : List TypeForm). OperatedOn types (cells_of s.heap) o of) (same_types a.procedure (program_form program))
-          (operated_by (seen_in a.procedure (program_form program)) whole v treatment tasks k refl refl sound.typed.inside of part next o named),
+      subst (λ (types : List TypeForm). OperatedOn types (cells_of s.heap) object of) (same_types a.procedure (program_form program))
+          (operated_by (seen_in a.procedure (program_form program)) whole v treatment tasks k refl refl sound.typed.inside of part next object named),
+      subst (λ (types : List TypeForm). IsOfAssigned types treatment (performs of 0 ∷ []) k) (same_types a.procedure (program_form program))
+          (inside_left treater.program.types treatment tasks (performs of 0 ∷ []) k o.ready.1.1 (λ t inside. (next_inside treater.program.types t of part tasks inside next, tt))),
+      named,
     )
 
     treating_step : FineIn program whole (frame_next named program.types.items (body_forms program) (Treats v treatment tasks) (state_with Running k (a ∷ rest) s))
     unfolding next
     treating_step =
-        treated_led _ refl (treats_fine treater a rest s program.types.items (body_forms program) k IsOperated v (task_next tasks) treatment tasks operated (finalizes_in program sound.well whole sound.reached sound.typed o.calm treater.program.types) o.ready.1)
+        treated_led _ refl (treats_fine treater a rest s program.types.items (body_forms program) k IsOperated v
+        (λ t direction left i inside. subst (λ (types : List TypeForm). TasksInside types t (picked_task (shapes_of program.types.items) direction left i)) (sym (same_types a.procedure (program_form program)))
+        (picked_inside program t direction left i (subst (λ (types : List TypeForm). TasksInside types t left) (same_types a.procedure (program_form program)) inside)))
+        (task_next tasks) treatment tasks operated (finalizes_in program sound.well whole sound.reached sound.typed o.calm treater.program.types) o.ready.1.0 o.ready.1.1)
 
   passing_none : (mode : Mode) (f : Frame Value) → inside.crosses mode (f ∷ k) ≡ false → behind_call (f ∷ k) ≡ behind_call k → (n : Next) → mode_next named program.types.items (body_forms program) mode (state_with mode (f ∷ k) (a ∷ rest) s) ≡ n → n ≡ pass_next named (is_master f) (landing mode f) mode (state_with mode k (a ∷ rest) s) → (sound : Sound program (state_with mode (f ∷ k) (a ∷ rest) s)) → Ordinary program (state_with mode (f ∷ k) (a ∷ rest) s) → FineIn program (state_with mode (f ∷ k) (a ∷ rest) s) n
   passing_none mode f none behind n is passes sound o =

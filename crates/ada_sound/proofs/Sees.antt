@@ -12,9 +12,10 @@ use Rattle.ada_typed.proofs.Objects.{record_no_access}
 use Rattle.ada_sound.proofs.Callers.{Suspension, known_in, rest_of}
 use Rattle.ada_sound.proofs.CallStatements.{MayCall}
 use Rattle.ada_sound.proofs.Defaults.{reached_same, Reaches}
-use Rattle.ada_sound.proofs.FrugalUseCopies.{no_tasks}
+use Rattle.ada_sound.proofs.InsideRecords.{TasksInside, no_tasks, record_inside}
 use Rattle.ada_sound.proofs.Returns.{same_types}
 use Rattle.ada_sound.proofs.Scalars.{scalars_lost}
+use Rattle.ada_meaning.specs.Step.{record_tasks}
 
 -- The types that a body sees are those of the program.
 pub reaches_in : (program : Program) (procedure : Option ℕ) (gs : List Suspension) → Reaches (known_in program procedure gs) program.types.items
@@ -24,6 +25,7 @@ reaches_in program procedure gs =
       (λ access. subst (λ (types : List TypeForm). reached_of program.types.items access ≡ reached_components types access) (sym same) (reached.0 access)),
       (λ t. subst (λ (types : List TypeForm). components_of program.types.items t ≡ record_components types t) (sym same) (reached.1 t)),
       (λ t none direction first. no_tasks program t (rw same at none) direction first),
+      (λ t direction first. subst (λ (types : List TypeForm). TasksInside types t (record_tasks program.types.items t direction first)) (sym same) (record_inside program t direction first)),
     )
 
 -- What a body sees is there, and in it flow calls Integers and Booleans lost.

@@ -328,7 +328,7 @@ module _ (known : Known) where
         two = and_parts (is_record_path known.program.types known.program.variables target) (record_fits known.program.types known.program.variables target.record_type items) fits
 
         assigned_fine : (parts : Bool) → Fine known s.heap s.masters (record_assign_next named parts target items (running (Does fs ∷ k) a rest s))
-        assigned_fine true = copy_begins known a rest s target items fs k two.0 two.1 (at_work w w.rest.1)
+        assigned_fine true = copy_begins known a rest s target items fs k w.rest.4 two.0 two.1 (at_work w w.rest.1)
         assigned_fine false = record_begins known a rest s target items fs k (record_there known.program.types known.program.variables target two.0) (at_work w w.rest.1)
     stmt_fine defined bodies calling inside here (frees access path) fs k homes fits own w =
         let types = known.program.types in

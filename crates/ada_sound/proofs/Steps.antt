@@ -21,7 +21,7 @@ use Rattle.ada_effects.specs.Effects.{unary_raises, binary_raises}
 use Rattle.ada_scopes.specs.Scopes.{CollectTwoTypes}
 use Rattle.ada_typed.proofs.Control.{OwnBody}
 use Rattle.ada_typed.specs.Holding.{Cells, cells_of, HasKind, HaveKinds}
-use Rattle.ada_typed.proofs.Values.{OperandKind, of_kind, AreComputed, AreHeld, AreFilled, filled_at, kind_of}
+use Rattle.ada_typed.proofs.Values.{OperandKind, of_kind, lies_in, AreComputed, AreHeld, AreFilled, filled_at, kind_of}
 use Rattle.ada_sound.proofs.Fits.{IsPlain, ArePlain}
 use Rattle.ada_sound.proofs.Passed.{refers_fine, referred_fine, opens_fine, opened_fine}
 use Rattle.std.specs.List.{AllPairs, slice_get}
@@ -158,6 +158,13 @@ module _ (known : Known) where
     record_found first u items [] t r = let fits = t.1 in absurd (no_operand known.program.types (cells_of s.heap) t.0 (of_kind (variable.Access fits.1)) fits.0 fits.3 t.2)
     record_found first u items (v ∷ below) t r = record_target_fine known types reaches k a rest s first u items v below t.0 t.1 t.2 r
 
+    assigned_by : (u : ℕ) (operands : List Value) → RunsTyped known s.heap (Assigns u ∷ k) a.places operands → ReadyBy known (Assigns u) k s.heap a.places operands s.masters → Fine known s.heap s.masters (frame_next named types bodies (Assigns u) (running k (record a { operands = operands }) rest s))
+    assigned_by u [] t r = let fits = t.1 in absurd (no_operand known.program.types (cells_of s.heap) t.0 (lies_in u) (lies_in u ∷ fits.0) fits.2 t.2)
+    assigned_by u (v ∷ below) t r =
+        let fits = t.1 in
+        let computed : AreComputed known.program.types (cells_of s.heap) (lies_in u ∷ lies_in u ∷ fits.0) (v ∷ below) = rw (fits.2) at (t.2) in
+        assigns_fine known a rest s types reaches k u (v ∷ below) computed.0 r
+
     frame_fine : (f : Frame Value) → crosses Running (f ∷ k) ≡ false → RunsTyped known s.heap (f ∷ k) a.places a.operands → StateTyped known.program (outers known).under s.heap s.masters → FinalizesBy known.program.types types bodies f (running k a rest s) → ((mode : Mode) (behind : Control) → f ∷ k ≡ Leaves mode ∷ behind → HeldIn s.heap s.masters × NamedBelow (outers known) s.heap s.masters × AreInOrder known.program.types (innermost s.masters)) → ReadyBy known f k s.heap a.places a.operands s.masters → Fine known s.heap s.masters (frame_next named types bodies f (running k a rest s))
     frame_fine (Elaborates ds fs hs) inner t kept well low r = declarations_fine known a rest s fs hs k types ds t.3 t.1.2 r
     frame_fine (Does fs) inner t kept well low r = stmts_fine known a rest s types bodies calling t.1.1 fs k (homes_in kept well) t.1.2.0 (t.1.2.1 kept.own) r
@@ -196,7 +203,7 @@ module _ (known : Known) where
     frame_fine (StoresIn o c) inner t kept well low r = put_fine o c a.operands t r
     frame_fine (TargetsRecord first u items) inner t kept well low r = record_found first u items a.operands t r
     frame_fine (StoresRecord o first count) inner t kept well low r = store_record_fine known types reaches k a rest s o first count t.0 t.1 t.2 r
-    frame_fine (Assigns u) inner t kept well low r = assigns_fine known a rest s types reaches k u a.operands r
+    frame_fine (Assigns u) inner t kept well low r = assigned_by u a.operands t r
     frame_fine (Receives c) inner t kept well low r = receive_fine known k a rest s (first_or Null a.operands) (older a.operands) c r
     frame_fine (FreesIn access c) inner t kept well low r = free_in_fine known a rest s types access c k (older a.operands) (homes_in kept well) (first_or Null a.operands) r
     frame_fine (Declares x) inner t kept well low r = declares_fine known k a rest s kept.plain x (first_or Null a.operands) (older a.operands) r

@@ -20,6 +20,7 @@ use Rattle.ada_sound.proofs.Stored.{Stored}
 use Rattle.ada_sound.proofs.Back.{stored_before}
 use Rattle.ada_sound.proofs.Ready.{begins_work}
 use Rattle.ada_sound.proofs.Invariant.{Known, Control, Rooms, Working, HalfBy, Resumes, Clearing, EvaluatesTo, TargetsTo, StoringIn, HalfFollows, NamesTo, BegunTo, EndsTo, CopiesBehind, TreatsBy, EndingBy, BackingBy, ReadyBy, RaisesBy, ReadyIn, Ready}
+use Rattle.ada_meaning.specs.declared.event.Cause.TheVariants.{Leaving, Freeing, Assigning, Undoing}
 
 -- Objects are stored, where one at most is under way.
 abbrev pub IsStored : List Object → List Master → Type 0
@@ -113,8 +114,10 @@ module _ (known : Known) where
 
   treats_stored : (v : Value) (treatment : Treatment) (k : Control) (heap : List Object) (places operands : List Value) (ms : List Master) → TreatsBy known v treatment k heap places operands ms → IsStored heap ms
   treats_stored v (begins by done) k heap places operands ms r = begun_stored v by k heap places operands ms r.0
-  treats_stored v (ends cause) k heap places operands ms (inl r) = ends_stored v k heap places ms r
-  treats_stored v (ends cause) k heap places operands ms (inr r) = copies_stored k heap places operands ms r
+  treats_stored v (ends (Leaving m item)) k heap places operands ms r = ends_stored v k heap places ms r
+  treats_stored v (ends (Freeing number)) k heap places operands ms r = ends_stored v k heap places ms r
+  treats_stored v (ends (Assigning number)) k heap places operands ms r = copies_stored k heap places operands ms r
+  treats_stored v (ends (Undoing number)) k heap places operands ms r = ends_stored v k heap places ms r
 
   -- By what is next.
   frame_stored : (f : Frame Value) (k : Control) (heap : List Object) (places operands : List Value) (ms : List Master) → ReadyBy known f k heap places operands ms → IsStored heap ms
@@ -155,9 +158,9 @@ module _ (known : Known) where
   frame_stored (FreesIn access c) k heap places operands ms r = (_, r.stored)
   frame_stored (Declares x) k heap places operands ms r = (_, r.stored)
   frame_stored (DeclaresRecord x t) k heap places operands ms r = (_, r.stored)
-  frame_stored (Treats v treatment tasks) k heap places operands ms r = treats_stored v treatment k heap places operands ms r
+  frame_stored (Treats v treatment tasks) k heap places operands ms r = treats_stored v treatment k heap places operands ms r.0
   frame_stored (frame.Awaits v by done of part tasks) k heap places operands ms r = begun_stored v by k heap places operands ms r.1.0
-  frame_stored frame.Confines k heap places operands ms (v, cause, tasks, behind, is, r) = treats_stored v (ends cause) behind heap places operands ms r
+  frame_stored frame.Confines k heap places operands ms (v, cause, tasks, behind, is, r, of) = treats_stored v (ends cause) behind heap places operands ms r
   frame_stored (frame.Resumes mode) k heap places operands ms r = (_, r.stored)
   frame_stored Writes k heap places operands ms r = (_, r.stored)
   frame_stored (Ends v) k heap places operands ms r = value_stored v k heap places ms r

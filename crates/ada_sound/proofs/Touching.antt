@@ -1,40 +1,45 @@
 -- The body of an operation runs that touches storage (7.6, 7.6.1, 13.11.2): an Initialize of an object that a declaration creates, or a Finalize of one at the
--- leaving of its master. What holds there, and what is kept of all that waits for it.
+-- leaving of its master, or where another record is assigned to it. What holds there, and what is kept of all that waits for it.
 
-use Rattle.std.proofs.Common.{◌≡◌, ◌≢◌, ℕ, true, false, List, [], ◌∷◌, ◌++◌, ◌⊎◌, Option}
+use Rattle.std.proofs.Common.{◌≡◌, ◌≢◌, ℕ, true, false, List, [], ◌∷◌, ◌++◌, ◌⊎◌, Option, drop, length, suc, take}
 use Rattle.std.specs.Prelude.{Bool, Some}
-use Rattle.std.specs.List.{slice_get, slice_set}
+use Rattle.std.specs.List.{slice_get, slice_set, list_any}
 use Rattle.ada_program.specs.declared.program.Exception.{Exception}
 use Rattle.ada_quiet.specs.InUse.{may_be_frugal}
 use Rattle.ada_program.specs.declared.program.Program.{Program}
 use Rattle.ada_program.specs.ProgramForm.{program_form, seen_in}
-use Rattle.ada_program.specs.WellFormed.{is_access, variable_kind}
+use Rattle.ada_program.specs.WellFormed.{is_access, variable_kind, reached_components}
 use Rattle.ada_deeds.specs.Implicit.{implicit_of}
-use Rattle.ada_effects.specs.Effects.{Implicit}
+use Rattle.ada_effects.specs.Effects.{Implicit, assignment_frees}
 use Rattle.ada_flow.specs.declared.rule.Hold.TheVariants as hold
-use Rattle.ada_flow.specs.Flow.{Holds, Keeping, hold_at}
+use Rattle.ada_flow.specs.Flow.{Holds, Keeping, hold_at, is_owning}
 use Rattle.ada_meaning.specs.declared.event.Birth.TheVariants.{Creation}
-use Rattle.ada_meaning.specs.declared.event.Cause.TheVariants.{Leaving, Undoing}
+use Rattle.ada_meaning.specs.declared.event.Cause.TheVariants.{Leaving, Freeing, Assigning, Undoing}
 use Rattle.ada_meaning.specs.declared.state.Id.{Id}
 use Rattle.ada_meaning.specs.declared.state.Mode.{Mode}
 use Rattle.ada_meaning.specs.declared.state.Place.{Place}
 use Rattle.ada_meaning.specs.declared.state.Value.{Value}
-use Rattle.ada_meaning.specs.declared.state.Value.TheVariants.{Names, Part}
+use Rattle.ada_meaning.specs.declared.state.Value.TheVariants.{Names, Part, Null}
 use Rattle.ada_meaning.specs.Finalization.{NothingTreated}
-use Rattle.ada_meaning.specs.Frame.{Treatment, begins, ends, Leaves, Ends, GivesBack, Resumes}
+use Rattle.ada_meaning.specs.Frame.{Treatment, begins, ends, Leaves, Ends, GivesBack, Resumes, StoresRecord, Copies}
 use Rattle.ada_meaning.specs.Heap.{Home}
 use Rattle.ada_meaning.specs.State.{Master}
 use Rattle.ada_meaning.specs.Named.{Object, State, object_at}
 use Rattle.ada_typed.proofs.Kept.{behind_call}
 use Rattle.ada_sound.proofs.Bodies.{IsBody}
 use Rattle.ada_sound.proofs.Callers.{Suspension, known_in, Stands, callers_of}
-use Rattle.ada_sound.proofs.Fits.{Fit, Outsiders, IsPlace, IsRelied, IsSaid, IsUnreferred, none_spared, outer_hold, outer_value, place_at}
+use Rattle.ada_sound.proofs.Fits.{Fit, Outsiders, IsPlace, IsRelied, IsSaid, IsUnreferred, none_spared, outer_hold, outer_value, place_at, Reference, IsReferred}
 use Rattle.ada_sound.proofs.FrugalControl.{Frugally}
-use Rattle.ada_sound.proofs.Invariant.{body_among, Control, Rooms, Roomed, RunsOn, Known, IsNewest, Ready, Spares, StartsTo, Unaliased, below, innermost, outers, BeginsWell, CameOut, To, By, ways, IsAwaited, under_in}
+use Rattle.ada_sound.proofs.Invariant.{body_among, Control, Rooms, Roomed, RunsOn, Known, IsNewest, Ready, Spares, StartsTo, Unaliased, below, innermost, outers, BeginsWell, CameOut, To, By, ways, IsAwaited, under_in, AssignsWell, IsCopied, LiesAmong, RunsBehind}
 use Rattle.ada_sound.proofs.Operating.{WaitsFor, IsCalm, lets_out}
 use Rattle.ada_sound.proofs.Stored.{Stored}
 use Rattle.ada_sound.specs.Agreement.{running_procedure}
 use Rattle.ada_quiet.specs.Frugal.{frugal_procedures}
+use Rattle.ada_finalized.specs.Law.{NothingBegins}
+use Rattle.ada_meaning.specs.declared.event.Cause.{Cause}
+use Rattle.ada_meaning.specs.Step.{first_or, operands_of}
+use Rattle.ada_owners.specs.Places.{access_at}
+use Rattle.ada_program.specs.declared.program.ComponentKind.{ComponentKind}
 
 -- Neither a variable of the running activation nor one of a suspended one is relied on to name this object.
 pub record IsNamedNowhere (outer : Outsiders) (places : List Value) (holds : Holds) (o : Id) : Type 0 where
@@ -53,6 +58,8 @@ pub record Resting (known : Known) (object : Id) (home : Home) (places : List Va
   pub newest : IsNewest home.item (innermost lower)
   pub runs : RunsOn known (Leaves mode ∷ rest) rooms holds
   pub nowhere : IsNamedNowhere (outers known) places holds object
+  pub unreferred : IsUnreferred (outers known) object
+  pub untreated : NothingTreated rest
 
 -- What is behind the initialization of a record object that a declaration creates, whose variable owns it: what is left goes on, and where an exception comes
 -- out, it does so without the variable.
@@ -62,6 +69,7 @@ pub record Starting (known : Known) (object : Id) (access : ℕ) (places : List 
   pub undone : StartsTo known access after rooms (slice_set holds x hold.Lost)
   pub well : BeginsWell known access holds
   pub nowhere : IsNamedNowhere (outers known) places (slice_set holds x hold.Lost) object
+  pub unreferred : IsUnreferred (outers known) object
 
 -- What is behind the finalization of a part of a record object out of whose initialization an exception came: the end of the object, and then the exception goes on.
 pub record Undoes (known : Known) (object : Id) (access : ℕ) (home : Home) (places : List Value) (after : Control) (rooms : Rooms) (holds : Holds) : Type 0 where
@@ -73,53 +81,105 @@ pub record Undoes (known : Known) (object : Id) (access : ℕ) (home : Home) (pl
   pub runs : To (By mode (ways known rest rooms)) holds
   pub well : BeginsWell known access holds
   pub nowhere : IsNamedNowhere (outers known) places holds object
+  pub unreferred : IsUnreferred (outers known) object
+  pub untreated : NothingTreated rest
 
--- What is behind the body, by what it is called for.
-abbrev pub Rests : Known → Treatment → (object : Id) → (access : ℕ) → Home → (places : List Value) → (after : Control) → (lower : List Master) → Rooms → Holds → Type 0
-Rests known (begins by done) object access home places after lower rooms holds = (by ≡ Creation) × Starting known object access places after rooms holds
-Rests known (ends cause) object access home places after lower rooms holds = Resting known object home places after lower rooms holds ⊎ Undoes known object access home places after rooms holds
+-- The components of a record in the object get those of another one, which are Integers and Booleans, and then what is left goes on (5.2).
+abbrev pub StoresInto : Known → (object : Id) → (access : ℕ) → Control → Rooms → Holds → Type 0
+StoresInto known object access [] rooms holds = ⊥
+StoresInto known object access (StoresRecord v first count ∷ k) rooms holds =
+    (v ≡ Names object)
+    × ((components : List ComponentKind) → reached_components known.program.types access ≡ Some components → list_any is_owning (take count (drop first components)) ≡ false)
+    × RunsBehind known k rooms holds
+StoresInto known object access (f ∷ k) rooms holds = ⊥
 
--- What is known of the activation that waits, whatever the body is called for: the object is of no access type, and no call refers to it; nothing else is
--- treated behind it; and what each variable holds is as it is said of it.
+-- What is behind the finalization of the value of a record that is assigned to (5.2, 7.6): another record of its type is copied to it, to whose object the
+-- activation that waits refers, too.
+pub record Overwrites (known : Known) (object : Id) (access : ℕ) (operands : List Value) (also : List Reference) (after : Control) (rooms : Rooms) (holds : Holds) : Type 0 where
+  pub first : ℕ
+  pub record_type : ℕ
+  pub stores : Control
+  pub is : after ≡ Copies first record_type ∷ stores
+  pub copied : IsCopied known record_type
+  pub source : Reference
+  pub named : first_or Null operands ≡ Names source.object
+  pub refers : also ≡ source ∷ []
+  pub lies : LiesAmong known source.access record_type
+  pub into : StoresInto known object access stores rooms holds
+  pub well : AssignsWell known record_type holds
+
+-- What is behind a finalization, by its cause.
+abbrev pub RestsBy : Known → Cause → (object : Id) → (access : ℕ) → Home → (places operands : List Value) → (also : List Reference) → (after : Control) → (lower : List Master) → Rooms → Holds → Type 0
+RestsBy known (Leaving m item) object access home places operands also after lower rooms holds =
+    (also ≡ []) × (Resting known object home places after lower rooms holds ⊎ Undoes known object access home places after rooms holds)
+RestsBy known (Freeing number) object access home places operands also after lower rooms holds =
+    (also ≡ []) × (Resting known object home places after lower rooms holds ⊎ Undoes known object access home places after rooms holds)
+RestsBy known (Assigning number) object access home places operands also after lower rooms holds = Overwrites known object access operands also after rooms holds
+RestsBy known (Undoing number) object access home places operands also after lower rooms holds =
+    (also ≡ []) × (Resting known object home places after lower rooms holds ⊎ Undoes known object access home places after rooms holds)
+
+-- What is behind the body, by what it is called for; and to which other objects the activation that waits refers.
+abbrev pub Rests : Known → Treatment → (object : Id) → (access : ℕ) → Home → (places operands : List Value) → (also : List Reference) → (after : Control) → (lower : List Master) → Rooms → Holds → Type 0
+Rests known (begins by done) object access home places operands also after lower rooms holds = (by ≡ Creation) × (also ≡ []) × Starting known object access places after rooms holds
+Rests known (ends cause) object access home places operands also after lower rooms holds = RestsBy known cause object access home places operands also after lower rooms holds
+
+-- What is known of the activation that waits, whatever the body is called for: the object is of no access type, and no other object begins behind it; and what each
+-- variable holds is as it is said of it.
 pub record Paused (known : Known) (object : Id) (access : ℕ) (places : List Value) (after : Control) (lower : List Master) (rooms : Rooms) (holds : Holds) : Type 0 where
   pub declared : is_access known.program.types access ≡ false
-  pub unreferred : IsUnreferred (outers known) object
-  pub untreated : NothingTreated after
+  pub untreated : (v : Value) → v ≢ Names object → NothingBegins v after
   pub roomed : Roomed (below known) lower rooms
   pub said : (x : ℕ) → IsSaid (place_at (outers known).given x) (hold_at holds x) (place_at places x)
   pub objects : (x : ℕ) → hold_at holds x ≢ hold.Lost → IsPlace known.program.types (outers known).referenced (variable_kind known.program.variables x) (place_at places x)
 
--- An object that is finalized is under way; one that is initialized is in its collection.
+-- An object that is finalized and then ceases to exist is under way; one that is initialized, or assigned to, is not.
+abbrev pub ended_object : Cause → Id → List Id
+ended_object (Leaving m item) object = object ∷ []
+ended_object (Freeing number) object = object ∷ []
+ended_object (Assigning number) object = []
+ended_object (Undoing number) object = object ∷ []
+
 abbrev pub under_way : Treatment → Id → List Id
 under_way (begins by done) object = []
-under_way (ends cause) object = object ∷ []
+under_way (ends cause) object = ended_object cause object
+
+-- What the operations that a finalization calls may free, behind which this stands: at an assignment, of the record that is assigned to (5.2, 7.6.1).
+abbrev pub ended_frees : Implicit → Cause → (access : ℕ) → (behind : Control) → ℕ → Bool
+ended_frees implicit (Leaving m item) access k t = implicit.end_frees access t
+ended_frees implicit (Freeing number) access k t = implicit.end_frees access t
+ended_frees implicit (Assigning number) access [] t = true
+ended_frees implicit (Assigning number) access (Copies first record_type ∷ k) t = assignment_frees implicit t record_type
+ended_frees implicit (Assigning number) access (f ∷ k) t = true
+ended_frees implicit (Undoing number) access k t = implicit.end_frees access t
 
 -- What the operations that such a treatment calls may free (7.6, 7.6.1).
-abbrev pub treated_frees : Implicit → Treatment → (access : ℕ) → ℕ → Bool
-treated_frees implicit (begins by done) access t = implicit.start_frees access t
-treated_frees implicit (ends cause) access t = implicit.end_frees access t
+abbrev pub treated_frees : Implicit → Treatment → (access : ℕ) → (behind : Control) → ℕ → Bool
+treated_frees implicit (begins by done) access k t = implicit.start_frees access t
+treated_frees implicit (ends cause) access k t = ended_frees implicit cause access k t
 
 -- What is known where such a body is called: what waits for it, and what it may free, of which there is no alias.
-pub record Enters (known : Known) (treatment : Treatment) (o : Id) (x : Object) (after : Control) (heap : List Object) (places : List Value) (masters : List Master) : Type 0 where
+pub record Enters (known : Known) (treatment : Treatment) (o : Id) (x : Object) (after : Control) (heap : List Object) (places operands : List Value) (masters : List Master) : Type 0 where
   pub rooms : Rooms
   pub holds : Holds
+  pub also : List Reference
+  pub there : (p : Id) (t : ℕ) → IsReferred also p t → (access_at heap p ≡ Some t) × (is_access known.program.types t ≡ false)
   pub waits : Paused known o x.cell.access places after masters rooms holds
-  pub rests : Rests known treatment o x.cell.access x.cell.home places after masters rooms holds
+  pub rests : Rests known treatment o x.cell.access x.cell.home places operands also after masters rooms holds
   pub fit : Fit known.program.types known.program.variables (outers known) none_spared heap places holds
   pub stored : Stored (under_way treatment o ++ (outers known).under) heap masters
   pub may : ℕ → Bool
-  pub includes : (t : ℕ) → treated_frees known.implicit treatment x.cell.access t ≡ true → may t ≡ true
+  pub includes : (t : ℕ) → treated_frees known.implicit treatment x.cell.access after t ≡ true → may t ≡ true
   pub spares : Spares known may
   pub unaliased : Unaliased known.program.variables may holds
 
 -- The activation that waits for the body, whose formal parameter stands for a record in the object.
-abbrev pub resting : (procedure : Option ℕ) (places : List Value) (treatment : Treatment) (object : Id) (access : ℕ) (place : Place) (behind : Control) (lower : List Master) → Keeping → Rooms → Holds → Suspension
-resting procedure places treatment object access place behind lower kept rooms holds = record {
+abbrev pub resting : (procedure : Option ℕ) (places : List Value) (treatment : Treatment) (object : Id) (access : ℕ) (also : List Reference) (place : Place) (behind : Control) (lower : List Master) → Keeping → Rooms → Holds → Suspension
+resting procedure places treatment object access also place behind lower kept rooms holds = record {
   procedure = procedure;
   actuals = [];
   passed = Part object place ∷ [];
   references = [];
-  referenced = record { object = object; access = access } ∷ [];
+  referenced = record { object = object; access = access } ∷ also;
   under = under_way treatment object;
   kept = kept;
   control = behind;
@@ -161,24 +221,27 @@ pub record Touching (program : Program) (s : State) : Type 0 where
   pub of : ℕ
   pub behind : Control
   pub after : Control
-  pub awaited : WaitsFor object of treatment after behind
+  pub awaited : WaitsFor (program_form program).types object of treatment after behind
   pub lower : List Master
   pub kept : Keeping
   pub rooms : Rooms
   pub holds : Holds
   pub frugal : Frugally (frugal_procedures (program_form program)) lower behind s
   pub waits : Paused (known_in program procedure suspensions) object access places after lower rooms holds
-  pub rests : Rests (known_in program procedure suspensions) treatment object access home places after lower rooms holds
-  pub stands : Stands program (inner ++ resting procedure places treatment object access place behind lower kept rooms holds ∷ suspensions) s
+  pub also : List Reference
+  pub operands : List Value
+  pub computed : operands_of (drop (suc (length inner)) s.activations) ≡ operands
+  pub rests : Rests (known_in program procedure suspensions) treatment object access home places operands also after lower rooms holds
+  pub stands : Stands program (inner ++ resting procedure places treatment object access also place behind lower kept rooms holds ∷ suspensions) s
   pub calm : IsCalm (behind_call behind)
   pub settled : under_in (callers_of program suspensions) ≡ []
   pub may : may_be_frugal (program_form program) ≡ true
   pub lets : (e : Exception) → body_among (implicit_of (program_form program)) (seen_in (Some number) (program_form program)) e ≡ true → lets_out (implicit_of (program_form program)) access treatment e ≡ true
-  pub ready : Ready (known_in program (running_procedure s) (inner ++ resting procedure places treatment object access place behind lower kept rooms holds ∷ suspensions)) s
+  pub ready : Ready (known_in program (running_procedure s) (inner ++ resting procedure places treatment object access also place behind lower kept rooms holds ∷ suspensions)) s
 
 -- The activation that waits for the operation.
 abbrev pub origin : (program : Program) (s : State) → Touching program s → Suspension
-origin program s f = resting f.procedure f.places f.treatment f.object f.access f.place f.behind f.lower f.kept f.rooms f.holds
+origin program s f = resting f.procedure f.places f.treatment f.object f.access f.also f.place f.behind f.lower f.kept f.rooms f.holds
 
 -- The activations that wait for what runs, the nearest one first.
 abbrev pub waiting_for : (program : Program) (s : State) → Touching program s → List Suspension

@@ -2,7 +2,7 @@
 -- what it may free no suspended activation has an alias.
 
 use Rattle.ada_meaning.specs.declared.state.Mode.TheVariants.{Running}
-use Rattle.std.proofs.Common.{◌≡◌, ◌≢◌, ◌≤◌, ℕ, zero, suc, true, List, [], ◌∷◌, ◌++◌, length, map, take, refl, sym, ap, subst, ◌∙◌, inl, inr}
+use Rattle.std.proofs.Common.{◌⊎◌, ◌≡◌, ◌≢◌, ◌≤◌, ℕ, zero, suc, true, List, [], ◌∷◌, ◌++◌, length, map, take, refl, sym, ap, subst, ◌∙◌, inl, inr}
 use Rattle.std.specs.Prelude.{Some}
 use Rattle.std.specs.List.{slice_get}
 use Rattle.ada_deeds.specs.Implicit.{implicit_of}
@@ -40,7 +40,7 @@ use Rattle.ada_sound.proofs.BodyRuns.{body_runs}
 use Rattle.ada_sound.proofs.Calls.{home_low, relied_says}
 use Rattle.ada_sound.proofs.Callers.{Suspension, caller_of, known_in, Stands, callers_of}
 use Rattle.ada_sound.proofs.Touching.{Enters, under_way, Touching, resting}
-use Rattle.ada_sound.proofs.Fits.{Fit, IsPlace, IsReferred, IsSaid, IsWithin, NoOuterAlias, none_spared, outer_access, outer_hold, place_at, IsRelied, there_by}
+use Rattle.ada_sound.proofs.Fits.{Fit, IsPlace, IsReferred, IsSaid, IsWithin, NoOuterAlias, none_spared, outer_access, outer_hold, place_at, IsRelied, there_by, Reference}
 use Rattle.ada_sound.proofs.FrugalControl.{frugal_starts}
 use Rattle.ada_sound.proofs.Invariant.{Control, CoveredIn, Known, RunsOn, Spares, outer_of, outers, body_among, IsAwaited, under_in}
 use Rattle.ada_sound.proofs.Operating.{IsCalm, WaitsFor, behind_operation, lets_out}
@@ -50,6 +50,7 @@ use Rattle.ada_sound.proofs.Starts.{body_obeys, lost_first, none_out, none_on}
 use Rattle.ada_sound.proofs.Stored.{stored_entered, IsUnder}
 use Rattle.ada_sound.proofs.Waiting.{stands_kept}
 use Rattle.ada_program.specs.declared.program.Exception.{Exception}
+use Rattle.ada_meaning.specs.declared.event.Cause.TheVariants.{Leaving, Freeing, Assigning, Undoing}
 
 -- The only formal parameter of an operation is a record: its body borrows what that refers to, and relies on no other variable.
 pub record IsAlone (b : BodyForm) : Type 0 where
@@ -82,8 +83,14 @@ alone_by (m ∷ ms) (v ∷ vs) object is = (ap Some kind, rw kind (borrowed m), 
 pub alone : (b : BodyForm) (object : TypeNo) → formal_kinds b ≡ variable_kinds.Record object ∷ [] → IsAlone b
 alone b object is = let by = alone_by b.formals b.variables object is in record { object = object; is = by.0; first = by.1; others = by.2 }
 
+-- What is referred to among these is so among the first ones, or among the others.
+referred_split : (first others : List Reference) (o : Id) (t : ℕ) → IsReferred (first ++ others) o t → IsReferred first o t ⊎ IsReferred others o t
+referred_split [] others o t is = inr is
+referred_split (r ∷ first) others o t (inl same) = inl (inl same)
+referred_split (r ∷ first) others o t (inr is) = elim (referred_split first others o t is) [ inl one ↦ inl (inr one) | inr other ↦ inr other ]
+
 module _ (program : Program) (well : IsWellFormed (program_form program)) (obeys : ObeysRules program) (number : ℕ) (b : BodyForm) (there : slice_get (body_forms program) number ≡ Some b) (may : may_be_frugal (program_form program) ≡ true) (frugal : is_frugal_body (frugal_procedures (program_form program)) b ≡ true) (lone : IsAlone b) (a : Activation Value) (rest : List (Activation Value)) (gs : List Suspension) (s : State) (k : Control) (o : Id) (x : Object) (heap : List Object) (found : object_at heap o ≡ Some x) (exists : is_there x.stage ≡ true) (place : Place)
-    (within : IsWithin (program_form program).types (variable_kind b.variables 0) x.cell.access place.component) (treatment : Treatment) (at : Enters (known_in program a.procedure gs) treatment o x k heap a.places s.masters) (behind : Control) where
+    (within : IsWithin (program_form program).types (variable_kind b.variables 0) x.cell.access place.component) (treatment : Treatment) (at : Enters (known_in program a.procedure gs) treatment o x k heap a.places a.operands s.masters) (behind : Control) where
   abbrev p : ProgramForm
   p = program_form program
 
@@ -94,7 +101,7 @@ module _ (program : Program) (well : IsWellFormed (program_form program)) (obeys
   own = seen_in (Some number) p
 
   abbrev waiting : Suspension
-  waiting = resting a.procedure a.places treatment o x.cell.access place behind s.masters (body_keeps own.types (effects_of (implicit_of p) own) (keeping_of (implicit_of p) own) (main_body own)) at.rooms at.holds
+  waiting = resting a.procedure a.places treatment o x.cell.access at.also place behind s.masters (body_keeps own.types (effects_of (implicit_of p) own) (keeping_of (implicit_of p) own) (main_body own)) at.rooms at.holds
 
   abbrev body : Known
   body = known_in program (Some number) (waiting ∷ gs)
@@ -117,17 +124,17 @@ module _ (program : Program) (well : IsWellFormed (program_form program)) (obeys
   said zero = rw lone.first tt
   said (suc i) = rw (lone.others i) tt
 
-  objects : (i : ℕ) → hold_at first i ≢ hold.Lost → IsPlace known.program.types ((record { object = o; access = x.cell.access } ∷ []) ++ (outers known).referenced) (variable_kind b.variables i) (place_at begins i)
+  objects : (i : ℕ) → hold_at first i ≢ hold.Lost → IsPlace known.program.types ((record { object = o; access = x.cell.access } ∷ at.also) ++ (outers known).referenced) (variable_kind b.variables i) (place_at begins i)
   objects zero ne = (rw lone.is refl, x.cell.access, inl (refl, refl), subst (λ (types : List TypeForm). IsWithin types (variable_kind b.variables 0) x.cell.access place.component) (sym (same_types a.procedure p)) within)
   objects (suc i) ne = absurd (ne (lone.others i))
 
-  refers : (p' : Id) (t : ℕ) → IsReferred (record { object = o; access = x.cell.access } ∷ []) p' t → access_at heap p' ≡ Some t
+  refers : (p' : Id) (t : ℕ) → IsReferred (record { object = o; access = x.cell.access } ∷ at.also) p' t → access_at heap p' ≡ Some t
   refers p' t (inl (same, of)) = rw (← same, ← of) (rw (found, exists) refl)
-  refers p' t (inr none) = absurd none
+  refers p' t (inr other) = (at.there p' t other).0
 
   begun_fit : Fit known.program.types b.variables (outers body) none_spared heap begins first
   begun_fit =
-      called_fit known.program.types (outers known) (outer_of (caller_of program waiting gs)) (Part o place ∷ []) (record { object = o; access = x.cell.access } ∷ []) (under_way treatment o) none_spared heap b.variables begins first at.holds at.fit
+      called_fit known.program.types (outers known) (outer_of (caller_of program waiting gs)) (Part o place ∷ []) (record { object = o; access = x.cell.access } ∷ at.also) (under_way treatment o) none_spared heap b.variables begins first at.holds at.fit
       (as_good at.holds) (λ y own'. own') (λ i own'. absurd (none_own i own')) (λ i j own' other same. absurd (none_own i own')) right said objects refers
 
   body_fit : Fit own.types own.variables (outers body) none_spared heap begins first
@@ -153,7 +160,11 @@ module _ (program : Program) (well : IsWellFormed (program_form program)) (obeys
 
         by_reference : (p' : Id) → IsReferred (outers body).referenced p' t → is_access known.program.types t ≡ true → ⊥
         by_reference p' (inl (same, of)) access = let object = at.waits.declared in cc (rw of at object, access)
-        by_reference p' (inr is) access = (at.spares t ends).0.1 p' is access
+        by_reference p' (inr is) access = by (referred_split at.also (outers known).referenced p' t is)
+          where
+            by : IsReferred at.also p' t ⊎ IsReferred (outers known).referenced p' t → ⊥
+            by (inl other) = let none = (at.there p' t other).1 in cc (none, access)
+            by (inr outer) = (at.spares t ends).0.1 p' outer access
 
     spares : Spares body (body_frees own.types (effects_of (implicit_of p) own) (main_body own))
     spares t may = (subst (λ (types : List TypeForm). NoOuterAlias types (outers body) t) (same_types a.procedure p ∙ sym (same_types (Some number) p)) (no_outer t may), may)
@@ -180,16 +191,21 @@ module _ (program : Program) (well : IsWellFormed (program_form program)) (obeys
     object_low : (object : Object) × (object_at heap o ≡ Some object) × (suc object.cell.home.item ≤ height s.masters)
     object_low = home_low heap s.masters o at.stored (x, found, exists)
 
-    referred_low : (q : Id) (t : ℕ) → IsReferred (record { object = o; access = x.cell.access } ∷ []) q t → (object : Object) × (object_at heap q ≡ Some object) × (suc object.cell.home.item ≤ height s.masters)
+    referred_low : (q : Id) (t : ℕ) → IsReferred (record { object = o; access = x.cell.access } ∷ at.also) q t → (object : Object) × (object_at heap q ≡ Some object) × (suc object.cell.home.item ≤ height s.masters)
     referred_low q t (inl (same, of)) = rw (← same) object_low
-    referred_low q t (inr none) = absurd none
+    referred_low q t (inr other) = home_low heap s.masters q at.stored (there_by heap (Some t) q (at.there q t other).0)
 
     under_low : (by : Treatment) (q : Id) → IsUnder (under_way by o) q → (object : Object) × (object_at heap q ≡ Some object) × (suc object.cell.home.item ≤ height s.masters)
     under_low (frame.begins by done) q none = absurd none
-    under_low (frame.ends cause) q (inl same) = rw (← same) object_low
-    under_low (frame.ends cause) q (inr none) = absurd none
+    under_low (frame.ends (Leaving m item)) q (inl same) = rw (← same) object_low
+    under_low (frame.ends (Leaving m item)) q (inr none) = absurd none
+    under_low (frame.ends (Freeing number)) q (inl same) = rw (← same) object_low
+    under_low (frame.ends (Freeing number)) q (inr none) = absurd none
+    under_low (frame.ends (Assigning number)) q none = absurd none
+    under_low (frame.ends (Undoing number)) q (inl same) = rw (← same) object_low
+    under_low (frame.ends (Undoing number)) q (inr none) = absurd none
 
-    pub touching_begins : (e : Event) (of : ℕ) → Alters s.heap e heap → WaitsFor o of treatment k behind → IsAwaited behind → Stands program gs (record s { activations = a ∷ rest }) → IsCalm (behind_call behind) → under_in (callers_of program gs) ≡ []
+    pub touching_begins : (e : Event) (of : ℕ) → Alters s.heap e heap → WaitsFor (program_form program).types o of treatment k behind → IsAwaited behind → Stands program gs (record s { activations = a ∷ rest }) → IsCalm (behind_call behind) → under_in (callers_of program gs) ≡ []
         → Touching program (operating named number b (Part o place) behind (record s { activations = a ∷ rest; heap = heap; mode = Running }))
     touching_begins e of alters awaited waited stands calm settled =
         let after = operating named number b (Part o place) behind (record s { activations = a ∷ rest; heap = heap; mode = Running }) in
@@ -221,6 +237,9 @@ module _ (program : Program) (well : IsWellFormed (program_form program)) (obeys
           holds = at.holds;
           frugal = frugal_starts (frugal_procedures p) number b frugal (Part o place) behind (record s { activations = a ∷ rest; heap = heap; mode = Running });
           waits = at.waits;
+          also = at.also;
+          operands = a.operands;
+          computed = refl;
           rests = at.rests;
           calls = tt;
           stands = record {

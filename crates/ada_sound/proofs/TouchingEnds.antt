@@ -3,7 +3,7 @@
 
 use Rattle.ada_sound.proofs.Leavings.{owns_relied, borrows_relied, component_borrows}
 use Rattle.ada_meaning.specs.Heap.{Home}
-use Rattle.std.proofs.Common.{◌≡◌, ℕ, Bool, true, false, List, [], ◌∷◌, ◌++◌, refl, sym, ap, ◌∙◌, subst, inl, inr, slice_set}
+use Rattle.std.proofs.Common.{◌≡◌, ℕ, Bool, true, false, List, [], ◌∷◌, ◌++◌, refl, sym, ap, ◌∙◌, subst, inl, inr, slice_set, drop, length, ◌⊎◌, suc}
 use Rattle.std.specs.Prelude.{Option, Some, None}
 use Rattle.std.specs.List.{list_all, slice_get}
 use Rattle.ada_program.specs.declared.program.Exception.{Exception}
@@ -16,19 +16,19 @@ use Rattle.ada_meaning.specs.declared.event.Cause.{Cause}
 use Rattle.ada_flow.specs.declared.rule.Hold.TheVariants as hold
 use Rattle.ada_meaning.specs.declared.event.Birth.TheVariants.{Creation, Copy, Adjustment}
 use Rattle.ada_sound.proofs.OperationCalls.{ready_for, ready_raising}
-use Rattle.ada_meaning.specs.declared.event.Cause.TheVariants.{Leaving, Undoing}
+use Rattle.ada_meaning.specs.declared.event.Cause.TheVariants.{Leaving, Freeing, Assigning, Undoing}
 use Rattle.ada_meaning.specs.declared.state.Id.{Id}
 use Rattle.ada_meaning.specs.declared.state.Mode.{Mode}
 use Rattle.ada_meaning.specs.declared.state.Mode.TheVariants.{Running, Raising, Exiting, Returning}
 use Rattle.ada_meaning.specs.declared.state.Stage.TheVariants.{Existing}
 use Rattle.ada_meaning.specs.declared.state.Value.{Value}
-use Rattle.ada_meaning.specs.declared.state.Value.TheVariants.{Names}
+use Rattle.ada_meaning.specs.declared.state.Value.TheVariants.{Names, Null}
 use Rattle.ada_meaning.specs.Event.{Quiet}
 use Rattle.ada_parts.specs.Part as parts
-use Rattle.ada_meaning.specs.Frame.{Returns, Ends, ends, begins, Treatment}
+use Rattle.ada_meaning.specs.Frame.{Returns, Ends, ends, begins, Treatment, StoresRecord}
 use Rattle.ada_meaning.specs.Frame as frame
 use Rattle.ada_meaning.specs.State.{Activation, Master}
-use Rattle.ada_meaning.specs.Step.{moves, operands, places, mode_next, procedure_of, places_of, operands_of, older}
+use Rattle.ada_meaning.specs.Step.{moves, operands, places, mode_next, procedure_of, places_of, operands_of, older, first_or}
 use Rattle.ada_meaning.specs.Named.{Object, State, named, next}
 use Rattle.ada_owners.specs.Places.{Place, variable, component, elsewhere, value_at, access_at}
 use Rattle.ada_owners.specs.Reliance.{Owns, Borrows, IsOf, component_kind}
@@ -37,11 +37,11 @@ use Rattle.ada_owners.proofs.Kernel as kernel
 use Rattle.ada_owners.proofs.Objects.{present_at}
 use Rattle.ada_sound.proofs.Activations.{returned_fit}
 use Rattle.ada_sound.proofs.Callers.{rest_of, Suspension, caller_of, known_in, Stands, AreOf, callers_of}
-use Rattle.ada_sound.proofs.Touching.{IsNamedNowhere, Touching, Resting, Rests, Starting, under_way, Undoes, origin, called_by}
-use Rattle.ada_sound.proofs.Fits.{Fit, kinds_of, hold_in, stacked, none_spared, sparing, outer_hold, outer_value_at, spare_fit, weaker_fit}
+use Rattle.ada_sound.proofs.Touching.{IsNamedNowhere, Touching, Resting, Rests, Starting, under_way, Undoes, origin, called_by, Overwrites, RestsBy, StoresInto}
+use Rattle.ada_sound.proofs.Fits.{Fit, kinds_of, hold_in, stacked, none_spared, sparing, outer_hold, outer_value_at, spare_fit, weaker_fit, IsReferred, Reference}
 use Rattle.ada_sound.proofs.InOrder.{component_is_access}
-use Rattle.ada_sound.proofs.Invariant.{AllWait, Control, Known, Rooms, GoesOn, Working, Ending, EndsTo, ReadyIn, TreatsBy, innermost, outer_of, outers, IsLive, Beginning, StartsTo, BeginsWell, Ready, IsActive, AreSuspended}
-use Rattle.ada_sound.proofs.Operating.{behind_operation, lets_out}
+use Rattle.ada_sound.proofs.Invariant.{AllWait, Control, Known, Rooms, GoesOn, Working, Ending, EndsTo, ReadyIn, TreatsBy, innermost, outer_of, outers, IsLive, Beginning, StartsTo, BeginsWell, Ready, IsActive, AreSuspended, CopiesBehind, EndsBy, LiesIn, StoresBehind}
+use Rattle.ada_sound.proofs.Operating.{behind_operation, lets_out, WaitsFor}
 use Rattle.ada_sound.proofs.Waiting.{stands_behind}
 use Rattle.ada_sound.proofs.Returns.{CrossesTo, same_types}
 use Rattle.ada_sound.proofs.Stored.{Stored}
@@ -50,6 +50,7 @@ use Rattle.ada_sound.proofs.Undone.{beginning_undone}
 use Rattle.ada_sound.proofs.Alters.{Alters, alters_same}
 use Rattle.ada_sound.specs.Agreement.{running_procedure, IsBehind}
 use Rattle.ada_sound.proofs.Bodies.{IsBody}
+use Rattle.ada_sound.proofs.TouchingRests.{IsEnd}
 
 -- No place names an object of a type of which no component is, where no variable is relied on to name it.
 module _ (known : Known) (heap : List Object) (held : List Value) (holds : Holds) (spared : Id → Bool) (fit : Fit known.program.types known.program.variables (outers known) spared heap held holds) (types_fit : list_all (type_fits known.program.types) known.program.types ≡ true) (o : Id) (access : ℕ) (there : access_at heap o ≡ Some access) (declared : is_access known.program.types access ≡ false) (nowhere : IsNamedNowhere (outers known) held holds o) where
@@ -84,7 +85,7 @@ module _ (known : Known) (heap : List Object) (held : List Value) (holds : Holds
 ends_first : (known : Known) (o : Id) (after k : Control) (heap : List Object) (held : List Value) (ms : List Master) → after ≡ Ends (Names o) ∷ k → Ending known o k heap held ms → EndsTo known (Names o) after heap held ms
 ends_first known o after k heap held ms is ending = rw is (refl, ending)
 
-module _ (program : Program) (well : IsWellFormed (program_form program)) (s : State) (f : Touching program s) (parted : (cause : Cause) → f.treatment ≡ ends cause → f.x.listed ≡ false) (a b : Activation Value) (rest : List (Activation Value)) (acts_so : s.activations ≡ a ∷ b ∷ rest) (none : f.inner ≡ []) (ends_now : s.control ≡ Returns [] [] ∷ f.behind) (masters_are : s.masters ≡ f.lower) where
+module _ (program : Program) (well : IsWellFormed (program_form program)) (s : State) (f : Touching program s) (parted : (cause : Cause) → IsEnd cause → f.treatment ≡ ends cause → f.x.listed ≡ false) (a b : Activation Value) (rest : List (Activation Value)) (acts_so : s.activations ≡ a ∷ b ∷ rest) (none : f.inner ≡ []) (ends_now : s.control ≡ Returns [] [] ∷ f.behind) (masters_are : s.masters ≡ f.lower) where
   abbrev own : Known
   own = known_in program f.procedure f.suspensions
 
@@ -193,16 +194,22 @@ module _ (program : Program) (well : IsWellFormed (program_form program)) (s : S
   own_stored : (treatment : Treatment) → f.treatment ≡ treatment → Stored (under_way treatment f.object ++ (outers own).under) s.heap f.lower
   own_stored treatment is = subst (λ (by : Treatment). Stored (under_way by f.object ++ (outers own).under) s.heap f.lower) is works.stored
 
+  end_stored : (cause : Cause) → IsEnd cause → f.treatment ≡ ends cause → Stored (f.object ∷ (outers own).under) s.heap f.lower
+  end_stored (Leaving m item) end is = own_stored (ends (Leaving m item)) is
+  end_stored (Freeing number) end is = own_stored (ends (Freeing number)) is
+  end_stored (Assigning number) end is = absurd end
+  end_stored (Undoing number) end is = own_stored (ends (Undoing number)) is
+
   -- The object is to cease to exist, and its words go back, before what is left of its master.
-  resting_ends : (cause : Cause) → f.treatment ≡ ends cause → (r : Resting own f.object f.home f.places f.after f.lower f.rooms f.holds) → Ending own f.object (frame.GivesBack (Names f.object) (Leaving r.master r.item) f.home.pool ∷ frame.Leaves r.mode ∷ r.rest) s.heap f.places f.lower
-  resting_ends cause is r =
+  resting_ends : (cause : Cause) → IsEnd cause → f.treatment ≡ ends cause → (r : Resting own f.object f.home f.places f.after f.lower f.rooms f.holds) → Ending own f.object (frame.GivesBack (Names f.object) (Leaving r.master r.item) f.home.pool ∷ frame.Leaves r.mode ∷ r.rest) s.heap f.places f.lower
+  resting_ends cause end is r =
       let fit = spare_fit (sparing s.heap (innermost f.lower)) own_fit in
       record {
         object = f.x;
         found = f.found;
         exists = exists_still;
-        parted = parted cause is;
-        stored = own_stored (ends cause) is;
+        parted = parted cause end is;
+        stored = end_stored cause end is;
         covered = tt;
         rest = (
           refl,
@@ -215,7 +222,7 @@ module _ (program : Program) (well : IsWellFormed (program_form program)) (s : S
               holds = f.holds;
               roomed = f.waits.roomed;
               fit = fit;
-              aside = (unnamed_by f.holds (sparing s.heap (innermost f.lower)) fit r.nowhere, f.waits.unreferred);
+              aside = (unnamed_by f.holds (sparing s.heap (innermost f.lower)) fit r.nowhere, r.unreferred);
               rest = r.runs;
             },
           ),
@@ -223,13 +230,13 @@ module _ (program : Program) (well : IsWellFormed (program_form program)) (s : S
       }
 
   -- So it is, before the exception goes on that came out of its initialization.
-  undoing_ends : (cause : Cause) → f.treatment ≡ ends cause → (r : Undoes own f.object f.access f.home f.places f.after f.rooms f.holds) → Ending own f.object (frame.GivesBack (Names f.object) (Undoing r.number) f.home.pool ∷ frame.Resumes r.mode ∷ r.rest) s.heap f.places f.lower
-  undoing_ends cause is r = record {
+  undoing_ends : (cause : Cause) → IsEnd cause → f.treatment ≡ ends cause → (r : Undoes own f.object f.access f.home f.places f.after f.rooms f.holds) → Ending own f.object (frame.GivesBack (Names f.object) (Undoing r.number) f.home.pool ∷ frame.Resumes r.mode ∷ r.rest) s.heap f.places f.lower
+  undoing_ends cause end is r = record {
     object = f.x;
     found = f.found;
     exists = exists_still;
-    parted = parted cause is;
-    stored = own_stored (ends cause) is;
+    parted = parted cause end is;
+    stored = end_stored cause end is;
     covered = tt;
     rest = (
       refl,
@@ -243,7 +250,7 @@ module _ (program : Program) (well : IsWellFormed (program_form program)) (s : S
           holds = f.holds;
           roomed = f.waits.roomed;
           fit = own_fit;
-          aside = (unnamed_by f.holds none_spared own_fit r.nowhere, f.waits.unreferred);
+          aside = (unnamed_by f.holds none_spared own_fit r.nowhere, r.unreferred);
           rest = (r.runs, r.well);
         }),
       ),
@@ -265,29 +272,74 @@ module _ (program : Program) (well : IsWellFormed (program_form program)) (s : S
         stored = own_stored (begins Creation done) is;
         roomed = f.waits.roomed;
         fit = own_fit;
-        aside = (unnamed_by (slice_set f.holds r.x hold.Lost) none_spared (weaker_fit (slice_set f.holds r.x hold.Lost) less own_fit) r.nowhere, f.waits.unreferred);
+        aside = (unnamed_by (slice_set f.holds r.x hold.Lost) none_spared (weaker_fit (slice_set f.holds r.x hold.Lost) less own_fit) r.nowhere, r.unreferred);
         runs = r.runs;
         undone = subst (λ (t : ℕ). StartsTo own t f.after f.rooms (slice_set f.holds r.x hold.Lost)) (sym f.of_access) r.undone;
         well = subst (λ (t : ℕ). BeginsWell own t f.holds) (sym f.of_access) r.well;
       }
 
-  treats_by : (treatment : Treatment) → f.treatment ≡ treatment → Rests own treatment f.object f.access f.home f.places f.after f.lower f.rooms f.holds → TreatsBy own (Names f.object) treatment f.after s.heap f.places b.operands f.lower
-  treats_by (begins Creation done) is (creation, r) =
+  -- The end of the object is next behind its finalization.
+  ends_next : (cause : Cause) → IsEnd cause → f.treatment ≡ ends cause → Resting own f.object f.home f.places f.after f.lower f.rooms f.holds ⊎ Undoes own f.object f.access f.home f.places f.after f.rooms f.holds
+      → EndsTo own (Names f.object) f.after s.heap f.places f.lower
+  ends_next cause end is (inl r) = ends_first own f.object f.after _ s.heap f.places f.lower r.is (resting_ends cause end is r)
+  ends_next cause end is (inr r) = ends_first own f.object f.after _ s.heap f.places f.lower r.is (undoing_ends cause end is r)
+
+  -- The copy is next, where a record in the object is assigned to.
+  operands_are : f.operands ≡ b.operands
+  operands_are =
+      sym f.computed
+      ∙ (ap (λ (inner : List Suspension). operands_of (drop (suc (length inner)) s.activations)) none
+      ∙ ap (λ (all : List (Activation Value)). operands_of (drop 1 all)) acts_so)
+
+  stores_next : (k : Control) (rooms : Rooms) (holds : Holds) → StoresInto own f.object f.access k rooms holds → StoresBehind own s.heap k rooms holds
+  stores_next [] rooms holds r = absurd r
+  stores_next (StoresRecord v first count ∷ k) rooms holds (is, plain, behind) =
+      (rw is (f.x, f.found, rw exists_still refl, λ components reached. plain components (rw (← f.of_access) reached)), behind)
+  stores_next (f' ∷ k) rooms holds r = absurd r
+
+  copies_next : (number : ℕ) → f.treatment ≡ ends (Assigning number) → Overwrites own f.object f.access f.operands f.also f.after f.rooms f.holds → CopiesBehind own f.after s.heap f.places b.operands f.lower
+  copies_next number is r =
+      let referred : IsReferred (outers running).referenced r.source.object r.source.access = inr (subst (λ (also : List Reference). IsReferred (also ++ (outers own).referenced) r.source.object r.source.access) (sym r.refers) (inl (refl, refl))) in
+      let source = present_at s.heap r.source.object r.source.access (works.fit.referred r.source.object r.source.access referred) in
+      let lies : LiesIn own s.heap r.record_type (Names r.source.object) = (source.object, source.found, source.there, rw (source.access) r.lies) in
+      let named : first_or Null b.operands ≡ Names r.source.object = ap (first_or Null) (sym operands_are) ∙ r.named in
+      rw r.is (
+        r.copied,
+        record {
+          rooms = f.rooms;
+          holds = f.holds;
+          stored = own_stored (ends (Assigning number)) is;
+          roomed = f.waits.roomed;
+          fit = own_fit;
+          rest = (rw named lies, stores_next r.stores f.rooms f.holds r.into, r.well);
+        },
+      )
+
+  ends_by : (cause : Cause) → f.treatment ≡ ends cause → RestsBy own cause f.object f.access f.home f.places f.operands f.also f.after f.lower f.rooms f.holds → EndsBy own (Names f.object) cause f.after s.heap f.places b.operands f.lower
+  ends_by (Leaving m item) is (none_also, r) = ends_next (Leaving m item) tt is r
+  ends_by (Freeing number) is (none_also, r) = ends_next (Freeing number) tt is r
+  ends_by (Assigning number) is r = copies_next number is r
+  ends_by (Undoing number) is (none_also, r) = ends_next (Undoing number) tt is r
+
+  treats_by : (treatment : Treatment) → f.treatment ≡ treatment → Rests own treatment f.object f.access f.home f.places f.operands f.also f.after f.lower f.rooms f.holds → TreatsBy own (Names f.object) treatment f.after s.heap f.places b.operands f.lower
+  treats_by (begins Creation done) is (creation, none_also, r) =
       let b = beginning done is r in (
         inl b,
         (own_stored (begins Creation done) is, λ e raises. beginning_undone own (Names f.object) f.after s.heap f.places f.lower b e raises),
       )
-  treats_by (begins Copy done) is (creation, r) = absurd (cc creation)
-  treats_by (begins (Adjustment number) done) is (creation, r) = absurd (cc creation)
-  treats_by (ends cause) is (inl r) = inl (ends_first own f.object f.after _ s.heap f.places f.lower r.is (resting_ends cause is r))
-  treats_by (ends cause) is (inr r) = inl (ends_first own f.object f.after _ s.heap f.places f.lower r.is (undoing_ends cause is r))
+  treats_by (begins Copy done) is (creation, none_also, r) = absurd (cc creation)
+  treats_by (begins (Adjustment number) done) is (creation, none_also, r) = absurd (cc creation)
+  treats_by (ends cause) is r = ends_by cause is r
 
   live : IsLive s.heap (Names f.object)
   live = (f.x.cell, rw (f.found, exists_still) refl)
 
+  awaited_there : WaitsFor own.program.types f.object f.of f.treatment f.after f.behind
+  awaited_there = subst (λ (types : List TypeForm). WaitsFor types f.object f.of f.treatment f.after f.behind) (sym (same_types f.procedure (program_form program))) f.awaited
+
   behind_ready : ReadyIn own Running f.behind s.heap f.places b.operands f.lower
   behind_ready =
-      ready_for own f.object f.of f.treatment f.after f.behind s.heap f.places b.operands f.lower live f.awaited (treats_by f.treatment refl f.rests)
+      ready_for own f.object f.of f.treatment f.after f.behind s.heap f.places b.operands f.lower live awaited_there (treats_by f.treatment refl f.rests)
 
   -- What waits goes on.
   crosses : (after : State) → after.activations ≡ b ∷ rest → after.heap ≡ s.heap → ReadyIn own after.mode after.control after.heap f.places b.operands after.masters → CrossesTo program f.suspensions s.heap Quiet after
@@ -321,7 +373,7 @@ module _ (program : Program) (well : IsWellFormed (program_form program)) (s : S
   raises_back : (e : Exception) → lets_out (implicit_of (program_form program)) f.access f.treatment e ≡ true → CrossesTo program f.suspensions s.heap Quiet (left_in (Raising e))
   raises_back e out =
       crosses (left_in (Raising e)) refl refl
-      (ready_raising own f.object f.of f.treatment f.access f.after f.behind s.heap f.places b.operands f.lower e f.x f.found f.of_access live f.awaited out (treats_by f.treatment refl f.rests))
+      (ready_raising own f.object f.of f.treatment f.access f.after f.behind s.heap f.places b.operands f.lower e f.x f.found f.of_access live awaited_there out (treats_by f.treatment refl f.rests))
 
   raised_out : (e : Exception) (rooms : Rooms) (holds : Holds) → GoesOn running (Raising e) (Returns [] [] ∷ f.behind) rooms holds → lets_out (implicit_of (program_form program)) f.access f.treatment e ≡ true
   raised_out e [] holds (may, is, keeps) = f.lets e may
@@ -348,7 +400,7 @@ module _ (program : Program) (well : IsWellFormed (program_form program)) (s : S
 
 -- When the end of the body is next, what waits for the operation goes on, perhaps with an exception.
 pub touching_ends :
-    (program : Program) → IsWellFormed (program_form program) → (s : State) → (f : Touching program s) → ((cause : Cause) → f.treatment ≡ ends cause → f.x.listed ≡ false)
+    (program : Program) → IsWellFormed (program_form program) → (s : State) → (f : Touching program s) → ((cause : Cause) → IsEnd cause → f.treatment ≡ ends cause → f.x.listed ≡ false)
     → (a b : Activation Value) (rest : List (Activation Value)) → s.activations ≡ a ∷ b ∷ rest → f.inner ≡ [] → s.control ≡ Returns [] [] ∷ f.behind → s.masters ≡ f.lower
     → (after : State) × (next program.types.items (body_forms program) s ≡ moves Quiet after) × CrossesTo program f.suspensions s.heap Quiet after × (after.control ≡ f.behind)
 touching_ends program well s f parted a b rest acts_so none ends_now masters_are = (

@@ -1,6 +1,7 @@
--- An operation that touches storage is called for an object whose master is left (7.6.1), or for one that a declaration creates (7.6): what is behind that.
+-- An operation that touches storage is called for an object whose master is left (7.6.1), for one that a declaration creates (7.6), or for one of which a record is
+-- assigned to (5.2): what is behind that.
 
-use Rattle.std.proofs.Common.{◌≡◌, ℕ, Bool, true, false, List, [], ◌∷◌, ◌++◌, refl, sym, subst, ◌∙◌, ◌⊎◌, inl, inr, slice_set, eqb-true, None, ap}
+use Rattle.std.proofs.Common.{◌≡◌, ℕ, Bool, true, false, List, [], ◌∷◌, ◌++◌, refl, sym, subst, ◌∙◌, ◌⊎◌, inl, inr, slice_set, eqb-true, None, ap, ◌≢◌}
 use Rattle.std.specs.Prelude.{Option, Some, ◌==◌, if◌then◌else◌}
 use Rattle.std.specs.List.{slice_get}
 use Rattle.ada_program.specs.ProgramForm.{TypeForm}
@@ -9,30 +10,67 @@ use Rattle.ada_flow.specs.declared.rule.Hold.{Hold}
 use Rattle.ada_flow.specs.declared.rule.Hold.TheVariants as hold
 use Rattle.ada_flow.specs.Flow.{Holds, Gone as GoneWith, hold_at, is_among}
 use Rattle.ada_meaning.specs.declared.event.Cause.{Cause}
-use Rattle.ada_meaning.specs.declared.event.Birth.TheVariants.{Creation}
+use Rattle.ada_meaning.specs.declared.event.Birth.TheVariants.{Creation, Adjustment}
 use Rattle.ada_meaning.specs.declared.event.Cause.TheVariants.{Leaving, Freeing, Assigning, Undoing}
 use Rattle.ada_meaning.specs.declared.state.Id.{Id}
 use Rattle.ada_meaning.specs.declared.state.Mode.{Mode}
 use Rattle.ada_meaning.specs.declared.state.Value.{Value}
-use Rattle.ada_meaning.specs.declared.state.Value.TheVariants.{Names}
+use Rattle.ada_meaning.specs.declared.state.Value.TheVariants.{Names, Null, Part, Scalar}
 use Rattle.ada_meaning.specs.Finalization.{NothingTreated}
 use Rattle.ada_parts.specs.Part as parts
-use Rattle.ada_meaning.specs.Frame.{Copies, Ends, GivesBack, Leaves, Resumes, ends, begins}
+use Rattle.ada_meaning.specs.Frame.{Copies, Ends, GivesBack, Leaves, Resumes, ends, begins, StoresRecord}
 use Rattle.ada_meaning.specs.Law.{items_of}
 use Rattle.ada_meaning.specs.State.{Owned, declared, collection, record_object, storage_pool, Item, Master, Destination, home_among, collection_in, home_of, destination}
 use Rattle.ada_meaning.specs.Named.{Object, object_at}
-use Rattle.ada_owners.specs.Places.{variable, elsewhere}
+use Rattle.ada_owners.specs.Places.{variable, elsewhere, access_at}
 use Rattle.ada_owners.specs.Reliance.{Owns, Borrows}
 use Rattle.ada_owners.proofs.Ends.{IsUnnamed}
 use Rattle.ada_scopes.proofs.Homes.{OwnedFits, ItemsFit, fit_after}
 use Rattle.ada_sound.proofs.Endings.{among_by}
-use Rattle.ada_sound.proofs.Touching.{IsNamedNowhere, Enters, Paused, Resting}
+use Rattle.ada_sound.proofs.Touching.{IsNamedNowhere, Enters, Paused, Resting, ended_object, RestsBy, StoresInto, Undoes, ended_frees}
 use Rattle.ada_sound.proofs.FrugalUseEnds.{any_end}
-use Rattle.ada_effects.specs.Effects.{endings_free}
-use Rattle.ada_sound.proofs.Fits.{IsRelied, Outsiders, hold_in, none_spared, objects_left, outer_hold, outer_value_at, respare, sparing, stacked}
-use Rattle.ada_sound.proofs.Invariant.{Behind, CopiesBehind, Control, Ending, EndingBy, EndsTo, Freed, IsCopied, IsNewest, Known, LeavesTo, Roomed, Rooms, RunsOn, ThenBack, TreatsBy, WillBeCovered, below, innermost, outers, Beginning, CameOut, ResumesTo, BeginsWell, To, HasCollection, By, ways, gone_in}
+use Rattle.ada_effects.specs.Effects.{endings_free, Implicit, assignment_frees}
+use Rattle.ada_sound.proofs.Fits.{IsRelied, Outsiders, hold_in, none_spared, objects_left, outer_hold, outer_value_at, respare, sparing, stacked, IsReferred, Reference}
+use Rattle.ada_sound.proofs.Invariant.{Behind, CopiesBehind, Control, Ending, EndingBy, EndsTo, Freed, IsCopied, IsNewest, Known, LeavesTo, Roomed, Rooms, RunsOn, ThenBack, TreatsBy, WillBeCovered, below, innermost, outers, Beginning, CameOut, ResumesTo, BeginsWell, To, HasCollection, By, ways, gone_in, LiesAmong, LiesIn, StoresBehind}
 use Rattle.ada_sound.proofs.Items.{Counted, HasItem, Houses, newest_is}
 use Rattle.ada_sound.proofs.Stored.{Stored, exists_out}
+use Rattle.ada_finalized.proofs.Standing.{nothing_begins, AdjustsAlone}
+use Rattle.ada_meaning.specs.Heap.{Home}
+use Rattle.ada_meaning.specs.declared.event.Birth.{Birth}
+use Rattle.ada_finalized.specs.Law.{NothingBegins}
+use Rattle.ada_meaning.specs.Step.{first_or, treating}
+use Rattle.ada_parts.specs.Task.{Task}
+
+-- A finalization ends its object, unless it is one at an assignment.
+abbrev pub IsEnd : Cause → Type 0
+IsEnd (Leaving m item) = Unit {0}
+IsEnd (Freeing number) = Unit {0}
+IsEnd (Assigning number) = ⊥
+IsEnd (Undoing number) = Unit {0}
+
+rests_at_end : (known : Known) (cause : Cause) → IsEnd cause → (o : Id) (access : ℕ) (home : Home) (places operands : List Value) (after : Control) (lower : List Master) (rooms : Rooms) (holds : Holds)
+    → Resting known o home places after lower rooms holds ⊎ Undoes known o access home places after rooms holds → RestsBy known cause o access home places operands [] after lower rooms holds
+rests_at_end known (Leaving m item) end o access home places operands after lower rooms holds r = (refl, r)
+rests_at_end known (Freeing number) end o access home places operands after lower rooms holds r = (refl, r)
+rests_at_end known (Assigning number) end o access home places operands after lower rooms holds r = absurd end
+rests_at_end known (Undoing number) end o access home places operands after lower rooms holds r = (refl, r)
+
+stored_at_end : (cause : Cause) → IsEnd cause → (o : Id) (under : List Id) (heap : List Object) (masters : List Master) → Stored (o ∷ under) heap masters → Stored (ended_object cause o ++ under) heap masters
+stored_at_end (Leaving m item) end o under heap masters stored = stored
+stored_at_end (Freeing number) end o under heap masters stored = stored
+stored_at_end (Assigning number) end o under heap masters stored = absurd end
+stored_at_end (Undoing number) end o under heap masters stored = stored
+
+frees_at_end : (implicit : Implicit) (cause : Cause) → IsEnd cause → (access : ℕ) (k : Control) (t : ℕ) → ended_frees implicit cause access k t ≡ true → implicit.end_frees access t ≡ true
+frees_at_end implicit (Leaving m item) end access k t is = is
+frees_at_end implicit (Freeing number) end access k t is = is
+frees_at_end implicit (Assigning number) end access k t is = absurd end
+frees_at_end implicit (Undoing number) end access k t is = is
+
+-- Where an object is initialized or adjusted, nothing of another one begins.
+treating_others : (v : Value) (o : Id) (by : Birth) (tasks : List Task) (k : Control) → v ≢ Names o → NothingBegins v k → NothingBegins v (treating (Names o) (begins by []) tasks k)
+treating_others v o by [] k ne none = none
+treating_others v o by (task ∷ tasks) k ne none = ((λ same. ne (sym same)), none)
 
 -- What is relied on to name an object owns it or borrows it.
 relied_apart : (h : Hold) → IsRelied h → Owns h ⊎ Borrows h
@@ -78,6 +116,10 @@ module _ (types : List TypeForm) (under : List Id) (heap : List Object) (o : Id)
       among_by i.owned x.cell.access x.cell.home.pool gone.types (newest_houses i is at newest) (rw at at (roomed.0)).0
 
 module _ (known : Known) (o : Id) (x : Object) (heap : List Object) (found : object_at heap o ≡ Some x) (places operands : List Value) (masters : List Master) (object : is_access known.program.types x.cell.access ≡ false) (fits : ItemsFit known.program.types (items_of masters)) where
+  -- No other object is referred to.
+  none_others : (p : Id) (t : ℕ) → IsReferred [] p t → (access_at heap p ≡ Some t) × (is_access known.program.types t ≡ false)
+  none_others p t none = absurd none
+
   -- A collection is one of an access type.
   none_among : (is rest : List Item) (later : Option Destination) (d : Destination) → ItemsFit known.program.types (is ++ rest) → home_among x.cell.access is later ≡ Some d → later ≡ Some d
   none_among [] rest later d fit at = at
@@ -130,59 +172,63 @@ module _ (known : Known) (o : Id) (x : Object) (heap : List Object) (found : obj
       newest = newest;
       runs = r.rest;
       nowhere = named_nowhere (outers known) (sparing heap (innermost masters)) heap places r.holds o r.aside.0;
+      unreferred = r.aside.1;
+      untreated = untreated;
     }
 
     paused_here : Paused known o x.cell.access places behind_it masters r.rooms r.holds
     paused_here = record {
       declared = object;
-      unreferred = r.aside.1;
-      untreated = untreated;
+      untreated = λ v ne. nothing_begins v rest untreated;
       roomed = r.roomed;
       said = r.fit.said;
       objects = r.fit.objects;
     }
 
-    by_rooms : (cause : Cause) (rooms : Rooms) → r.rooms ≡ rooms → Roomed (below known) masters rooms → RunsOn known (Leaves mode ∷ rest) rooms r.holds → Enters known (ends cause) o x behind_it heap places masters
-    by_rooms cause [] is roomed runs = absurd runs
-    by_rooms cause (gone ∷ inner) is roomed runs = record {
+    by_rooms : (cause : Cause) → IsEnd cause → (rooms : Rooms) → r.rooms ≡ rooms → Roomed (below known) masters rooms → RunsOn known (Leaves mode ∷ rest) rooms r.holds → Enters known (ends cause) o x behind_it heap places operands masters
+    by_rooms cause end [] is roomed runs = absurd runs
+    by_rooms cause end (gone ∷ inner) is roomed runs = record {
       rooms = r.rooms;
       holds = r.holds;
+      also = [];
+      there = none_others;
       waits = paused_here;
-      rests = inl resting_here;
+      rests = rests_at_end known cause end o x.cell.access x.cell.home places operands behind_it masters r.rooms r.holds (inl resting_here);
       fit = respare (sparing heap (innermost masters)) none_spared (λ k c p e. rw left refl) r.fit;
-      stored = stored;
+      stored = stored_at_end cause end o (outers known).under heap masters stored;
       may = endings_free known.implicit gone.types;
-      includes = λ t is. any_end (λ u. known.implicit.end_frees u t) x.cell.access gone.types (among_by_rooms gone inner masters refl roomed) is;
+      includes = λ t is. any_end (λ u. known.implicit.end_frees u t) x.cell.access gone.types (among_by_rooms gone inner masters refl roomed) (frees_at_end known.implicit cause end x.cell.access behind_it t is);
       spares = runs.1.0;
       unaliased = runs.1.1;
     }
 
-    at_rest_here : (cause : Cause) → Enters known (ends cause) o x behind_it heap places masters
-    at_rest_here cause = by_rooms cause r.rooms refl r.roomed r.rest
+    at_rest_here : (cause : Cause) → IsEnd cause → Enters known (ends cause) o x behind_it heap places operands masters
+    at_rest_here cause end = by_rooms cause end r.rooms refl r.roomed r.rest
 
-  -- In a program in which operations may touch storage, nothing else finalizes an object with controlled parts than the leaving of its master, and an exception out of
-  -- its initialization: it is neither freed nor assigned to.
-  module _ (starts : (access t : ℕ) → known.implicit.end_frees access t ≡ true → known.implicit.start_frees access t ≡ true) (no_copy : (t : ℕ) → IsCopied known t → ⊥) where
-    leaving : (m item : ℕ) (pool : Option ℕ) (k : Control) → item ≡ x.cell.home.item → pool ≡ x.cell.home.pool → IsNewest x.cell.home.item (innermost masters) → Stored (o ∷ (outers known).under) heap masters → x.out ≡ true → NothingTreated k → LeavesTo known (Some o) heap places masters k → (cause : Cause) → Enters known (ends cause) o x (Ends (Names o) ∷ GivesBack (Names o) (Leaving m item) pool ∷ k) heap places masters
-    leaving m item pool [] own from newest stored out untreated r cause = absurd r
-    leaving m item pool (Leaves mode ∷ rest) own from newest stored out untreated r cause = rw (own, from) (at_rest_here mode rest m newest untreated stored out r cause)
-    leaving m item pool (f ∷ k) own from newest stored out untreated r cause = absurd r
+  -- In a program in which operations may touch storage, nothing else ends an object with controlled parts than the leaving of its master, and an exception out of
+  -- its initialization: it is not freed.
+  module _ (starts : (access t : ℕ) → known.implicit.end_frees access t ≡ true → known.implicit.start_frees access t ≡ true) (way : Cause) (end : IsEnd way) where
+    leaving : (m item : ℕ) (pool : Option ℕ) (k : Control) → item ≡ x.cell.home.item → pool ≡ x.cell.home.pool → IsNewest x.cell.home.item (innermost masters) → Stored (o ∷ (outers known).under) heap masters → x.out ≡ true → NothingTreated k → LeavesTo known (Some o) heap places masters k → Enters known (ends way) o x (Ends (Names o) ∷ GivesBack (Names o) (Leaving m item) pool ∷ k) heap places operands masters
+    leaving m item pool [] own from newest stored out untreated r = absurd r
+    leaving m item pool (Leaves mode ∷ rest) own from newest stored out untreated r = rw (own, from) (at_rest_here mode rest m newest untreated stored out r way end)
+    leaving m item pool (f ∷ k) own from newest stored out untreated r = absurd r
 
     undone : (number : ℕ) (mode : Mode) (rest : Control) → NothingTreated rest → Stored (o ∷ (outers known).under) heap masters → CameOut known x.cell.access mode
         → Freed known (Some o) none_spared heap places masters (λ rooms holds. To (By mode (ways known rest rooms)) holds × BeginsWell known x.cell.access holds)
-        → (cause : Cause) → Enters known (ends cause) o x (Ends (Names o) ∷ GivesBack (Names o) (Undoing number) x.cell.home.pool ∷ Resumes mode ∷ rest) heap places masters
-    undone number mode rest untreated stored came r cause = record {
+        → Enters known (ends way) o x (Ends (Names o) ∷ GivesBack (Names o) (Undoing number) x.cell.home.pool ∷ Resumes mode ∷ rest) heap places operands masters
+    undone number mode rest untreated stored came r = record {
       rooms = r.rooms;
       holds = r.holds;
+      also = [];
+      there = none_others;
       waits = record {
         declared = object;
-        unreferred = r.aside.1;
-        untreated = untreated;
+        untreated = λ v ne. nothing_begins v rest untreated;
         roomed = r.roomed;
         said = r.fit.said;
         objects = r.fit.objects;
       };
-      rests = inr (record {
+      rests = rests_at_end known way end o x.cell.access x.cell.home places operands (Ends (Names o) ∷ GivesBack (Names o) (Undoing number) x.cell.home.pool ∷ Resumes mode ∷ rest) masters r.rooms r.holds (inr (record {
         number = number;
         mode = mode;
         rest = rest;
@@ -191,19 +237,21 @@ module _ (known : Known) (o : Id) (x : Object) (heap : List Object) (found : obj
         runs = r.rest.0;
         well = r.rest.1;
         nowhere = named_nowhere (outers known) none_spared heap places r.holds o r.aside.0;
-      });
+        unreferred = r.aside.1;
+        untreated = untreated;
+      }));
       fit = r.fit;
-      stored = stored;
+      stored = stored_at_end way end o (outers known).under heap masters stored;
       may = known.implicit.start_frees x.cell.access;
-      includes = λ t is. starts x.cell.access t is;
+      includes = λ t is. starts x.cell.access t (frees_at_end known.implicit way end x.cell.access (Ends (Names o) ∷ GivesBack (Names o) (Undoing number) x.cell.home.pool ∷ Resumes mode ∷ rest) t is);
       spares = r.rest.1.0;
       unaliased = r.rest.1.1;
     }
 
     undoing : (number : ℕ) (pool : Option ℕ) (k : Control) → pool ≡ x.cell.home.pool → NothingTreated k → Stored (o ∷ (outers known).under) heap masters → ResumesTo known (Some o) heap places masters k
-        → (cause : Cause) → Enters known (ends cause) o x (Ends (Names o) ∷ GivesBack (Names o) (Undoing number) pool ∷ k) heap places masters
-    undoing number pool [] from untreated stored r cause = absurd r
-    undoing number pool (Resumes mode ∷ rest) from untreated stored (access, (y, at, of), came, r) cause =
+        → Enters known (ends way) o x (Ends (Names o) ∷ GivesBack (Names o) (Undoing number) pool ∷ k) heap places operands masters
+    undoing number pool [] from untreated stored r = absurd r
+    undoing number pool (Resumes mode ∷ rest) from untreated stored (access, (y, at, of), came, r) =
         let one : y ≡ x = cc (at, found) in
         let same : access ≡ x.cell.access = sym of ∙ ap (λ (z : Object). z.cell.access) one in
         by same came r
@@ -211,46 +259,112 @@ module _ (known : Known) (o : Id) (x : Object) (heap : List Object) (found : obj
         by : access ≡ x.cell.access → CameOut known access mode
             → ((HasCollection masters access × Freed known None none_spared (gone_in (Some o) heap) places masters (λ rooms holds. To (By mode (ways known rest rooms)) holds))
             ⊎ Freed known (Some o) none_spared heap places masters (λ rooms holds. To (By mode (ways known rest rooms)) holds × BeginsWell known access holds))
-            → Enters known (ends cause) o x (Ends (Names o) ∷ GivesBack (Names o) (Undoing number) pool ∷ Resumes mode ∷ rest) heap places masters
+            → Enters known (ends way) o x (Ends (Names o) ∷ GivesBack (Names o) (Undoing number) pool ∷ Resumes mode ∷ rest) heap places operands masters
         by same came' (inl (open_one, freed)) = let home : HasCollection masters x.cell.access = rw same at open_one in absurd (none_collected masters fits home.0 home.1)
-        by same came' (inr freed) = rw from (undone number mode rest untreated stored (rw same at came') (rw same at freed) cause)
-    undoing number pool (f ∷ k) from untreated stored r cause = absurd r
+        by same came' (inr freed) = rw from (undone number mode rest untreated stored (rw same at came') (rw same at freed))
+    undoing number pool (f ∷ k) from untreated stored r = absurd r
 
-    by_cause : (cause : Cause) (pool : Option ℕ) (k : Control) → pool ≡ x.cell.home.pool → WillBeCovered known.implicit known.program x.cell.access (GivesBack (Names o) cause pool ∷ k) → Stored (o ∷ (outers known).under) heap masters → x.out ≡ true → NothingTreated k → Behind known cause (Some o) x.cell.home.item heap places masters k → (way : Cause) → Enters known (ends way) o x (Ends (Names o) ∷ GivesBack (Names o) cause pool ∷ k) heap places masters
-    by_cause (Leaving m item) pool k from covered stored out untreated b way = leaving m item pool k b.0 from b.1 stored out untreated b.2 way
-    by_cause (Freeing number) pool k from covered stored out untreated b way = let free = covered.1 in absurd (cc (free, object))
-    by_cause (Assigning number) pool k from covered stored out untreated b way = absurd b
-    by_cause (Undoing number) pool k from covered stored out untreated b way = undoing number pool k from untreated stored b way
+    by_cause : (cause : Cause) (pool : Option ℕ) (k : Control) → pool ≡ x.cell.home.pool → WillBeCovered known.implicit known.program x.cell.access (GivesBack (Names o) cause pool ∷ k) → Stored (o ∷ (outers known).under) heap masters → x.out ≡ true → NothingTreated k → Behind known cause (Some o) x.cell.home.item heap places masters k → Enters known (ends way) o x (Ends (Names o) ∷ GivesBack (Names o) cause pool ∷ k) heap places operands masters
+    by_cause (Leaving m item) pool k from covered stored out untreated b = leaving m item pool k b.0 from b.1 stored out untreated b.2
+    by_cause (Freeing number) pool k from covered stored out untreated b = let free = covered.1 in absurd (cc (free, object))
+    by_cause (Assigning number) pool k from covered stored out untreated b = absurd b
+    by_cause (Undoing number) pool k from covered stored out untreated b = undoing number pool k from untreated stored b
 
-    back : (k : Control) (e : Ending known o k heap places masters) → e.object ≡ x → NothingTreated k → ThenBack known o x.cell.home heap places masters k → (way : Cause) → Enters known (ends way) o x (Ends (Names o) ∷ k) heap places masters
-    back [] e one untreated b way = absurd b
-    back (GivesBack (Names p) cause pool ∷ k) e one untreated b way =
+    back : (k : Control) (e : Ending known o k heap places masters) → e.object ≡ x → NothingTreated k → ThenBack known o x.cell.home heap places masters k → Enters known (ends way) o x (Ends (Names o) ∷ k) heap places operands masters
+    back [] e one untreated b = absurd b
+    back (GivesBack (Names p) cause pool ∷ k) e one untreated b =
         let same = b.0 in
-        rw same (by_cause cause pool k b.1 (rw one at e.covered) e.stored (exists_out o x found (rw one at e.exists) e.stored) untreated b.2 way)
-    back (f ∷ k) e one untreated b way = absurd b
+        rw same (by_cause cause pool k b.1 (rw one at e.covered) e.stored (exists_out o x found (rw one at e.exists) e.stored) untreated b.2)
+    back (f ∷ k) e one untreated b = absurd b
 
-    ending_of : (w : Value) (k : Control) → w ≡ Names o → EndingBy known w k heap places masters → NothingTreated k → (way : Cause) → Enters known (ends way) o x (Ends w ∷ k) heap places masters
-    ending_of w k is e untreated way =
+    ending_of : (w : Value) (k : Control) → w ≡ Names o → EndingBy known w k heap places masters → NothingTreated k → Enters known (ends way) o x (Ends w ∷ k) heap places operands masters
+    ending_of w k is e untreated =
         let own : Ending known o k heap places masters = rw is at e in
         let one : own.object ≡ x = let at = own.found in cc (at, found) in
-        rw is (back k own one untreated (rw one at own.rest) way)
+        rw is (back k own one untreated (rw one at own.rest))
 
-    ends_by : (k : Control) → EndsTo known (Names o) k heap places masters → ((w : Value) (rest : Control) → k ≡ Ends w ∷ rest → NothingTreated rest) → (way : Cause) → Enters known (ends way) o x k heap places masters
-    ends_by [] r untreated way = absurd r
-    ends_by (Ends w ∷ k) r untreated way = ending_of w k r.0 r.1 (untreated w k refl) way
-    ends_by (f ∷ k) r untreated way = absurd r
+    pub ends_by : (k : Control) → EndsTo known (Names o) k heap places masters → ((w : Value) (rest : Control) → k ≡ Ends w ∷ rest → NothingTreated rest) → Enters known (ends way) o x k heap places operands masters
+    ends_by [] r untreated = absurd r
+    ends_by (Ends w ∷ k) r untreated = ending_of w k r.0 r.1 (untreated w k refl)
+    ends_by (f ∷ k) r untreated = absurd r
 
-    copies_by : (k : Control) → CopiesBehind known k heap places operands masters → ⊥
-    copies_by [] r = r
-    copies_by (Copies first t ∷ k) (copied, r) = no_copy t copied
-    copies_by (f ∷ k) r = r
+  -- A record in the object is assigned to (5.2, 7.6): another record of its type lies in an object that is of no access type, either.
+  module _ (number : ℕ) (lies : (access t : ℕ) → IsCopied known t → LiesAmong known access t → is_access known.program.types access ≡ false) where
+    one_other : (source : Reference) → access_at heap source.object ≡ Some source.access → is_access known.program.types source.access ≡ false
+        → (p : Id) (t : ℕ) → IsReferred (source ∷ []) p t → (access_at heap p ≡ Some t) × (is_access known.program.types t ≡ false)
+    one_other source there of p t (inl (same, one)) = (rw (← same, ← one) there, rw (← one) of)
+    one_other source there of p t (inr none) = absurd none
 
-    pub at_rest : (cause : Cause) (k : Control) → TreatsBy known (Names o) (ends cause) k heap places operands masters → ((w : Value) (rest : Control) → k ≡ Ends w ∷ rest → NothingTreated rest) → Enters known (ends cause) o x k heap places masters
-    at_rest cause k (inl r) untreated = ends_by k r untreated cause
-    at_rest cause k (inr r) untreated = absurd (copies_by k r)
+    -- Where the copy goes.
+    into_here : (first count : ℕ) (k : Control) (rooms : Rooms) (holds : Holds) → StoresBehind known heap (StoresRecord (Names o) first count ∷ k) rooms holds → StoresInto known o x.cell.access (StoresRecord (Names o) first count ∷ k) rooms holds
+    into_here first count k rooms holds ((y, at, there, plain), behind) =
+        let one : y ≡ x = cc (at, found) in
+        (refl, rw one at plain, behind)
+
+    assigned_here : (first t : ℕ) (k : Control) → AdjustsAlone (Names o) k → CopiesBehind known (Copies first t ∷ k) heap places operands masters
+        → Enters known (ends (Assigning number)) o x (Copies first t ∷ k) heap places operands masters
+    assigned_here first t k alone (copied, w) = by (first_or Null operands) refl w.rest.0
+      where
+        adjusted : o ≡ alone.object
+        adjusted = let named = alone.named in cc named
+
+        k_is : k ≡ StoresRecord (Names o) alone.to alone.width ∷ treating (Names o) (begins (Adjustment alone.number) []) alone.tasks alone.behind
+        k_is = rw (adjusted) (alone.is)
+
+        into : StoresInto known o x.cell.access k w.rooms w.holds
+        into = rw k_is (into_here alone.to alone.width (treating (Names o) (begins (Adjustment alone.number) []) alone.tasks alone.behind) w.rooms w.holds (rw k_is at w.rest.1))
+
+        others : (v : Value) → v ≢ Names o → NothingBegins v k
+        others v ne = rw k_is (treating_others v o (Adjustment alone.number) alone.tasks alone.behind ne (nothing_begins v alone.behind alone.untreated))
+
+        by : (v : Value) → first_or Null operands ≡ v → LiesIn known heap t v → Enters known (ends (Assigning number)) o x (Copies first t ∷ k) heap places operands masters
+        by Null named r = absurd r
+        by (Scalar n) named r = absurd r
+        by (Part p place) named r = absurd r
+        by (Names p) named (y, at, exists, among) =
+            let source : Reference = record { object = p; access = y.cell.access } in
+            let there : access_at heap p ≡ Some y.cell.access = rw (at, exists) refl in
+            record {
+              rooms = w.rooms;
+              holds = w.holds;
+              also = source ∷ [];
+              there = one_other source there (lies y.cell.access t copied among);
+              waits = record {
+                declared = object;
+                untreated = others;
+                roomed = w.roomed;
+                said = w.fit.said;
+                objects = w.fit.objects;
+              };
+              rests = record {
+                first = first;
+                record_type = t;
+                stores = k;
+                is = refl;
+                copied = copied;
+                source = source;
+                named = named;
+                refers = refl;
+                lies = among;
+                into = into;
+                well = w.rest.2;
+              };
+              fit = w.fit;
+              stored = w.stored;
+              may = λ access. assignment_frees known.implicit access t;
+              includes = λ access is. is;
+              spares = w.rest.2.0;
+              unaliased = w.rest.2.1;
+            }
+
+    pub assigns_by : (k : Control) → CopiesBehind known k heap places operands masters → ((first t : ℕ) (rest : Control) → k ≡ Copies first t ∷ rest → AdjustsAlone (Names o) rest)
+        → Enters known (ends (Assigning number)) o x k heap places operands masters
+    assigns_by [] r alone = absurd r
+    assigns_by (Copies first t ∷ k) r alone = assigned_here first t k (alone first t k refl) r
+    assigns_by (f ∷ k) r alone = absurd r
 
   -- A record object is initialized that a declaration creates.
-  begins_here : (done : List parts.Part) (k : Control) → NothingTreated k → Beginning known (Names o) k heap places masters → Enters known (begins Creation done) o x k heap places masters
+  begins_here : (done : List parts.Part) (k : Control) → NothingTreated k → Beginning known (Names o) k heap places masters → Enters known (begins Creation done) o x k heap places operands masters
   begins_here done k untreated b =
       let same : b.o ≡ o = let is = b.is in cc is in
       let one : b.object ≡ x = let at = b.found in cc (rw same at at, found) in
@@ -259,15 +373,17 @@ module _ (known : Known) (o : Id) (x : Object) (heap : List Object) (found : obj
       record {
         rooms = b.rooms;
         holds = b.holds;
+        also = [];
+        there = none_others;
         waits = record {
           declared = object;
-          unreferred = aside.1;
-          untreated = untreated;
+          untreated = λ v ne. nothing_begins v k untreated;
           roomed = b.roomed;
           said = b.fit.said;
           objects = b.fit.objects;
         };
         rests = (
+          refl,
           refl,
           record {
             x = b.x;
@@ -275,6 +391,7 @@ module _ (known : Known) (o : Id) (x : Object) (heap : List Object) (found : obj
             undone = rw one at b.undone;
             well = well;
             nowhere = named_nowhere (outers known) none_spared heap places (slice_set b.holds b.x hold.Lost) o aside.0;
+            unreferred = aside.1;
           },
         );
         fit = b.fit;
@@ -285,6 +402,6 @@ module _ (known : Known) (o : Id) (x : Object) (heap : List Object) (found : obj
         unaliased = well.1;
       }
 
-  pub at_start : (done : List parts.Part) (k : Control) → TreatsBy known (Names o) (begins Creation done) k heap places operands masters → NothingTreated k → Enters known (begins Creation done) o x k heap places masters
+  pub at_start : (done : List parts.Part) (k : Control) → TreatsBy known (Names o) (begins Creation done) k heap places operands masters → NothingTreated k → Enters known (begins Creation done) o x k heap places operands masters
   at_start done k (inl b, may) untreated = begins_here done k untreated b
   at_start done k (inr (collected, r), may) untreated = let home = collected o x refl found in absurd (none_collected masters fits home.0 home.1)

@@ -1,6 +1,6 @@
 -- What the laws of finalization say while the body of an operation runs that touches storage (7.6, 7.6.1): of the objects that stand, and of the one that is treated.
 
-use Rattle.std.proofs.Common.{◌≡◌, Bool, true, false, List, [], ◌∷◌, refl, sym, subst, inl, inr, ◌≢◌, Some}
+use Rattle.std.proofs.Common.{◌≡◌, Bool, true, false, List, [], ◌∷◌, refl, sym, subst, inl, inr, ◌≢◌, Some, ◌⊎◌}
 use Rattle.ada_program.specs.declared.program.Program.{Program}
 use Rattle.ada_program.specs.declared.program.TypeDefinition.{TypeDefinition}
 use Rattle.ada_program.specs.ProgramForm.{TypeForm, BodyForm, program_form, body_forms}
@@ -8,6 +8,7 @@ use Rattle.ada_program.specs.WellFormed.{IsWellFormed, is_access}
 use Rattle.ada_parts.specs.Task.{Task}
 use Rattle.ada_finalized.proofs.Standing.{nothing_begins, listed_stand, none_runs_on_listed}
 use Rattle.ada_finalized.specs.Law.{NothingBegins, NoOperationRunsOn, finalized_before}
+use Rattle.ada_meaning.specs.declared.event.Cause.TheVariants.{Leaving, Freeing, Assigning, Undoing}
 use Rattle.ada_meaning.specs.declared.event.Cause.{Cause}
 use Rattle.ada_meaning.specs.declared.state.Mode.{Mode}
 use Rattle.ada_meaning.specs.declared.state.Mode.TheVariants.{Running, Raising, Exiting, Returning}
@@ -19,7 +20,7 @@ use Rattle.ada_meaning.specs.State.{Master}
 use Rattle.ada_meaning.specs.Step.{treating}
 use Rattle.ada_meaning.specs.Named.{State, Object, object_at}
 use Rattle.ada_sound.proofs.Finalization.{parts_alive}
-use Rattle.ada_sound.proofs.Touching.{Touching, Rests}
+use Rattle.ada_sound.proofs.Touching.{Touching, Resting, RestsBy, Undoes}
 use Rattle.ada_sound.proofs.FrugalControl.{Frugal, FrugalLeads}
 use Rattle.ada_sound.proofs.Invariant.{Control}
 use Rattle.ada_meaning.specs.declared.state.Id.{Id}
@@ -29,6 +30,8 @@ use Rattle.ada_sound.proofs.Operating.{WaitsFor}
 use Rattle.ada_sound.proofs.Returns.{same_types}
 use Rattle.ada_sound.proofs.Callers.{known_in}
 use Rattle.ada_quiet.specs.Frugal.{frugal_procedures}
+use Rattle.ada_meaning.specs.Finalization.{NothingTreated}
+use Rattle.ada_sound.proofs.TouchingRests.{IsEnd}
 
 -- In front of the end of a frugal body, nothing begins.
 module _ (frugal : List Bool) where
@@ -67,19 +70,19 @@ treating_before w cause (task ∷ tasks) k before = refl
 
 module _ (program : Program) (s : State) (f : Touching program s) where
   -- In front of what waits for the body, nothing of another object begins.
-  waits_begin : (v : Value) → (v ≢ Names f.object) → (treatment : Treatment) → WaitsFor f.object f.of treatment f.after f.behind → NothingBegins v f.behind
-  waits_begin v ne (begins by done) (part, tasks, is) = subst (NothingBegins v) (sym is) ((λ same. ne (sym same)), nothing_begins v f.after f.waits.untreated)
-  waits_begin v ne (ends cause) (tasks, is) = subst (NothingBegins v) (sym is) (treating_begin v (Names f.object) cause tasks f.after (nothing_begins v f.after f.waits.untreated))
+  waits_begin : (v : Value) → (v ≢ Names f.object) → (treatment : Treatment) → WaitsFor (program_form program).types f.object f.of treatment f.after f.behind → NothingBegins v f.behind
+  waits_begin v ne (begins by done) (part, tasks, is) = subst (NothingBegins v) (sym is) ((λ same. ne (sym same)), f.waits.untreated v ne)
+  waits_begin v ne (ends cause) (tasks, is, inside) = subst (NothingBegins v) (sym is) (treating_begin v (Names f.object) cause tasks f.after (f.waits.untreated v ne))
 
   -- What is left to do initializes and adjusts no other object.
   begins_nothing : (v : Value) → (v ≢ Names f.object) → NothingBegins v s.control
   begins_nothing v ne = frugal_begin (frugal_procedures (program_form program)) v f.behind s.mode s.control f.frugal.upper (waits_begin v ne f.treatment f.awaited) f.frugal.frugal
 
-  -- Where an object is finalized, it does so to none.
-  finalizes_nothing : (cause : Cause) → f.treatment ≡ ends cause → (v : Value) → NothingBegins v s.control
-  finalizes_nothing cause is v =
-      let waits : WaitsFor f.object f.of (ends cause) f.after f.behind = rw is at f.awaited in
-      let behind = subst (NothingBegins v) (sym waits.1) (treating_begin v (Names f.object) cause waits.0 f.after (nothing_begins v f.after f.waits.untreated)) in
+  -- Where an object is finalized that then ceases to exist, it does so to none.
+  finalizes_nothing : (cause : Cause) → f.treatment ≡ ends cause → NothingTreated f.after → (v : Value) → NothingBegins v s.control
+  finalizes_nothing cause is untreated v =
+      let waits : WaitsFor (program_form program).types f.object f.of (ends cause) f.after f.behind = rw is at f.awaited in
+      let behind = subst (NothingBegins v) (sym waits.1) (treating_begin v (Names f.object) cause waits.0 f.after (nothing_begins v f.after untreated)) in
       frugal_begin (frugal_procedures (program_form program)) v f.behind s.mode s.control f.frugal.upper behind f.frugal.frugal
 
 -- Each object that may be freed stands.
@@ -126,28 +129,37 @@ module _ (program : Program) (well : IsWellFormed (program_form program)) (s : S
 
 -- An object that is finalized has left its collection by the end of the body.
 pub touching_unlisted :
-    (program : Program) (s : State) → IsReached program s → (f : Touching program s) → s.control ≡ Returns [] [] ∷ f.behind → (cause : Cause) → f.treatment ≡ ends cause
+    (program : Program) (s : State) → IsReached program s → (f : Touching program s) → s.control ≡ Returns [] [] ∷ f.behind → (cause : Cause) → IsEnd cause → f.treatment ≡ ends cause
     → f.x.listed ≡ false
-touching_unlisted program s reached f ends_next cause is = go f.x.listed refl
+touching_unlisted program s reached f ends_next cause end is = go f.x.listed refl
   where
-    waits : WaitsFor f.object f.of (ends cause) f.after f.behind
+    waits : WaitsFor (program_form program).types f.object f.of (ends cause) f.after f.behind
     waits = rw is at f.awaited
 
-    before_by : Rests (known_in program f.procedure f.suspensions) (ends cause) f.object f.access f.home f.places f.after f.lower f.rooms f.holds → finalized_before f.after ≡ Names f.object
-    before_by (inl resting) = subst (λ (k : Control). finalized_before k ≡ Names f.object) (sym resting.is) refl
-    before_by (inr undoes) = subst (λ (k : Control). finalized_before k ≡ Names f.object) (sym undoes.is) refl
+    EndsObject : Type 0
+    EndsObject = (finalized_before f.after ≡ Names f.object) × NothingTreated f.after
 
-    before : finalized_before f.after ≡ Names f.object
-    before = before_by (rw is at f.rests)
+    before_by : Resting (known_in program f.procedure f.suspensions) f.object f.home f.places f.after f.lower f.rooms f.holds ⊎ Undoes (known_in program f.procedure f.suspensions) f.object f.access f.home f.places f.after f.rooms f.holds → EndsObject
+    before_by (inl resting) = rw (resting.is) (refl, resting.untreated)
+    before_by (inr undoes) = rw (undoes.is) (refl, undoes.untreated)
+
+    before_end : (by : Cause) → IsEnd by → RestsBy (known_in program f.procedure f.suspensions) by f.object f.access f.home f.places f.operands f.also f.after f.lower f.rooms f.holds → EndsObject
+    before_end (Leaving m item) e r = before_by r.1
+    before_end (Freeing number) e r = before_by r.1
+    before_end (Assigning number) e r = absurd e
+    before_end (Undoing number) e r = before_by r.1
+
+    before : EndsObject
+    before = before_end cause end (rw is at f.rests)
 
     never : f.x.listed ≡ true → ⊥
     never listed =
         let o = Names f.object in
-        let none = none_runs_on_listed program reached.0 reached.1 s reached.2 f.object f.x f.found listed (finalizes_nothing program s f cause is o) in
+        let none = none_runs_on_listed program reached.0 reached.1 s reached.2 f.object f.x f.found listed (finalizes_nothing program s f cause is before.1 o) in
         let behind : NoOperationRunsOn o f.behind = subst (NoOperationRunsOn o) ends_next none in
         let confined : NoOperationRunsOn o (frame.Confines ∷ treating o (ends cause) waits.0 f.after) =
         subst (NoOperationRunsOn o) waits.1 behind in
-        confined.0 (treating_before o cause waits.0 f.after before)
+        confined.0 (treating_before o cause waits.0 f.after before.0)
 
     go : (b : Bool) → f.x.listed ≡ b → b ≡ false
     go true listed = absurd (never listed)

@@ -6,7 +6,7 @@ use Rattle.std.specs.Option.{option_map}
 use Rattle.std.proofs.lemmas.Option.{slice_get-map}
 use Rattle.ada_deeds.specs.Implicit.{implicit_of}
 use Rattle.ada_finalized.specs.Law.{NoOperationRuns}
-use Rattle.ada_finalized.proofs.Standing.{untreated_start, untreated_end}
+use Rattle.ada_finalized.proofs.Standing.{AdjustsAlone, adjusts_alone, untreated_start, untreated_end}
 use Rattle.ada_parts.specs.Task.{Task}
 use Rattle.ada_program.specs.declared.program.Program.{Program}
 use Rattle.ada_program.specs.declared.program.TypeNo.{TypeNo}
@@ -14,7 +14,7 @@ use Rattle.ada_program.specs.declared.program.VariableKind.{VariableKind}
 use Rattle.ada_program.specs.declared.program.VariableKind.TheVariants as variable_kinds
 use Rattle.ada_program.specs.Controlled.{operations_of}
 use Rattle.ada_program.specs.ProgramForm.{TypeForm, ProgramForm, program_form, body_forms, seen_by, seen_in}
-use Rattle.ada_program.specs.WellFormed.{finalization_of, is_access, variable_kind}
+use Rattle.ada_program.specs.WellFormed.{finalization_of, is_access, variable_kind, object_named}
 use Rattle.ada_quiet.specs.Frugal.{is_frugal_body, frugal_procedures}
 use Rattle.ada_quiet.specs.InUse.{may_be_frugal}
 use Rattle.ada_meaning.specs.declared.event.Birth.TheVariants.{Creation, Copy, Adjustment}
@@ -27,7 +27,7 @@ use Rattle.ada_meaning.specs.declared.state.Stage.{Stage}
 use Rattle.ada_meaning.specs.declared.state.Stage.TheVariants.{Building, Existing, Gone}
 use Rattle.ada_meaning.specs.declared.state.Value.{Value}
 use Rattle.ada_meaning.specs.declared.state.Value.TheVariants.{Names, Part}
-use Rattle.ada_meaning.specs.Frame.{Treatment, Treats, begins, ends}
+use Rattle.ada_meaning.specs.Frame.{Treatment, Treats, begins, ends, Copies, Ends}
 use Rattle.ada_meaning.specs.Heap.{Cell}
 use Rattle.ada_meaning.specs.Law.{items_of}
 use Rattle.ada_meaning.specs.State.{Activation}
@@ -37,7 +37,7 @@ use Rattle.ada_meaning.specs.Run.{Event}
 use Rattle.ada_owners.specs.Places.{is_there}
 use Rattle.ada_scopes.proofs.Components.{items_fit}
 use Rattle.ada_scopes.proofs.Homes.{ItemsFit}
-use Rattle.ada_typed.specs.Holding.{Designates, cells_of}
+use Rattle.ada_typed.specs.Holding.{Designates, cells_of, PartsLie}
 use Rattle.ada_typed.proofs.Bodies.{seen_as}
 use Rattle.ada_typed.proofs.Control as typed
 use Rattle.ada_typed.proofs.Kept.{behind_call}
@@ -46,22 +46,24 @@ use Rattle.ada_sound.proofs.Alters.{Alters}
 use Rattle.ada_sound.proofs.Callers.{Suspension, known_in, Stands, callers_of}
 use Rattle.ada_sound.proofs.Touching.{Enters, Touching}
 use Rattle.ada_sound.proofs.TouchingBegins.{IsAlone, alone, touching_begins}
-use Rattle.ada_sound.proofs.TouchingRests.{at_rest, at_start}
+use Rattle.ada_sound.proofs.TouchingRests.{assigns_by, at_start, ends_by}
 use Rattle.ada_sound.proofs.Fits.{IsWithin}
-use Rattle.ada_sound.proofs.FrugalUseCopies.{limited_parts}
-use Rattle.ada_sound.proofs.FrugalUseEnds.{treated_frees_of}
+use Rattle.ada_sound.proofs.AssignedParts.{copied_in_object, treated_frees_of, IsAssignedBehind}
 use Rattle.ada_sound.proofs.QuietOperations.{LetsNone, MayTouch}
-use Rattle.ada_sound.proofs.FrugalUseParts.{operable_is_object}
+use Rattle.ada_sound.proofs.FrugalUseParts.{operable_is_object, no_access_to_parts}
 use Rattle.ada_sound.proofs.FrugalUseEnds.{ends_in_starts}
 use Rattle.ada_sound.proofs.FrugalUseLets.{touches_let}
-use Rattle.ada_sound.proofs.Invariant.{Control, CoveredIn, IsCopied, Known, TreatsBy, body_among, under_in, IsAwaited}
-use Rattle.ada_sound.proofs.Operated.{OperatedOn}
+use Rattle.ada_sound.proofs.Invariant.{Control, CoveredIn, IsCopied, Known, TreatsBy, body_among, under_in, IsAwaited, LiesAmong}
+use Rattle.ada_sound.proofs.Operated.{OperatedAs}
 use Rattle.ada_sound.proofs.Operating.{IsCalled, IsCalm, StaysLive, lets_out, WaitsFor}
 use Rattle.ada_sound.proofs.OperationBegins.{formal_holds}
 use Rattle.ada_sound.proofs.OperationStarts.{calm_behind}
 use Rattle.ada_sound.proofs.Returns.{same_types}
 use Rattle.ada_sound.proofs.Starts.{Sound}
 use Rattle.ada_sound.proofs.Treatments.{Begins}
+use Rattle.ada_meaning.specs.declared.event.Cause.{Cause}
+use Rattle.ada_meaning.specs.declared.event.Cause.TheVariants.{Leaving, Freeing, Assigning, Undoing}
+use Rattle.ada_meaning.specs.Finalization.{NothingTreated}
 
 -- What is looked for and found is there.
 live_there : (stage : Stage) → StaysLive stage → is_there stage ≡ true
@@ -90,9 +92,9 @@ within_by types kind o access place object is (at, same, within) =
     rw (is, ← one) within
 
 -- What waits for an operation is behind the end of its body.
-is_awaited : (o : Id) (of : ℕ) (treatment : Treatment) (k behind : Control) → WaitsFor o of treatment k behind → IsAwaited behind
-is_awaited o of (begins by done) k behind (part, tasks, is) = subst IsAwaited (sym is) tt
-is_awaited o of (ends cause) k behind (tasks, is) = subst IsAwaited (sym is) tt
+is_awaited : (types : List TypeForm) (o : Id) (of : ℕ) (treatment : Treatment) (k behind : Control) → WaitsFor types o of treatment k behind → IsAwaited behind
+is_awaited types o of (begins by done) k behind (part, tasks, is) = subst IsAwaited (sym is) tt
+is_awaited types o of (ends cause) k behind (tasks, is, inside) = subst IsAwaited (sym is) tt
 
 -- The operation of a controlled type that a treatment calls, by its number (7.6).
 operation_for : (program : Program) → IsWellFormed (program_form program) → (of number : ℕ) (treatment : Treatment) → MayTouch treatment → IsCalled (operations_of program.types.items of) treatment number → OperationFor (program_form program) of number
@@ -108,16 +110,37 @@ module _ (program : Program) (a : Activation Value) (rest : List (Activation Val
   abbrev known : Known
   known = known_in program a.procedure gs
 
-  no_copy : (t : ℕ) → IsCopied known t → ⊥
-  no_copy t (f, is, limited) =
-      let found : finalization_of p.types t ≡ Some f = subst (λ (types : List TypeForm). finalization_of types t ≡ Some f) (same_types a.procedure p) is in
-      let other = limited_parts p may t f found in
-      cc (limited, other)
-
   -- The body of an operation begins.
   module _ (whole : State) (is : whole.control ≡ Treats v treatment tasks ∷ k) (same : whole.masters ≡ s.masters) (sound : Sound program whole) (still : NoOperationRuns whole.control) (calm : IsCalm (behind_call k)) (settled : under_in (callers_of program gs) ≡ []) (stands : Stands program gs (record s { activations = a ∷ rest })) where
     abbrev IsOperated : Treatment → Id → ℕ → Type 0
-    IsOperated by object of = (by ≡ treatment) × OperatedOn p.types (cells_of s.heap) object of
+    IsOperated by object of = OperatedAs p.types v treatment (cells_of s.heap) k by object of
+
+    -- A record with controlled parts lies in no object that an access value designates.
+    lies_declared : (access t : ℕ) → IsCopied known t → LiesAmong known access t → is_access known.program.types access ≡ false
+    lies_declared access t (f, is, limited) (first, part, lies) =
+        let same = same_types a.procedure p in
+        let found : finalization_of p.types t ≡ Some f = subst (λ (types : List TypeForm). finalization_of types t ≡ Some f) same is in
+        let lie : PartsLie p.types (object_named p.types (Some access)) (Some t) first part = subst (λ (types : List TypeForm). PartsLie types (object_named types (Some access)) (Some t) first part) same lies in
+        subst (λ (types : List TypeForm). is_access types access ≡ false) (sym same) (copied_in_object program sound.well (no_access_to_parts p may) t f found access first part lie)
+
+    -- The record that is copied behind an assignment has some.
+    copied_behind : (u : Value) (by : Treatment) (j : Control) (heap : List Object) → TreatsBy known u by j heap a.places a.operands s.masters → IsAssignedBehind p.types by j
+    copied_behind u (begins by done) j heap treats = tt
+    copied_behind u (ends (Leaving m item)) j heap treats = tt
+    copied_behind u (ends (Freeing number)) j heap treats = tt
+    copied_behind u (ends (Assigning number)) [] heap treats = tt
+    copied_behind u (ends (Assigning number)) (Copies first t ∷ j) heap ((f, found, limited), w) =
+        (f, subst (λ (types : List TypeForm). finalization_of types t ≡ Some f) (same_types a.procedure p) found)
+    copied_behind u (ends (Assigning number)) (g ∷ j) heap treats = tt
+    copied_behind u (ends (Undoing number)) j heap treats = tt
+
+    -- The control, by what is treated.
+    control_by : (by : Treatment) → by ≡ treatment → whole.control ≡ Treats v by tasks ∷ k
+    control_by by one = is ∙ ap (λ (t : Treatment). Treats v t tasks ∷ k) (sym one)
+
+    ended_untreated : (cause : Cause) → ends cause ≡ treatment → (w : Value) (behind : Control) → k ≡ Ends w ∷ behind → NothingTreated behind
+    ended_untreated cause one w behind at =
+        untreated_end program sound.reached.0 sound.reached.1 whole still sound.reached.2 v w cause tasks behind (control_by (ends cause) one ∙ ap (λ (j : Control). Treats v (ends cause) tasks ∷ j) at)
 
     fits_here : ItemsFit known.program.types (items_of s.masters)
     fits_here =
@@ -125,27 +148,35 @@ module _ (program : Program) (a : Activation Value) (rest : List (Activation Val
         subst (λ (types : List TypeForm). ItemsFit types (items_of s.masters)) (sym (same_types a.procedure p)) (rw same at fits)
 
     -- What waits for it, by what is treated.
-    enters : (o : Id) (x : Object) (heap : List Object) → object_at heap o ≡ Some x → is_access known.program.types x.cell.access ≡ false → (by : Treatment) → by ≡ treatment → MayTouch by → TreatsBy known (Names o) by k heap a.places a.operands s.masters → Enters known by o x k heap a.places s.masters
-    enters o x heap found object (begins Creation done) one may' treats =
+    enters : (o : Id) (x : Object) (heap : List Object) → v ≡ Names o → object_at heap o ≡ Some x → is_access known.program.types x.cell.access ≡ false → (by : Treatment) → by ≡ treatment → MayTouch by → TreatsBy known (Names o) by k heap a.places a.operands s.masters → Enters known by o x k heap a.places a.operands s.masters
+    enters o x heap named found object (begins Creation done) one may' treats =
         at_start known o x heap found a.places a.operands s.masters object fits_here done k treats
-        (untreated_start program sound.reached.0 sound.reached.1 whole still sound.reached.2 v Creation done tasks k (is ∙ ap (λ (t : Treatment). Treats v t tasks ∷ k) (sym one)))
-    enters o x heap found object (begins Copy done) one may' treats = absurd may'
-    enters o x heap found object (begins (Adjustment n) done) one may' treats = absurd may'
-    enters o x heap found object (ends cause) one may' treats =
-        at_rest known o x heap found a.places a.operands s.masters object fits_here (ends_in_starts p) no_copy cause k treats
-        (λ w behind at. untreated_end program sound.reached.0 sound.reached.1 whole still sound.reached.2 v w cause tasks behind
-        (is ∙ (ap (λ (t : Treatment). Treats v t tasks ∷ k) (sym one) ∙ ap (λ (j : Control). Treats v (ends cause) tasks ∷ j) at)))
+        (untreated_start program sound.reached.0 sound.reached.1 whole still sound.reached.2 v Creation done tasks k (control_by (begins Creation done) one))
+    enters o x heap named found object (begins Copy done) one may' treats = absurd may'
+    enters o x heap named found object (begins (Adjustment n) done) one may' treats = absurd may'
+    enters o x heap named found object (ends (Leaving m item)) one may' treats =
+        ends_by known o x heap found a.places a.operands s.masters object fits_here (ends_in_starts p) (Leaving m item) tt k treats (ended_untreated (Leaving m item) one)
+    enters o x heap named found object (ends (Freeing number)) one may' treats =
+        ends_by known o x heap found a.places a.operands s.masters object fits_here (ends_in_starts p) (Freeing number) tt k treats (ended_untreated (Freeing number) one)
+    enters o x heap named found object (ends (Assigning number)) one may' treats =
+        assigns_by known o x heap found a.places a.operands s.masters object fits_here number lies_declared k treats
+        (λ first t behind at. subst (λ (u : Value). AdjustsAlone u behind) named
+        (adjusts_alone program sound.reached.0 sound.reached.1 whole still sound.reached.2 v (Assigning number) tasks first t behind
+        (control_by (ends (Assigning number)) one ∙ ap (λ (j : Control). Treats v (ends (Assigning number)) tasks ∷ j) at)))
+    enters o x heap named found object (ends (Undoing number)) one may' treats =
+        ends_by known o x heap found a.places a.operands s.masters object fits_here (ends_in_starts p) (Undoing number) tt k treats (ended_untreated (Undoing number) one)
 
     pub touching_starts : (e : Event) (after : State) (c : Begins known a rest s program.types.items (body_forms program) k IsOperated e after) → MayTouch c.treatment → LetsNone p c.treatment c.b → is_frugal_body (frugal_procedures p) c.b ≡ true → typed.Typed p after → Touching program after
     touching_starts e after c touches silent frugal typing =
         let operated = c.operated.1 in
         let of_type : c.x.cell.access ≡ operated.0 = kept_type s.heap c.heap e c.o c.x operated.0 c.alters c.found operated.2 in
         let object : is_access p.types c.x.cell.access ≡ false = rw of_type (operable_is_object program sound.well may operated.0 c.of operated.1 operated.3) in
-        let at : Enters known c.treatment c.o c.x k c.heap a.places s.masters =
-        enters c.o c.x c.heap c.found (subst (λ (types : List TypeForm). is_access types c.x.cell.access ≡ false) (sym (same_types a.procedure p)) object) c.treatment c.operated.0 touches c.treats in
+        let at : Enters known c.treatment c.o c.x k c.heap a.places a.operands s.masters =
+        enters c.o c.x c.heap c.operated.3 c.found (subst (λ (types : List TypeForm). is_access types c.x.cell.access ≡ false) (sym (same_types a.procedure p)) object) c.treatment c.operated.0 touches c.treats in
         let operation = operation_for program sound.well c.of c.number c.treatment touches c.called in
         let body : operation.body ≡ c.b = let found = operation.there in let there = c.there in cc (found, there) in
         let lone : IsAlone c.b = alone c.b operation.object (rw body at operation.formals) in
+        let waits : WaitsFor p.types c.o c.of c.treatment k c.behind = subst (λ (types : List TypeForm). WaitsFor types c.o c.of c.treatment k c.behind) (same_types a.procedure p) c.waits in
         let begun = operating named c.number c.b (Part c.o c.place) c.behind (record s { activations = a ∷ rest; heap = c.heap; mode = Running; control = k }) in
         let now : typed.Typed p begun = rw c.is at typing in
         let inside : typed.TypedIn (seen_in (Some c.number) p) begun = now.inside in
@@ -153,8 +184,8 @@ module _ (program : Program) (a : Activation Value) (rest : List (Activation Val
         let holds = formal_holds program c.number c.b c.o c.place begun (_, refl) c.x c.found own in
         let within : IsWithin p.types (variable_kind c.b.variables 0) c.x.cell.access c.place.component = within_by p.types (variable_kind c.b.variables 0) c.o c.x.cell.access c.place lone.object lone.is (rw lone.is at holds) in
         let frees : (t : ℕ) → CoveredIn (implicit_of p) (seen_in (Some c.number) p) t → at.may t ≡ true =
-        λ t covered. at.includes t (treated_frees_of program sound.well c.x.cell.access c.of operated.1 c.number c.b (rw of_type operated.3) c.treatment touches c.called c.there t covered) in
+        λ t covered. at.includes t (treated_frees_of program sound.well c.x.cell.access c.of operated.1 c.number c.b (rw of_type operated.3) c.treatment k (rw (c.operated.0) (c.operated.2)) (copied_behind (Names c.o) c.treatment k c.heap c.treats) touches c.called c.there t covered) in
         let lets : (raised : Exception) → body_among (implicit_of p) (seen_in (Some c.number) p) raised ≡ true → lets_out (implicit_of p) c.x.cell.access c.treatment raised ≡ true =
         touches_let program sound.well may c.x.cell.access c.of operated.1 c.number c.b (rw of_type operated.3) c.treatment touches silent c.called c.there frugal in
-        rw c.is (touching_begins program sound.well sound.obeys c.number c.b c.there may frugal lone a rest gs s k c.o c.x c.heap c.found (live_there c.x.stage c.live) c.place within c.treatment at c.behind frees lets e c.of c.alters c.waits (is_awaited c.o c.of c.treatment k c.behind c.waits) stands
-        (calm_behind c.o c.of c.treatment k c.behind c.waits calm) settled)
+        rw c.is (touching_begins program sound.well sound.obeys c.number c.b c.there may frugal lone a rest gs s k c.o c.x c.heap c.found (live_there c.x.stage c.live) c.place within c.treatment at c.behind frees lets e c.of c.alters waits (is_awaited p.types c.o c.of c.treatment k c.behind waits) stands
+        (calm_behind p.types c.o c.of c.treatment k c.behind waits calm) settled)

@@ -1,14 +1,15 @@
 -- Each step of the body of an operation that touches storage, or of one that it has called, and their ends (7.6, 7.6.1).
 
-use Rattle.std.proofs.Common.{◌≡◌, ℕ, Bool, false, List, [], ◌∷◌, refl, sym, ap, subst, ◌∙◌, ◌⊎◌, inl, inr, ◌++◌}
+use Rattle.std.proofs.Common.{◌≡◌, ℕ, Bool, false, List, [], ◌∷◌, refl, sym, ap, subst, ◌∙◌, ◌⊎◌, inl, inr, ◌++◌, drop, length, suc, zero}
 use Rattle.std.specs.Prelude.{Option, Some}
 use Rattle.ada_deeds.specs.Implicit.{implicit_of}
 use Rattle.ada_program.specs.declared.program.Exception.{Exception}
 use Rattle.ada_program.specs.declared.program.Program.{Program}
 use Rattle.ada_program.specs.declared.program.TypeDefinition.{TypeDefinition}
 use Rattle.ada_program.specs.Form.{ActualForm}
-use Rattle.ada_program.specs.ProgramForm.{ProgramForm, BodyForm, program_form, body_forms, seen_in}
+use Rattle.ada_program.specs.ProgramForm.{ProgramForm, BodyForm, program_form, body_forms, seen_in, TypeForm}
 use Rattle.ada_program.specs.WellFormed.{is_access}
+use Rattle.ada_meaning.specs.declared.event.Cause.TheVariants.{Leaving, Freeing, Assigning, Undoing}
 use Rattle.ada_meaning.specs.declared.state.Id.{Id}
 use Rattle.ada_meaning.specs.declared.state.Mode.{Mode}
 use Rattle.ada_meaning.specs.declared.state.Mode.TheVariants.{Running, Raising, Exiting, Returning}
@@ -17,13 +18,12 @@ use Rattle.ada_meaning.specs.Event.{Quiet}
 use Rattle.ada_meaning.specs.Frame as frame
 use Rattle.ada_meaning.specs.Frame.{Frame, Treatment, begins, ends, Calls, Returns, is_return, is_master, landing}
 use Rattle.ada_meaning.specs.State.{Activation, Master}
-use Rattle.ada_meaning.specs.Step.{halts, moves, tells, asks, picks, older, procedure_of, storing, frame_next, pass_next, jump_next, mode_next}
+use Rattle.ada_meaning.specs.Step.{halts, moves, tells, asks, picks, older, procedure_of, storing, frame_next, pass_next, jump_next, mode_next, operands_of}
 use Rattle.ada_meaning.specs.Named.{Object, State, Next, named, object_at, next}
 use Rattle.ada_meaning.specs.Run.{Event}
 use Rattle.ada_quiet.specs.Frugal.{frugal_procedures}
 use Rattle.ada_scopes.proofs.Components.{collect_two}
 use Rattle.ada_typed.proofs.Bodies.{own_bodies}
-use Rattle.ada_typed.proofs.Control as typed
 use Rattle.ada_typed.proofs.Kept.{behind_call, crosses, is_treatment, Each, Keeps}
 use Rattle.ada_typed.proofs.KeptSteps.{step_keeps, pass_keeps}
 use Rattle.ada_sound.specs.Agreement.{running_procedure}
@@ -68,9 +68,19 @@ GoesTouching program s (asks request answered) = (granted : Bool) → Went progr
 GoesTouching program s (picks n taken) = ⊥
 
 -- What waits for the body of an operation awaits it.
-awaits : (o : Id) (of : ℕ) (treatment : Treatment) (after behind : Control) → WaitsFor o of treatment after behind → IsAwaited behind
-awaits o of (begins by done) after behind (part, tasks, is) = subst IsAwaited (sym is) tt
-awaits o of (ends cause) after behind (tasks, is) = subst IsAwaited (sym is) tt
+awaits : (types : List TypeForm) (o : Id) (of : ℕ) (treatment : Treatment) (after behind : Control) → WaitsFor types o of treatment after behind → IsAwaited behind
+awaits types o of (begins by done) after behind (part, tasks, is) = subst IsAwaited (sym is) tt
+awaits types o of (ends cause) after behind (tasks, is, inside) = subst IsAwaited (sym is) tt
+
+-- What waits has the operands that it had.
+behind_older : (count : ℕ) (acts : List (Activation Value)) → operands_of (drop (suc count) acts) ≡ operands_of (drop count (older acts))
+behind_older zero [] = refl
+behind_older (suc count) [] = refl
+behind_older count (a ∷ acts) = refl
+
+operands_behind : (count : ℕ) (after before : List (Activation Value)) → older after ≡ older before → operands_of (drop (suc count) after) ≡ operands_of (drop (suc count) before)
+operands_behind count after before same =
+    behind_older count after ∙ (ap (λ (all : List (Activation Value)). operands_of (drop count all)) same ∙ sym (behind_older count before))
 
 -- Where components get something back, that goes on in front.
 storing_leads : (frugal : List Bool) (behind : Control) (references : List Value) (k : Control) (ms : List Master) → FrugalLeads frugal behind k ms → FrugalLeads frugal behind (storing named references k) ms
@@ -93,9 +103,10 @@ module _ (program : Program) (s : State) (f : Touching program s) where
 
   -- Whatever is called from now on, and whoever goes on: the same object is treated.
   touching_on :
-      (inner : List Suspension) (e : Event) (after : State) → AreCalls inner → called_by (running_procedure after) inner ≡ Some f.number → Frugally frugal f.lower f.behind after
+      (inner : List Suspension) (e : Event) (after : State) → AreCalls inner → called_by (running_procedure after) inner ≡ Some f.number
+      → operands_of (drop (suc (length inner)) after.activations) ≡ f.operands → Frugally frugal f.lower f.behind after
       → CrossesTo program (inner ++ origin program s f ∷ f.suspensions) s.heap e after → InTouching program s.heap e after
-  touching_on inner e after calls operates goes c =
+  touching_on inner e after calls operates computed goes c =
       let y = c.stepped.alters.kept f.object f.x f.found in
       record {
         touching = record {
@@ -126,6 +137,9 @@ module _ (program : Program) (s : State) (f : Touching program s) where
           holds = f.holds;
           frugal = goes;
           waits = f.waits;
+          also = f.also;
+          operands = f.operands;
+          computed = computed;
           rests = f.rests;
           stands = c.stands;
           calm = f.calm;
@@ -142,7 +156,8 @@ module _ (program : Program) (s : State) (f : Touching program s) where
   stays_on : (e : Event) (after : State) → SameBody s after → Stepped (known_in program (running_procedure s) (waiting_for program s f)) s.heap e after → Frugally frugal f.lower f.behind after → InTouching program s.heap e after
   stays_on e after same st goes =
       let all = waiting_for program s f in
-      touching_on f.inner e after f.calls (ap (λ (running : Option ℕ). called_by running f.inner) same.procedure ∙ f.operates) goes (record {
+      touching_on f.inner e after f.calls (ap (λ (running : Option ℕ). called_by running f.inner) same.procedure ∙ f.operates)
+      (operands_behind (length f.inner) after.activations s.activations same.suspended ∙ f.computed) goes (record {
         stepped = subst (λ (procedure : Option ℕ). Stepped (known_in program procedure all) s.heap e after) (sym same.procedure) st;
         stands = stands_kept program s after all f.stands e same st.alters;
       })
@@ -160,21 +175,32 @@ module _ (program : Program) (s : State) (f : Touching program s) where
     where
       by : (treatment : Treatment) → under_way treatment f.object ++ under_in (callers_of program f.suspensions) ≡ under_way treatment f.object
       by (begins origin done) = f.settled
-      by (ends cause) = ap (λ (none : List Id). f.object ∷ none) f.settled
+      by (ends (Leaving m item)) = ap (λ (none : List Id). f.object ∷ none) f.settled
+      by (ends (Freeing number)) = ap (λ (none : List Id). f.object ∷ none) f.settled
+      by (ends (Assigning number)) = f.settled
+      by (ends (Undoing number)) = ap (λ (none : List Id). f.object ∷ none) f.settled
   settled_none (g ∷ gs) calls = rw calls.1 (settled_none gs calls.2)
 
-  treated_at : (types : List _) → types ≡ p.types → (treatment : Treatment) (q : Id) (y : Object) → IsUnder (under_way treatment f.object) q → object_at s.heap q ≡ Some y → is_access types y.cell.access ≡ false
-  treated_at types are (begins by done) q y under found = absurd under
-  treated_at types are (ends cause) q y (inl same) found =
+  treated_is : (treatment : Treatment) (q : Id) → IsUnder (under_way treatment f.object) q → f.object ≡ q
+  treated_is (begins by done) q under = absurd under
+  treated_is (ends (Leaving m item)) q (inl same) = same
+  treated_is (ends (Leaving m item)) q (inr none) = absurd none
+  treated_is (ends (Freeing number)) q (inl same) = same
+  treated_is (ends (Freeing number)) q (inr none) = absurd none
+  treated_is (ends (Assigning number)) q under = absurd under
+  treated_is (ends (Undoing number)) q (inl same) = same
+  treated_is (ends (Undoing number)) q (inr none) = absurd none
+
+  treated_at : (types : List _) → types ≡ p.types → (q : Id) (y : Object) → f.object ≡ q → object_at s.heap q ≡ Some y → is_access types y.cell.access ≡ false
+  treated_at types are q y same found =
       let one : y ≡ f.x = let here = f.found in cc (rw same at here, found) in
       let declared = f.waits.declared in
       let object : is_access p.types f.access ≡ false = rw (same_types f.procedure p) at declared in
       rw (are, one, f.of_access) object
-  treated_at types are (ends cause) q y (inr none) found = absurd none
 
   none_is_under : (q : Id) (y : Object) → IsUnder (under_in (callers_of program (waiting_for program s f))) q → object_at s.heap q ≡ Some y → is_access (seen_in (running_procedure s) p).types y.cell.access ≡ false
   none_is_under q y under found =
-      treated_at (seen_in (running_procedure s) p).types (same_types (running_procedure s) p) f.treatment q y (rw (settled_none f.inner f.calls) at under) found
+      treated_at (seen_in (running_procedure s) p).types (same_types (running_procedure s) p) q y (treated_is f.treatment q (rw (settled_none f.inner f.calls) at under)) found
 
   module _ (sound : Sound program s) (not_end : is_return_first s.control ≡ false) where
     -- What is left to do is so behind each step but the end of a body.
@@ -220,6 +246,12 @@ back_runs (Raising e) actuals values b rest = refl
 back_runs Exiting actuals values b rest = refl
 back_runs Returning actuals values b rest = refl
 
+back_operands : (count : ℕ) (mode : Mode) (actuals : List ActualForm) (values : List Value) (b : Activation Value) (rest : List (Activation Value)) → operands_of (drop (suc count) (behind_body mode actuals values (b ∷ rest))) ≡ operands_of (drop count rest)
+back_operands count Running actuals values b rest = refl
+back_operands count (Raising e) actuals values b rest = refl
+back_operands count Exiting actuals values b rest = refl
+back_operands count Returning actuals values b rest = refl
+
 -- What waits for a body has an activation.
 no_rest : (program : Program) (inner : List Suspension) (g : Suspension) (gs : List Suspension) → AreOf program [] (inner ++ g ∷ gs) → ⊥
 no_rest program [] g gs of = of
@@ -253,22 +285,23 @@ module _ (program : Program) (a : Activation Value) (k : Control) (s : State) wh
     abbrev back : State
     back = resumed_in (behind_mode mode) (behind_frames mode references k) (behind_body mode actuals a.places (b ∷ rest)) s
 
-    abbrev Leaving : List Suspension → Type 0
-    Leaving gs = Working (known_in program a.procedure gs) s.heap a.places s.masters (GoesOn (known_in program a.procedure gs) mode (Returns actuals references ∷ k))
+    abbrev LeavesBody : List Suspension → Type 0
+    LeavesBody gs = Working (known_in program a.procedure gs) s.heap a.places s.masters (GoesOn (known_in program a.procedure gs) mode (Returns actuals references ∷ k))
 
     module _ (sound : Sound program ending) (f : Touching program ending) where
       abbrev behind_it : List Suspension
       behind_it = origin program ending f ∷ f.suspensions
 
       -- That of one that it has called: its caller goes on.
-      inner_returns : (g : Suspension) (gs : List Suspension) → AreCalls (g ∷ gs) → called_by g.procedure gs ≡ Some f.number → Stands program (g ∷ gs ++ behind_it) ending → Leaving (g ∷ gs ++ behind_it) → InTouching program s.heap Quiet back
-      inner_returns g gs calls operates stands w =
+      inner_returns : (g : Suspension) (gs : List Suspension) → AreCalls (g ∷ gs) → called_by g.procedure gs ≡ Some f.number → operands_of (drop (length gs) rest) ≡ f.operands → Stands program (g ∷ gs ++ behind_it) ending → LeavesBody (g ∷ gs ++ behind_it) → InTouching program s.heap Quiet back
+      inner_returns g gs calls operates computed stands w =
           let control = same_control program a.procedure g (gs ++ behind_it) mode actuals references k w.rooms w.holds w.rest in
           let none : IsAwaited k → ⊥ = λ awaited. calls.0 (subst IsAwaited control awaited) in
           let placed = placed_in (seen_in a.procedure (program_form program)) a (b ∷ rest) ending refl sound.typed.inside in
-          let leads = frugal_returns (frugal_procedures (program_form program)) f.behind mode actuals references k f.frugal.upper (awaits f.object f.of f.treatment f.after f.behind f.awaited) none f.frugal.frugal in
+          let leads = frugal_returns (frugal_procedures (program_form program)) f.behind mode actuals references k f.frugal.upper (awaits (program_form program).types f.object f.of f.treatment f.after f.behind f.awaited) none f.frugal.frugal in
           touching_on program ending f gs Quiet back calls.2
           (ap (λ (running : Option ℕ). called_by running gs) (back_runs mode actuals a.places b rest ∙ stands.bodies.0) ∙ operates)
+          (back_operands (length gs) mode actuals a.places b rest ∙ computed)
           (record {
             upper = f.frugal.upper;
             masters = f.frugal.masters;
@@ -278,10 +311,10 @@ module _ (program : Program) (a : Activation Value) (k : Control) (s : State) wh
           (left_to program a actuals references k s mode b rest g (gs ++ behind_it) (restand mode (Returns actuals references) (b ∷ rest) (g ∷ gs ++ behind_it) stands) none placed w)
 
       -- Its own: what waits for it goes on.
-      own_ends : f.inner ≡ [] → Leaving behind_it → next tds bodies ending ≡ moves Quiet back → Went program s.heap Quiet back
+      own_ends : f.inner ≡ [] → LeavesBody behind_it → next tds bodies ending ≡ moves Quiet back → Went program s.heap Quiet back
       own_ends none w is =
           let control = same_control program a.procedure (origin program ending f) f.suspensions mode actuals references k w.rooms w.holds w.rest in
-          let awaited : IsAwaited k = subst IsAwaited (sym control) (awaits f.object f.of f.treatment f.after f.behind f.awaited) in
+          let awaited : IsAwaited k = subst IsAwaited (sym control) (awaits (program_form program).types f.object f.of f.treatment f.after f.behind f.awaited) in
           let end = frugal_ends (frugal_procedures (program_form program)) f.behind mode actuals references k f.frugal.upper awaited f.frugal.frugal in
           let next_is : ending.control ≡ Returns [] [] ∷ f.behind = rw (end.0, end.1, end.2) refl in
           let masters_are : ending.masters ≡ f.lower = f.frugal.masters ∙ ap (λ (upper : List Master). upper ++ f.lower) end.3 in
@@ -293,11 +326,12 @@ module _ (program : Program) (a : Activation Value) (k : Control) (s : State) wh
             f.settled,
           ))
 
-      ends_by : (inner : List Suspension) → f.inner ≡ inner → Leaving (waiting_for program ending f) → next tds bodies ending ≡ moves Quiet back → Went program s.heap Quiet back
-      ends_by [] none w is = own_ends none (subst (λ (all : List Suspension). Leaving (all ++ behind_it)) none w) is
+      ends_by : (inner : List Suspension) → f.inner ≡ inner → LeavesBody (waiting_for program ending f) → next tds bodies ending ≡ moves Quiet back → Went program s.heap Quiet back
+      ends_by [] none w is = own_ends none (subst (λ (all : List Suspension). LeavesBody (all ++ behind_it)) none w) is
       ends_by (g ∷ gs) are w is =
           inl (inner_returns g gs (subst AreCalls are f.calls) (subst (λ (all : List Suspension). called_by a.procedure all ≡ Some f.number) are f.operates)
-          (subst (λ (all : List Suspension). Stands program (all ++ behind_it) ending) are f.stands) (subst (λ (all : List Suspension). Leaving (all ++ behind_it)) are w))
+          (subst (λ (all : List Suspension). operands_of (drop (suc (length all)) (a ∷ b ∷ rest)) ≡ f.operands) are f.computed)
+          (subst (λ (all : List Suspension). Stands program (all ++ behind_it) ending) are f.stands) (subst (λ (all : List Suspension). LeavesBody (all ++ behind_it)) are w))
 
   body_ends :
       (mode : Mode) (actuals : List ActualForm) (references : List Value) (rest : List (Activation Value)) → Sound program (with_parts mode (Returns actuals references ∷ k) (a ∷ rest) s) → (f : Touching program (with_parts mode (Returns actuals references ∷ k) (a ∷ rest) s))
@@ -323,6 +357,7 @@ module _ (program : Program) (a : Activation Value) (k : Control) (s : State) wh
         inl (touching_on program (whole Running (Calls number b given)) f (waiting program number b given k a rest gs s w ∷ f.inner) Quiet _
         (calls_back f.frugal.upper f.frugal.frugal, refl, f.calls)
         f.operates
+        f.computed
         (goes_on program (whole Running (Calls number b given)) f sound refl)
         (calls_to program number b given k a rest gs s w ready.rest.1 (inside.heap_typed (seen_in a.procedure (program_form program)) (whole Running (Calls number b given)) sound.typed.inside).1 stands
         (runs_called program number b given k a gs s sound.well sound.obeys w stands.body ready.rest.1 rest stands)))

@@ -9,7 +9,7 @@ use Rattle.ada_parts.specs.Part as parts
 use Rattle.ada_parts.specs.Task.{Task, performed}
 use Rattle.ada_program.specs.declared.program.TypeDefinition.{TypeDefinition}
 use Rattle.ada_program.specs.Controlled.{operations_of, procedure_number, shapes_of}
-use Rattle.ada_program.specs.ProgramForm.{BodyForm}
+use Rattle.ada_program.specs.ProgramForm.{BodyForm, TypeForm}
 use Rattle.ada_flow.specs.Flow.{Holds}
 use Rattle.ada_meaning.specs.declared.event.Birth.{Birth}
 use Rattle.ada_meaning.specs.declared.event.Birth.TheVariants.{Creation, Copy, Adjustment}
@@ -39,11 +39,14 @@ use Rattle.ada_sound.proofs.Objects.{set_here, set_twice}
 use Rattle.ada_sound.proofs.Stored.{stored_treated}
 use Rattle.ada_sound.proofs.Fits.{Fit, treated_fit, same_unnamed, gone_fit}
 use Rattle.ada_sound.proofs.Alters.{Alters, alters_same, alters_set}
-use Rattle.ada_sound.proofs.Invariant.{outers, Known, Control, Rooms, RunsOn, Working, IsHolder, IsPlainIn, IsLive, NamesTo, BeginsBy, BegunTo, EndsTo, StoresBehind, CopiesBehind, TreatsBy, ThenBack, Ending, ConfinesBy, EndsWell, Stepped, Fine}
+use Rattle.ada_sound.proofs.Invariant.{outers, Known, Control, Rooms, RunsOn, Working, IsHolder, IsPlainIn, IsLive, NamesTo, BeginsBy, BegunTo, EndsTo, StoresBehind, CopiesBehind, TreatsBy, ThenBack, Ending, ConfinesBy, EndsWell, Stepped, Fine, IsOfAssigned, IsOfCopied, LiesIn}
 use Rattle.ada_sound.proofs.Ready.{running, at_work, stays, treats_ready}
 use Rattle.ada_sound.proofs.Endings.{swapped, gone_still, under_set, behind_set}
 use Rattle.ada_sound.proofs.Undone.{beginning_set, collected_set, undo_set}
 use Rattle.ada_sound.proofs.Operating.{StaysLive, WaitsFor, IsCalled}
+use Rattle.ada_meaning.specs.declared.event.Cause.TheVariants.{Leaving, Freeing, Assigning, Undoing}
+use Rattle.ada_parts.specs.declared.tasks.Direction.{Direction}
+use Rattle.ada_sound.proofs.InsideRecords.{TasksInside, performed_inside}
 
 -- A part of the object that a value names changes.
 module _ (change : PartState → PartState) (part : ℕ) where
@@ -177,11 +180,17 @@ module _ (change : PartState → PartState) (part : ℕ) where
     begun_set v by places operands k is (inr r) = inr (collected_set heap ms o x (treated change part x) found refl v is r.0, names_set places operands k r.1)
 
     -- So does what is copied to a record that is assigned to.
-    holder_set : (v : Value) → IsHolder heap v → IsHolder (slice_set heap o.0 (treated change part x)) v
-    holder_set Null h = absurd h
-    holder_set (Scalar n) h = absurd h
-    holder_set (Part p place) h = absurd h
-    holder_set (Names p) h = there_set heap o x found p h
+    lies_set : (t : ℕ) (v : Value) → LiesIn known heap t v → LiesIn known (slice_set heap o.0 (treated change part x)) t v
+    lies_set t Null lies = absurd lies
+    lies_set t (Scalar n) lies = absurd lies
+    lies_set t (Part q place) lies = absurd lies
+    lies_set t (Names q) lies = by (same_id q o)
+      where
+        by : (q ≡ o) ⊎ (q ≢ o) → LiesIn known (slice_set heap o.0 (treated change part x)) t (Names q)
+        by (inr ne) = (lies.0, at_other heap o q (treated change part x) ne ∙ lies.1, lies.2, lies.3)
+        by (inl same) =
+            let one : lies.0 ≡ x = let at_q = lies.1 in cc (rw same at at_q, found) in
+            (treated change part x, rw same (set_here heap o.0 x (treated change part x) found), rw one at lies.2, rw one at lies.3)
 
     plain_set : (v : Value) (first count : ℕ) → IsPlainIn known heap v first count → IsPlainIn known (slice_set heap o.0 (treated change part x)) v first count
     plain_set Null first count p = absurd p
@@ -203,7 +212,7 @@ module _ (change : PartState → PartState) (part : ℕ) where
     copies_set : (places operands : List Value) (k : Control) → CopiesBehind known k heap places operands ms → CopiesBehind known k (slice_set heap o.0 (treated change part x)) places operands ms
     copies_set places operands [] r = absurd r
     copies_set places operands (Copies first t ∷ k) (copied, w) =
-        (copied, works_set heap o x found known ms (at_work w (holder_set (first_or Null operands) w.rest.0, stores_set k w.rooms w.holds w.rest.1)))
+        (copied, works_set heap o x found known ms (at_work w (lies_set t (first_or Null operands) w.rest.0, stores_set k w.rooms w.holds w.rest.1, w.rest.2)))
     copies_set places operands (f ∷ k) r = absurd r
 
     treats_set : (v : Value) (treatment : Treatment) (places operands : List Value) (k : Control) → v ≡ Names o → TreatsBy known v treatment k heap places operands ms → TreatsBy known v treatment k (slice_set heap o.0 (treated change part x)) places operands ms
@@ -213,8 +222,10 @@ module _ (change : PartState → PartState) (part : ℕ) where
           (λ holds f. gone_fit heap o x (treated change part x) found f) (λ holds f. treated_fit change part o x found f)
           (λ holds aside. (same_unnamed heap o x found o aside.0 (treated change part x) refl (λ c. refl), aside.1)) by k (rw is at r.1)),
     )
-    treats_set v (ends cause) places operands k is (inl r) = inl (ends_set heap o x found known ms v places k is r)
-    treats_set v (ends cause) places operands k is (inr r) = inr (copies_set places operands k r)
+    treats_set v (ends (Leaving m item)) places operands k is r = ends_set heap o x found known ms v places k is r
+    treats_set v (ends (Freeing number)) places operands k is r = ends_set heap o x found known ms v places k is r
+    treats_set v (ends (Assigning number)) places operands k is r = copies_set places operands k r
+    treats_set v (ends (Undoing number)) places operands k is r = ends_set heap o x found known ms v places k is r
 
   pub treats_changed : (known : Known) (ms : List Master) (heap : List Object) (v : Value) (treatment : Treatment) (places operands : List Value) (k : Control) → TreatsBy known v treatment k heap places operands ms → TreatsBy known v treatment k (on_object (treated change part) heap v) places operands ms
   treats_changed known ms heap v treatment places operands k r =
@@ -257,6 +268,26 @@ TellsNothing (Left master) = Unit {0}
 TellsNothing (Line line) = Unit {0}
 TellsNothing Quiet = Unit {0}
 
+-- What speaks of a record that is assigned to does so still.
+pub inside_left : (types : List TypeForm) (treatment : Treatment) (tasks left : List Task) (k : Control) → IsOfAssigned types treatment tasks k
+    → ((t : ℕ) → TasksInside types t tasks → TasksInside types t left) → IsOfAssigned types treatment left k
+inside_left types (begins by done) tasks left k inside goes = tt
+inside_left types (ends (Leaving m item)) tasks left k inside goes = tt
+inside_left types (ends (Freeing number)) tasks left k inside goes = tt
+inside_left types (ends (Assigning number)) tasks left [] inside goes = tt
+inside_left types (ends (Assigning number)) tasks left (Copies first t ∷ k) inside goes = goes t inside
+inside_left types (ends (Assigning number)) tasks left (f ∷ k) inside goes = tt
+inside_left types (ends (Undoing number)) tasks left k inside goes = tt
+
+none_inside : (types : List TypeForm) (treatment : Treatment) (k : Control) → IsOfAssigned types treatment [] k
+none_inside types (begins by done) k = tt
+none_inside types (ends (Leaving m item)) k = tt
+none_inside types (ends (Freeing number)) k = tt
+none_inside types (ends (Assigning number)) [] = tt
+none_inside types (ends (Assigning number)) (Copies first t ∷ k) = tt
+none_inside types (ends (Assigning number)) (f ∷ k) = tt
+none_inside types (ends (Undoing number)) k = tt
+
 -- The body begins of a procedure that overrides an operation, of a controlled type of which the next task is known to speak: for a part of an object that is
 -- there, and that is ready for what waits behind it (7.6, 7.6.1).
 pub record Begins (known : Known) (a : Activation Value) (rest : List (Activation Value)) (s : State) (types : List TypeDefinition) (bodies : List BodyForm) (k : Control) (IsOperated : Treatment → Id → ℕ → Type 0) (e : Event) (after : State) : Type 0 where
@@ -274,7 +305,7 @@ pub record Begins (known : Known) (a : Activation Value) (rest : List (Activatio
   pub operated : IsOperated treatment o of
   pub called : IsCalled (operations_of types of) treatment number
   pub behind : Control
-  pub waits : WaitsFor o of treatment k behind
+  pub waits : WaitsFor known.program.types o of treatment k behind
   pub treats : TreatsBy known (Names o) treatment k heap a.places a.operands s.masters
   pub alters : Alters s.heap e heap
   pub tells : TellsNothing e
@@ -300,10 +331,10 @@ module _ (known : Known) (a : Activation Value) (rest : List (Activation Value))
 
   module _ (v : Value) where
     -- What is left goes on.
-    goes_on : (treatment : Treatment) (tasks : List Task) → TreatsBy known v treatment k s.heap a.places a.operands s.masters → Stepped known s.heap Quiet (treated_on named v treatment tasks (running k a rest s))
-    goes_on treatment tasks r =
+    goes_on : (treatment : Treatment) (tasks : List Task) → TreatsBy known v treatment k s.heap a.places a.operands s.masters → IsOfAssigned known.program.types treatment tasks k → Stepped known s.heap Quiet (treated_on named v treatment tasks (running k a rest s))
+    goes_on treatment tasks r of =
         stays known Quiet (treated_on named v treatment tasks (running k a rest s))
-        (tt, treats_ready known v treatment tasks k s.heap a.places a.operands s.masters r) tt
+        (tt, treats_ready known v treatment tasks k s.heap a.places a.operands s.masters r of) tt
 
     -- A part comes to have a value.
     born_fine : (by : Birth) (done : List parts.Part) (of part : ℕ) (tasks : List Task) (p : PartState) → TreatsBy known v (begins by done) k s.heap a.places a.operands s.masters
@@ -315,7 +346,7 @@ module _ (known : Known) (a : Activation Value) (rest : List (Activation Value))
           ready = (
             tt,
             treats_ready known v treatment tasks k (on_object (treated change part) s.heap v) a.places a.operands s.masters
-                (treats_changed change part known s.masters s.heap v treatment a.places a.operands k r),
+                (treats_changed change part known s.masters s.heap v treatment a.places a.operands k r) tt,
           );
           alters = alters_treated change part s.heap _ v;
           says = tt;
@@ -376,11 +407,11 @@ module _ (known : Known) (a : Activation Value) (rest : List (Activation Value))
           subst (λ (u : Value). object_at (on_object (treated finalized_part part) s.heap u) there.o ≡ Some (treated finalized_part part there.x)) (sym (there.names))
           (changed_at (treated finalized_part part) s.heap there.o there.x there.found)
 
-      calls_last : (cause : Cause) (of part : ℕ) (tasks : List Task) (p : PartState) (number : ℕ) → ((o : Id) → v ≡ Names o → IsOperated (ends cause) o of) × (procedure_number (operations_of types of).finalize ≡ Some number) → TreatsBy known v (ends cause) k s.heap a.places a.operands s.masters
+      calls_last : (cause : Cause) (of part : ℕ) (tasks : List Task) (p : PartState) (number : ℕ) → ((o : Id) → v ≡ Names o → IsOperated (ends cause) o of) × (procedure_number (operations_of types of).finalize ≡ Some number) → TreatsBy known v (ends cause) k s.heap a.places a.operands s.masters → IsOfCopied known.program.types cause tasks k
           → (found : Option BodyForm) → slice_get bodies number ≡ found
           → Treated (operation_next named number found (part_reference named v part p) (frame.Confines ∷ treating v (ends cause) tasks k) (Finalized v part p.turn of p.number cause) (record (running k a rest s) { heap = on_object (treated finalized_part part) s.heap v }))
-      calls_last cause of part tasks p number called r None at = tt
-      calls_last cause of part tasks p number called r (Some b) at = inr (record {
+      calls_last cause of part tasks p number called r inside None at = tt
+      calls_last cause of part tasks p number called r inside (Some b) at = inr (record {
         of = of;
         number = number;
         b = b;
@@ -395,57 +426,58 @@ module _ (known : Known) (a : Activation Value) (rest : List (Activation Value))
         operated = called.0 there.o there.names;
         called = called.1;
         behind = frame.Confines ∷ treating v (ends cause) tasks k;
-        waits = (tasks, ap (λ (u : Value). frame.Confines ∷ treating u (ends cause) tasks k) (there.names));
+        waits = (tasks, ap (λ (u : Value). frame.Confines ∷ treating u (ends cause) tasks k) (there.names), inside);
         treats = subst (λ (u : Value). TreatsBy known u (ends cause) k (on_object (treated finalized_part part) s.heap v) a.places a.operands s.masters) (there.names) (treats_after cause part r);
         alters = alters_treated finalized_part part s.heap _ v;
         tells = tt;
         is = ap (λ (u : Value). operating named number b (part_reference named u part p) (frame.Confines ∷ treating v (ends cause) tasks k) (record (running k a rest s) { heap = on_object (treated finalized_part part) s.heap v })) (there.names);
       })
 
-      ended_fine : (cause : Cause) (of part : ℕ) (tasks : List Task) (p : PartState) (operation : Option ℕ) → ((number : ℕ) → operation ≡ Some number → ((o : Id) → v ≡ Names o → IsOperated (ends cause) o of) × (procedure_number (operations_of types of).finalize ≡ Some number)) → TreatsBy known v (ends cause) k s.heap a.places a.operands s.masters
+      ended_fine : (cause : Cause) (of part : ℕ) (tasks : List Task) (p : PartState) (operation : Option ℕ) → ((number : ℕ) → operation ≡ Some number → ((o : Id) → v ≡ Names o → IsOperated (ends cause) o of) × (procedure_number (operations_of types of).finalize ≡ Some number)) → TreatsBy known v (ends cause) k s.heap a.places a.operands s.masters → IsOfCopied known.program.types cause tasks k
           → Treated (ended_next named bodies v part p (treating v (ends cause) tasks k) operation (Finalized v part p.turn of p.number cause) (record (running k a rest s) { heap = on_object (treated finalized_part part) s.heap v }))
-      ended_fine cause of part tasks p None called r = inl (
+      ended_fine cause of part tasks p None called r inside = inl (
         record {
-          ready = (tt, treats_ready known v (ends cause) tasks k (on_object (treated finalized_part part) s.heap v) a.places a.operands s.masters (treats_after cause part r));
+          ready = (tt, treats_ready known v (ends cause) tasks k (on_object (treated finalized_part part) s.heap v) a.places a.operands s.masters (treats_after cause part r) inside);
           alters = alters_treated finalized_part part s.heap _ v;
           says = tt;
         },
         (refl, behind_treating v (ends cause) tasks k),
       )
-      ended_fine cause of part tasks p (Some number) called r = calls_last cause of part tasks p number (called number refl) r (slice_get bodies number) refl
+      ended_fine cause of part tasks p (Some number) called r inside = calls_last cause of part tasks p number (called number refl) r inside (slice_get bodies number) refl
 
       finalized_fine : (cause : Cause) (of part : ℕ) (tasks : List Task) (operation : Option ℕ) → ((number : ℕ) → operation ≡ Some number → ((o : Id) → v ≡ Names o → IsOperated (ends cause) o of) × (procedure_number (operations_of types of).finalize ≡ Some number)) → (state : Option PartState)
-          → (finalized_next named bodies v cause of part tasks operation state (running k a rest s) ≡ halts (Erroneous FinalizesTwice) → ⊥) → TreatsBy known v (ends cause) k s.heap a.places a.operands s.masters
+          → (finalized_next named bodies v cause of part tasks operation state (running k a rest s) ≡ halts (Erroneous FinalizesTwice) → ⊥) → TreatsBy known v (ends cause) k s.heap a.places a.operands s.masters → IsOfCopied known.program.types cause tasks k
           → Treated (finalized_next named bodies v cause of part tasks operation state (running k a rest s))
-      finalized_fine cause of part tasks operation called None once r = tt
-      finalized_fine cause of part tasks operation called (Some p) once r =
+      finalized_fine cause of part tasks operation called None once r inside = tt
+      finalized_fine cause of part tasks operation called (Some p) once r inside =
           by p.alive (ended_next named bodies v part p (treating v (ends cause) tasks k) operation (Finalized v part p.turn of p.number cause) (record (running k a rest s) { heap = on_object (treated finalized_part part) s.heap v })) once
-          (ended_fine cause of part tasks p operation called r)
+          (ended_fine cause of part tasks p operation called r inside)
         where
           by : (alive : Bool) (n : Next) → ((if alive then n else halts (Erroneous FinalizesTwice)) ≡ halts (Erroneous FinalizesTwice) → ⊥) → Treated n → Treated (if alive then n else halts (Erroneous FinalizesTwice))
           by true n once' fine = fine
           by false n once' fine = absurd (once' refl)
 
-    performed_fine : (treatment : Treatment) (of part : ℕ) (tasks : List Task) (found : Found (Cell Value)) → look s.heap v ≡ found → (performed_next named types bodies v treatment of part tasks found (running k a rest s) ≡ halts (Erroneous FinalizesTwice) → ⊥) → ((o : Id) → v ≡ Names o → IsOperated treatment o of) → TreatsBy known v treatment k s.heap a.places a.operands s.masters → Treated (performed_next named types bodies v treatment of part tasks found (running k a rest s))
-    performed_fine treatment of part tasks on_null at once operated r = tt
-    performed_fine treatment of part tasks on_gone at once operated r = absurd (once refl)
-    performed_fine treatment of part tasks on_other at once operated r = tt
-    performed_fine (begins by done) of part tasks (finds cell) at once operated r =
+    performed_fine : (treatment : Treatment) (of part : ℕ) (tasks : List Task) (found : Found (Cell Value)) → look s.heap v ≡ found → (performed_next named types bodies v treatment of part tasks found (running k a rest s) ≡ halts (Erroneous FinalizesTwice) → ⊥) → ((o : Id) → v ≡ Names o → IsOperated treatment o of) → TreatsBy known v treatment k s.heap a.places a.operands s.masters → IsOfAssigned known.program.types treatment tasks k → Treated (performed_next named types bodies v treatment of part tasks found (running k a rest s))
+    performed_fine treatment of part tasks on_null at once operated r inside = tt
+    performed_fine treatment of part tasks on_gone at once operated r inside = absurd (once refl)
+    performed_fine treatment of part tasks on_other at once operated r inside = tt
+    performed_fine (begins by done) of part tasks (finds cell) at once operated r inside =
         begun_fine cell at by done of part tasks (beginning by (operations_of types of)) (λ number is. (operated, is)) (slice_get cell.parts part) r
-    performed_fine (ends cause) of part tasks (finds cell) at once operated r =
-        finalized_fine cell at cause of part tasks (procedure_number (operations_of types of).finalize) (λ number is. (operated, is)) (slice_get cell.parts part) once r
+    performed_fine (ends cause) of part tasks (finds cell) at once operated r inside =
+        finalized_fine cell at cause of part tasks (procedure_number (operations_of types of).finalize) (λ number is. (operated, is)) (slice_get cell.parts part) once r inside
 
-    pub treats_fine : (n : Follows) (treatment : Treatment) (tasks : List Task) → ((of part : ℕ) → n ≡ Perform of part → (o : Id) → v ≡ Names o → IsOperated treatment o of) → (treats_next named types bodies v treatment tasks n (running k a rest s) ≡ halts (Erroneous FinalizesTwice) → ⊥) → TreatsBy known v treatment k s.heap a.places a.operands s.masters → Treated (treats_next named types bodies v treatment tasks n (running k a rest s))
-    treats_fine Done treatment tasks operated once r = inl (goes_on treatment [] r, (refl, refl))
-    treats_fine (Perform of part) treatment tasks operated once r = performed_fine treatment of part (performed tasks) (look s.heap v) refl once (operated of part refl) r
-    treats_fine (Pick count) treatment tasks operated once r = by (count == 0)
+    pub treats_fine : ((t : ℕ) (direction : Direction) (tasks : List Task) (i : ℕ) → TasksInside known.program.types t tasks → TasksInside known.program.types t (picked_task (shapes_of types) direction tasks i)) → (n : Follows) (treatment : Treatment) (tasks : List Task) → ((of part : ℕ) → n ≡ Perform of part → (o : Id) → v ≡ Names o → IsOperated treatment o of) → (treats_next named types bodies v treatment tasks n (running k a rest s) ≡ halts (Erroneous FinalizesTwice) → ⊥) → TreatsBy known v treatment k s.heap a.places a.operands s.masters → IsOfAssigned known.program.types treatment tasks k → Treated (treats_next named types bodies v treatment tasks n (running k a rest s))
+    treats_fine chosen Done treatment tasks operated once r inside = inl (goes_on treatment [] r (none_inside known.program.types treatment k), (refl, refl))
+    treats_fine chosen (Perform of part) treatment tasks operated once r inside =
+        performed_fine treatment of part (performed tasks) (look s.heap v) refl once (operated of part refl) r (inside_left known.program.types treatment tasks (performed tasks) k inside (λ t. performed_inside known.program.types t tasks))
+    treats_fine chosen (Pick count) treatment tasks operated once r inside = by (count == 0)
       where
         by : (b : Bool) → Treated (if b then halts Stuck else picks count (λ i. treated_on named v treatment (picked_task (shapes_of types) (direction_of treatment) tasks i) (running k a rest s)))
         by true = tt
         by false = λ i lt.
-            (goes_on treatment (picked_task (shapes_of types) (direction_of treatment) tasks i) r, (refl, behind_treating v treatment (picked_task (shapes_of types) (direction_of treatment) tasks i) k))
+            (goes_on treatment (picked_task (shapes_of types) (direction_of treatment) tasks i) r (inside_left known.program.types treatment tasks (picked_task (shapes_of types) (direction_of treatment) tasks i) k inside (λ t. chosen t (direction_of treatment) tasks i)), (refl, behind_treating v treatment (picked_task (shapes_of types) (direction_of treatment) tasks i) k))
 
 -- Behind the body of a Finalize.
 pub confines_fine : (known : Known) (a : Activation Value) (rest : List (Activation Value)) (s : State) (k : Control) → ConfinesBy known k s.heap a.places a.operands s.masters → Stepped known s.heap Quiet (running k a rest s)
-confines_fine known a rest s k (v, cause, tasks, behind, is, r) =
-    stays known Quiet (running k a rest s) (tt, rw is (treats_ready known v (ends cause) tasks behind s.heap a.places a.operands s.masters r)) tt
+confines_fine known a rest s k (v, cause, tasks, behind, is, r, inside) =
+    stays known Quiet (running k a rest s) (tt, rw is (treats_ready known v (ends cause) tasks behind s.heap a.places a.operands s.masters r inside)) tt

@@ -259,7 +259,7 @@ module _ (known : Known) (k : Control) (a : Activation Value) (rest : List (Acti
       record {
         ready = (
           tt,
-          treats_ready known (Names o) (ends (Undoing s.next)) (map (λ p. performs p.of p.number) done) (Ends (Names o) ∷ GivesBack (Names o) (Undoing s.next) x.cell.home.pool ∷ Resumes (Raising e) ∷ k) heap a.places [] s.masters (inl (refl, ending)),
+          treats_ready known (Names o) (ends (Undoing s.next)) (map (λ p. performs p.of p.number) done) (Ends (Names o) ∷ GivesBack (Names o) (Undoing s.next) x.cell.home.pool ∷ Resumes (Raising e) ∷ k) heap a.places [] s.masters (refl, ending) tt,
         );
         alters = alters_set s.heap Quiet o x (parted x) found (refl, refl, refl) (λ h. h) (λ h. inl h);
         says = tt;

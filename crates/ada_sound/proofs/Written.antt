@@ -20,10 +20,11 @@ use Rattle.ada_owners.proofs.Changes.{store_is}
 use Rattle.ada_sound.proofs.Objects.{set_here, set_twice}
 use Rattle.ada_sound.proofs.Stored.{stored_filled}
 use Rattle.ada_sound.proofs.Fits.{Fit, none_spared, store_blank, wrote_unnamed, gone_fit}
-use Rattle.ada_sound.proofs.Invariant.{outers, Known, Control, Rooms, RunsOn, Working, IsHolder, IsPlainIn, NamesTo, BeginsBy, BegunTo, EndsTo, StoresBehind, CopiesBehind, TreatsBy, ThenBack, Ending}
+use Rattle.ada_sound.proofs.Invariant.{outers, Known, Control, Rooms, RunsOn, Working, IsHolder, IsPlainIn, NamesTo, BeginsBy, BegunTo, EndsTo, StoresBehind, CopiesBehind, TreatsBy, ThenBack, Ending, LiesIn}
 use Rattle.ada_sound.proofs.Ready.{at_work}
 use Rattle.ada_sound.proofs.Endings.{KeepsFit, swapped, gone_still, under_set, behind_set}
 use Rattle.ada_sound.proofs.Undone.{beginning_set, collected_set, undo_set}
+use Rattle.ada_meaning.specs.declared.event.Cause.TheVariants.{Leaving, Freeing, Assigning, Undoing}
 
 -- This goes into this component.
 module _ (c : ℕ) (v : Value) (nameless : (p : Id) → v ≡ Names p → ⊥) where
@@ -167,11 +168,17 @@ module _ (c : ℕ) (v : Value) (nameless : (p : Id) → v ≡ Names p → ⊥) w
     begun_set by places operands k (inr r) = inr (collected_set heap ms o x (wrote x) found refl (Names o) refl r.0, names_set places operands k r.1)
 
     -- So does what is copied to a record that is assigned to.
-    holder_set : (u : Value) → IsHolder heap u → IsHolder (slice_set heap o.0 (wrote x)) u
-    holder_set Null h = absurd h
-    holder_set (Scalar n) h = absurd h
-    holder_set (Part p place) h = absurd h
-    holder_set (Names p) h = there_set heap o x found p h
+    lies_set : (t : ℕ) (u : Value) → LiesIn known heap t u → LiesIn known (slice_set heap o.0 (wrote x)) t u
+    lies_set t Null lies = absurd lies
+    lies_set t (Scalar n) lies = absurd lies
+    lies_set t (Part q place) lies = absurd lies
+    lies_set t (Names q) lies = by (same_id q o)
+      where
+        by : (q ≡ o) ⊎ (q ≢ o) → LiesIn known (slice_set heap o.0 (wrote x)) t (Names q)
+        by (inr ne) = (lies.0, at_other heap o q (wrote x) ne ∙ lies.1, lies.2, lies.3)
+        by (inl same) =
+            let one : lies.0 ≡ x = let at_q = lies.1 in cc (rw same at at_q, found) in
+            (wrote x, rw same (set_here heap o.0 x (wrote x) found), rw one at lies.2, rw one at lies.3)
 
     plain_set : (u : Value) (first count : ℕ) → IsPlainIn known heap u first count → IsPlainIn known (slice_set heap o.0 (wrote x)) u first count
     plain_set Null first count p = absurd p
@@ -193,7 +200,7 @@ module _ (c : ℕ) (v : Value) (nameless : (p : Id) → v ≡ Names p → ⊥) w
     copies_set : (places operands : List Value) (k : Control) → CopiesBehind known k heap places operands ms → CopiesBehind known k (slice_set heap o.0 (wrote x)) places operands ms
     copies_set places operands [] r = absurd r
     copies_set places operands (Copies first t ∷ k) (copied, w) =
-        (copied, works_set heap o x found known ms (at_work w (holder_set (first_or Null operands) w.rest.0, stores_set k w.rooms w.holds w.rest.1)))
+        (copied, works_set heap o x found known ms (at_work w (lies_set t (first_or Null operands) w.rest.0, stores_set k w.rooms w.holds w.rest.1, w.rest.2)))
     copies_set places operands (f ∷ k) r = absurd r
 
     -- Whatever is behind the treatment of the object.
@@ -204,5 +211,7 @@ module _ (c : ℕ) (v : Value) (nameless : (p : Id) → v ≡ Names p → ⊥) w
           (λ holds f. gone_fit heap o x (wrote x) found f) (λ holds f. wrote_fit known heap places o x found none_spared holds f)
           (λ holds aside. (wrote_unnamed heap o x found o aside.0 c v nameless, aside.1)) by k r.1,
     )
-    treats_written (ends cause) places operands k (inl r) = inl (ends_set heap o x found known ms (Names o) places k refl r)
-    treats_written (ends cause) places operands k (inr r) = inr (copies_set places operands k r)
+    treats_written (ends (Leaving m item)) places operands k r = ends_set heap o x found known ms (Names o) places k refl r
+    treats_written (ends (Freeing number)) places operands k r = ends_set heap o x found known ms (Names o) places k refl r
+    treats_written (ends (Assigning number)) places operands k r = copies_set places operands k r
+    treats_written (ends (Undoing number)) places operands k r = ends_set heap o x found known ms (Names o) places k refl r

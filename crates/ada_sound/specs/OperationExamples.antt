@@ -250,6 +250,59 @@ tidying_events =
     ∷ Left 0
     ∷ []
 
+-- The same first two types; and type Tally is new Controlled with record N : Integer; end record; which has number 2, and overrides Finalize by this procedure.
+-- X : Tally and Y : Tally have numbers 0 and 1 in the main procedure.
+
+-- The variable C of Finalize.
+abbrev pub c_now : PathForm
+c_now = record { root = 1; of_record = false; selectors = []; spot = example_spot }
+
+-- procedure Finalize (T : in out Tally) is C : Link; begin Free (C); end Finalize;
+abbrev pub overwriting_finalize : BodyForm
+overwriting_finalize = record (operation_body 5 (a_stmt (frees 1 c_now) no_stmts) no_handlers) {
+  variables = unnamed (variable.Record (record { 0 = 5 })) ∷ unnamed (variable.Access (record { 0 = 1 })) ∷ [];
+  declarations = declares 1 nothing ∷ [];
+}
+
+-- The collection of Link; X : Tally; Y : Tally;
+abbrev pub overwriting_declarations : List DeclarationForm
+overwriting_declarations = collects 1 ∷ declares_record 0 3 None ∷ declares_record 1 4 None ∷ []
+
+-- A variable of type Tally.
+abbrev pub tally_now : (x : ℕ) → RecordPathForm
+tally_now x = record { object = object_path x []; first = 0; part = 0; record_type = 2 }
+
+-- X := Y;
+abbrev pub overwriting_stmts : StmtsForm
+overwriting_stmts = a_stmt (assigns_record (tally_now 0) (item_of_record (tally_now 1) ∷ [])) no_stmts
+
+-- The object Y; X is as before.
+abbrev pub copied_y : Value
+copied_y = Names (record { 0 = 1 })
+
+-- X and Y are initialized, for which nothing is called. The assignment finds X and then Y, and finalizes the value of X: the body of Finalize, a master of its own, is
+-- left; then Y is copied to X, and X has a value again, for which nothing is called. At the leaving of the main procedure Y is finalized, and its words go back, and
+-- then X, whose value is the later one.
+abbrev pub overwriting_events : List Event
+overwriting_events =
+    Born object_x 0 0 0 1 Creation
+    ∷ Born copied_y 0 0 0 2 Creation
+    ∷ Followed object_x
+    ∷ Followed copied_y
+    ∷ Finalized object_x 0 0 0 1 (Assigning 1)
+    ∷ Left 2
+    ∷ Followed copied_y
+    ∷ Followed object_x
+    ∷ Born object_x 0 1 0 3 (Adjustment 1)
+    ∷ Finalized copied_y 0 0 0 2 (Leaving 0 2)
+    ∷ Left 3
+    ∷ Back copied_y 4 0 None None (Leaving 0 2)
+    ∷ Finalized object_x 0 1 0 3 (Leaving 0 1)
+    ∷ Left 4
+    ∷ Back object_x 3 0 None None (Leaving 0 1)
+    ∷ Left 0
+    ∷ []
+
 -- The same types, but that Holder overrides Finalize by the second of two procedures, which calls the first one. H : Holder has number 0 in the main
 -- procedure.
 abbrev pub emptying_operations : Operations

@@ -153,6 +153,10 @@ pub fn premises_are_met()
 /// Where the main procedure is left, Finalize frees the cell, whose words go back before those of the record object, so that
 /// none are left to go back with the collection; and `flow_invariant` speaks of where the Free begins.
 ///
+/// And one is accepted in which an assignment calls such a Finalize, of a type that is not limited (5.2, 7.6): the value of the
+/// target is finalized before the other record is copied to it, and where the main procedure is left, the objects are finalized
+/// in reverse order of their creation, though the target's value is the later one.
+///
 /// And one is accepted whose Finalize calls a procedure that does so (6.4.1): it passes its object on, by reference, and that
 /// procedure frees the cell, in a master of its own, which is left before that of Finalize is; then the words of the object
 /// go back. `flow_invariant` speaks of where that Free begins, too.
@@ -180,6 +184,12 @@ pub fn operations_are_accepted()
         × (stmt_forms program ≡ operation_examples.tidying_stmts)
         × IsChecked program × FinishesAfter operation_examples.tidying_events program
         × always.InSomeRun program (λ events last. operation_examples.IsSpokenOfInside program last) }
+    ensures overwrites { (program : Program)
+        × (operations_of program.types.items 0 ≡ operation_examples.tidying_operations)
+        × (body_forms program ≡ operation_examples.overwriting_finalize ∷ [])
+        × (declaration_forms program ≡ operation_examples.overwriting_declarations)
+        × (stmt_forms program ≡ operation_examples.overwriting_stmts)
+        × IsChecked program × FinishesAfter operation_examples.overwriting_events program }
     ensures empties { (program : Program)
         × (operations_of program.types.items 0 ≡ operation_examples.emptying_operations)
         × (body_forms program ≡ operation_examples.emptying_bodies)

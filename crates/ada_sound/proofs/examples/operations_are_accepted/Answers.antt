@@ -1,6 +1,7 @@
--- By five programs and their runs.
+-- By six programs and their runs.
 use Rattle.ada_sound.proofs.ExampleOperations as operations
 use Rattle.ada_sound.proofs.ExampleTidying as tidying
+use Rattle.ada_sound.proofs.ExampleOverwriting as overwriting
 use Rattle.ada_sound.proofs.ExampleEmptying as emptying
 use Rattle.ada_sound.proofs.ExampleAllocating as allocating
 use Rattle.ada_sound.proofs.ExampleUndoing as undoing
@@ -27,6 +28,15 @@ returns c = record {
     tidying.tidying_accepted,
     tidying.tidies,
     tidying.is_spoken_of,
+  );
+  overwrites = (
+    overwriting.overwriting,
+    overwriting.overwriting_overrides,
+    overwriting.overwriting_bodies,
+    overwriting.overwriting_declares,
+    overwriting.overwriting_form,
+    overwriting.overwriting_accepted,
+    overwriting.overwrites,
   );
   empties = (
     emptying.emptying,
