@@ -15,6 +15,7 @@ use Rattle.ada_flow.specs.declared.rule.Hold.{Hold}
 use Rattle.ada_flow.specs.declared.rule.Rule.TheVariants.{LoopState}
 use Rattle.ada_flow.specs.Flow.{Holds, Gone, faults, exit_flow, exit_of, if_own, is_among, without_types}
 use Rattle.ada_flow.specs.Told.{AreMarks, exit_keeps, is_marked, without_marked}
+use Rattle.ada_flow.specs.Tracking.{Tracks}
 
 -- what has no type is not among types
 pub among_none : (types : List ℕ) → is_among types None ≡ false
@@ -63,16 +64,16 @@ left_next vs marks hs i v h a b = rw (add-one, drop-cons vs i v, drop-cons hs i 
 pub ruleset losing_steps = (left_short, left_nothing, left_next)
 
 -- an exit with no less than is known at the loop's start does what its condition does
-pub exit_stays : (vs : List VariableForm) (implicit : Implicit) (start : Option Holds) (inside : Gone) (condition : Option ExpressionForm) (spot : Spot) (hs : Holds) →
-    exit_keeps vs implicit start inside hs ≡ true → exit_flow vs implicit start inside condition spot hs ≡ exit_of condition hs
-exit_stays vs implicit None inside condition spot hs keeps = refl
-exit_stays vs implicit (Some start) inside condition spot hs keeps = ap (λ (b : Bool). if b then exit_of condition hs else faults spot LoopState) keeps
+pub exit_stays : (vs : List VariableForm) (tracks : Tracks) (implicit : Implicit) (start : Option Holds) (inside : Gone) (condition : Option ExpressionForm) (spot : Spot) (hs : Holds) →
+    exit_keeps vs implicit start inside hs ≡ true → exit_flow vs tracks implicit start inside condition spot hs ≡ exit_of tracks condition hs
+exit_stays vs tracks implicit None inside condition spot hs keeps = refl
+exit_stays vs tracks implicit (Some start) inside condition spot hs keeps = ap (λ (b : Bool). if b then exit_of tracks condition hs else faults spot LoopState) keeps
 
 -- and one with less breaks a rule
-pub exit_breaks : (vs : List VariableForm) (implicit : Implicit) (start : Option Holds) (inside : Gone) (condition : Option ExpressionForm) (spot : Spot) (hs : Holds) →
-    exit_keeps vs implicit start inside hs ≡ false → exit_flow vs implicit start inside condition spot hs ≡ faults spot LoopState
-exit_breaks vs implicit None inside condition spot hs keeps = cc
-exit_breaks vs implicit (Some start) inside condition spot hs keeps = ap (λ (b : Bool). if b then exit_of condition hs else faults spot LoopState) keeps
+pub exit_breaks : (vs : List VariableForm) (tracks : Tracks) (implicit : Implicit) (start : Option Holds) (inside : Gone) (condition : Option ExpressionForm) (spot : Spot) (hs : Holds) →
+    exit_keeps vs implicit start inside hs ≡ false → exit_flow vs tracks implicit start inside condition spot hs ≡ faults spot LoopState
+exit_breaks vs tracks implicit None inside condition spot hs keeps = cc
+exit_breaks vs tracks implicit (Some start) inside condition spot hs keeps = ap (λ (b : Bool). if b then exit_of tracks condition hs else faults spot LoopState) keeps
 
 pub ruleset exit_steps = (exit_stays, exit_breaks)
 

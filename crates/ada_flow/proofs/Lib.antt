@@ -26,3 +26,5 @@ pub mod Initialized
 pub mod FirstFaults
 -- which records lie in which
 pub mod Parts
+-- tracked components, one behind the other
+pub mod Tracked

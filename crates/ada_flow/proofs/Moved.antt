@@ -11,6 +11,7 @@ use Rattle.ada_flow.proofs.Leftmost.{broken_among_more, leftmost_of_three}
 use Rattle.ada_program.specs.declared.program.Item.{Item}
 use Rattle.ada_program.specs.Form.{PathForm, ItemForm, null_item, item_of_path, item_of_value, item_of_record, item_form}
 use Rattle.ada_program.specs.ProgramForm.{TypeForm}
+use Rattle.ada_flow.specs.Tracking.{Tracks}
 
 -- a path among more is among the first ones, or the others
 pub is_named_more : (xs ys : List PathForm) (path : PathForm) → is_named (xs ++ ys) path ≡ (is_named xs path || is_named ys path)
@@ -71,32 +72,32 @@ named_next items n one inside =
     ∙ ap (λ ps. named_by_items (map item_form (take n items)) ++ ps) (append-nil (named_by_item i))
 
 -- the uses in the items that are left, behind those that are done
-broken_among_next : (types : List TypeForm) (spot : Spot) (holds : Holds) (target : Option PathForm) (items : List Item) (n : ℕ) (one : Item) → n < length items →
-    broken_among holds (uses_in_items types spot target (named_by_items (map item_form (take n items))) (map item_form (drop n items)))
-    ≡ leftmost (broken_among holds (uses_in_item types spot target (named_by_items (map item_form (take n items))) (item_form (get_or items n one))))
-    (broken_among holds (uses_in_items types spot target (named_by_items (map item_form (take (n + 1) items))) (map item_form (drop (n + 1) items))))
-broken_among_next types spot holds target items n one inside =
+broken_among_next : (types : List TypeForm) (tracks : Tracks) (spot : Spot) (holds : Holds) (target : Option PathForm) (items : List Item) (n : ℕ) (one : Item) → n < length items →
+    broken_among tracks holds (uses_in_items types spot target (named_by_items (map item_form (take n items))) (map item_form (drop n items)))
+    ≡ leftmost (broken_among tracks holds (uses_in_item types spot target (named_by_items (map item_form (take n items))) (item_form (get_or items n one))))
+    (broken_among tracks holds (uses_in_items types spot target (named_by_items (map item_form (take (n + 1) items))) (map item_form (drop (n + 1) items))))
+broken_among_next types tracks spot holds target items n one inside =
     let earlier = named_by_items (map item_form (take n items)) in
     let i = item_form (get_or items n one) in
     let left = map item_form (drop (n + 1) items) in
-    at_drop_more (λ is. broken_among holds (uses_in_items types spot target earlier (map item_form is))) items n one inside
-    ∙ broken_among_more holds (uses_in_item types spot target earlier i) (uses_in_items types spot target (named_by_item i ++ earlier) left)
-    ∙ ap (λ us. leftmost (broken_among holds (uses_in_item types spot target earlier i)) (broken_among holds us))
+    at_drop_more (λ is. broken_among tracks holds (uses_in_items types spot target earlier (map item_form is))) items n one inside
+    ∙ broken_among_more tracks holds (uses_in_item types spot target earlier i) (uses_in_items types spot target (named_by_item i ++ earlier) left)
+    ∙ ap (λ us. leftmost (broken_among tracks holds (uses_in_item types spot target earlier i)) (broken_among tracks holds us))
     (uses_by_same types spot target (named_by_item i ++ earlier) (named_by_items (map item_form (take (n + 1) items))) left
     (λ path. is_named_swapped (named_by_item i) earlier path ∙ ap (λ ps. is_named ps path) (sym (named_next items n one inside))))
 
 -- what is found in one more item is the leftmost of what was found, and of what it breaks
-pub found_next : (types : List TypeForm) (spot : Spot) (holds : Holds) (target : Option PathForm) (items : List Item) (n : ℕ) (one : Item) (found own joined all : Option Breach) → n < length items → one ≡ get_or items n one →
-    own ≡ broken_among holds (uses_in_item types spot target (named_by_items (map item_form (take n items))) (item_form one)) → joined ≡ leftmost found own →
-    leftmost found (broken_among holds (uses_in_items types spot target (named_by_items (map item_form (take n items))) (map item_form (drop n items)))) ≡ all →
-    leftmost joined (broken_among holds (uses_in_items types spot target (named_by_items (map item_form (take (n + 1) items))) (map item_form (drop (n + 1) items)))) ≡ all
-found_next types spot holds target items n one found own joined all inside item own_is joins before =
+pub found_next : (types : List TypeForm) (tracks : Tracks) (spot : Spot) (holds : Holds) (target : Option PathForm) (items : List Item) (n : ℕ) (one : Item) (found own joined all : Option Breach) → n < length items → one ≡ get_or items n one →
+    own ≡ broken_among tracks holds (uses_in_item types spot target (named_by_items (map item_form (take n items))) (item_form one)) → joined ≡ leftmost found own →
+    leftmost found (broken_among tracks holds (uses_in_items types spot target (named_by_items (map item_form (take n items))) (map item_form (drop n items)))) ≡ all →
+    leftmost joined (broken_among tracks holds (uses_in_items types spot target (named_by_items (map item_form (take (n + 1) items))) (map item_form (drop (n + 1) items)))) ≡ all
+found_next types tracks spot holds target items n one found own joined all inside item own_is joins before =
     let earlier = named_by_items (map item_form (take n items)) in
-    let left = broken_among holds (uses_in_items types spot target (named_by_items (map item_form (take (n + 1) items))) (map item_form (drop (n + 1) items))) in
+    let left = broken_among tracks holds (uses_in_items types spot target (named_by_items (map item_form (take (n + 1) items))) (map item_form (drop (n + 1) items))) in
     ap (λ (b : Option Breach). leftmost b left) (joins ∙ ap (leftmost found) own_is)
-    ∙ leftmost_of_three found (broken_among holds (uses_in_item types spot target earlier (item_form one))) left
-    ∙ ap (λ (i : Item). leftmost found (leftmost (broken_among holds (uses_in_item types spot target earlier (item_form i))) left)) item
-    ∙ sym (ap (leftmost found) (broken_among_next types spot holds target items n one inside))
+    ∙ leftmost_of_three found (broken_among tracks holds (uses_in_item types spot target earlier (item_form one))) left
+    ∙ ap (λ (i : Item). leftmost found (leftmost (broken_among tracks holds (uses_in_item types spot target earlier (item_form i))) left)) item
+    ∙ sym (ap (leftmost found) (broken_among_next types tracks spot holds target items n one inside))
     ∙ before
 
 -- which paths items move, one behind the other

@@ -13,6 +13,7 @@ use Rattle.ada_flow.specs.Told.{Noted, unwanted, wanted, also_noted, finalized_o
 use Rattle.ada_flow.proofs.Joined.{join_option_of_three, join_option_none}
 use Rattle.ada_program.specs.Form.{StmtForm, StmtsForm, a_stmt, BranchesForm, a_branch, ExpressionForm, HandlersForm, no_handlers, a_handler, DeclarationForm, encloses, handlers_form}
 use Rattle.ada_program.specs.ProgramForm.{TypeForm, VariableForm}
+use Rattle.ada_flow.specs.Tracking.{Tracks}
 
 -- how a form ends, as data
 abbrev pub End : Type 0
@@ -85,30 +86,30 @@ branch_end so_far types variables around fs branches (Ok end) =
     joined_end so_far (end_on end.0 end.1 (λ hs. either_of (stmts_flow types variables around fs hs) (branches_flow types variables around branches hs)))
 
 pub branches_end : (so_far : Option Holds) (n m k : Noted) (types : List TypeForm) (variables : List VariableForm) (around : Around) (e : ExpressionForm) (fs : StmtsForm) (branches : BranchesForm) (holds : Holds) (end : Option Holds) →
-    ending n (computed e holds) ≡ Ok (Some holds, m) → ending m (stmts_flow types variables around fs holds) ≡ Ok (end, k) →
+    ending n (computed around.tracks e holds) ≡ Ok (Some holds, m) → ending m (stmts_flow types variables around fs holds) ≡ Ok (end, k) →
     joined_end so_far (ending n (branches_flow types variables around (a_branch e fs branches) holds))
     ≡ joined_end (join_option so_far end) (ending k (branches_flow types variables around branches holds))
 branches_end so_far n m k types variables around e fs branches holds end computes ends =
-    ap (joined_end so_far) (then_ends n (computed e holds) (λ hs. either_of (stmts_flow types variables around fs hs) (branches_flow types variables around branches hs))
+    ap (joined_end so_far) (then_ends n (computed around.tracks e holds) (λ hs. either_of (stmts_flow types variables around fs hs) (branches_flow types variables around branches hs))
     ∙ ap (λ o. then_end o (λ hs. either_of (stmts_flow types variables around fs hs) (branches_flow types variables around branches hs))) computes
     ∙ either_ends m (stmts_flow types variables around fs holds) (branches_flow types variables around branches holds)
     ∙ ap (λ o. either_end o (λ x. ending x (branches_flow types variables around branches holds))) ends)
     ∙ sym (joined_twice so_far end (ending k (branches_flow types variables around branches holds)))
 
 pub branches_break : (so_far : Option Holds) (n m : Noted) (types : List TypeForm) (variables : List VariableForm) (around : Around) (e : ExpressionForm) (fs : StmtsForm) (branches : BranchesForm) (holds : Holds) (breach : Spot × Rule) →
-    ending n (computed e holds) ≡ Ok (Some holds, m) → ending m (stmts_flow types variables around fs holds) ≡ Err breach →
+    ending n (computed around.tracks e holds) ≡ Ok (Some holds, m) → ending m (stmts_flow types variables around fs holds) ≡ Err breach →
     joined_end so_far (ending n (branches_flow types variables around (a_branch e fs branches) holds)) ≡ Err breach
 branches_break so_far n m types variables around e fs branches holds breach computes breaks =
-    ap (joined_end so_far) (then_ends n (computed e holds) (λ hs. either_of (stmts_flow types variables around fs hs) (branches_flow types variables around branches hs))
+    ap (joined_end so_far) (then_ends n (computed around.tracks e holds) (λ hs. either_of (stmts_flow types variables around fs hs) (branches_flow types variables around branches hs))
     ∙ ap (λ o. then_end o (λ hs. either_of (stmts_flow types variables around fs hs) (branches_flow types variables around branches hs))) computes
     ∙ either_ends m (stmts_flow types variables around fs holds) (branches_flow types variables around branches holds)
     ∙ ap (λ o. either_end o (λ x. ending x (branches_flow types variables around branches holds))) breaks)
 
 pub condition_breaks : (so_far : Option Holds) (n : Noted) (types : List TypeForm) (variables : List VariableForm) (around : Around) (e : ExpressionForm) (fs : StmtsForm) (branches : BranchesForm) (holds : Holds) (breach : Spot × Rule) →
-    ending n (computed e holds) ≡ Err breach →
+    ending n (computed around.tracks e holds) ≡ Err breach →
     joined_end so_far (ending n (branches_flow types variables around (a_branch e fs branches) holds)) ≡ Err breach
 condition_breaks so_far n types variables around e fs branches holds breach breaks =
-    ap (joined_end so_far) (then_ends n (computed e holds) (λ hs. either_of (stmts_flow types variables around fs hs) (branches_flow types variables around branches hs))
+    ap (joined_end so_far) (then_ends n (computed around.tracks e holds) (λ hs. either_of (stmts_flow types variables around fs hs) (branches_flow types variables around branches hs))
     ∙ ap (λ o. then_end o (λ hs. either_of (stmts_flow types variables around fs hs) (branches_flow types variables around branches hs))) breaks)
 
 -- handlers end as the first, joined with the others
@@ -215,38 +216,38 @@ handled_behind types variables around passes fs hs (Ok (Some at, n)) = handled_e
 
 -- declarations, then statements with their handlers
 pub body_ends : (n : Noted) (types : List TypeForm) (variables : List VariableForm) (around : Around) (passes : Bool) (ds : List DeclarationForm) (fs : StmtsForm) (hs : HandlersForm) (holds : Holds) →
-    ending n (then_flow (declarations_flow types variables around.effects.implicit ds holds) (λ at. handled passes (handlers_flow types variables around hs) (stmts_flow types variables around fs at)))
-    ≡ then_handled types variables around passes fs hs (ending n (declarations_flow types variables around.effects.implicit ds holds))
+    ending n (then_flow (declarations_flow types variables around.tracks around.effects.implicit ds holds) (λ at. handled passes (handlers_flow types variables around hs) (stmts_flow types variables around fs at)))
+    ≡ then_handled types variables around passes fs hs (ending n (declarations_flow types variables around.tracks around.effects.implicit ds holds))
 body_ends n types variables around passes ds fs hs holds =
-    then_ends n (declarations_flow types variables around.effects.implicit ds holds) (λ at. handled passes (handlers_flow types variables around hs) (stmts_flow types variables around fs at))
-    ∙ handled_behind types variables around passes fs hs (ending n (declarations_flow types variables around.effects.implicit ds holds))
+    then_ends n (declarations_flow types variables around.tracks around.effects.implicit ds holds) (λ at. handled passes (handlers_flow types variables around hs) (stmts_flow types variables around fs at))
+    ∙ handled_behind types variables around passes fs hs (ending n (declarations_flow types variables around.tracks around.effects.implicit ds holds))
 
 -- declarations end as the first, or else as the others
-pub declarations_end : (n : Noted) (types : List TypeForm) (variables : List VariableForm) (implicit : Implicit) (d : DeclarationForm) (ds : List DeclarationForm) (holds : Holds) →
-    ending n (declarations_flow types variables implicit (d ∷ ds) holds)
-    ≡ then_end (ending n (declaration_flow types variables implicit d holds)) (declarations_flow types variables implicit ds)
-declarations_end n types variables implicit d ds holds = then_ends n (declaration_flow types variables implicit d holds) (declarations_flow types variables implicit ds)
+pub declarations_end : (n : Noted) (types : List TypeForm) (variables : List VariableForm) (tracks : Tracks) (implicit : Implicit) (d : DeclarationForm) (ds : List DeclarationForm) (holds : Holds) →
+    ending n (declarations_flow types variables tracks implicit (d ∷ ds) holds)
+    ≡ then_end (ending n (declaration_flow types variables tracks implicit d holds)) (declarations_flow types variables tracks implicit ds)
+declarations_end n types variables tracks implicit d ds holds = then_ends n (declaration_flow types variables tracks implicit d holds) (declarations_flow types variables tracks implicit ds)
 
 -- one turn of a loop, where it leads back
 pub turn_returns : (leaves : Bool) (n m k : Noted) (condition : Option ExpressionForm) (spot : Spot) (types : List TypeForm) (variables : List VariableForm) (around : Around) (fs : StmtsForm) (start after : Holds) →
-    ending n (condition_flow condition start) ≡ Ok (Some start, m) → ending m (stmts_flow types variables (in_loop (Some start) around) fs start) ≡ Ok (Some after, k) →
+    ending n (condition_flow around.tracks condition start) ≡ Ok (Some start, m) → ending m (stmts_flow types variables (in_loop (Some start) around) fs start) ≡ Ok (Some after, k) →
     unless_worse start after spot (goes (Some after) None) ≡ goes (Some after) None →
-    ending n (loop_flow condition leaves spot (λ place hs. stmts_flow types variables (in_loop place around) fs hs) start) ≡ Ok ((if leaves then Some start else None), k)
+    ending n (loop_flow around.tracks condition leaves spot (λ place hs. stmts_flow types variables (in_loop place around) fs hs) start) ≡ Ok ((if leaves then Some start else None), k)
 turn_returns leaves n m k condition spot types variables around fs start after tests turns keeps =
-    left_ends n leaves start (then_flow (condition_flow condition start) (λ hs. ends_turn start spot (stmts_flow types variables (in_loop (Some start) around) fs hs)))
+    left_ends n leaves start (then_flow (condition_flow around.tracks condition start) (λ hs. ends_turn start spot (stmts_flow types variables (in_loop (Some start) around) fs hs)))
     ∙ ap (left_over leaves start)
-    (then_ends n (condition_flow condition start) (λ hs. ends_turn start spot (stmts_flow types variables (in_loop (Some start) around) fs hs))
+    (then_ends n (condition_flow around.tracks condition start) (λ hs. ends_turn start spot (stmts_flow types variables (in_loop (Some start) around) fs hs))
     ∙ ap (λ e. then_end e (λ hs. ends_turn start spot (stmts_flow types variables (in_loop (Some start) around) fs hs))) tests
     ∙ turn_ends m k start spot (stmts_flow types variables (in_loop (Some start) around) fs start) after turns keeps)
 
 -- and where it doesn't
 pub turn_stops : (leaves : Bool) (n m k : Noted) (condition : Option ExpressionForm) (spot : Spot) (types : List TypeForm) (variables : List VariableForm) (around : Around) (fs : StmtsForm) (start : Holds) →
-    ending n (condition_flow condition start) ≡ Ok (Some start, m) → ending m (stmts_flow types variables (in_loop (Some start) around) fs start) ≡ Ok (None, k) →
-    ending n (loop_flow condition leaves spot (λ place hs. stmts_flow types variables (in_loop place around) fs hs) start) ≡ Ok ((if leaves then Some start else None), k)
+    ending n (condition_flow around.tracks condition start) ≡ Ok (Some start, m) → ending m (stmts_flow types variables (in_loop (Some start) around) fs start) ≡ Ok (None, k) →
+    ending n (loop_flow around.tracks condition leaves spot (λ place hs. stmts_flow types variables (in_loop place around) fs hs) start) ≡ Ok ((if leaves then Some start else None), k)
 turn_stops leaves n m k condition spot types variables around fs start tests turns =
-    left_ends n leaves start (then_flow (condition_flow condition start) (λ hs. ends_turn start spot (stmts_flow types variables (in_loop (Some start) around) fs hs)))
+    left_ends n leaves start (then_flow (condition_flow around.tracks condition start) (λ hs. ends_turn start spot (stmts_flow types variables (in_loop (Some start) around) fs hs)))
     ∙ ap (left_over leaves start)
-    (then_ends n (condition_flow condition start) (λ hs. ends_turn start spot (stmts_flow types variables (in_loop (Some start) around) fs hs))
+    (then_ends n (condition_flow around.tracks condition start) (λ hs. ends_turn start spot (stmts_flow types variables (in_loop (Some start) around) fs hs))
     ∙ ap (λ e. then_end e (λ hs. ends_turn start spot (stmts_flow types variables (in_loop (Some start) around) fs hs))) tests
     ∙ turn_stays m k start spot (stmts_flow types variables (in_loop (Some start) around) fs start) turns)
 
@@ -254,14 +255,14 @@ turn_stops leaves n m k condition spot types variables around fs start tests tur
 enclosed_ends : (n : Noted) (types : List TypeForm) (variables : List VariableForm) (around : Around) (cleared : Bool) (ds : List DeclarationForm) (fs : StmtsForm) (hs : HandlersForm) (holds : Holds) →
     ending n (stmt_flow types variables around cleared (encloses ds fs hs) holds)
     ≡ left_end n variables around.effects.implicit (gone_with ds)
-    (then_handled types variables (in_block (gone_with ds) around) (passes around.effects fs hs) fs hs (ending (emptied n) (declarations_flow types variables around.effects.implicit ds holds)))
+    (then_handled types variables (in_block (gone_with ds) around) (passes around.effects fs hs) fs hs (ending (emptied n) (declarations_flow types variables around.tracks around.effects.implicit ds holds)))
 enclosed_ends n types variables around cleared ds fs hs holds =
-    block_ends n variables around.effects.implicit (gone_with ds) (then_flow (declarations_flow types variables around.effects.implicit ds holds) (λ at. handled (passes around.effects fs hs) (handlers_flow types variables (in_block (gone_with ds) around) hs) (stmts_flow types variables (in_block (gone_with ds) around) fs at)))
+    block_ends n variables around.effects.implicit (gone_with ds) (then_flow (declarations_flow types variables around.tracks around.effects.implicit ds holds) (λ at. handled (passes around.effects fs hs) (handlers_flow types variables (in_block (gone_with ds) around) hs) (stmts_flow types variables (in_block (gone_with ds) around) fs at)))
     ∙ ap (left_end n variables around.effects.implicit (gone_with ds)) (body_ends (emptied n) types variables (in_block (gone_with ds) around) (passes around.effects fs hs) ds fs hs holds)
 
 -- its declarations break a rule
 pub block_declares_badly : (n : Noted) (types : List TypeForm) (variables : List VariableForm) (around : Around) (cleared : Bool) (ds : List DeclarationForm) (fs : StmtsForm) (hs : HandlersForm) (holds : Holds) (breach : Spot × Rule) →
-    ending (emptied n) (declarations_flow types variables around.effects.implicit ds holds) ≡ Err breach →
+    ending (emptied n) (declarations_flow types variables around.tracks around.effects.implicit ds holds) ≡ Err breach →
     ending n (stmt_flow types variables around cleared (encloses ds fs hs) holds) ≡ Err breach
 block_declares_badly n types variables around cleared ds fs hs holds breach declares =
     enclosed_ends n types variables around cleared ds fs hs holds
@@ -269,7 +270,7 @@ block_declares_badly n types variables around cleared ds fs hs holds breach decl
 
 -- its statements do
 pub block_breaks : (n m : Noted) (types : List TypeForm) (variables : List VariableForm) (around : Around) (cleared : Bool) (gone : Gone) (ds : List DeclarationForm) (fs : StmtsForm) (hs : HandlersForm) (holds at : Holds) (breach : Spot × Rule) →
-    gone ≡ gone_with ds → ending (emptied n) (declarations_flow types variables around.effects.implicit ds holds) ≡ Ok (Some at, m) →
+    gone ≡ gone_with ds → ending (emptied n) (declarations_flow types variables around.tracks around.effects.implicit ds holds) ≡ Ok (Some at, m) →
     ending (noted_for m hs) (stmts_flow types variables (in_block gone around) fs at) ≡ Err breach →
     ending n (stmt_flow types variables around cleared (encloses ds fs hs) holds) ≡ Err breach
 block_breaks n m types variables around cleared gone ds fs hs holds at breach same declares breaks =
@@ -280,7 +281,7 @@ block_breaks n m types variables around cleared gone ds fs hs holds at breach sa
 
 -- its statements end, and its handlers do, or break a rule
 pub block_handles : (n m k : Noted) (types : List TypeForm) (variables : List VariableForm) (around : Around) (cleared : Bool) (gone : Gone) (ds : List DeclarationForm) (fs : StmtsForm) (hs : HandlersForm) (holds at : Holds) (normal : Option Holds) (end : End) →
-    gone ≡ gone_with ds → ending (emptied n) (declarations_flow types variables around.effects.implicit ds holds) ≡ Ok (Some at, m) →
+    gone ≡ gone_with ds → ending (emptied n) (declarations_flow types variables around.tracks around.effects.implicit ds holds) ≡ Ok (Some at, m) →
     ending (noted_for m hs) (stmts_flow types variables (in_block gone around) fs at) ≡ Ok (normal, k) →
     end_handled m (passes around.effects fs hs) (handlers_flow types variables (in_block gone around) hs) normal k ≡ end →
     ending n (stmt_flow types variables around cleared (encloses ds fs hs) holds) ≡ left_end n variables around.effects.implicit gone end
@@ -293,8 +294,8 @@ block_handles n m k types variables around cleared gone ds fs hs holds at normal
 
 -- a body whose declarations and statements come to an end ends as its handlers do
 pub parts_end : (n m k : Noted) (types : List TypeForm) (variables : List VariableForm) (around : Around) (passes : Bool) (ds : List DeclarationForm) (fs : StmtsForm) (hs : HandlersForm) (holds at : Holds) (normal : Option Holds) →
-    ending n (declarations_flow types variables around.effects.implicit ds holds) ≡ Ok (Some at, m) → ending (noted_for m hs) (stmts_flow types variables around fs at) ≡ Ok (normal, k) →
-    ending n (then_flow (declarations_flow types variables around.effects.implicit ds holds) (λ at. handled passes (handlers_flow types variables around hs) (stmts_flow types variables around fs at)))
+    ending n (declarations_flow types variables around.tracks around.effects.implicit ds holds) ≡ Ok (Some at, m) → ending (noted_for m hs) (stmts_flow types variables around fs at) ≡ Ok (normal, k) →
+    ending n (then_flow (declarations_flow types variables around.tracks around.effects.implicit ds holds) (λ at. handled passes (handlers_flow types variables around hs) (stmts_flow types variables around fs at)))
     ≡ end_handled m passes (handlers_flow types variables around hs) normal k
 parts_end n m k types variables around passes ds fs hs holds at normal declares ends =
     body_ends n types variables around passes ds fs hs holds

@@ -1,22 +1,27 @@
 -- The rules of the flow of values: what each variable may be relied on for, from statement to statement.
 
-use Rattle.std.specs.Prelude.{◌≡◌, ℕ, ◌+◌, Bool, true, false, ◌&&◌, ◌||◌, not, ◌==◌, nat_lt, if◌then◌else◌, List, [], ◌∷◌, ◌++◌, map, Option, Some, None}
+use Rattle.std.specs.Prelude.{◌≡◌, ℕ, zero, suc, ◌+◌, Bool, true, false, ◌&&◌, ◌||◌, not, ◌==◌, nat_lt, if◌then◌else◌, List, [], ◌∷◌, ◌++◌, length, map, Option, Some, None}
 use Rattle.std.specs.List.{list_any, slice_get, slice_index_or, slice_set}
 use Rattle.ada_text.specs.declared.spot.Spot.{Spot}
 use Rattle.ada_program.specs.declared.program.ComponentKind.{ComponentKind}
 use Rattle.ada_program.specs.declared.program.ComponentKind.TheVariants as component
+use Rattle.ada_program.specs.declared.program.Finalization.{Finalization}
 use Rattle.ada_program.specs.declared.program.FormalMode.{FormalMode}
 use Rattle.ada_program.specs.declared.program.FormalMode.TheVariants.{In, InOut}
+use Rattle.ada_program.specs.declared.program.PartKind.{PartKind}
+use Rattle.ada_program.specs.declared.program.PartKind.TheVariants as part
+use Rattle.ada_program.specs.declared.program.ProcedureNo.{ProcedureNo}
 use Rattle.ada_program.specs.declared.program.Program.{Program}
 use Rattle.ada_program.specs.declared.program.VariableKind.{VariableKind}
 use Rattle.ada_program.specs.declared.program.VariableKind.TheVariants as variable
 use Rattle.ada_program.specs.Form.{ActualForm, in_value, in_null, in_access, in_record, in_out_path, in_out_access, in_out_component, in_out_record, PathForm, RecordPathForm, ExpressionForm, integer, boolean, reads, is_null, applied_to, chained, LinksForm, no_more_links, a_link, ItemForm, null_item, item_of_path, item_of_value, item_of_record, RightForm, nothing, value_of, allocates, allocates_default, computes, StmtForm, skips, assigns, assigns_record, frees, gets, writes, writes_text, chooses, repeats, counts, exits, calls, returns, raises, encloses, StmtsForm, no_stmts, a_stmt, BranchesForm, otherwise, a_branch, HandlersForm, no_handlers, a_handler, DeclarationForm, creates_pool, collects, declares, declares_record}
-use Rattle.ada_program.specs.ProgramForm.{TypeForm, type_form, VariableForm, variable_form, BodyForm, nowhere, ProgramForm, main_body, program_form}
-use Rattle.ada_program.specs.WellFormed.{record_components, object_in, reached_components, access_of, variable_kind, selected_kind, path_access, is_this, is_borrower, names_borrower}
+use Rattle.ada_program.specs.ProgramForm.{TypeForm, record_of, access_to, object_of, type_form, VariableForm, variable_form, BodyForm, nowhere, ProgramForm, main_body, program_form}
+use Rattle.ada_program.specs.WellFormed.{record_components, object_in, named_in, is_inherited, access_of, variable_kind, selected_kind, path_access, is_this, is_borrower, names_borrower}
 use Rattle.ada_effects.specs.Effects.{expression_raises, path_raises, record_path_raises, actuals_raise, items_raise, initial_raises, initial_starts, initial_frees, assignment_frees, endings_free, Effect, Implicit, Effects, call_raises, call_frees, passes, effect_of, known_of}
 use Rattle.ada_deeds.specs.Implicit.{implicit_of}
 use Rattle.ada_flow.specs.Aliases.{is_alias}
-use Rattle.ada_flow.specs.Parts.{designate_part}
+use Rattle.ada_flow.specs.Parts.{designate_part, has_component_among}
+use Rattle.ada_flow.specs.Tracking.{Tracks, seen, is_tracked, is_whole_formal, tracked_numbers, with_tracked, judged, access_numbers, no_tracks, tracks_behind}
 use Rattle.ada_flow.specs.declared.rule.Hold.{Hold}
 use Rattle.ada_flow.specs.declared.rule.Hold.TheVariants.{Null, Kept, Own, Alias, Lost}
 use Rattle.ada_flow.specs.declared.rule.Region.TheVariants.{Whole}
@@ -105,8 +110,8 @@ ends_with may_raise before after = goes (Some after) (raising_if may_raise befor
 -- access value is lent to a formal parameter of mode `in`, or handed over to one of mode `in out`, where another actual parameter before it begins with
 -- the same variable and one of the two is for mode `in out`, or none is; or a component, which owns what it names or holds an Integer or a Boolean, is given
 -- for a formal parameter of mode `in out`, or the object in which a record lies is passed with it, and that is unsafe, or it is not; or the path to the
--- object in which a record lies; or a record as a whole, which goes to what stands here, and of which some component owns what it names, or none does
--- (4.3.1, 5.2).
+-- object in which a record lies; or a record that is copied or passed, which may be the formal parameter whose components the body tracks (7.6); or a record
+-- as a whole, which goes to what stands here, and of which some component would have two owners then, or none would (4.3.1, 5.2).
 pub data Use : Type 0 where
   reads_it : PathForm → Use
   compares_it : PathForm → Use
@@ -119,6 +124,7 @@ pub data Use : Type 0 where
   opens_it : (owning unsafe : Bool) → PathForm → Use
   passes_it : (unsafe : Bool) → PathForm → Use
   reaches_it : PathForm → Use
+  shares_it : RecordPathForm → Use
   copies_to : (owning : Bool) → Spot → Use
 
 unfoldable mutual
@@ -141,12 +147,12 @@ abbrev pub variable_of : List ℕ → (root : ℕ) → List ℕ
 variable_of [] x = x ∷ []
 variable_of (c ∷ cs) x = []
 
--- The variable that an item moves, if it moves one.
-abbrev pub moved_by_item : ItemForm → List ℕ
-moved_by_item null_item = []
-moved_by_item (item_of_path path) = variable_of path.selectors path.root
-moved_by_item (item_of_value e) = []
-moved_by_item (item_of_record p) = []
+-- The variable, or the tracked component, that an item moves, if it moves one.
+abbrev pub moved_by_item : Tracks → ItemForm → List ℕ
+moved_by_item tracks null_item = []
+moved_by_item tracks (item_of_path path) = variable_of (seen tracks path).selectors (seen tracks path).root
+moved_by_item tracks (item_of_value e) = []
+moved_by_item tracks (item_of_record p) = []
 
 -- Are these the same selectors?
 abbrev pub same_selectors : List ℕ → List ℕ → Bool
@@ -189,12 +195,60 @@ owns_among (Some components) = list_any is_owning components
 abbrev pub is_owning_record : List TypeForm → (record_type : ℕ) → Bool
 is_owning_record types t = owns_among (record_components types t)
 
+-- Is a declared component of an access type?
+abbrev pub is_owning_part : PartKind → Bool
+is_owning_part (part.Elementary kind) = is_owning kind
+is_owning_part (part.Record t) = false
+is_owning_part part.Parent = false
+
+-- Has a record type no Adjust of its own (7.6)?
+abbrev pub leaves_copies : Option Finalization → Bool
+leaves_copies None = true
+leaves_copies (Some f) = is_inherited f.operations.adjust
+
+-- Is a component of an access type declared in a record type that has no Adjust of its own? A copy of one of its objects names what that names.
+abbrev pub leaves_own : Option TypeForm → Bool
+leaves_own None = false
+leaves_own (Some (record_of name parts components finalization)) = list_any (λ c. is_owning_part c.kind) parts && leaves_copies finalization
+leaves_own (Some (access_to name designated pool)) = false
+leaves_own (Some (object_of record_type)) = false
+
+-- Is a component of an access type, or a record that has one?
+abbrev pub owns_within : List TypeForm → PartKind → Bool
+owns_within types (part.Elementary kind) = is_owning kind
+owns_within types (part.Record t) = is_owning_record types t.0
+owns_within types part.Parent = false
+
+-- Is such a component declared in a record type?
+abbrev pub declares_owner : List TypeForm → Option TypeForm → Bool
+declares_owner types None = false
+declares_owner types (Some (record_of name parts components finalization)) = list_any (λ c. owns_within types c.kind) parts
+declares_owner types (Some (access_to name designated pool)) = false
+declares_owner types (Some (object_of record_type)) = false
+
+-- Would a copy of an object of a record type, which has components of access types, leave two owners? It does not where each of them is declared in a type
+-- with an Adjust of its own, and none is looked for more than so many records deep.
+abbrev pub leaves_within : List TypeForm → (depth record_type : ℕ) → Bool
+leaves_within types zero t = is_owning_record types t
+leaves_within types (suc n) t =
+    is_owning_record types t
+    && (leaves_own (slice_get types t) || (not (declares_owner types (slice_get types t)) || has_component_among (leaves_within types n) (slice_get types t)))
+
+-- Would it at any depth? Records are nested no deeper than there are types.
+abbrev pub leaves_owners : List TypeForm → (record_type : ℕ) → Bool
+leaves_owners types t = leaves_within types (length types) t
+
+-- Is what a record of a type gets an aggregate that names owners (4.3.1)? A record that is copied alone is none.
+abbrev pub gathers_owners : List TypeForm → (record_type : ℕ) → List ItemForm → Bool
+gathers_owners types t (item_of_record p ∷ []) = not (p.record_type == t) && is_owning_record types t
+gathers_owners types t items = is_owning_record types t
+
 -- The paths in an item of an aggregate, behind items that name these paths; a record is copied to what stands at the spot.
 abbrev pub uses_in_item : List TypeForm → (spot : Spot) → (target : Option PathForm) → (earlier : List PathForm) → ItemForm → List Use
 uses_in_item types spot target earlier null_item = []
 uses_in_item types spot target earlier (item_of_path path) = item_move target earlier path ∷ []
 uses_in_item types spot target earlier (item_of_value e) = uses_in e
-uses_in_item types spot target earlier (item_of_record p) = copies_to (is_owning_record types p.record_type) spot ∷ reaches_it p.object ∷ []
+uses_in_item types spot target earlier (item_of_record p) = copies_to (leaves_owners types p.record_type) spot ∷ shares_it p ∷ reaches_it p.object ∷ []
 
 -- The path that an item moves, if it moves one.
 abbrev pub named_by_item : ItemForm → List PathForm
@@ -224,7 +278,7 @@ uses_in_right types spot borrows cleared target (computes e) = uses_in e
 
 -- The paths in the items that a record gets that stands at the spot (4.3.1, 5.2).
 abbrev pub uses_in_record : List TypeForm → (spot : Spot) → (record_type : ℕ) → List ItemForm → List Use
-uses_in_record types spot t items = copies_to (is_owning_record types t) spot ∷ uses_in_items types spot None [] items
+uses_in_record types spot t items = copies_to (gathers_owners types t items) spot ∷ uses_in_items types spot None [] items
 
 -- The path of a target is followed up to the object in which its component lies (5.2); a variable is not.
 abbrev pub uses_in_target : PathForm → List Use
@@ -279,6 +333,20 @@ abbrev pub moved_behind : (overwritten : Bool) → List ℕ → Hold → Spot �
 moved_behind overwritten [] hold spot = moved_by hold spot
 moved_behind overwritten (c ∷ cs) hold spot = taken_by overwritten hold spot
 
+-- A tracked component whose value is moved is neither lost nor an alias (7.6), and it is overwritten.
+abbrev pub tracked_by : (overwritten : Bool) → Hold → Spot → Option Breach
+tracked_by true hold spot = moved_by hold spot
+tracked_by false Null spot = Some (spot, TakePair)
+tracked_by false (Kept r) spot = Some (spot, TakePair)
+tracked_by false (Own r) spot = Some (spot, TakePair)
+tracked_by false (Alias r) spot = Some (spot, AliasMoved)
+tracked_by false Lost spot = Some (spot, LostValue)
+
+-- So it is of a path that is a tracked component, or is none.
+abbrev pub moved_from : (tracked overwritten : Bool) → List ℕ → Hold → Spot → Option Breach
+moved_from false overwritten selectors hold spot = moved_behind overwritten selectors hold spot
+moved_from true overwritten selectors hold spot = tracked_by overwritten hold spot
+
 -- An actual parameter begins with a variable with which another one before it begins, and one of them is for a formal parameter of mode `in out`; or what
 -- its path follows may be freed by the call.
 abbrev pub given_by_both : (again : Bool) → Spot → Option Breach
@@ -314,31 +382,61 @@ abbrev pub opened_by_call : (owning unsafe : Bool) → Hold → Spot → Option 
 opened_by_call true unsafe hold spot = taken_by false hold spot
 opened_by_call false unsafe hold spot = passed_by unsafe hold spot
 
--- A record is copied as a whole only if none of its components owns what it names: else there would be two owners.
+-- Nor is a tracked component.
+abbrev pub opened_from : (tracked owning unsafe : Bool) → Hold → Spot → Option Breach
+opened_from false owning unsafe hold spot = opened_by_call owning unsafe hold spot
+opened_from true owning unsafe hold spot = tracked_by false hold spot
+
+-- What a formal parameter may hold that is to give something back: null, or what it owns.
+abbrev pub gives_back : Hold → Bool
+gives_back Null = true
+gives_back (Kept r) = true
+gives_back (Own r) = true
+gives_back (Alias r) = false
+gives_back Lost = false
+
+-- So does each of these.
+abbrev pub all_give_back : List ℕ → Holds → Bool
+all_give_back [] holds = true
+all_give_back (x ∷ xs) holds = gives_back (hold_at holds x) && all_give_back xs holds
+
+-- The formal parameter as a whole is neither copied nor passed while one of its tracked components has no owner in it (7.6).
+abbrev pub shared_by : (all_owned whole : Bool) → Spot → Option Breach
+shared_by true whole spot = None
+shared_by false false spot = None
+shared_by false true spot = Some (spot, AliasMoved)
+
+-- A record is copied as a whole only if that leaves no two owners of what a component names.
 abbrev pub copied_to : (owning : Bool) → Spot → Option Breach
 copied_to false spot = None
 copied_to true spot = Some (spot, RecordCopied)
 
+-- What is held where a path begins, as it is judged.
+abbrev pub hold_seen : Tracks → Holds → PathForm → Hold
+hold_seen tracks holds path = hold_at holds (seen tracks path).root
+
 -- The rule that a use of a path breaks, if it breaks one: of two items that move one path, the second moves what is lost; and no variable is given for
 -- two formal parameters that give a value back.
-abbrev pub broken_in : Holds → Use → Option Breach
-broken_in holds (reads_it path) = lost_behind path.selectors (hold_at holds path.root) path.spot
-broken_in holds (compares_it path) = lost_by (hold_at holds path.root) path.spot
-broken_in holds (borrows_it path) = lost_by (hold_at holds path.root) path.spot
-broken_in holds (moves_it overwritten path) = moved_behind overwritten path.selectors (hold_at holds path.root) path.spot
-broken_in holds (moves_again path) = Some (path.spot, LostValue)
-broken_in holds (gives_again path) = Some (path.spot, UnsafePath)
-broken_in holds (lends_it again path) = lent_by again (hold_at holds path.root) path.spot
-broken_in holds (hands_it again path) = handed_by again (hold_at holds path.root) path.spot
-broken_in holds (opens_it owning unsafe path) = opened_by_call owning unsafe (hold_at holds path.root) path.spot
-broken_in holds (passes_it unsafe path) = passed_by unsafe (hold_at holds path.root) path.spot
-broken_in holds (reaches_it path) = lost_by (hold_at holds path.root) path.spot
-broken_in holds (copies_to owning spot) = copied_to owning spot
+abbrev pub broken_in : Tracks → Holds → Use → Option Breach
+broken_in tracks holds (reads_it path) = lost_behind (seen tracks path).selectors (hold_seen tracks holds path) path.spot
+broken_in tracks holds (compares_it path) = lost_by (hold_seen tracks holds path) path.spot
+broken_in tracks holds (borrows_it path) = lost_by (hold_seen tracks holds path) path.spot
+broken_in tracks holds (moves_it overwritten path) =
+    moved_from (is_tracked tracks path) overwritten (seen tracks path).selectors (hold_seen tracks holds path) path.spot
+broken_in tracks holds (moves_again path) = Some (path.spot, LostValue)
+broken_in tracks holds (gives_again path) = Some (path.spot, UnsafePath)
+broken_in tracks holds (lends_it again path) = lent_by again (hold_seen tracks holds path) path.spot
+broken_in tracks holds (hands_it again path) = handed_by again (hold_seen tracks holds path) path.spot
+broken_in tracks holds (opens_it owning unsafe path) = opened_from (is_tracked tracks path) owning unsafe (hold_seen tracks holds path) path.spot
+broken_in tracks holds (passes_it unsafe path) = passed_by unsafe (hold_seen tracks holds path) path.spot
+broken_in tracks holds (reaches_it path) = lost_by (hold_seen tracks holds path) path.spot
+broken_in tracks holds (shares_it p) = shared_by (all_give_back (tracked_numbers tracks) holds) (is_whole_formal p) p.object.spot
+broken_in tracks holds (copies_to owning spot) = copied_to owning spot
 
 -- The leftmost of the rules that paths break.
-abbrev pub broken_among : Holds → List Use → Option Breach
-broken_among holds [] = None
-broken_among holds (u ∷ us) = leftmost (broken_in holds u) (broken_among holds us)
+abbrev pub broken_among : Tracks → Holds → List Use → Option Breach
+broken_among tracks holds [] = None
+broken_among tracks holds (u ∷ us) = leftmost (broken_in tracks holds u) (broken_among tracks holds us)
 
 -- Where a rule is broken, that is the fault; else this comes.
 abbrev pub unless_broken : Option Breach → Outcome → Outcome
@@ -346,12 +444,12 @@ unless_broken None more = more
 unless_broken (Some breach) more = faults breach.0 breach.1
 
 -- After paths are used.
-abbrev pub using_paths : List Use → Holds → Outcome → Outcome
-using_paths uses holds more = unless_broken (broken_among holds uses) more
+abbrev pub using_paths : Tracks → List Use → Holds → Outcome → Outcome
+using_paths tracks uses holds more = unless_broken (broken_among tracks holds uses) more
 
 -- After an expression is evaluated, which changes nothing (4.4).
-abbrev pub computed : ExpressionForm → Holds → Outcome
-computed e holds = using_paths (uses_in e) holds (ends_with (expression_raises e) holds holds)
+abbrev pub computed : Tracks → ExpressionForm → Holds → Outcome
+computed tracks e holds = using_paths tracks (uses_in e) holds (ends_with (expression_raises e) holds holds)
 
 -- Assignments and initial values (3.3.1, 5.2).
 
@@ -382,21 +480,21 @@ without_values [] holds = holds
 without_values (x ∷ xs) holds = without_values xs (without_value x holds)
 
 -- The variables that items move.
-abbrev pub moved_by_items : List ItemForm → List ℕ
-moved_by_items [] = []
-moved_by_items (i ∷ is) = moved_by_item i ++ moved_by_items is
+abbrev pub moved_by_items : Tracks → List ItemForm → List ℕ
+moved_by_items tracks [] = []
+moved_by_items tracks (i ∷ is) = moved_by_item tracks i ++ moved_by_items tracks is
 
 -- The variable that the value of a path is moved out of, if it is: what is lent to a borrower stays where it is.
-abbrev pub moved_by_value : (borrows : Bool) → PathForm → List ℕ
-moved_by_value borrows path = if borrows then [] else variable_of path.selectors path.root
+abbrev pub moved_by_value : Tracks → (borrows : Bool) → PathForm → List ℕ
+moved_by_value tracks borrows path = if borrows then [] else variable_of (seen tracks path).selectors (seen tracks path).root
 
 -- The variables that an assignment moves (5.2), to a borrower or not; items move theirs once the object is there (4.8).
-abbrev pub moved_by_right : (borrows : Bool) → RightForm → List ℕ
-moved_by_right borrows nothing = []
-moved_by_right borrows (value_of path) = moved_by_value borrows path
-moved_by_right borrows (allocates access items) = moved_by_items items
-moved_by_right borrows (allocates_default access) = []
-moved_by_right borrows (computes e) = []
+abbrev pub moved_by_right : Tracks → (borrows : Bool) → RightForm → List ℕ
+moved_by_right tracks borrows nothing = []
+moved_by_right tracks borrows (value_of path) = moved_by_value tracks borrows path
+moved_by_right tracks borrows (allocates access items) = moved_by_items tracks items
+moved_by_right tracks borrows (allocates_default access) = []
+moved_by_right tracks borrows (computes e) = []
 
 -- What is said of a formal parameter once its value is moved, freed or overwritten: it no longer holds what its call gave it. Of others nothing changes.
 abbrev pub touched_hold : Hold → Hold
@@ -428,12 +526,12 @@ abbrev pub given_hold : (borrows : Bool) → List ℕ → Hold → Hold
 given_hold borrows selectors hold = if borrows then borrowed_hold hold else value_hold selectors hold
 
 -- What a variable holds with what is assigned: an Integer or a Boolean is not relied on.
-abbrev pub right_hold : (borrows : Bool) → RightForm → Holds → Hold
-right_hold borrows nothing holds = Null
-right_hold borrows (value_of path) holds = given_hold borrows path.selectors (hold_at holds path.root)
-right_hold borrows (allocates access items) holds = Own Whole
-right_hold borrows (allocates_default access) holds = Own Whole
-right_hold borrows (computes e) holds = Lost
+abbrev pub right_hold : Tracks → (borrows : Bool) → RightForm → Holds → Hold
+right_hold tracks borrows nothing holds = Null
+right_hold tracks borrows (value_of path) holds = given_hold borrows (seen tracks path).selectors (hold_seen tracks holds path)
+right_hold tracks borrows (allocates access items) holds = Own Whole
+right_hold tracks borrows (allocates_default access) holds = Own Whole
+right_hold tracks borrows (computes e) holds = Lost
 
 -- Whether an assignment may raise an exception where it evaluates what is assigned: there may be no storage.
 abbrev pub evaluation_raises : RightForm → Bool
@@ -443,22 +541,23 @@ evaluation_raises (allocates access items) = true
 evaluation_raises (allocates_default access) = true
 evaluation_raises (computes e) = expression_raises e
 
--- After a variable that stands at the spot, a borrower or not, gets a value (3.3.1, 5.2): what was moved goes there.
-abbrev pub gives_value : List TypeForm → (spot : Spot) → (borrows cleared : Bool) → (x : ℕ) → RightForm → Holds → Outcome
-gives_value types spot borrows cleared x right holds =
-    using_paths (uses_in_right types spot borrows cleared None right) holds
+-- After a variable that stands at the spot, a borrower or not, or a tracked component, which is a target of its own, gets a value (3.3.1, 5.2): what was
+-- moved goes there.
+abbrev pub gives_value : List TypeForm → Tracks → (spot : Spot) → (borrows cleared : Bool) → (target : Option PathForm) → (x : ℕ) → RightForm → Holds → Outcome
+gives_value types tracks spot borrows cleared target x right holds =
+    using_paths tracks (uses_in_right types spot borrows cleared target right) holds
     (ends_with (evaluation_raises right) holds
-    (slice_set (without_values (moved_by_right borrows right) holds) x (right_hold borrows right holds)))
+    (slice_set (without_values (moved_by_right tracks borrows right) holds) x (right_hold tracks borrows right holds)))
 
 -- After a variable gets a value: it is a borrower, or not.
-abbrev pub gives : List TypeForm → List VariableForm → (spot : Spot) → (cleared : Bool) → (x : ℕ) → RightForm → Holds → Outcome
-gives types variables spot cleared x right holds = gives_value types spot (is_borrower variables x) cleared x right holds
+abbrev pub gives : List TypeForm → List VariableForm → Tracks → (spot : Spot) → (cleared : Bool) → (x : ℕ) → RightForm → Holds → Outcome
+gives types variables tracks spot cleared x right holds = gives_value types tracks spot (is_borrower variables x) cleared None x right holds
 
 -- After a component gets a value (5.2), whose object is found first: it owns what it gets, and no variable changes but those that are moved.
-abbrev pub gives_component : List TypeForm → (cleared : Bool) → PathForm → RightForm → Holds → Outcome
-gives_component types cleared path right holds =
-    using_paths (uses_in_target path ++ uses_in_right types path.spot false cleared (Some path) right) holds
-    (ends_with (path_raises path || evaluation_raises right) holds (without_values (moved_by_right false right) holds))
+abbrev pub gives_component : List TypeForm → Tracks → (cleared : Bool) → PathForm → RightForm → Holds → Outcome
+gives_component types tracks cleared path right holds =
+    using_paths tracks (uses_in_target path ++ uses_in_right types path.spot false cleared (Some path) right) holds
+    (ends_with (path_raises path || evaluation_raises right) holds (without_values (moved_by_right tracks false right) holds))
 
 -- Statements (5.1).
 
@@ -494,10 +593,17 @@ released variables x spot holds (Own r) = ends_with false holds (freed variables
 released variables x spot holds (Alias r) = faults spot AliasMoved
 released variables x spot holds Lost = faults spot LostValue
 
+-- A target as it is judged: a variable or a tracked component, or another component.
+abbrev pub gives_seen : List TypeForm → List VariableForm → Tracks → (tracked cleared : Bool) → (selectors : List ℕ) → PathForm → RightForm → Holds → Outcome
+gives_seen types variables tracks true cleared selectors path right holds =
+    gives_value types tracks path.spot false cleared (Some path) (seen tracks path).root right holds
+gives_seen types variables tracks false cleared [] path right holds = gives types variables tracks path.spot cleared path.root right holds
+gives_seen types variables tracks false cleared (c ∷ cs) path right holds = gives_component types tracks cleared path right holds
+
 -- A target: a variable, or a component.
-abbrev pub gives_path : List TypeForm → List VariableForm → (cleared : Bool) → List ℕ → PathForm → RightForm → Holds → Outcome
-gives_path types variables cleared [] path right holds = gives types variables path.spot cleared path.root right holds
-gives_path types variables cleared (c ∷ cs) path right holds = gives_component types cleared path right holds
+abbrev pub gives_path : List TypeForm → List VariableForm → Tracks → (cleared : Bool) → PathForm → RightForm → Holds → Outcome
+gives_path types variables tracks cleared path right holds =
+    gives_seen types variables tracks (is_tracked tracks path) cleared path.selectors path right holds
 
 -- A take pair (5.2): `T := P.C;` and `P.C := null;`, one behind the other, move a value out of a component.
 
@@ -520,9 +626,9 @@ begins_pair (assigns target (value_of path)) fs =
 begins_pair f fs = false
 
 -- The next number of the input goes to a variable, or to a component (Run_Input.Get); there may be none.
-abbrev pub gets_path : List ℕ → PathForm → Holds → Outcome
-gets_path [] path holds = ends_with true holds (slice_set holds path.root Lost)
-gets_path (c ∷ cs) path holds = using_paths (uses_in_target path) holds (ends_with true holds holds)
+abbrev pub gets_path : Tracks → List ℕ → PathForm → Holds → Outcome
+gets_path tracks [] path holds = ends_with true holds (slice_set holds path.root Lost)
+gets_path tracks (c ∷ cs) path holds = using_paths tracks (uses_in_target path) holds (ends_with true holds holds)
 
 -- A path passes an access type, where it follows a value of it: that of its variable, or one behind that (4.1).
 abbrev pub passes_type : List TypeForm → Option VariableKind → (selectors : List ℕ) → (access : ℕ) → Bool
@@ -622,13 +728,14 @@ abbrev pub waits_for : List TypeForm → List VariableForm → (may : ℕ → Bo
 waits_for types variables may [] path = []
 waits_for types variables may (c ∷ cs) path = passes_it (component_passes types variables may path) path ∷ []
 
--- How a target is used while what is assigned to it is initialized.
-abbrev pub uses_in_start : List TypeForm → List VariableForm → Implicit → PathForm → RightForm → List Use
-uses_in_start types variables implicit target nothing = []
-uses_in_start types variables implicit target (value_of path) = []
-uses_in_start types variables implicit target (allocates access items) = []
-uses_in_start types variables implicit target (allocates_default access) = waits_for types variables (implicit.start_frees access) target.selectors target
-uses_in_start types variables implicit target (computes e) = []
+-- How a target is used while what is assigned to it is initialized: a tracked component as a variable.
+abbrev pub uses_in_start : List TypeForm → List VariableForm → Tracks → Implicit → PathForm → RightForm → List Use
+uses_in_start types variables tracks implicit target nothing = []
+uses_in_start types variables tracks implicit target (value_of path) = []
+uses_in_start types variables tracks implicit target (allocates access items) = []
+uses_in_start types variables tracks implicit target (allocates_default access) =
+    waits_for types variables (implicit.start_frees access) (seen tracks target).selectors target
+uses_in_start types variables tracks implicit target (computes e) = []
 
 -- What a record is copied from is found before the target is finalized and adjusted, and needed until then.
 abbrev pub uses_in_copy : List TypeForm → List VariableForm → (may : ℕ → Bool) → List ItemForm → List Use
@@ -643,10 +750,10 @@ uses_in_assignment types variables may target items =
     ∷ (uses_in_record types target.object.spot target.record_type items ++ uses_in_copy types variables may items)
 
 -- After a record gets the values of items (5.2), whose object is found first: no variable changes but those whose aliases are lost.
-abbrev pub gives_record : List TypeForm → List VariableForm → (may : ℕ → Bool) → RecordPathForm → List ItemForm → Holds → Outcome
-gives_record types variables may target items holds =
+abbrev pub gives_record : List TypeForm → List VariableForm → Tracks → (may : ℕ → Bool) → RecordPathForm → List ItemForm → Holds → Outcome
+gives_record types variables tracks may target items holds =
     loses variables may
-    (using_paths (uses_in_assignment types variables may target items) holds
+    (using_paths tracks (uses_in_assignment types variables may target items) holds
     (ends_with (record_path_raises target || items_raise items) holds holds))
 
 -- An object of an access type ends, if there is such a type, and is finalized before (7.6.1, 13.11.2).
@@ -708,16 +815,31 @@ freed_behind true Lost spot = Some (spot, LostValue)
 
 -- After Free (P.C) (13.11.2), for whose own access type this is: the component holds null, and whoever borrowed an object of the type may have
 -- borrowed this one. So it is where a value on the path is null, and Constraint_Error is raised.
-abbrev pub released_behind : List TypeForm → List VariableForm → Implicit → PathForm → Holds → Option ℕ → Outcome
-released_behind types variables implicit path holds access =
+abbrev pub released_behind : List TypeForm → List VariableForm → Tracks → Implicit → PathForm → Holds → Option ℕ → Outcome
+released_behind types variables tracks implicit path holds access =
     unless_broken
-    (freed_behind (way_reached types variables implicit path (hold_at holds path.root) access) (hold_at holds path.root) path.spot)
+    (freed_behind (way_reached types variables implicit path (hold_at holds path.root) access) (hold_seen tracks holds path) path.spot)
     (ends_with (path_raises path) (behind_end variables access holds) (behind_end variables access holds))
 
+-- After Free of a tracked component (7.6, 13.11.2): it is neither lost nor an alias, and its formal parameter lies in no object which the finalization may
+-- reach; then it holds null, and aliases are lost as behind Free of a variable.
+abbrev pub released_tracked : List TypeForm → List VariableForm → Tracks → Implicit → PathForm → Holds → Option ℕ → Outcome
+released_tracked types variables tracks implicit path holds access =
+    unless_broken
+    (handed_by (formal_reached types variables implicit path (hold_at holds path.root) access) (hold_seen tracks holds path) path.spot)
+    (ends_with false holds (freed variables (seen tracks path).root holds))
+
+-- After Free of a tracked component, of a variable, or of another component.
+abbrev pub frees_seen : List TypeForm → List VariableForm → Tracks → (tracked : Bool) → Implicit → List ℕ → PathForm → Holds → Outcome
+frees_seen types variables tracks true implicit selectors path holds =
+    released_tracked types variables tracks implicit path holds (path_access types variables path)
+frees_seen types variables tracks false implicit [] path holds = released variables path.root path.spot holds (hold_at holds path.root)
+frees_seen types variables tracks false implicit (c ∷ cs) path holds =
+    released_behind types variables tracks implicit path holds (path_access types variables path)
+
 -- After Free of a variable, or of a component.
-abbrev pub frees_path : List TypeForm → List VariableForm → Implicit → List ℕ → PathForm → Holds → Outcome
-frees_path types variables implicit [] path holds = released variables path.root path.spot holds (hold_at holds path.root)
-frees_path types variables implicit (c ∷ cs) path holds = released_behind types variables implicit path holds (path_access types variables path)
+abbrev pub frees_path : List TypeForm → List VariableForm → Tracks → Implicit → PathForm → Holds → Outcome
+frees_path types variables tracks implicit path holds = frees_seen types variables tracks (is_tracked tracks path) implicit path.selectors path holds
 
 -- Has a path a value of an access type?
 abbrev pub names_value : Option ℕ → Bool
@@ -730,13 +852,13 @@ uses_in_actual types variables may earlier (in_value e) = uses_in e
 uses_in_actual types variables may earlier in_null = []
 uses_in_actual types variables may earlier (in_access path) = lends_it (is_given earlier path.root) path ∷ []
 uses_in_actual types variables may earlier (in_record p) =
-    passes_it (is_given earlier p.object.root || record_passes types variables may p) p.object ∷ []
+    shares_it p ∷ passes_it (is_given earlier p.object.root || record_passes types variables may p) p.object ∷ []
 uses_in_actual types variables may earlier (in_out_path path) = given_use earlier path ∷ []
 uses_in_actual types variables may earlier (in_out_access path) = hands_it (is_begun_with earlier path.root) path ∷ []
 uses_in_actual types variables may earlier (in_out_component path) =
     opens_it (names_value (path_access types variables path)) (is_begun_with earlier path.root || component_passes types variables may path) path ∷ []
 uses_in_actual types variables may earlier (in_out_record p) =
-    passes_it (is_begun_with earlier p.object.root || record_passes types variables may p) p.object ∷ []
+    shares_it p ∷ passes_it (is_begun_with earlier p.object.root || record_passes types variables may p) p.object ∷ []
 
 -- The paths in actual parameters, in order, behind others.
 abbrev pub uses_in_actuals : List TypeForm → List VariableForm → (may : ℕ → Bool) → (earlier : List ActualForm) → List ActualForm → List Use
@@ -791,9 +913,9 @@ left_unkept kept (in_out_record p ∷ rest) holds = left_unkept (others_kept kep
 
 -- After a call with these actual parameters of a procedure that keeps these. Where they raise an exception themselves, as little is said as where the
 -- body does.
-abbrev pub called : List TypeForm → List VariableForm → Option Effect → Keeping → (actuals : List ActualForm) → Holds → Outcome
-called types variables effect kept actuals holds =
-    using_paths (uses_in_actuals types variables (call_frees effect) [] actuals) holds
+abbrev pub called : List TypeForm → List VariableForm → Tracks → Option Effect → Keeping → (actuals : List ActualForm) → Holds → Outcome
+called types variables tracks effect kept actuals holds =
+    using_paths tracks (uses_in_actuals types variables (call_frees effect) [] actuals) holds
     (ends_with (actuals_raise actuals || call_raises effect (λ e. true))
     (left_unkept kept actuals (left_by_call variables effect holds)) (handed_back actuals (left_by_call variables effect holds)))
 
@@ -871,58 +993,64 @@ all_touched [] holds = holds
 all_touched (x ∷ xs) holds = all_touched xs (touched x holds)
 
 -- What a loop's start holds for the declarations of a block in its body (3.3.1).
-abbrev pub touched_by_all : List VariableForm → List DeclarationForm → Holds → Holds
-touched_by_all variables [] holds = holds
-touched_by_all variables (creates_pool pool ∷ ds) holds = touched_by_all variables ds holds
-touched_by_all variables (collects access ∷ ds) holds = touched_by_all variables ds holds
-touched_by_all variables (declares x right ∷ ds) holds = touched_by_all variables ds (all_touched (moved_by_right (is_borrower variables x) right) holds)
-touched_by_all variables (declares_record x object initial ∷ ds) holds = touched_by_all variables ds holds
+abbrev pub touched_by_all : List VariableForm → Tracks → List DeclarationForm → Holds → Holds
+touched_by_all variables tracks [] holds = holds
+touched_by_all variables tracks (creates_pool pool ∷ ds) holds = touched_by_all variables tracks ds holds
+touched_by_all variables tracks (collects access ∷ ds) holds = touched_by_all variables tracks ds holds
+touched_by_all variables tracks (declares x right ∷ ds) holds = touched_by_all variables tracks ds (all_touched (moved_by_right tracks (is_borrower variables x) right) holds)
+touched_by_all variables tracks (declares_record x object initial ∷ ds) holds = touched_by_all variables tracks ds holds
+
+-- What a loop's start holds for a component that is given for a formal parameter of mode `in out` in its body: one that is tracked is opened.
+abbrev pub opened_tracked : (tracked : Bool) → List VariableForm → (number : ℕ) → Holds → Holds
+opened_tracked false variables x holds = holds
+opened_tracked true variables x holds = opened variables x holds
 
 -- What a loop's start holds for the actual parameters of a call in its body: each variable that is handed over is opened (6.4.1).
-abbrev pub opened_by_actuals : List VariableForm → List ActualForm → Holds → Holds
-opened_by_actuals variables [] holds = holds
-opened_by_actuals variables (in_value e ∷ rest) holds = opened_by_actuals variables rest holds
-opened_by_actuals variables (in_null ∷ rest) holds = opened_by_actuals variables rest holds
-opened_by_actuals variables (in_access path ∷ rest) holds = opened_by_actuals variables rest holds
-opened_by_actuals variables (in_record p ∷ rest) holds = opened_by_actuals variables rest holds
-opened_by_actuals variables (in_out_path path ∷ rest) holds = opened_by_actuals variables rest holds
-opened_by_actuals variables (in_out_access path ∷ rest) holds = opened_by_actuals variables rest (opened variables path.root holds)
-opened_by_actuals variables (in_out_component path ∷ rest) holds = opened_by_actuals variables rest holds
-opened_by_actuals variables (in_out_record p ∷ rest) holds = opened_by_actuals variables rest holds
+abbrev pub opened_by_actuals : List VariableForm → Tracks → List ActualForm → Holds → Holds
+opened_by_actuals variables tracks [] holds = holds
+opened_by_actuals variables tracks (in_value e ∷ rest) holds = opened_by_actuals variables tracks rest holds
+opened_by_actuals variables tracks (in_null ∷ rest) holds = opened_by_actuals variables tracks rest holds
+opened_by_actuals variables tracks (in_access path ∷ rest) holds = opened_by_actuals variables tracks rest holds
+opened_by_actuals variables tracks (in_record p ∷ rest) holds = opened_by_actuals variables tracks rest holds
+opened_by_actuals variables tracks (in_out_path path ∷ rest) holds = opened_by_actuals variables tracks rest holds
+opened_by_actuals variables tracks (in_out_access path ∷ rest) holds = opened_by_actuals variables tracks rest (opened variables path.root holds)
+opened_by_actuals variables tracks (in_out_component path ∷ rest) holds =
+    opened_by_actuals variables tracks rest (opened_tracked (is_tracked tracks path) variables (seen tracks path).root holds)
+opened_by_actuals variables tracks (in_out_record p ∷ rest) holds = opened_by_actuals variables tracks rest holds
 
 abbrev mutual
   -- What a loop's start holds: each variable that a statement of its body assigns or hands over, wherever it stands there, is opened (5.2, 5.5, 6.4.1),
   -- and what is kept and moved or freed there may have changed.
-  pub opened_by : List VariableForm → StmtForm → Holds → Holds
-  opened_by variables skips holds = holds
-  opened_by variables (assigns target right) holds =
-      opened_target variables target.selectors target.root (all_touched (moved_by_right (names_borrower variables target) right) holds)
-  opened_by variables (assigns_record target items) holds = holds
-  opened_by variables (frees access path) holds = all_touched (variable_of path.selectors path.root) holds
-  opened_by variables (gets target) holds = holds
-  opened_by variables (writes e) holds = holds
-  opened_by variables (writes_text text) holds = holds
-  opened_by variables (chooses branches) holds = opened_by_branches variables branches holds
-  opened_by variables (repeats condition fs end_spot) holds = opened_by_all variables fs holds
-  opened_by variables (counts x low high fs end_spot) holds = opened_by_all variables fs holds
-  opened_by variables (exits condition spot) holds = holds
-  opened_by variables (calls procedure actuals) holds = opened_by_actuals variables actuals holds
-  opened_by variables (returns spot) holds = holds
-  opened_by variables (raises e) holds = holds
-  opened_by variables (encloses ds fs hs) holds =
-      opened_by_handlers variables hs (opened_by_all variables fs (touched_by_all variables ds holds))
+  pub opened_by : List VariableForm → Tracks → StmtForm → Holds → Holds
+  opened_by variables tracks skips holds = holds
+  opened_by variables tracks (assigns target right) holds =
+      opened_target variables (seen tracks target).selectors (seen tracks target).root (all_touched (moved_by_right tracks (names_borrower variables target) right) holds)
+  opened_by variables tracks (assigns_record target items) holds = holds
+  opened_by variables tracks (frees access path) holds = all_touched (variable_of (seen tracks path).selectors (seen tracks path).root) holds
+  opened_by variables tracks (gets target) holds = holds
+  opened_by variables tracks (writes e) holds = holds
+  opened_by variables tracks (writes_text text) holds = holds
+  opened_by variables tracks (chooses branches) holds = opened_by_branches variables tracks branches holds
+  opened_by variables tracks (repeats condition fs end_spot) holds = opened_by_all variables tracks fs holds
+  opened_by variables tracks (counts x low high fs end_spot) holds = opened_by_all variables tracks fs holds
+  opened_by variables tracks (exits condition spot) holds = holds
+  opened_by variables tracks (calls procedure actuals) holds = opened_by_actuals variables tracks actuals holds
+  opened_by variables tracks (returns spot) holds = holds
+  opened_by variables tracks (raises e) holds = holds
+  opened_by variables tracks (encloses ds fs hs) holds =
+      opened_by_handlers variables tracks hs (opened_by_all variables tracks fs (touched_by_all variables tracks ds holds))
 
-  pub opened_by_all : List VariableForm → StmtsForm → Holds → Holds
-  opened_by_all variables no_stmts holds = holds
-  opened_by_all variables (a_stmt f fs) holds = opened_by_all variables fs (opened_by variables f holds)
+  pub opened_by_all : List VariableForm → Tracks → StmtsForm → Holds → Holds
+  opened_by_all variables tracks no_stmts holds = holds
+  opened_by_all variables tracks (a_stmt f fs) holds = opened_by_all variables tracks fs (opened_by variables tracks f holds)
 
-  pub opened_by_branches : List VariableForm → BranchesForm → Holds → Holds
-  opened_by_branches variables (otherwise fs) holds = opened_by_all variables fs holds
-  opened_by_branches variables (a_branch e fs branches) holds = opened_by_branches variables branches (opened_by_all variables fs holds)
+  pub opened_by_branches : List VariableForm → Tracks → BranchesForm → Holds → Holds
+  opened_by_branches variables tracks (otherwise fs) holds = opened_by_all variables tracks fs holds
+  opened_by_branches variables tracks (a_branch e fs branches) holds = opened_by_branches variables tracks branches (opened_by_all variables tracks fs holds)
 
-  pub opened_by_handlers : List VariableForm → HandlersForm → Holds → Holds
-  opened_by_handlers variables no_handlers holds = holds
-  opened_by_handlers variables (a_handler choices fs hs) holds = opened_by_handlers variables hs (opened_by_all variables fs holds)
+  pub opened_by_handlers : List VariableForm → Tracks → HandlersForm → Holds → Holds
+  opened_by_handlers variables tracks no_handlers holds = holds
+  opened_by_handlers variables tracks (a_handler choices fs hs) holds = opened_by_handlers variables tracks hs (opened_by_all variables tracks fs holds)
 
 abbrev mutual
   -- Is there an exit from the loop whose body this is (5.7)? One inside another loop leaves that one.
@@ -976,14 +1104,14 @@ left_with leaves start (faults spot rule) = faults spot rule
 left_with leaves start (goes normal raising) = goes (if leaves then Some start else None) raising
 
 -- The condition of a loop, where there is one.
-abbrev pub condition_flow : Option ExpressionForm → Holds → Outcome
-condition_flow None holds = ends_with false holds holds
-condition_flow (Some e) holds = computed e holds
+abbrev pub condition_flow : Tracks → Option ExpressionForm → Holds → Outcome
+condition_flow tracks None holds = ends_with false holds holds
+condition_flow tracks (Some e) holds = computed tracks e holds
 
 -- After a loop with this start: one turn tells what each turn does.
-abbrev pub loop_flow : Option ExpressionForm → (leaves : Bool) → Spot → (turn : Option Holds → Holds → Outcome) → (start : Holds) → Outcome
-loop_flow condition leaves end_spot turn start =
-    left_with leaves start (then_flow (condition_flow condition start) (λ hs. ends_turn start end_spot (turn (Some start) hs)))
+abbrev pub loop_flow : Tracks → Option ExpressionForm → (leaves : Bool) → Spot → (turn : Option Holds → Holds → Outcome) → (start : Holds) → Outcome
+loop_flow tracks condition leaves end_spot turn start =
+    left_with leaves start (then_flow (condition_flow tracks condition start) (λ hs. ends_turn start end_spot (turn (Some start) hs)))
 
 -- Blocks (5.6).
 
@@ -1062,12 +1190,13 @@ handled passes handlers (faults spot rule) = faults spot rule
 handled passes handlers (goes normal None) = goes normal None
 handled passes handlers (goes normal (Some raising)) = either_of (goes normal (raising_if passes raising)) (handlers raising)
 
--- Where a statement stands: what is known of the calls of procedures, and what they keep; which variables of its body are formal parameters that own
--- something or null at each normal end of it; the start of the innermost loop around the statement, if there is one; and what goes with the blocks
+-- Where a statement stands: what is known of the calls of procedures, and what they keep; what its body tracks; which variables of its body are formal
+-- parameters, and which are tracked components, that own something or null at each normal end of it; the start of the innermost loop around the statement, if there is one; and what goes with the blocks
 -- between that loop and the statement, and with the body and all blocks around the statement.
 pub record Around : Type 0 where
   pub effects : Effects
   pub kept : List Keeping
+  pub tracks : Tracks
   pub owed : List ℕ
   pub start : Option Holds
   pub inside : Gone
@@ -1082,19 +1211,19 @@ abbrev pub in_block : Gone → Around → Around
 in_block gone around = record around { inside = gone_with_both gone around.inside; within = gone_with_both gone around.within }
 
 -- An exit (5.7): at a condition, what is known is known behind it, too.
-abbrev pub exit_of : Option ExpressionForm → Holds → Outcome
-exit_of None holds = goes None None
-exit_of (Some e) holds = computed e holds
+abbrev pub exit_of : Tracks → Option ExpressionForm → Holds → Outcome
+exit_of tracks None holds = goes None None
+exit_of tracks (Some e) holds = computed tracks e holds
 
 -- What is left behind blocks whose objects are finalized as they are left (7.6.1).
 abbrev pub left_finalized : List VariableForm → Implicit → Gone → Holds → Holds
 left_finalized variables implicit gone holds = left variables gone (without_freed variables (endings_free implicit gone.types) holds)
 
 -- Inside a loop with this start it leaves blocks first, with which this goes.
-abbrev pub exit_flow : List VariableForm → Implicit → Option Holds → (inside : Gone) → Option ExpressionForm → Spot → Holds → Outcome
-exit_flow variables implicit None inside condition spot holds = exit_of condition holds
-exit_flow variables implicit (Some start) inside condition spot holds =
-    unless_worse start (left_finalized variables implicit inside holds) spot (exit_of condition holds)
+abbrev pub exit_flow : List VariableForm → Tracks → Implicit → Option Holds → (inside : Gone) → Option ExpressionForm → Spot → Holds → Outcome
+exit_flow variables tracks implicit None inside condition spot holds = exit_of tracks condition holds
+exit_flow variables tracks implicit (Some start) inside condition spot holds =
+    unless_worse start (left_finalized variables implicit inside holds) spot (exit_of tracks condition holds)
 
 -- Where the name of a variable is declared: nowhere, if there is none.
 abbrev pub spot_in : Option VariableForm → Spot
@@ -1105,54 +1234,46 @@ spot_in (Some v) = v.spot
 abbrev pub declared_at : List VariableForm → ℕ → Spot
 declared_at variables x = spot_in (slice_get variables x)
 
--- The record type of the object that is known by a type, where it is known.
-abbrev pub owns_at_first : List TypeForm → (object_type : ℕ) → Bool
-owns_at_first types t = owns_among (reached_components types t)
+-- Is what a record of a type gets, where there is such a type, an aggregate that names owners?
+abbrev pub gathers_named : List TypeForm → (record_type : Option ℕ) → List ItemForm → Bool
+gathers_named types None items = false
+gathers_named types (Some r) items = gathers_owners types r items
+
+-- Is the initial value of an object that is known by a type one?
+abbrev pub gathers_at_first : List TypeForm → (object_type : ℕ) → List ItemForm → Bool
+gathers_at_first types t items = gathers_named types (named_in (slice_get types t)) items
 
 -- The paths in the initial value of a record object that stands at the spot, where there is one.
 abbrev pub uses_in_initial : List TypeForm → (spot : Spot) → (object_type : ℕ) → Option (List ItemForm) → List Use
 uses_in_initial types spot t None = []
-uses_in_initial types spot t (Some items) = copies_to (owns_at_first types t) spot ∷ uses_in_items types spot None [] items
+uses_in_initial types spot t (Some items) = copies_to (gathers_at_first types t items) spot ∷ uses_in_items types spot None [] items
 
 -- Declarations, in order (3.11). A record object owns itself as long as it is there; its initialization may raise an exception.
-abbrev pub declaration_flow : List TypeForm → List VariableForm → Implicit → DeclarationForm → Holds → Outcome
-declaration_flow types variables implicit (creates_pool pool) holds = ends_with false holds holds
-declaration_flow types variables implicit (collects access) holds = ends_with false holds holds
-declaration_flow types variables implicit (declares x right) holds =
-    initializes variables implicit right (gives types variables (declared_at variables x) false x right holds)
-declaration_flow types variables implicit (declares_record x object initial) holds =
+abbrev pub declaration_flow : List TypeForm → List VariableForm → Tracks → Implicit → DeclarationForm → Holds → Outcome
+declaration_flow types variables tracks implicit (creates_pool pool) holds = ends_with false holds holds
+declaration_flow types variables tracks implicit (collects access) holds = ends_with false holds holds
+declaration_flow types variables tracks implicit (declares x right) holds =
+    initializes variables implicit right (gives types variables tracks (declared_at variables x) false x right holds)
+declaration_flow types variables tracks implicit (declares_record x object initial) holds =
     loses variables (λ t. initial_frees implicit t object initial)
-    (using_paths (uses_in_initial types (declared_at variables x) object initial) holds
+    (using_paths tracks (uses_in_initial types (declared_at variables x) object initial) holds
     (ends_with (initial_raises initial || initial_starts implicit (λ e. true) object initial) holds (slice_set holds x (Own Whole))))
 
 -- The flow of declarations, in order (3.11).
-abbrev pub declarations_flow : List TypeForm → List VariableForm → Implicit → List DeclarationForm → Holds → Outcome
-declarations_flow types variables implicit [] holds = ends_with false holds holds
-declarations_flow types variables implicit (d ∷ ds) holds =
-    then_flow (declaration_flow types variables implicit d holds) (declarations_flow types variables implicit ds)
+abbrev pub declarations_flow : List TypeForm → List VariableForm → Tracks → Implicit → List DeclarationForm → Holds → Outcome
+declarations_flow types variables tracks implicit [] holds = ends_with false holds holds
+declarations_flow types variables tracks implicit (d ∷ ds) holds =
+    then_flow (declaration_flow types variables tracks implicit d holds) (declarations_flow types variables tracks implicit ds)
 
 -- The bounds of a `for` loop are computed once, before it begins (5.5).
-abbrev pub bounds_flow : (low high : ExpressionForm) → Holds → Outcome
-bounds_flow low high holds = then_flow (computed low holds) (computed high)
+abbrev pub bounds_flow : Tracks → (low high : ExpressionForm) → Holds → Outcome
+bounds_flow tracks low high holds = then_flow (computed tracks low holds) (computed tracks high)
 
 -- Where each turn of it begins: its parameter is an Integer, on which nothing relies.
-abbrev pub counting_start : List VariableForm → (parameter : ℕ) → StmtsForm → Holds → Holds
-counting_start variables x fs holds = slice_set (opened_by_all variables fs holds) x Lost
+abbrev pub counting_start : List VariableForm → Tracks → (parameter : ℕ) → StmtsForm → Holds → Holds
+counting_start variables tracks x fs holds = slice_set (opened_by_all variables tracks fs holds) x Lost
 
 -- Normal ends of a body (6.4.1, 6.5).
-
--- What a formal parameter may hold that is to give something back: null, or what it owns.
-abbrev pub gives_back : Hold → Bool
-gives_back Null = true
-gives_back (Kept r) = true
-gives_back (Own r) = true
-gives_back (Alias r) = false
-gives_back Lost = false
-
--- So does each of these.
-abbrev pub all_give_back : List ℕ → Holds → Bool
-all_give_back [] holds = true
-all_give_back (x ∷ xs) holds = gives_back (hold_at holds x) && all_give_back xs holds
 
 -- A return leaves all blocks and the body (6.5), and there these formal parameters give something back.
 abbrev pub return_flow : List VariableForm → (owed : List ℕ) → (within : Gone) → Spot → Holds → Outcome
@@ -1173,31 +1294,31 @@ abbrev mutual
   pub stmt_flow : List TypeForm → List VariableForm → Around → (cleared : Bool) → StmtForm → Holds → Outcome
   stmt_flow types variables around cleared skips holds = ends_with false holds holds
   stmt_flow types variables around cleared (assigns target right) holds =
-      using_paths (uses_in_start types variables around.effects.implicit target right) holds
-      (initializes variables around.effects.implicit right (gives_path types variables cleared target.selectors target right holds))
+      using_paths around.tracks (uses_in_start types variables around.tracks around.effects.implicit target right) holds
+      (initializes variables around.effects.implicit right (gives_path types variables around.tracks cleared target right holds))
   stmt_flow types variables around cleared (assigns_record target items) holds =
-      gives_record types variables (λ t. assignment_frees around.effects.implicit t target.record_type) target items holds
+      gives_record types variables around.tracks (λ t. assignment_frees around.effects.implicit t target.record_type) target items holds
   stmt_flow types variables around cleared (frees access path) holds =
       finalizes variables around.effects.implicit (path_access types variables path)
-      (frees_path types variables around.effects.implicit path.selectors path holds)
-  stmt_flow types variables around cleared (gets target) holds = gets_path target.selectors target holds
-  stmt_flow types variables around cleared (writes e) holds = computed e holds
+      (frees_path types variables around.tracks around.effects.implicit path holds)
+  stmt_flow types variables around cleared (gets target) holds = gets_path around.tracks target.selectors target holds
+  stmt_flow types variables around cleared (writes e) holds = computed around.tracks e holds
   stmt_flow types variables around cleared (writes_text text) holds = ends_with false holds holds
   stmt_flow types variables around cleared (chooses branches) holds = branches_flow types variables around branches holds
   stmt_flow types variables around cleared (repeats condition fs end_spot) holds =
-      loop_flow condition (is_left condition fs) end_spot (λ start hs. stmts_flow types variables (in_loop start around) fs hs) (opened_by_all variables fs holds)
+      loop_flow around.tracks condition (is_left condition fs) end_spot (λ start hs. stmts_flow types variables (in_loop start around) fs hs) (opened_by_all variables around.tracks fs holds)
   stmt_flow types variables around cleared (counts x low high fs end_spot) holds =
-      then_flow (bounds_flow low high holds)
-      (λ hs. loop_flow None true end_spot (λ start hs. stmts_flow types variables (in_loop start around) fs hs) (counting_start variables x fs hs))
+      then_flow (bounds_flow around.tracks low high holds)
+      (λ hs. loop_flow around.tracks None true end_spot (λ start hs. stmts_flow types variables (in_loop start around) fs hs) (counting_start variables around.tracks x fs hs))
   stmt_flow types variables around cleared (exits condition spot) holds =
-      exit_flow variables around.effects.implicit around.start around.inside condition spot holds
+      exit_flow variables around.tracks around.effects.implicit around.start around.inside condition spot holds
   stmt_flow types variables around cleared (calls procedure actuals) holds =
-      called types variables (slice_get around.effects.calls procedure) (kept_at around.kept procedure) actuals holds
+      called types variables around.tracks (slice_get around.effects.calls procedure) (kept_at around.kept procedure) actuals holds
   stmt_flow types variables around cleared (returns spot) holds = return_flow variables around.owed around.within spot holds
   stmt_flow types variables around cleared (raises e) holds = goes None (Some holds)
   stmt_flow types variables around cleared (encloses ds fs hs) holds =
       leaves_finalized variables around.effects.implicit (gone_with ds)
-      (then_flow (declarations_flow types variables around.effects.implicit ds holds)
+      (then_flow (declarations_flow types variables around.tracks around.effects.implicit ds holds)
       (λ at. handled (passes around.effects fs hs) (handlers_flow types variables (in_block (gone_with ds) around) hs)
       (stmts_flow types variables (in_block (gone_with ds) around) fs at)))
 
@@ -1210,7 +1331,7 @@ abbrev mutual
   pub branches_flow : List TypeForm → List VariableForm → Around → BranchesForm → Holds → Outcome
   branches_flow types variables around (otherwise fs) holds = stmts_flow types variables around fs holds
   branches_flow types variables around (a_branch e fs branches) holds =
-      then_flow (computed e holds) (λ hs. either_of (stmts_flow types variables around fs hs) (branches_flow types variables around branches hs))
+      then_flow (computed around.tracks e holds) (λ hs. either_of (stmts_flow types variables around fs hs) (branches_flow types variables around branches hs))
 
   -- After the handlers that begin with these holds (11.4): their ends join.
   pub handlers_flow : List TypeForm → List VariableForm → Around → HandlersForm → Holds → Outcome
@@ -1246,26 +1367,69 @@ owed_from x [] vs = []
 owed_from x (m ∷ ms) [] = []
 owed_from x (m ∷ ms) (v ∷ vs) = owed_by m v.kind x ++ owed_from (x + 1) ms vs
 
+-- Is a procedure this one, if there is one?
+abbrev pub is_procedure : (procedure : ℕ) → Option ProcedureNo → Bool
+is_procedure q None = false
+is_procedure q (Some procedure) = procedure.0 == q
+
+-- Does a procedure override Adjust (7.6)?
+abbrev pub adjusts : (procedure : ℕ) → Option Finalization → Bool
+adjusts q None = false
+adjusts q (Some f) = is_procedure q f.operations.adjust
+
+-- The components of objects of a type that its Adjust tracks, where a procedure is that: those of access types that are declared in it.
+abbrev pub tracked_of : (procedure : ℕ) → Option TypeForm → List ℕ
+tracked_of q None = []
+tracked_of q (Some (record_of name parts components finalization)) = if adjusts q finalization then access_numbers parts else []
+tracked_of q (Some (access_to name designated pool)) = []
+tracked_of q (Some (object_of record_type)) = []
+
+-- Those of a record type, where there is one.
+abbrev pub tracked_by_adjust : List TypeForm → (procedure : ℕ) → (record_type : Option ℕ) → List ℕ
+tracked_by_adjust types q None = []
+tracked_by_adjust types q (Some r) = tracked_of q (slice_get types r)
+
+-- What the body of a procedure tracks: the Adjust of its formal parameter's type the components of access types that are declared there.
+abbrev pub tracks_of : List TypeForm → (procedure : ℕ) → BodyForm → Tracks
+tracks_of types q b = tracks_behind (length b.variables) (tracked_by_adjust types q (object_record types (variable_kind b.variables 0)))
+
+-- What a tracked component holds where its body begins: another owns the object, as an Adjust gets a copy.
+abbrev pub tracked_hold : (component : ℕ) → Hold
+tracked_hold c = Alias Whole
+
+-- What the variables of a body hold where it begins, and behind them what its tracked components hold.
+abbrev pub holds_at_first : Tracks → List FormalMode → List VariableForm → Holds
+holds_at_first tracks modes variables = with_tracked (first_holds modes variables) (map tracked_hold tracks.components)
+
+-- What is owned or null at each normal end of a body: formal parameters, and tracked components.
+abbrev pub owed_at_ends : Tracks → List FormalMode → List VariableForm → List ℕ
+owed_at_ends tracks modes variables = with_tracked (owed_from 0 modes variables) (tracked_numbers tracks)
+
 -- Around the statements of a body: in no loop, and in no block but the body.
-abbrev pub body_around : Effects → List Keeping → BodyForm → Around
-body_around effects kept b = record {
+abbrev pub body_around : Effects → List Keeping → Tracks → BodyForm → Around
+body_around effects kept tracks b = record {
   effects = effects;
   kept = kept;
-  owed = owed_from 0 b.formals b.variables;
+  tracks = tracks;
+  owed = owed_at_ends tracks b.formals b.variables;
   start = None;
   inside = nothing_gone;
   within = gone_with b.declarations;
 }
 
--- After the declarations, the statements and the handlers of a body (6.3), where this is known of the calls of procedures.
-abbrev pub body_flow : List TypeForm → Effects → List Keeping → BodyForm → Outcome
-body_flow types effects kept b =
-    ends_body (owed_from 0 b.formals b.variables) b.end_spot
-    (leaves_block b.variables (gone_with b.declarations)
-    (then_flow (declarations_flow types b.variables effects.implicit b.declarations (first_holds b.formals b.variables))
+-- After the declarations, the statements and the handlers of a body (6.3) that has these variables as they are judged.
+abbrev pub judged_flow : List TypeForm → List VariableForm → Effects → List Keeping → Tracks → BodyForm → Outcome
+judged_flow types variables effects kept tracks b =
+    ends_body (owed_at_ends tracks b.formals b.variables) b.end_spot
+    (leaves_block variables (gone_with b.declarations)
+    (then_flow (declarations_flow types variables tracks effects.implicit b.declarations (holds_at_first tracks b.formals b.variables))
     (λ at. handled (passes effects b.statements b.handlers)
-    (handlers_flow types b.variables (body_around effects kept b) b.handlers)
-    (stmts_flow types b.variables (body_around effects kept b) b.statements at))))
+    (handlers_flow types variables (body_around effects kept tracks b) b.handlers)
+    (stmts_flow types variables (body_around effects kept tracks b) b.statements at))))
+
+-- So it is of a body that tracks these components, where this is known of the calls of procedures.
+abbrev pub body_flow : List TypeForm → Effects → List Keeping → Tracks → BodyForm → Outcome
+body_flow types effects kept tracks b = judged_flow types (judged types tracks b.variables) effects kept tracks b
 
 -- Is a formal parameter kept, by what it holds where an exception leaves its body?
 abbrev pub is_kept : Hold → Bool
@@ -1291,15 +1455,15 @@ kept_by (faults spot rule) ms = []
 kept_by (goes normal raising) ms = kept_from raising 0 ms
 
 -- What the body of a procedure keeps.
-abbrev pub body_keeps : List TypeForm → Effects → List Keeping → BodyForm → Keeping
-body_keeps types effects kept b = kept_by (body_flow types effects kept b) b.formals
+abbrev pub body_keeps : List TypeForm → Effects → List Keeping → Tracks → BodyForm → Keeping
+body_keeps types effects kept tracks b = kept_by (body_flow types effects kept tracks b) b.formals
 
 -- What these procedures keep, behind others: each calls those before it.
 abbrev pub keeping_from : List TypeForm → Implicit → (known : List Effect) → List Keeping → List BodyForm → List Keeping
 keeping_from types implicit known kept [] = kept
 keeping_from types implicit known kept (b ∷ bs) =
     keeping_from types implicit (known ++ effect_of types (known_of implicit known) b ∷ [])
-    (kept ++ body_keeps types (known_of implicit known) kept b ∷ []) bs
+    (kept ++ body_keeps types (known_of implicit known) kept (tracks_of types (length known) b) b ∷ []) bs
 
 -- What the procedures of a program keep, by their numbers, where this is known of the operations of controlled types.
 abbrev pub keeping_of : Implicit → ProgramForm → List Keeping
@@ -1313,11 +1477,11 @@ first_fault (faults spot rule) (faults other_spot other_rule) = if is_left_of ot
 
 -- After the main body, where none of these procedures breaks a rule, of which each calls those before it.
 abbrev pub bodies_flow : List TypeForm → Implicit → (known : List Effect) → List Keeping → List BodyForm → (main : BodyForm) → Outcome
-bodies_flow types implicit known kept [] main = body_flow types (known_of implicit known) kept main
+bodies_flow types implicit known kept [] main = body_flow types (known_of implicit known) kept no_tracks main
 bodies_flow types implicit known kept (b ∷ bs) main =
-    first_fault (body_flow types (known_of implicit known) kept b)
+    first_fault (body_flow types (known_of implicit known) kept (tracks_of types (length known) b) b)
     (bodies_flow types implicit (known ++ effect_of types (known_of implicit known) b ∷ [])
-    (kept ++ body_keeps types (known_of implicit known) kept b ∷ []) bs main)
+    (kept ++ body_keeps types (known_of implicit known) kept (tracks_of types (length known) b) b ∷ []) bs main)
 
 -- The types of a program, as plain data.
 abbrev pub types_of : Program → List TypeForm

@@ -4,6 +4,8 @@
 pub mod Aliases
 -- which records lie in which
 pub mod Parts
+-- which components of its formal parameter a body tracks
+pub mod Tracking
 -- what a variable may be relied on for, and the rules that follow
 pub mod Flow
 -- which records finalizations reach

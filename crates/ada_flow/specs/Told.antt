@@ -19,6 +19,7 @@ use Rattle.ada_flow.specs.declared.raised.Raised.TheVariants.{Unwanted, Wanted}
 use Rattle.ada_flow.specs.declared.rule.Hold.{Hold}
 use Rattle.ada_flow.specs.declared.rule.Hold.TheVariants.{Lost}
 use Rattle.ada_flow.specs.declared.rule.Rule.{Rule}
+use Rattle.ada_flow.specs.declared.tracks.Tracks.{Tracks as HeldTracks}
 use Rattle.ada_program.specs.declared.program.Program.{Program}
 use Rattle.ada_program.specs.declared.program.Branch.{Branch}
 use Rattle.ada_program.specs.declared.program.Declaration.{Declaration}
@@ -32,11 +33,12 @@ use Rattle.ada_program.specs.declared.program.TypeNo.{TypeNo}
 use Rattle.ada_program.specs.declared.program.Variable.{Variable}
 use Rattle.ada_program.specs.declared.program.VariableKind.{VariableKind}
 use Rattle.ada_program.specs.declared.program.VariableNo.{VariableNo}
-use Rattle.ada_program.specs.Form.{PathForm, ItemForm, ExpressionForm, StmtsForm, branches_form, HandlersForm, no_handlers, a_handler, condition_form, declaration_form, handlers_form, path_form, right_form, stmts_form}
+use Rattle.ada_program.specs.Form.{component_number, PathForm, ItemForm, ExpressionForm, StmtsForm, branches_form, HandlersForm, no_handlers, a_handler, condition_form, declaration_form, handlers_form, path_form, right_form, stmts_form}
 use Rattle.ada_program.specs.ProgramForm.{TypeForm, type_form, VariableForm, variable_form, BodyForm, nowhere}
 use Rattle.ada_program.specs.WellFormed.{access_of}
 use Rattle.ada_effects.specs.Effects.{Implicit, Effects, endings_free, passes}
 use Rattle.ada_effects.specs.Found.{effects_in as effects_held}
+use Rattle.ada_flow.specs.Tracking.{Tracks}
 use Rattle.ada_flow.specs.Flow.{Outcome, faults, goes, Holds, Gone, Around, Keeping, are_as_good, formal_hold, handled, if_own, is_among, is_left, join_option, initializes, kept_from, left_finalized, left_option, uses_in_start, using_paths, in_loop, loop_flow, named_by_item, opened_by_all, without_freed_option, counting_start, exit_flow, gives_path, raising_if, return_flow, then_flow, declarations_flow, handlers_flow, stmts_flow, branches_flow, program_flow}
 
 -- The judgement of a whole program: no rule is broken, or this is the first one, and where.
@@ -99,6 +101,14 @@ effects_in around = effects_held around.setting.effects
 abbrev pub implicit_around : HeldAround → Implicit
 implicit_around around = (effects_in around).implicit
 
+-- The components that a body tracks, as the code keeps them.
+abbrev pub tracks_in : HeldTracks → Tracks
+tracks_in tracks = record { first = tracks.first; components = map component_number tracks.components.now }
+
+-- What the body of a statement tracks.
+abbrev pub tracks_around : HeldAround → Tracks
+tracks_around around = tracks_in around.setting.tracks
+
 -- What a procedure keeps.
 abbrev pub keeping_in : HeldKeeping → Keeping
 keeping_in keeping = keeping.formals.items
@@ -116,6 +126,7 @@ abbrev pub around_of : HeldAround → Around
 around_of around = record {
   effects = effects_in around;
   kept = keepings_in around.setting.kept.now;
+  tracks = tracks_around around;
   owed = map variable_number around.setting.owed.now;
   start = start_in around;
   inside = gone_of around.inside.now;
@@ -251,7 +262,7 @@ exit_keeps variables implicit (Some start) inside holds = are_as_good (left_fina
 
 -- An exit that stands here.
 abbrev pub exit_in : HeldAround → Option ExpressionForm → Spot → Holds → Outcome
-exit_in around condition spot holds = exit_flow (variables_in around) (implicit_around around) (start_in around) (gone_of around.inside.now) condition spot holds
+exit_in around condition spot holds = exit_flow (variables_in around) (tracks_around around) (implicit_around around) (start_in around) (gone_of around.inside.now) condition spot holds
 
 -- A return that stands here.
 abbrev pub return_in : HeldAround → Spot → Holds → Outcome
@@ -270,26 +281,26 @@ handled_in around before statements handlers normal inner =
 -- A loop that stands here, from its start.
 abbrev pub turns_of : HeldAround → Option Expression → (leaves : Bool) → List Stmt → Spot → (start : Holds) → Outcome
 turns_of around condition leaves body end start =
-    loop_flow (condition_form condition) leaves end
+    loop_flow (tracks_around around) (condition_form condition) leaves end
     (λ place hs. stmts_flow (types_in around) (variables_in around) (in_loop place (around_of around)) (stmts_form body) hs) start
 
 -- `loop`, or `while` with a condition.
 abbrev pub loop_of : HeldAround → Option Expression → List Stmt → Spot → Holds → Outcome
 loop_of around condition body end holds =
     turns_of around condition (is_left (condition_form condition) (stmts_form body)) body end
-    (opened_by_all (variables_in around) (stmts_form body) holds)
+    (opened_by_all (variables_in around) (tracks_around around) (stmts_form body) holds)
 
 -- `for`, behind its bounds.
 abbrev pub for_of : HeldAround → (parameter : ℕ) → List Stmt → Spot → Holds → Outcome
 for_of around parameter body end holds =
-    turns_of around None true body end (counting_start (variables_in around) parameter (stmts_form body) holds)
+    turns_of around None true body end (counting_start (variables_in around) (tracks_around around) parameter (stmts_form body) holds)
 
 -- An assignment, which is the first one of a take pair, or is not.
 abbrev pub assignment_of : HeldAround → (cleared : Bool) → Path → Right → Holds → Outcome
 assignment_of around cleared target value holds =
-    using_paths (uses_in_start (types_in around) (variables_in around) (implicit_around around) (path_form target) (right_form value)) holds
+    using_paths (tracks_around around) (uses_in_start (types_in around) (variables_in around) (tracks_around around) (implicit_around around) (path_form target) (right_form value)) holds
     (initializes (variables_in around) (implicit_around around) (right_form value)
-    (gives_path (types_in around) (variables_in around) cleared (path_form target).selectors (path_form target) (right_form value) holds))
+    (gives_path (types_in around) (variables_in around) (tracks_around around) cleared (path_form target) (right_form value) holds))
 
 -- The component that an assignment goes to, if it goes to one.
 abbrev pub target_of : Option (Bor Path) → Option PathForm
@@ -303,7 +314,7 @@ named_by_items (i ∷ is) = named_by_item i ++ named_by_items is
 
 -- Declarations, in order.
 abbrev pub declarations_of : HeldAround → List Declaration → Holds → Outcome
-declarations_of around declarations holds = declarations_flow (types_in around) (variables_in around) (implicit_around around) (map declaration_form declarations) holds
+declarations_of around declarations holds = declarations_flow (types_in around) (variables_in around) (tracks_around around) (implicit_around around) (map declaration_form declarations) holds
 
 -- What a variable of a kind is relied on for where its body begins, if it is a formal parameter of a mode, or if it is none.
 abbrev pub first_hold : Option FormalMode → VariableKind → Hold

@@ -1,15 +1,16 @@
 //! The flow of values through initial values and assignments.
 
 ghost use Rattle.std.specs.Prelude.{◌≡◌};
-ghost use Rattle.ada_flow.specs.Flow.{broken_among, gives, gives_component, gets_path, declaration_flow, initializes, uses_in_start, waits_for};
-ghost use Rattle.ada_flow.specs.Told.{Follows, Leads, assignment_of, broken, declarations_of, implicit_around, types_in, variables_in};
+ghost use Rattle.ada_flow.specs.Flow.{broken_among, gives_component, gives_value, gets_path, declaration_flow, initializes, uses_in_start, waits_for};
+ghost use Rattle.ada_flow.specs.Told.{Follows, Leads, assignment_of, broken, declarations_of, implicit_around, target_of, tracks_around, types_in, variables_in};
+ghost use Rattle.ada_flow.specs.Tracking.{seen};
 ghost use Rattle.ada_effects.specs.Found.{has_number};
 ghost use Rattle.ada_program.specs.Form.{path_form, right_form, declaration_form};
 
 use crate::around::Around;
 use crate::fault::{Breach, FlowFault};
 use crate::follow::{follow_target, leftmost, unless_broken};
-use crate::holds::hold_of;
+use crate::holds::hold_seen;
 use crate::implicit::start;
 use crate::known::Known;
 use crate::losing::freed_at_start;
@@ -24,7 +25,8 @@ use ada_program::program::{Declaration, Right};
 use ada_program::{Path, Spot, TypeNo, VariableNo};
 use std::alloc::Global;
 
-/// A variable that stands at the spot gets a value: it is evaluated first, a new object is initialized, and what is moved goes there.
+/// A variable that stands at the spot, a borrower or not, or a tracked component, which is this target, gets a value: it is evaluated
+/// first, a new object is initialized, and what is moved goes there.
 #[tactic(auto, using(std::proofs::lemmas::Grind::common_steps, crate::proofs::Initialized::giving_steps))]
 fn give(
     alloc: Global,
@@ -32,28 +34,32 @@ fn give(
     known: &mut Known,
     raised: &mut Raised,
     spot: Spot,
+    borrows: bool,
     cleared: bool,
-    target: VariableNo,
+    target: Option<&Path>,
+    place: VariableNo,
     value: &Right,
 ) -> Result<(), FlowFault>
     ensures { Leads result known.new.holds.items raised.old raised.new
         (initializes (variables_in around.now) (implicit_around around.now) (right_form value.now)
-        (gives (types_in around.now) (variables_in around.now) spot cleared target.0 (right_form value.now) known.old.holds.items)) }
+        (gives_value (types_in around.now) (tracks_around around.now) spot borrows cleared (target_of target.entry) place.0 (right_form value.now) known.old.holds.items)) }
 {
-    let borrows = is_borrower(around.setting.variables, target.0);
+    let tracks = around.setting.tracks;
     use_right(
         around.setting.types,
+        tracks,
         spot,
         known.holds(),
         borrows,
         cleared,
+        target,
         value,
     )?;
     start(alloc, around, known, value)?;
     raised.note_if(evaluation_raises(value), alloc, known)?;
-    let hold = right_hold(known.holds(), borrows, value);
-    lose_moved(known, borrows, value);
-    known.put(target, hold);
+    let hold = right_hold(tracks, known.holds(), borrows, value);
+    lose_moved(tracks, known, borrows, value);
+    known.put(place, hold);
     Ok(())
 }
 
@@ -71,16 +77,24 @@ fn give_component(
 ) -> Result<(), FlowFault>
     ensures { Leads result known.new.holds.items raised.old raised.new
         (initializes (variables_in around.now) (implicit_around around.now) (right_form value.now)
-        (gives_component (types_in around.now) cleared (path_form target.now) (right_form value.now) known.old.holds.items)) }
+        (gives_component (types_in around.now) (tracks_around around.now) cleared (path_form target.now) (right_form value.now) known.old.holds.items)) }
 {
-    use_assignment(around.setting.types, known.holds(), cleared, target, value)?;
+    let tracks = around.setting.tracks;
+    use_assignment(
+        around.setting.types,
+        tracks,
+        known.holds(),
+        cleared,
+        target,
+        value,
+    )?;
     start(alloc, around, known, value)?;
     raised.note_if(
         path_raises(target) || evaluation_raises(value),
         alloc,
         known,
     )?;
-    lose_moved(known, false, value);
+    lose_moved(tracks, known, false, value);
     Ok(())
 }
 
@@ -93,10 +107,12 @@ fn broken_in_wait(
     target: &Path,
 ) -> Option<Breach>
     ensures { let path = path_form target.now in
-        let uses = waits_for (types_in around.now) (variables_in around.now) (has_number freed.now) path.selectors path in
-        broken result ≡ broken_among holds.now uses }
+        let at = seen (tracks_around around.now) path in
+        let uses = waits_for (types_in around.now) (variables_in around.now) (has_number freed.now) at.selectors path in
+        broken result ≡ broken_among (tracks_around around.now) holds.now uses }
 {
-    if target.selectors.is_empty() {
+    let tracks = around.setting.tracks;
+    if tracks.seen(target).selectors.is_empty() {
         return None;
     }
     let passes = component_passes(
@@ -106,7 +122,7 @@ fn broken_in_wait(
         target,
     );
     leftmost(
-        passed_by(passes, hold_of(holds, target.root), target.spot),
+        passed_by(passes, hold_seen(tracks, holds, target), target.spot),
         None,
     )
 }
@@ -121,8 +137,8 @@ fn use_start(
     target: &Path,
     value: &Right,
 ) -> Result<(), Breach>
-    ensures { let uses = uses_in_start (types_in around.now) (variables_in around.now) (implicit_around around.now) (path_form target.now) (right_form value.now) in
-        Follows result (broken_among holds.now uses) }
+    ensures { let uses = uses_in_start (types_in around.now) (variables_in around.now) (tracks_around around.now) (implicit_around around.now) (path_form target.now) (right_form value.now) in
+        Follows result (broken_among (tracks_around around.now) holds.now uses) }
 {
     match value {
         Right::Default(access) => {
@@ -133,7 +149,7 @@ fn use_start(
     }
 }
 
-/// An assignment: its target is a variable or a component.
+/// An assignment: its target is a tracked component, a variable or another component.
 pub(crate) fn assign(
     alloc: Global,
     around: &Around<'_>,
@@ -147,14 +163,32 @@ pub(crate) fn assign(
         (assignment_of around.now cleared target.now value.now known.old.holds.items) }
 {
     use_start(around, known.holds(), target, value)?;
-    if target.selectors.is_empty() {
+    if around.setting.tracks.has(target) {
+        let place = around.setting.tracks.seen(target).root;
+        let itself = Some(target);
         give(
             alloc,
             around,
             known,
             raised,
             target.spot,
+            false,
             cleared,
+            itself,
+            place,
+            value,
+        )
+    } else if target.selectors.is_empty() {
+        let borrows = is_borrower(around.setting.variables, target.root.0);
+        give(
+            alloc,
+            around,
+            known,
+            raised,
+            target.spot,
+            borrows,
+            cleared,
+            None,
             target.root,
             value,
         )
@@ -166,18 +200,19 @@ pub(crate) fn assign(
 /// `Run_Input.Get (X)`, or with a component, whose object is found first: there may be no number.
 pub(crate) fn get(
     alloc: Global,
+    around: &Around<'_>,
     known: &mut Known,
     raised: &mut Raised,
     target: &Path,
 ) -> Result<(), FlowFault>
     ensures { let read = path_form target.now in
-        Leads result known.new.holds.items raised.old raised.new (gets_path read.selectors read known.old.holds.items) }
+        Leads result known.new.holds.items raised.old raised.new (gets_path (tracks_around around.now) read.selectors read known.old.holds.items) }
 {
     if target.selectors.is_empty() {
         raised.note(alloc, known)?;
         known.put(target.root, Hold::Lost);
     } else {
-        follow_target(known.holds(), target)?;
+        follow_target(around.setting.tracks, known.holds(), target)?;
         raised.note(alloc, known)?;
     }
     Ok(())
@@ -192,7 +227,7 @@ fn declaration(
     declaration: &Declaration,
 ) -> Result<(), FlowFault>
     ensures { Leads result known.new.holds.items raised.old raised.new
-        (declaration_flow (types_in around.now) (variables_in around.now) (implicit_around around.now) (declaration_form declaration.now) known.old.holds.items) }
+        (declaration_flow (types_in around.now) (variables_in around.now) (tracks_around around.now) (implicit_around around.now) (declaration_form declaration.now) known.old.holds.items) }
 {
     match declaration {
         Declaration::Pool(_) | Declaration::Collection(_) => Ok(()),
@@ -201,7 +236,10 @@ fn declaration(
             initial: Some(value),
         } => {
             let spot = around.declared_at(*variable);
-            give(alloc, around, known, raised, spot, false, *variable, value)
+            let borrows = is_borrower(around.setting.variables, variable.0);
+            give(
+                alloc, around, known, raised, spot, borrows, false, None, *variable, value,
+            )
         }
         Declaration::Variable {
             variable,

@@ -3,7 +3,7 @@
 ghost use Rattle.std.specs.Prelude.{◌≡◌, Some, None, map};
 ghost use Rattle.ada_effects.specs.Found.{effects_in};
 ghost use Rattle.ada_flow.specs.Flow as rules;
-ghost use Rattle.ada_flow.specs.Told.{around_of, gone_of, keepings_in, types_in, variable_number, variables_in};
+ghost use Rattle.ada_flow.specs.Told.{around_of, gone_of, keepings_in, tracks_in, types_in, variable_number, variables_in};
 ghost use Rattle.ada_program.specs.ProgramForm.{type_form, variable_form};
 
 use crate::gone::Gone;
@@ -32,6 +32,7 @@ impl<'a> Around<'a> {
         ensures place { around_of result ≡ record {
           effects = effects_in setting.entry.effects;
           kept = keepings_in setting.entry.kept.now;
+          tracks = tracks_in setting.entry.tracks;
           owed = map variable_number setting.entry.owed.now;
           start = None;
           inside = gone_of inside.now;
@@ -58,6 +59,7 @@ impl<'a> Around<'a> {
         ensures place { around_of result ≡ record {
           effects = effects_in setting.entry.effects;
           kept = keepings_in setting.entry.kept.now;
+          tracks = tracks_in setting.entry.tracks;
           owed = map variable_number setting.entry.owed.now;
           start = Some start.now;
           inside = gone_of inside.now;

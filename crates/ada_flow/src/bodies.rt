@@ -1,14 +1,15 @@
 //! The flow of values through bodies, and through a whole program: each body on its own, with what is known of the calls of
 //! the procedures before it.
 
-ghost use Rattle.std.specs.Prelude.{◌≡◌, ◌++◌, ◌∷◌, [], Option, None, IfOk, MatchResult, OnOk, map};
+ghost use Rattle.std.specs.Prelude.{◌≡◌, ◌++◌, ◌∷◌, [], Option, None, IfOk, MatchResult, OnOk, length, map};
 ghost use Rattle.ada_effects.specs.Effects as rules;
 ghost use Rattle.ada_effects.specs.Effects.{known_of};
 ghost use Rattle.ada_effects.specs.Found.{calls_in, effects_in, implicit_in};
-ghost use Rattle.ada_flow.specs.Flow.{Holds, bodies_flow, body_flow, body_keeps, ends_body, faults, flow_of, goes, kept_by, leftmost};
+ghost use Rattle.ada_flow.specs.Flow.{Holds, bodies_flow, body_flow, body_keeps, ends_body, faults, flow_of, goes, judged_flow, kept_by, leftmost, tracks_of};
 ghost use Rattle.ada_flow.specs.Reached.{AreRows};
-ghost use Rattle.ada_flow.specs.Told.{Ends, body_in, breach_of, broken, fault_in, held, judgement, keeping_in, keepings_in, kept_judgement, parts_of, variable_number};
-ghost use Rattle.ada_program.specs.ProgramForm.{body_form, main_body, program_form, type_form};
+ghost use Rattle.ada_flow.specs.Told.{Ends, body_in, breach_of, broken, fault_in, held, judgement, keeping_in, keepings_in, kept_judgement, parts_of, tracks_in, variable_number};
+ghost use Rattle.ada_flow.specs.Tracking.{no_tracks};
+ghost use Rattle.ada_program.specs.ProgramForm.{body_form, main_body, program_form, type_form, variable_form};
 ghost use Rattle.ada_text.specs.Exactly.{Exactly};
 
 use crate::analysis::declare;
@@ -17,7 +18,7 @@ use crate::blocks::handled;
 use crate::fault::{Breach, FlowFault};
 use crate::follow::leftmost;
 use crate::gone::Gone;
-use crate::keeping::{Keeping, all_give_back, owed_by, what_is_kept};
+use crate::keeping::{Keeping, all_give_back, holds_at_first, owed_at_ends, what_is_kept};
 use crate::kinds::leave_end;
 use crate::known::Known;
 use crate::raised::Raised;
@@ -25,6 +26,8 @@ use crate::reached::ReachedRecords;
 use crate::rule::Rule;
 use crate::setting::Setting;
 use crate::statements::statements;
+use crate::tracking::{judged, tracked_components};
+use crate::tracks::Tracks;
 use ada_effects::{Effect, Effects, Implicit, effect_of};
 use ada_program::program::{Declaration, FormalMode, Handler, Procedure, TypeDefinition, Variable};
 use ada_program::{Program, Spot, Stmt, VariableNo};
@@ -68,8 +71,8 @@ fn give_all_back(owed: &[VariableNo], end: &Option<Known>, spot: Spot) -> Result
     }
 }
 
-/// Whether a body obeys the rules of the flow of values: its declarations, its statements and their handlers. What it keeps of its
-/// formal parameters, where it does.
+/// Whether a body obeys the rules of the flow of values, whose variables are judged as these: its declarations, its statements and
+/// their handlers. What it keeps of its formal parameters, where it does.
 ///
 /// # Errors
 /// The first rule that is broken, with its spot, or want of memory.
@@ -79,6 +82,8 @@ fn body(
     effects: Effects<'_>,
     reached: &ReachedRecords,
     kept: &[Keeping],
+    tracks: Tracks<'_>,
+    judged: &[Variable],
     formals: &[FormalMode],
     variables: &[Variable],
     declarations: &[Declaration],
@@ -89,21 +94,22 @@ fn body(
     requires { AreRows (map type_form types.now) (implicit_in effects.implicit.now) reached.now.rows.items }
     ensures { let whole = body_in formals.now variables.now declarations.now statements.now handlers.now end in
         Exactly keeping_in breach_of result
-        (kept_judgement (body_flow (map type_form types.now) (effects_in effects.entry) (keepings_in kept.now) whole) formals.now) }
+        (kept_judgement (judged_flow (map type_form types.now) (map variable_form judged.now) (effects_in effects.entry) (keepings_in kept.now) (tracks_in tracks.entry) whole) formals.now) }
 {
-    let owed = owed_by(alloc, formals, variables)?;
+    let owed = owed_at_ends(alloc, tracks, formals, variables)?;
     let gone = Gone::with(alloc, declarations)?;
     let nothing = Gone::nothing(alloc);
     let setting = Setting {
         types,
-        variables,
+        variables: judged,
+        tracks,
         effects,
         reached,
         kept,
         owed: &owed,
     };
     let around = Around::in_body(setting, &nothing, &gone);
-    let known = Known::at_first(alloc, formals, variables)?;
+    let known = Known::of(holds_at_first(alloc, tracks, formals, variables)?);
     let mut raised = Raised::at_first(formals);
     let last = parts(
         alloc,
@@ -114,9 +120,9 @@ fn body(
         statements,
         handlers,
     )?;
-    let last = leave_end(alloc, variables, &gone, last)?;
+    let last = leave_end(alloc, judged, &gone, last)?;
     give_all_back(&owed, &last, end)?;
-    let raising = leave_end(alloc, variables, &gone, raised.into_known())?;
+    let raising = leave_end(alloc, judged, &gone, raised.into_known())?;
     Ok(what_is_kept(alloc, &raising, formals)?)
 }
 
@@ -131,6 +137,8 @@ fn body_fault(
     effects: Effects<'_>,
     reached: &ReachedRecords,
     kept: &[Keeping],
+    tracks: Tracks<'_>,
+    judged: &[Variable],
     formals: &[FormalMode],
     variables: &[Variable],
     declarations: &[Declaration],
@@ -140,10 +148,10 @@ fn body_fault(
 ) -> Result<(Option<Breach>, Keeping), FlowFault>
     requires { AreRows (map type_form types.now) (implicit_in effects.implicit.now) reached.now.rows.items }
     ensures found { let whole = body_in formals.now variables.now declarations.now statements.now handlers.now end in
-        let flow = body_flow (map type_form types.now) (effects_in effects.entry) (keepings_in kept.now) whole in
+        let flow = judged_flow (map type_form types.now) (map variable_form judged.now) (effects_in effects.entry) (keepings_in kept.now) (tracks_in tracks.entry) whole in
         MatchResult result (λ told. broken told.0 ≡ fault_in flow) (λ fault. breach_of fault ≡ None) }
     ensures keeps { let whole = body_in formals.now variables.now declarations.now statements.now handlers.now end in
-        let flow = body_flow (map type_form types.now) (effects_in effects.entry) (keepings_in kept.now) whole in
+        let flow = judged_flow (map type_form types.now) (map variable_form judged.now) (effects_in effects.entry) (keepings_in kept.now) (tracks_in tracks.entry) whole in
         IfOk result (λ told. keeping_in told.1 ≡ kept_by flow formals.now) }
 {
     match body(
@@ -152,6 +160,8 @@ fn body_fault(
         effects,
         reached,
         kept,
+        tracks,
+        judged,
         formals,
         variables,
         declarations,
@@ -196,6 +206,50 @@ fn keep(kept: &mut Vec<Keeping>, keeping: Keeping) -> Result<(), AllocError>
     Ok(())
 }
 
+/// The first rule that the body of the procedure of a number breaks, and where, if it breaks one, and what it keeps of its formal
+/// parameters. An Adjust tracks components of its own.
+///
+/// # Errors
+/// Want of memory.
+fn own_fault(
+    alloc: Global,
+    types: &[TypeDefinition],
+    effects: Effects<'_>,
+    reached: &ReachedRecords,
+    kept: &[Keeping],
+    number: usize,
+    procedure: &Procedure,
+) -> Result<(Option<Breach>, Keeping), FlowFault>
+    requires { AreRows (map type_form types.now) (implicit_in effects.implicit.now) reached.now.rows.items }
+    ensures found { let whole = body_form procedure.now in
+        let all = map type_form types.now in
+        let flow = body_flow all (effects_in effects.entry) (keepings_in kept.now) (tracks_of all number whole) whole in
+        MatchResult result (λ told. broken told.0 ≡ fault_in flow) (λ fault. breach_of fault ≡ None) }
+    ensures keeps { let whole = body_form procedure.now in
+        let all = map type_form types.now in
+        let flow = body_flow all (effects_in effects.entry) (keepings_in kept.now) (tracks_of all number whole) whole in
+        IfOk result (λ told. keeping_in told.1 ≡ kept_by flow procedure.now.formals.items) }
+{
+    let components = tracked_components(alloc, types, number, &procedure.variables)?;
+    let variables = judged(alloc, types, &components, &procedure.variables)?;
+    let tracks = Tracks::behind(procedure.variables.len(), &components);
+    body_fault(
+        alloc,
+        types,
+        effects,
+        reached,
+        kept,
+        tracks,
+        &variables,
+        &procedure.formals,
+        &procedure.variables,
+        &procedure.declarations,
+        &procedure.statements,
+        &procedure.handlers,
+        procedure.end,
+    )
+}
+
 /// The first rule that the body of a procedure breaks, and where, if it breaks one. What is known of its calls and what it keeps
 /// join those of the procedures before it.
 ///
@@ -212,30 +266,21 @@ fn procedure_fault(
 ) -> Result<Option<Breach>, FlowFault>
     requires { AreRows (map type_form types.now) (implicit_in implicit.now) reached.now.rows.items }
     ensures found { let known = known_of (implicit_in implicit.now) (calls_in calls.old.items) in
+        let tracks = tracks_of (map type_form types.now) (length (calls_in calls.old.items)) (body_form procedure.now) in
         MatchResult result
         (λ found. broken found
-        ≡ fault_in (body_flow (map type_form types.now) known (keepings_in kept.old.items) (body_form procedure.now)))
+        ≡ fault_in (body_flow (map type_form types.now) known (keepings_in kept.old.items) tracks (body_form procedure.now)))
         (λ fault. breach_of fault ≡ None) }
     ensures known { let known = known_of (implicit_in implicit.now) (calls_in calls.old.items) in
         OnOk result (calls_in calls.new.items ≡ calls_in calls.old.items
         ++ rules.effect_of (map type_form types.now) known (body_form procedure.now) ∷ []) }
     ensures keeps { let known = known_of (implicit_in implicit.now) (calls_in calls.old.items) in
+        let tracks = tracks_of (map type_form types.now) (length (calls_in calls.old.items)) (body_form procedure.now) in
         OnOk result (keepings_in kept.new.items ≡ keepings_in kept.old.items
-        ++ body_keeps (map type_form types.now) known (keepings_in kept.old.items) (body_form procedure.now) ∷ []) }
+        ++ body_keeps (map type_form types.now) known (keepings_in kept.old.items) tracks (body_form procedure.now) ∷ []) }
 {
-    let (found, keeping) = body_fault(
-        alloc,
-        types,
-        Effects { implicit, calls },
-        reached,
-        kept,
-        &procedure.formals,
-        &procedure.variables,
-        &procedure.declarations,
-        &procedure.statements,
-        &procedure.handlers,
-        procedure.end,
-    )?;
+    let effects = Effects { implicit, calls };
+    let (found, keeping) = own_fault(alloc, types, effects, reached, kept, calls.len(), procedure)?;
     learn(alloc, types, implicit, calls, procedure)?;
     keep(kept, keeping)?;
     Ok(found)
@@ -262,7 +307,7 @@ fn procedures_fault(
         let implicit_calls = implicit_in implicit.now in
         MatchResult result
         (λ found. leftmost (broken found)
-        (fault_in (body_flow types (known_of implicit_calls (calls_in calls.new.items)) (keepings_in kept.new.items) main))
+        (fault_in (body_flow types (known_of implicit_calls (calls_in calls.new.items)) (keepings_in kept.new.items) no_tracks main))
         ≡ fault_in (bodies_flow types implicit_calls (calls_in calls.old.items) (keepings_in kept.old.items) bodies main))
         (λ fault. breach_of fault ≡ None) }
 {
@@ -304,6 +349,8 @@ pub fn flow(alloc: Global, program: &Program, implicit: &Implicit) -> Result<(),
         },
         &reached,
         &kept,
+        Tracks::nothing(),
+        &program.variables,
         &[],
         &program.variables,
         &program.declarations,

@@ -5,7 +5,7 @@ ghost use Rattle.std.specs.List.{slice_get, slice_index_or};
 ghost use Rattle.ada_effects.specs.Effects as effects;
 ghost use Rattle.ada_effects.specs.Found.{effect_in, has_number};
 ghost use Rattle.ada_flow.specs.Flow as rules;
-ghost use Rattle.ada_flow.specs.Told.{Leads, also_noted, around_of, effects_in, noted, types_in, variables_in};
+ghost use Rattle.ada_flow.specs.Told.{Leads, also_noted, around_of, effects_in, noted, tracks_around, types_in, variables_in};
 ghost use Rattle.ada_program.specs.Form.{ActualForm, actual_form};
 
 use crate::around::Around;
@@ -171,13 +171,14 @@ pub(crate) fn call(
     ensures { let effect = slice_get (effects_in around.now).calls procedure.0 in
         let kept = rules.kept_at (around_of around.now).kept procedure.0 in
         Leads result known.new.holds.items raised.old raised.new
-        (rules.called (types_in around.now) (variables_in around.now) effect kept (map actual_form actuals.now) known.old.holds.items) }
+        (rules.called (types_in around.now) (variables_in around.now) (tracks_around around.now) effect kept (map actual_form actuals.now) known.old.holds.items) }
 {
     let setting = around.setting;
     let freed = freed_by(around, procedure);
     unless_broken(broken_in_actuals(
         setting.types,
         setting.variables,
+        setting.tracks,
         freed,
         known.holds(),
         actuals,

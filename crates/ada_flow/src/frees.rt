@@ -2,7 +2,8 @@
 
 ghost use Rattle.std.specs.Prelude.{◌≡◌, Some, map};
 ghost use Rattle.ada_flow.specs.Flow as rules;
-ghost use Rattle.ada_flow.specs.Told.{Leads, Tells, broken, implicit_around, types_in, variables_in};
+ghost use Rattle.ada_flow.specs.Told.{Leads, Tells, broken, implicit_around, tracks_around, types_in, variables_in};
+ghost use Rattle.ada_flow.specs.Tracking as tracking;
 ghost use Rattle.ada_program.specs.Form.{component_number, path_form};
 ghost use Rattle.ada_program.specs.ProgramForm.{type_form, variable_form};
 ghost use Rattle.ada_program.specs.WellFormed as fits;
@@ -10,11 +11,11 @@ ghost use Rattle.ada_program.specs.WellFormed as fits;
 use crate::around::Around;
 use crate::fault::{Breach, FlowFault};
 use crate::follow::{lost_by, unless_broken};
-use crate::holds::{have_alias, hold_of, is_alias};
+use crate::holds::{have_alias, hold_of, hold_seen, is_alias};
 use crate::implicit::finalize;
 use crate::known::Known;
 use crate::losing::reached_at_end;
-use crate::passing::component_passes;
+use crate::passing::{component_passes, handed_by};
 use crate::raised::Raised;
 use crate::rule::{Hold, Rule};
 use ada_effects::path_raises;
@@ -155,7 +156,7 @@ fn passes_reached(around: &Around<'_>, path: &Path, access: Option<usize>) -> bo
 }
 
 /// The record type of a record object, by what its variable holds. None, if it is no record object.
-fn object_record(types: &[TypeDefinition], kind: Option<VariableKind>) -> Option<usize>
+pub(crate) fn object_record(types: &[TypeDefinition], kind: Option<VariableKind>) -> Option<usize>
     ensures { result ≡ rules.object_record (map type_form types.now) kind }
 {
     match kind? {
@@ -269,18 +270,43 @@ fn release_component(
     ensures { let freed = path_form path.now in
         Leads result known.new.holds.items raised.old raised.new
         (rules.finalizes (variables_in around.now) (implicit_around around.now) access
-        (rules.released_behind (types_in around.now) (variables_in around.now) (implicit_around around.now) freed known.old.holds.items access)) }
+        (rules.released_behind (types_in around.now) (variables_in around.now) (tracks_around around.now) (implicit_around around.now) freed known.old.holds.items access)) }
 {
     let hold = hold_of(known.holds(), path.root);
     let is_unsafe = way_reached(around, path, hold, access);
-    unless_broken(freed_behind(is_unsafe, hold, path.spot))?;
+    let seen = hold_seen(around.setting.tracks, known.holds(), path);
+    unless_broken(freed_behind(is_unsafe, seen, path.spot))?;
     end_object(around.setting.variables, known, access);
     finalize(alloc, around, known, access)?;
     raised.note_if(path_raises(path), alloc, known)?;
     Ok(())
 }
 
-/// `Free`, of a variable or of a component.
+/// `Free` of a tracked component: only an owner frees. Behind it every alias of its access type is lost.
+///
+/// # Errors
+/// Where what is freed is lost, or an alias, or where its formal parameter lies in an object which the finalization may reach.
+fn release_tracked(
+    around: &Around<'_>,
+    known: &mut Known,
+    path: &Path,
+    access: Option<usize>,
+) -> Result<(), Breach>
+    ensures { let freed = path_form path.now in
+        Tells result known.new.holds.items
+        (rules.released_tracked (types_in around.now) (variables_in around.now) (tracks_around around.now) (implicit_around around.now) freed known.old.holds.items access) }
+{
+    let is_reached = formal_reached(around, path, hold_of(known.holds(), path.root), access);
+    let hold = hold_seen(around.setting.tracks, known.holds(), path);
+    unless_broken(handed_by(is_reached, hold, path.spot))?;
+    let place = around.setting.tracks.seen(path).root;
+    let own = access_of(variable_kind(around.setting.variables, place.0));
+    end_object(around.setting.variables, known, own);
+    known.put(place, Hold::Null);
+    Ok(())
+}
+
+/// `Free`, of a tracked component, of a variable or of another component.
 #[tactic(auto, using(std::proofs::lemmas::Grind::common_steps, crate::proofs::Initialized::freeing_steps))]
 pub(crate) fn release(
     alloc: Global,
@@ -294,10 +320,14 @@ pub(crate) fn release(
         let access = fits.path_access (types_in around.now) (variables_in around.now) freed in
         Leads result known.new.holds.items raised.old raised.new
         (rules.finalizes (variables_in around.now) implicit access
-        (rules.frees_path (types_in around.now) (variables_in around.now) implicit freed.selectors freed known.old.holds.items)) }
+        (rules.frees_path (types_in around.now) (variables_in around.now) (tracks_around around.now) implicit freed known.old.holds.items)) }
 {
     let access = path_access(around.setting.types, around.setting.variables, path);
-    if path.selectors.is_empty() {
+    if around.setting.tracks.has(path) {
+        release_tracked(around, known, path, access)?;
+        finalize(alloc, around, known, access)?;
+        Ok(())
+    } else if path.selectors.is_empty() {
         release_variable(around.setting.variables, known, path)?;
         finalize(alloc, around, known, access)?;
         Ok(())

@@ -3,10 +3,13 @@
 ghost use Rattle.std.specs.Prelude.{◌≡◌};
 ghost use Rattle.std.specs.List.{list_any};
 ghost use Rattle.ada_flow.specs.Aliases.{is_alias};
-ghost use Rattle.ada_flow.specs.Flow.{hold_at};
+ghost use Rattle.ada_flow.specs.Flow.{hold_at, hold_seen};
+ghost use Rattle.ada_flow.specs.Told.{tracks_in};
+ghost use Rattle.ada_program.specs.Form.{path_form};
 
 use crate::rule::Hold;
-use ada_program::VariableNo;
+use crate::tracks::Tracks;
+use ada_program::{Path, VariableNo};
 
 /// What a variable holds; one that is not declared yet is lost.
 pub(crate) fn hold_of(holds: &[Hold], variable: VariableNo) -> Hold
@@ -16,6 +19,13 @@ pub(crate) fn hold_of(holds: &[Hold], variable: VariableNo) -> Hold
         Some(hold) => *hold,
         None => Hold::Lost,
     }
+}
+
+/// What is held where a path begins, as it is judged.
+pub(crate) fn hold_seen(tracks: Tracks<'_>, holds: &[Hold], path: &Path) -> Hold
+    ensures { result ≡ hold_seen (tracks_in tracks.entry) holds.now (path_form path.now) }
+{
+    hold_of(holds, tracks.seen(path).root)
 }
 
 /// Whether a hold is an alias.

@@ -3,12 +3,13 @@
 ghost use Rattle.std.specs.Prelude.{◌≡◌, ◌++◌, IfOk, OnOk, map};
 ghost use Rattle.std.specs.List.{slice_get};
 ghost use Rattle.ada_flow.specs.Flow as rules;
-ghost use Rattle.ada_flow.specs.Told.{first_hold, held, keeping_in, keepings_in, variable_number};
+ghost use Rattle.ada_flow.specs.Told.{first_hold, held, keeping_in, keepings_in, tracks_in, variable_number};
 ghost use Rattle.ada_program.specs.ProgramForm.{variable_form};
 
 use crate::holds::hold_of;
 use crate::known::Known;
 use crate::rule::{Hold, Region};
+use crate::tracks::Tracks;
 use ada_program::program::{FormalMode, Variable, VariableKind};
 use ada_program::{ProcedureNo, VariableNo};
 use std::alloc::{AllocError, Global};
@@ -64,7 +65,7 @@ pub(crate) fn what_is_kept(
 }
 
 /// What a formal parameter may hold that is to give something back.
-fn gives_back(hold: Hold) -> bool
+pub(crate) fn gives_back(hold: Hold) -> bool
     ensures { result ≡ rules.gives_back hold }
 {
     match hold {
@@ -107,7 +108,7 @@ fn add_owed(
 
 /// The formal parameters that are to give something back at each normal end.
 #[tactic(auto, using(std::proofs::lemmas::Grind::common_steps, crate::proofs::Formals::owed_steps))]
-pub(crate) fn owed_by(
+fn owed_by(
     alloc: Global,
     formals: &[FormalMode],
     variables: &[Variable],
@@ -150,7 +151,7 @@ fn first_hold(modes: &[FormalMode], number: usize, kind: VariableKind) -> Hold
 
 /// What each variable is relied on for where its body begins, with formal parameters of these modes.
 #[tactic(auto, using(std::proofs::lemmas::Grind::common_steps, crate::proofs::Formals::first_steps))]
-pub(crate) fn first_holds(
+fn first_holds(
     alloc: Global,
     modes: &[FormalMode],
     variables: &[Variable],
@@ -162,5 +163,37 @@ pub(crate) fn first_holds(
     for (number, variable) in variables.iter().enumerate() {
         holds.push(first_hold(modes, number, variable.kind))?;
     }
+    Ok(holds)
+}
+
+/// What is owned or null at each normal end of a body: formal parameters, and tracked components.
+#[tactic(auto, using(std::proofs::lemmas::Grind::common_steps, crate::proofs::Tracked::behind_steps))]
+pub(crate) fn owed_at_ends(
+    alloc: Global,
+    tracks: Tracks<'_>,
+    formals: &[FormalMode],
+    variables: &[Variable],
+) -> Result<Vec<VariableNo>, AllocError>
+    ensures { IfOk result (λ owed. map variable_number owed.items
+        ≡ rules.owed_at_ends (tracks_in tracks.entry) formals.now (map variable_form variables.now)) }
+{
+    let mut owed = owed_by(alloc, formals, variables)?;
+    tracks.add_numbers(&mut owed)?;
+    Ok(owed)
+}
+
+/// What each variable and each tracked component is relied on for where a body begins, with formal parameters of these modes.
+#[tactic(auto, using(std::proofs::lemmas::Grind::common_steps, crate::proofs::Tracked::behind_steps))]
+pub(crate) fn holds_at_first(
+    alloc: Global,
+    tracks: Tracks<'_>,
+    modes: &[FormalMode],
+    variables: &[Variable],
+) -> Result<Vec<Hold>, AllocError>
+    ensures { IfOk result (λ holds. holds.items
+        ≡ rules.holds_at_first (tracks_in tracks.entry) modes.now (map variable_form variables.now)) }
+{
+    let mut holds = first_holds(alloc, modes, variables)?;
+    tracks.add_holds(&mut holds)?;
     Ok(holds)
 }

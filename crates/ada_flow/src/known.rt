@@ -1,16 +1,12 @@
 //! What is known of the variables at a place in the program.
 
-ghost use Rattle.std.specs.Prelude.{◌≡◌, IfOk, map, slice_set};
+ghost use Rattle.std.specs.Prelude.{◌≡◌, IfOk, slice_set};
 ghost use Rattle.std.specs.Bool.{IsTrue};
 ghost use Rattle.ada_flow.specs.Aliases.{tells_aliases};
-ghost use Rattle.ada_flow.specs.Flow as rules;
-ghost use Rattle.ada_program.specs.ProgramForm.{variable_form};
 
 use crate::holds::{have_alias, is_alias};
-use crate::keeping::first_holds;
 use crate::rule::Hold;
 use ada_program::VariableNo;
-use ada_program::program::{FormalMode, Variable};
 use std::alloc::{AllocError, Global};
 
 /// What is known of each variable, and whether one may hold an alias: where none does, a `Free` loses none.
@@ -24,19 +20,13 @@ pub(crate) struct Known {
 }
 
 impl Known {
-    /// What is known where a body begins, with formal parameters of these modes.
+    /// The variables hold this. Costs their number.
     #[tactic(auto, using(std::proofs::lemmas::Grind::common_steps, crate::proofs::Aliased::told_of_itself))]
-    pub(crate) fn at_first(
-        alloc: Global,
-        modes: &[FormalMode],
-        variables: &[Variable],
-    ) -> Result<Known, AllocError>
-        ensures { IfOk result (λ known. known.holds.items
-            ≡ rules.first_holds modes.now (map variable_form variables.now)) }
+    pub(crate) fn of(holds: Vec<Hold>) -> Known
+        ensures { result.holds.items ≡ holds.items }
     {
-        let holds = first_holds(alloc, modes, variables)?;
         let aliased = have_alias(&holds);
-        Ok(Known { holds, aliased })
+        Known { holds, aliased }
     }
 
     /// What each variable holds, by its number.

@@ -16,8 +16,8 @@
 //! path follows a value of one that the finalization of its object reaches, nor one of a record parameter's own, where
 //! that reaches an access type whose objects are of the parameter's record type, or have a part of it at any depth
 //! (S6), at each normal end of a body its formal parameters of mode `in out` of access types own what they give back,
-//! or are null (S7), and no record with a component of an access type is copied, nor does an aggregate with one stand
-//! outside an allocator (S11). Of the rules that one simple statement breaks the leftmost is told, and where an actual
+//! or are null (S7), and no record is copied with a component of an access type, unless a controlled type with an
+//! Adjust of its own declares that component, nor does an aggregate with one stand outside an allocator (S11). Of the rules that one simple statement breaks the leftmost is told, and where an actual
 //! parameter breaks more than one at its spot, S1 comes before S2 and S3, and these before S6. Behind a block its
 //! variables are lost, and so are those of the access types whose collections it created, and a handler begins with
 //! what is known wherever its statements may raise an exception (11.4).
@@ -45,6 +45,12 @@
 //! the same way, since it gets something back behind the body: its object must be there still. What is known of
 //! variables does not change by either.
 //!
+//! An Adjust (7.6) gets a copy of a record, of which another still owns what the components name. So the body that
+//! overrides it for a type tracks the components of access types that the type declares: what each holds is followed as
+//! what a variable holds, and begins as an alias. Nothing is moved out of it but by a take pair, its old value does not
+//! matter where it gets another, and at each normal end of the body it owns what it names, or is null (S7). Until
+//! then the formal parameter as a whole is neither copied nor passed (S2).
+//!
 //! A call (6.4) has no part in the variables of its caller but in those that it gets, but it may free objects, as
 //! `ada_effects` tells of the procedure: behind it every alias of the access types of which it may do so is lost, and
 //! so it is where the call raises an exception. A variable that is handed over owns what comes back; where the call
@@ -52,8 +58,9 @@
 //!
 //! A statement costs no more than its size, and so it does once more for each loop around it; an aggregate costs the
 //! number of its items besides for each name in the paths that they move, since no path is moved twice; a record that
-//! is copied, or that gets a value as a whole, costs the number of its components besides, among which one of an
-//! access type is looked for; a branch, a loop, an exit and a handler cost the number of variables besides, since each
+//! is copied, or that gets a value as a whole, costs the number of its components besides, and of those that are
+//! declared in it, once for each record around them, among which one of an access type is looked for; a path in an
+//! Adjust costs the number of the components that its type declares; a branch, a loop, an exit and a handler cost the number of variables besides, since each
 //! way begins with a copy of what is known and ends where it is joined or compared; and so does a `return` from a body
 //! with formal parameters of mode `in out` of access types, which looks at each of these. A `Free` costs the number of
 //! variables besides where one may hold an alias: it goes over what is known of each, and looks up the access type of
@@ -107,6 +114,8 @@ mod rule;
 mod setting;
 mod statements;
 mod touching;
+mod tracking;
+mod tracks;
 
 pub use crate::bodies::flow;
 pub use crate::fault::FlowFault;

@@ -2,6 +2,8 @@
 
 ghost use Rattle.std.specs.Prelude.{◌≡◌, ◌||◌, map};
 ghost use Rattle.ada_flow.specs.Flow as rules;
+ghost use Rattle.ada_flow.specs.Told.{tracks_in};
+ghost use Rattle.ada_flow.specs.Tracking as tracking;
 ghost use Rattle.ada_program.specs.Form.{StmtsForm, path_form, stmt_form, stmts_form, branches_form, handlers_form};
 ghost use Rattle.ada_program.specs.ProgramForm.{variable_form};
 
@@ -9,6 +11,7 @@ use crate::holds::hold_of;
 use crate::known::Known;
 use crate::rule::{Hold, Region};
 use crate::touching::{open_actuals, touch_declared, touch_moved, touch_path};
+use crate::tracks::Tracks;
 use ada_program::borrowers::{is_borrower, names_borrower};
 use ada_program::program::{Branch, Handler, Variable};
 use ada_program::{Path, Stmt, VariableNo};
@@ -36,25 +39,31 @@ pub(crate) fn open(variables: &[Variable], known: &mut Known, variable: Variable
 }
 
 /// A target that a loop's body assigns is opened, if it is a variable.
-fn open_target(variables: &[Variable], known: &mut Known, target: &Path)
-    ensures { let opened = path_form target.now in
+fn open_target(variables: &[Variable], tracks: Tracks<'_>, known: &mut Known, target: &Path)
+    ensures { let opened = tracking.seen (tracks_in tracks.entry) (path_form target.now) in
         known.new.holds.items ≡ rules.opened_target
         (map variable_form variables.now) opened.selectors opened.root known.old.holds.items }
 {
-    if target.selectors.is_empty() {
-        open(variables, known, target.root);
+    let seen = tracks.seen(target);
+    if seen.selectors.is_empty() {
+        open(variables, known, seen.root);
     }
 }
 
 /// Each variable that statements of a loop's body assign or hand over, wherever they stand in it, is opened, and each whose
 /// value they move or free is touched.
 #[cycle(opening)]
-pub(crate) fn open_all(variables: &[Variable], known: &mut Known, statements: &[Stmt])
+pub(crate) fn open_all(
+    variables: &[Variable],
+    tracks: Tracks<'_>,
+    known: &mut Known,
+    statements: &[Stmt],
+)
     ensures { known.new.holds.items ≡ rules.opened_by_all
-        (map variable_form variables.now) (stmts_form statements.now) known.old.holds.items }
+        (map variable_form variables.now) (tracks_in tracks.entry) (stmts_form statements.now) known.old.holds.items }
 {
     'statements: for statement in statements {
-        open_by(variables, known, statement);
+        open_by(variables, tracks, known, statement);
     }
 }
 
@@ -62,26 +71,26 @@ pub(crate) fn open_all(variables: &[Variable], known: &mut Known, statements: &[
 /// touched.
 #[cycle(opening)]
 #[tactic(auto, using(std::proofs::lemmas::Grind::common_steps, ada_program::specs::Form::statement_rules))]
-fn open_by(variables: &[Variable], known: &mut Known, statement: &Stmt)
+fn open_by(variables: &[Variable], tracks: Tracks<'_>, known: &mut Known, statement: &Stmt)
     ensures { known.new.holds.items ≡ rules.opened_by
-        (map variable_form variables.now) (stmt_form statement.now) known.old.holds.items }
+        (map variable_form variables.now) (tracks_in tracks.entry) (stmt_form statement.now) known.old.holds.items }
 {
     match statement {
         Stmt::Assign { target, value } => {
-            touch_moved(known, names_borrower(variables, target), value);
-            open_target(variables, known, target);
+            touch_moved(tracks, known, names_borrower(variables, target), value);
+            open_target(variables, tracks, known, target);
         }
-        Stmt::Free { access: _, path } => touch_path(known, path),
+        Stmt::Free { access: _, path } => touch_path(tracks, known, path),
         Stmt::Call {
             procedure: _,
             actuals,
-        } => open_actuals(variables, known, actuals),
+        } => open_actuals(variables, tracks, known, actuals),
         Stmt::If {
             branches,
             otherwise,
         } => {
-            open_branches(variables, known, branches);
-            open_all(variables, known, otherwise);
+            open_branches(variables, tracks, known, branches);
+            open_all(variables, tracks, known, otherwise);
         }
         Stmt::Loop {
             condition: _,
@@ -94,15 +103,15 @@ fn open_by(variables: &[Variable], known: &mut Known, statement: &Stmt)
             last: _,
             statements,
             end: _,
-        } => open_all(variables, known, statements),
+        } => open_all(variables, tracks, known, statements),
         Stmt::Block {
             declarations,
             statements,
             handlers,
         } => {
-            touch_declared(variables, known, declarations);
-            open_all(variables, known, statements);
-            open_handlers(variables, known, handlers);
+            touch_declared(variables, tracks, known, declarations);
+            open_all(variables, tracks, known, statements);
+            open_handlers(variables, tracks, known, handlers);
         }
         Stmt::Null
         | Stmt::AssignRecord { .. }
@@ -117,24 +126,29 @@ fn open_by(variables: &[Variable], known: &mut Known, statement: &Stmt)
 
 /// The same of branches.
 #[cycle(opening)]
-fn open_branches(variables: &[Variable], known: &mut Known, branches: &[Branch])
+fn open_branches(variables: &[Variable], tracks: Tracks<'_>, known: &mut Known, branches: &[Branch])
     ensures { (others : StmtsForm) → rules.opened_by_branches
-        (map variable_form variables.now) (branches_form branches.now others) known.old.holds.items
-        ≡ rules.opened_by_all (map variable_form variables.now) others known.new.holds.items }
+        (map variable_form variables.now) (tracks_in tracks.entry) (branches_form branches.now others) known.old.holds.items
+        ≡ rules.opened_by_all (map variable_form variables.now) (tracks_in tracks.entry) others known.new.holds.items }
 {
     'branches: for branch in branches {
-        open_all(variables, known, &branch.statements);
+        open_all(variables, tracks, known, &branch.statements);
     }
 }
 
 /// The same of handlers.
 #[cycle(opening)]
-fn open_handlers(variables: &[Variable], known: &mut Known, handlers: &[Handler])
+fn open_handlers(
+    variables: &[Variable],
+    tracks: Tracks<'_>,
+    known: &mut Known,
+    handlers: &[Handler],
+)
     ensures { known.new.holds.items ≡ rules.opened_by_handlers
-        (map variable_form variables.now) (handlers_form handlers.now) known.old.holds.items }
+        (map variable_form variables.now) (tracks_in tracks.entry) (handlers_form handlers.now) known.old.holds.items }
 {
     'handlers: for handler in handlers {
-        open_all(variables, known, &handler.statements);
+        open_all(variables, tracks, known, &handler.statements);
     }
 }
 

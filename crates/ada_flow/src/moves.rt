@@ -2,40 +2,45 @@
 
 ghost use Rattle.std.specs.Prelude.{◌≡◌, false, [], ◌∷◌, ◌++◌, None, Some, map};
 ghost use Rattle.ada_flow.specs.Flow as rules;
-ghost use Rattle.ada_flow.specs.Told.{Follows, broken, named_by_items, target_of};
-ghost use Rattle.ada_program.specs.Form.{path_form, item_form, record_path_form, right_form};
+ghost use Rattle.ada_flow.specs.Told.{Follows, broken, named_by_items, target_of, tracks_in};
+ghost use Rattle.ada_flow.specs.Tracking as tracking;
+ghost use Rattle.ada_program.specs.Form.{component_number, path_form, item_form, record_path_form, right_form};
 ghost use Rattle.ada_program.specs.ProgramForm.{type_form};
 
 use crate::fault::Breach;
 use crate::follow::{
-    broken_in, broken_in_reach, broken_in_target, leftmost, lost_by, unless_broken,
+    broken_in, broken_in_reach, broken_in_sharing, broken_in_target, leftmost, lost_by,
+    unless_broken,
 };
-use crate::holds::hold_of;
+use crate::holds::{hold_of, hold_seen};
 use crate::known::Known;
-use crate::owning::{copied_to, is_owning_record};
+use crate::owning::{copied_to, leaves_owners};
 use crate::pairs::is_same_path;
 use crate::rule::{Hold, Region, Rule};
+use crate::tracks::Tracks;
 use ada_effects::{expression_raises, path_raises};
-use ada_program::program::{Item, RecordPath, Right, TypeDefinition};
+use ada_program::program::{ComponentNo, Item, RecordPath, Right, TypeDefinition};
 use ada_program::{Path, Spot, VariableNo};
 
-/// Uses what is assigned to a variable that stands at the spot, a borrower or not, where the next statement clears what is
-/// moved, or does not.
+/// Uses what is assigned to a variable that stands at the spot, a borrower or not, or to a tracked component, which is this
+/// target, where the next statement clears what is moved, or does not.
 ///
 /// # Errors
 /// The leftmost rule that a path of it breaks.
 pub(crate) fn use_right(
     types: &[TypeDefinition],
+    tracks: Tracks<'_>,
     spot: Spot,
     holds: &[Hold],
     borrows: bool,
     cleared: bool,
+    target: Option<&Path>,
     value: &Right,
 ) -> Result<(), Breach>
-    ensures { let uses = rules.uses_in_right (map type_form types.now) spot borrows cleared None (right_form value.now) in
-        Follows result (rules.broken_among holds.now uses) }
+    ensures { let uses = rules.uses_in_right (map type_form types.now) spot borrows cleared (target_of target.entry) (right_form value.now) in
+        Follows result (rules.broken_among (tracks_in tracks.entry) holds.now uses) }
 {
-    unless_broken(broken_in_right(types, spot, holds, borrows, cleared, None, value))
+    unless_broken(broken_in_right(types, tracks, spot, holds, borrows, cleared, target, value))
 }
 
 /// Uses the path of a component that gets a value, and what is assigned to it: a component is no borrower.
@@ -44,6 +49,7 @@ pub(crate) fn use_right(
 /// The leftmost rule that a path breaks.
 pub(crate) fn use_assignment(
     types: &[TypeDefinition],
+    tracks: Tracks<'_>,
     holds: &[Hold],
     cleared: bool,
     target: &Path,
@@ -52,12 +58,13 @@ pub(crate) fn use_assignment(
     ensures { let place = rules.uses_in_target (path_form target.now) in
         let to = path_form target.now in
         let assigned = rules.uses_in_right (map type_form types.now) to.spot false cleared (Some to) (right_form value.now) in
-        Follows result (rules.broken_among holds.now (place ++ assigned)) }
+        Follows result (rules.broken_among (tracks_in tracks.entry) holds.now (place ++ assigned)) }
 {
     unless_broken(leftmost(
-        broken_in_target(holds, target),
+        broken_in_target(tracks, holds, target),
         broken_in_right(
             types,
+            tracks,
             target.spot,
             holds,
             false,
@@ -72,6 +79,7 @@ pub(crate) fn use_assignment(
 /// a variable.
 fn broken_in_right(
     types: &[TypeDefinition],
+    tracks: Tracks<'_>,
     spot: Spot,
     holds: &[Hold],
     borrows: bool,
@@ -81,39 +89,48 @@ fn broken_in_right(
 ) -> Option<Breach>
     ensures { let place = target_of target.entry in
         let uses = rules.uses_in_right (map type_form types.now) spot borrows cleared place (right_form value.now) in
-        broken result ≡ rules.broken_among holds.now uses }
+        broken result ≡ rules.broken_among (tracks_in tracks.entry) holds.now uses }
 {
     match value {
         Right::Null | Right::Default(_) => None,
-        Right::Path(path) => leftmost(broken_in_value(holds, borrows, cleared, path), None),
-        Right::Allocator { access: _, items } => broken_in_items(types, spot, holds, target, items),
-        Right::Value(expression) => broken_in(holds, expression),
+        Right::Path(path) => leftmost(broken_in_value(tracks, holds, borrows, cleared, path), None),
+        Right::Allocator { access: _, items } => broken_in_items(
+            types, tracks, spot, holds, target, items,
+        ),
+        Right::Value(expression) => broken_in(tracks, holds, expression),
     }
 }
 
 /// The rule that a path breaks whose value is assigned: it is lent to a borrower, and else moved.
-fn broken_in_value(holds: &[Hold], borrows: bool, cleared: bool, path: &Path) -> Option<Breach>
+fn broken_in_value(
+    tracks: Tracks<'_>,
+    holds: &[Hold],
+    borrows: bool,
+    cleared: bool,
+    path: &Path,
+) -> Option<Breach>
     ensures { broken result
-        ≡ rules.broken_in holds.now (rules.value_use borrows cleared (path_form path.now)) }
+        ≡ rules.broken_in (tracks_in tracks.entry) holds.now (rules.value_use borrows cleared (path_form path.now)) }
 {
     if borrows {
-        broken_in_loan(holds, path)
+        broken_in_loan(tracks, holds, path)
     } else {
-        broken_in_move(holds, cleared, path)
+        broken_in_move(tracks, holds, cleared, path)
     }
 }
 
 /// The rule that lending the value of a path breaks: its variable must not be lost.
-fn broken_in_loan(holds: &[Hold], path: &Path) -> Option<Breach>
-    ensures { broken result ≡ rules.broken_in holds.now (rules.borrows_it (path_form path.now)) }
+fn broken_in_loan(tracks: Tracks<'_>, holds: &[Hold], path: &Path) -> Option<Breach>
+    ensures { broken result ≡ rules.broken_in (tracks_in tracks.entry) holds.now (rules.borrows_it (path_form path.now)) }
 {
-    lost_by(hold_of(holds, path.root), path.spot)
+    lost_by(hold_seen(tracks, holds, path), path.spot)
 }
 
 /// The leftmost rule that the items of an aggregate break which goes to what stands at the spot: to this component, or to a
 /// variable or a record.
 pub(crate) fn broken_in_items(
     types: &[TypeDefinition],
+    tracks: Tracks<'_>,
     spot: Spot,
     holds: &[Hold],
     target: Option<&Path>,
@@ -121,13 +138,13 @@ pub(crate) fn broken_in_items(
 ) -> Option<Breach>
     ensures { let place = target_of target.entry in
         let uses = rules.uses_in_items (map type_form types.now) spot place [] (map item_form items.now) in
-        broken result ≡ rules.broken_among holds.now uses }
+        broken result ≡ rules.broken_among (tracks_in tracks.entry) holds.now uses }
 {
     let mut found = None;
     for (number, item) in items.iter().enumerate() {
         found = leftmost(
             found,
-            broken_in_item(types, spot, holds, target, &items[..number], item),
+            broken_in_item(types, tracks, spot, holds, target, &items[..number], item),
         );
     }
     found
@@ -136,6 +153,7 @@ pub(crate) fn broken_in_items(
 /// The leftmost rule that an item breaks behind earlier items of its aggregate, which goes to what stands at the spot.
 fn broken_in_item(
     types: &[TypeDefinition],
+    tracks: Tracks<'_>,
     spot: Spot,
     holds: &[Hold],
     target: Option<&Path>,
@@ -144,35 +162,41 @@ fn broken_in_item(
 ) -> Option<Breach>
     ensures { let named = named_by_items (map item_form earlier.now) in
         let uses = rules.uses_in_item (map type_form types.now) spot (target_of target.entry) named (item_form item.now) in
-        broken result ≡ rules.broken_among holds.now uses }
+        broken result ≡ rules.broken_among (tracks_in tracks.entry) holds.now uses }
 {
     match item {
         Item::Null => None,
-        Item::Path(path) => leftmost(broken_in_item_move(holds, target, earlier, path), None),
-        Item::Value(expression) => broken_in(holds, expression),
-        Item::Record(path) => broken_in_copy(types, spot, holds, path),
+        Item::Path(path) => leftmost(
+            broken_in_item_move(tracks, holds, target, earlier, path),
+            None,
+        ),
+        Item::Value(expression) => broken_in(tracks, holds, expression),
+        Item::Record(path) => broken_in_copy(types, tracks, spot, holds, path),
     }
 }
 
 /// The leftmost rule that copying a record breaks to what stands at the spot.
 fn broken_in_copy(
     types: &[TypeDefinition],
+    tracks: Tracks<'_>,
     spot: Spot,
     holds: &[Hold],
     path: &RecordPath,
 ) -> Option<Breach>
     ensures { let from = record_path_form path.now in
-        let copies = rules.copies_to (rules.is_owning_record (map type_form types.now) from.record_type) spot in
-        broken result ≡ rules.broken_among holds.now (copies ∷ rules.reaches_it from.object ∷ []) }
+        let copies = rules.copies_to (rules.leaves_owners (map type_form types.now) from.record_type) spot in
+        broken result ≡ rules.broken_among (tracks_in tracks.entry) holds.now (copies ∷ rules.shares_it from ∷ rules.reaches_it from.object ∷ []) }
 {
+    let found = leftmost(broken_in_reach(tracks, holds, &path.object), None);
     leftmost(
-        copied_to(is_owning_record(types, path.record), spot),
-        leftmost(broken_in_reach(holds, &path.object), None),
+        copied_to(leaves_owners(types, path.record), spot),
+        leftmost(broken_in_sharing(tracks, holds, path), found),
     )
 }
 
 /// The rule that an item breaks by moving a path: each is moved once, and of components the target alone.
 fn broken_in_item_move(
+    tracks: Tracks<'_>,
     holds: &[Hold],
     target: Option<&Path>,
     earlier: &[Item],
@@ -180,7 +204,7 @@ fn broken_in_item_move(
 ) -> Option<Breach>
     ensures { let named = named_by_items (map item_form earlier.now) in
         let moved = rules.item_move (target_of target.entry) named (path_form path.now) in
-        broken result ≡ rules.broken_in holds.now moved }
+        broken result ≡ rules.broken_in (tracks_in tracks.entry) holds.now moved }
 {
     if is_named(earlier, path) {
         Some(Breach {
@@ -188,7 +212,7 @@ fn broken_in_item_move(
             rule: Rule::LostValue,
         })
     } else {
-        broken_in_move(holds, is_target(target, path), path)
+        broken_in_move(tracks, holds, is_target(target, path), path)
     }
 }
 
@@ -228,15 +252,35 @@ fn item_is(item: &Item, path: &Path) -> bool
 }
 
 /// The rule that a moved path breaks, where it is overwritten then, or is not.
-fn broken_in_move(holds: &[Hold], overwritten: bool, path: &Path) -> Option<Breach>
+fn broken_in_move(
+    tracks: Tracks<'_>,
+    holds: &[Hold],
+    overwritten: bool,
+    path: &Path,
+) -> Option<Breach>
     ensures { broken result
-        ≡ rules.broken_in holds.now (rules.moves_it overwritten (path_form path.now)) }
+        ≡ rules.broken_in (tracks_in tracks.entry) holds.now (rules.moves_it overwritten (path_form path.now)) }
 {
-    let hold = hold_of(holds, path.root);
-    if path.selectors.is_empty() {
+    let hold = hold_seen(tracks, holds, path);
+    if tracks.has(path) {
+        tracked_by(overwritten, hold, path.spot)
+    } else if tracks.seen(path).selectors.is_empty() {
         moved_by(hold, path.spot)
     } else {
         taken_by(overwritten, hold, path.spot)
+    }
+}
+
+/// A tracked component whose value is moved is neither lost nor an alias, and it is overwritten.
+pub(crate) fn tracked_by(overwritten: bool, hold: Hold, spot: Spot) -> Option<Breach>
+    ensures { broken result ≡ rules.tracked_by overwritten hold spot }
+{
+    match hold {
+        Hold::Null | Hold::Kept(_) | Hold::Own(_) if !overwritten => Some(Breach {
+            spot,
+            rule: Rule::TakePair,
+        }),
+        _ => moved_by(hold, spot),
     }
 }
 
@@ -270,25 +314,28 @@ pub(crate) fn taken_by(overwritten: bool, hold: Hold, spot: Spot) -> Option<Brea
 }
 
 /// What a variable, a borrower or not, holds with what is assigned to it.
-pub(crate) fn right_hold(holds: &[Hold], borrows: bool, value: &Right) -> Hold
-    ensures { result ≡ rules.right_hold borrows (right_form value.now) holds.now }
+pub(crate) fn right_hold(tracks: Tracks<'_>, holds: &[Hold], borrows: bool, value: &Right) -> Hold
+    ensures { result ≡ rules.right_hold (tracks_in tracks.entry) borrows (right_form value.now) holds.now }
 {
     match value {
         Right::Null => Hold::Null,
-        Right::Path(path) => given_hold(borrows, path, hold_of(holds, path.root)),
+        Right::Path(path) => {
+            let seen = tracks.seen(path);
+            given_hold(borrows, seen.selectors, hold_of(holds, seen.root))
+        }
         Right::Allocator { .. } | Right::Default(_) => Hold::Own(Region::Whole),
         Right::Value(_) => Hold::Lost,
     }
 }
 
 /// What a variable holds with the value of a path: a borrower an alias, any other what the value was relied on for.
-fn given_hold(borrows: bool, path: &Path, hold: Hold) -> Hold
-    ensures { result ≡ rules.given_hold borrows (path_form path.now).selectors hold }
+fn given_hold(borrows: bool, selectors: &[ComponentNo], hold: Hold) -> Hold
+    ensures { result ≡ rules.given_hold borrows (map component_number selectors.now) hold }
 {
     if borrows {
         borrowed_hold(hold)
     } else {
-        value_hold(path, hold)
+        value_hold(selectors, hold)
     }
 }
 
@@ -303,12 +350,12 @@ fn borrowed_hold(hold: Hold) -> Hold
 }
 
 /// What the value of a path is relied on for: a variable's own hold; a component owns its value.
-fn value_hold(path: &Path, hold: Hold) -> Hold
-    ensures { result ≡ rules.value_hold (path_form path.now).selectors hold }
+fn value_hold(selectors: &[ComponentNo], hold: Hold) -> Hold
+    ensures { result ≡ rules.value_hold (map component_number selectors.now) hold }
 {
     match hold {
         Hold::Kept(region) => Hold::Own(region),
-        Hold::Alias(region) if !path.selectors.is_empty() => Hold::Own(region),
+        Hold::Alias(region) if !selectors.is_empty() => Hold::Own(region),
         hold => hold,
     }
 }
@@ -337,46 +384,47 @@ pub(crate) fn evaluation_raises(value: &Right) -> bool
 }
 
 /// The variables that an assignment moves own nothing any more; what is lent to a borrower stays where it is.
-pub(crate) fn lose_moved(known: &mut Known, borrows: bool, value: &Right)
+pub(crate) fn lose_moved(tracks: Tracks<'_>, known: &mut Known, borrows: bool, value: &Right)
     ensures { known.new.holds.items
-        ≡ rules.without_values (rules.moved_by_right borrows (right_form value.now)) known.old.holds.items }
+        ≡ rules.without_values (rules.moved_by_right (tracks_in tracks.entry) borrows (right_form value.now)) known.old.holds.items }
 {
     match value {
-        Right::Path(path) if !borrows => lose_path(known, path),
-        Right::Allocator { access: _, items } => lose_items(known, items),
+        Right::Path(path) if !borrows => lose_path(tracks, known, path),
+        Right::Allocator { access: _, items } => lose_items(tracks, known, items),
         Right::Null | Right::Path(_) | Right::Default(_) | Right::Value(_) => {}
     }
 }
 
 /// The variables that items move own nothing any more.
 #[tactic(auto, using(std::proofs::lemmas::Grind::common_steps, crate::proofs::Moved::losing_steps))]
-fn lose_items(known: &mut Known, items: &[Item])
+fn lose_items(tracks: Tracks<'_>, known: &mut Known, items: &[Item])
     ensures { known.new.holds.items
-        ≡ rules.without_values (rules.moved_by_items (map item_form items.now)) known.old.holds.items }
+        ≡ rules.without_values (rules.moved_by_items (tracks_in tracks.entry) (map item_form items.now)) known.old.holds.items }
 {
     'items: for item in items {
-        lose_item(known, item);
+        lose_item(tracks, known, item);
     }
 }
 
 /// The variable that an item moves owns nothing any more.
-fn lose_item(known: &mut Known, item: &Item)
+fn lose_item(tracks: Tracks<'_>, known: &mut Known, item: &Item)
     ensures { known.new.holds.items
-        ≡ rules.without_values (rules.moved_by_item (item_form item.now)) known.old.holds.items }
+        ≡ rules.without_values (rules.moved_by_item (tracks_in tracks.entry) (item_form item.now)) known.old.holds.items }
 {
     match item {
-        Item::Path(path) => lose_path(known, path),
+        Item::Path(path) => lose_path(tracks, known, path),
         Item::Null | Item::Value(_) | Item::Record(_) => {}
     }
 }
 
-/// A variable that is moved owns nothing any more; a component is overwritten.
-fn lose_path(known: &mut Known, path: &Path)
-    ensures { let moved = path_form path.now in
+/// A variable or a tracked component that is moved owns nothing any more; another component is overwritten.
+fn lose_path(tracks: Tracks<'_>, known: &mut Known, path: &Path)
+    ensures { let moved = tracking.seen (tracks_in tracks.entry) (path_form path.now) in
         known.new.holds.items ≡ rules.without_values (rules.variable_of moved.selectors moved.root) known.old.holds.items }
 {
-    if path.selectors.is_empty() {
-        lose_value(known, path.root);
+    let seen = tracks.seen(path);
+    if seen.selectors.is_empty() {
+        lose_value(known, seen.root);
     }
 }
 

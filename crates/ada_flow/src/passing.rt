@@ -3,16 +3,17 @@
 ghost use Rattle.std.specs.Prelude.{◌≡◌, ◌||◌, List, [], ◌∷◌, map};
 ghost use Rattle.ada_effects.specs.Found.{has_number};
 ghost use Rattle.ada_flow.specs.Flow as rules;
-ghost use Rattle.ada_flow.specs.Told.{broken};
+ghost use Rattle.ada_flow.specs.Told.{broken, tracks_in};
 ghost use Rattle.ada_program.specs.Form.{ActualForm, actual_form, path_form, record_path_form};
 ghost use Rattle.ada_program.specs.ProgramForm.{type_form, variable_form};
 ghost use Rattle.ada_program.specs.WellFormed as fits;
 
 use crate::fault::Breach;
-use crate::follow::{broken_in, broken_in_path, leftmost, lost_by};
-use crate::holds::hold_of;
-use crate::moves::taken_by;
+use crate::follow::{broken_in, broken_in_path, broken_in_sharing, leftmost, lost_by};
+use crate::holds::hold_seen;
+use crate::moves::{taken_by, tracked_by};
 use crate::rule::{Hold, Rule};
+use crate::tracks::Tracks;
 use ada_program::lookup::{access_of, path_access, selected_kind, variable_kind};
 use ada_program::program::{Actual, RecordPath, TypeDefinition, Variable};
 use ada_program::{Path, Spot, TypeNo, VariableNo};
@@ -21,18 +22,19 @@ use ada_program::{Path, Spot, TypeNo, VariableNo};
 pub(crate) fn broken_in_actuals(
     types: &[TypeDefinition],
     variables: &[Variable],
+    tracks: Tracks<'_>,
     freed: &[TypeNo],
     holds: &[Hold],
     actuals: &[Actual],
 ) -> Option<Breach>
     ensures { let given = map actual_form actuals.now in
         let uses = rules.uses_in_actuals (map type_form types.now) (map variable_form variables.now) (has_number freed.now) [] given in
-        broken result ≡ rules.broken_among holds.now uses }
+        broken result ≡ rules.broken_among (tracks_in tracks.entry) holds.now uses }
 {
     let mut found = None;
     for (number, actual) in actuals.iter().enumerate() {
         let earlier = &actuals[..number];
-        let own = broken_in_actual(types, variables, freed, holds, earlier, actual);
+        let own = broken_in_actual(types, variables, tracks, freed, holds, earlier, actual);
         found = leftmost(found, own);
     }
     found
@@ -42,6 +44,7 @@ pub(crate) fn broken_in_actuals(
 fn broken_in_actual(
     types: &[TypeDefinition],
     variables: &[Variable],
+    tracks: Tracks<'_>,
     freed: &[TypeNo],
     holds: &[Hold],
     earlier: &[Actual],
@@ -50,33 +53,38 @@ fn broken_in_actual(
     ensures { let given = map actual_form earlier.now in
         let own = actual_form actual.now in
         let uses = rules.uses_in_actual (map type_form types.now) (map variable_form variables.now) (has_number freed.now) given own in
-        broken result ≡ rules.broken_among holds.now uses }
+        broken result ≡ rules.broken_among (tracks_in tracks.entry) holds.now uses }
 {
     match actual {
-        Actual::In(value) => broken_in(holds, value),
+        Actual::In(value) => broken_in(tracks, holds, value),
         Actual::InNull => None,
-        Actual::InAccess(path) => leftmost(broken_in_lending(holds, earlier, path), None),
+        Actual::InAccess(path) => leftmost(broken_in_lending(tracks, holds, earlier, path), None),
         Actual::InRecord(path) => {
             let again = is_given(earlier, path.object.root);
+            let passing = broken_in_passing(types, variables, tracks, freed, holds, again, path);
             leftmost(
-                broken_in_passing(types, variables, freed, holds, again, path),
-                None,
+                broken_in_sharing(tracks, holds, path),
+                leftmost(passing, None),
             )
         }
-        Actual::InOut(path) => leftmost(broken_in_variable(holds, earlier, path), None),
-        Actual::InOutAccess(path) => leftmost(broken_in_handing(holds, earlier, path), None),
+        Actual::InOut(path) => leftmost(broken_in_variable(tracks, holds, earlier, path), None),
+        Actual::InOutAccess(path) => leftmost(
+            broken_in_handing(tracks, holds, earlier, path),
+            None,
+        ),
         Actual::InOutComponent(path) => {
             let again = is_begun_with(earlier, path.root);
             leftmost(
-                broken_in_opening(types, variables, freed, holds, again, path),
+                broken_in_opening(types, variables, tracks, freed, holds, again, path),
                 None,
             )
         }
         Actual::InOutRecord(path) => {
             let again = is_begun_with(earlier, path.object.root);
+            let passing = broken_in_passing(types, variables, tracks, freed, holds, again, path);
             leftmost(
-                broken_in_passing(types, variables, freed, holds, again, path),
-                None,
+                broken_in_sharing(tracks, holds, path),
+                leftmost(passing, None),
             )
         }
     }
@@ -84,9 +92,14 @@ fn broken_in_actual(
 
 /// The rule that the path to an Integer or a Boolean breaks which is given for a formal parameter of mode `in out`: no earlier
 /// actual parameter begins with its variable (6.4.1).
-fn broken_in_variable(holds: &[Hold], earlier: &[Actual], path: &Path) -> Option<Breach>
+fn broken_in_variable(
+    tracks: Tracks<'_>,
+    holds: &[Hold],
+    earlier: &[Actual],
+    path: &Path,
+) -> Option<Breach>
     ensures { let given = map actual_form earlier.now in
-        broken result ≡ rules.broken_in holds.now (rules.given_use given (path_form path.now)) }
+        broken result ≡ rules.broken_in (tracks_in tracks.entry) holds.now (rules.given_use given (path_form path.now)) }
 {
     if is_begun_with(earlier, path.root) {
         Some(Breach {
@@ -94,33 +107,43 @@ fn broken_in_variable(holds: &[Hold], earlier: &[Actual], path: &Path) -> Option
             rule: Rule::UnsafePath,
         })
     } else {
-        broken_in_path(holds, path)
+        broken_in_path(tracks, holds, path)
     }
 }
 
 /// The rule that a path breaks whose value is lent to a formal parameter of mode `in`: it is not lost, and no earlier actual
 /// parameter gives its variable for one of mode `in out`.
-fn broken_in_lending(holds: &[Hold], earlier: &[Actual], path: &Path) -> Option<Breach>
+fn broken_in_lending(
+    tracks: Tracks<'_>,
+    holds: &[Hold],
+    earlier: &[Actual],
+    path: &Path,
+) -> Option<Breach>
     ensures { let given = map actual_form earlier.now in
         let lent = path_form path.now in
-        broken result ≡ rules.broken_in holds.now (rules.lends_it (rules.is_given given lent.root) lent) }
+        broken result ≡ rules.broken_in (tracks_in tracks.entry) holds.now (rules.lends_it (rules.is_given given lent.root) lent) }
 {
     lent_by(
         is_given(earlier, path.root),
-        hold_of(holds, path.root),
+        hold_seen(tracks, holds, path),
         path.spot,
     )
 }
 
 /// The rule that a variable breaks which is handed over to a formal parameter of mode `in out`: it is neither lost nor an
 /// alias, and no earlier actual parameter begins with it.
-fn broken_in_handing(holds: &[Hold], earlier: &[Actual], path: &Path) -> Option<Breach>
+fn broken_in_handing(
+    tracks: Tracks<'_>,
+    holds: &[Hold],
+    earlier: &[Actual],
+    path: &Path,
+) -> Option<Breach>
     ensures { let given = map actual_form earlier.now in
         let handed = path_form path.now in
-        broken result ≡ rules.broken_in holds.now (rules.hands_it (rules.is_begun_with given handed.root) handed) }
+        broken result ≡ rules.broken_in (tracks_in tracks.entry) holds.now (rules.hands_it (rules.is_begun_with given handed.root) handed) }
 {
     let again = is_begun_with(earlier, path.root);
-    handed_by(again, hold_of(holds, path.root), path.spot)
+    handed_by(again, hold_seen(tracks, holds, path), path.spot)
 }
 
 /// The rule that the path to a record breaks that is passed by reference for a formal parameter: its variable is not lost, it is
@@ -128,6 +151,7 @@ fn broken_in_handing(holds: &[Hold], earlier: &[Actual], path: &Path) -> Option<
 pub(crate) fn broken_in_passing(
     types: &[TypeDefinition],
     variables: &[Variable],
+    tracks: Tracks<'_>,
     freed: &[TypeNo],
     holds: &[Hold],
     again: bool,
@@ -135,11 +159,11 @@ pub(crate) fn broken_in_passing(
 ) -> Option<Breach>
     ensures { let passed = record_path_form path.now in
         let passes = rules.record_passes (map type_form types.now) (map variable_form variables.now) (has_number freed.now) passed in
-        broken result ≡ rules.broken_in holds.now (rules.passes_it (again || passes) passed.object) }
+        broken result ≡ rules.broken_in (tracks_in tracks.entry) holds.now (rules.passes_it (again || passes) passed.object) }
 {
     let object = &path.object;
     let is_unsafe = again || record_passes(types, variables, freed, path);
-    passed_by(is_unsafe, hold_of(holds, object.root), object.spot)
+    passed_by(is_unsafe, hold_seen(tracks, holds, object), object.spot)
 }
 
 /// The rule that the path to a component breaks that is given for a formal parameter of mode `in out`: the component owns
@@ -147,6 +171,7 @@ pub(crate) fn broken_in_passing(
 fn broken_in_opening(
     types: &[TypeDefinition],
     variables: &[Variable],
+    tracks: Tracks<'_>,
     freed: &[TypeNo],
     holds: &[Hold],
     again: bool,
@@ -157,11 +182,16 @@ fn broken_in_opening(
         let all = map variable_form variables.now in
         let owning = rules.names_value (fits.path_access all_types all given) in
         let is_unsafe = again || rules.component_passes all_types all (has_number freed.now) given in
-        broken result ≡ rules.broken_in holds.now (rules.opens_it owning is_unsafe given) }
+        broken result ≡ rules.broken_in (tracks_in tracks.entry) holds.now (rules.opens_it owning is_unsafe given) }
 {
     let owning = names_value(path_access(types, variables, path));
     let is_unsafe = again || component_passes(types, variables, freed, path);
-    opened_by_call(owning, is_unsafe, hold_of(holds, path.root), path.spot)
+    let hold = hold_seen(tracks, holds, path);
+    if tracks.has(path) {
+        tracked_by(false, hold, path.spot)
+    } else {
+        opened_by_call(owning, is_unsafe, hold, path.spot)
+    }
 }
 
 /// Whether a path has a value of an access type.
@@ -249,7 +279,7 @@ fn lent_by(again: bool, hold: Hold, spot: Spot) -> Option<Breach>
 }
 
 /// A variable that is handed over is neither lost nor an alias.
-fn handed_by(again: bool, hold: Hold, spot: Spot) -> Option<Breach>
+pub(crate) fn handed_by(again: bool, hold: Hold, spot: Spot) -> Option<Breach>
     ensures { broken result ≡ rules.handed_by again hold spot }
 {
     match hold {

@@ -5,7 +5,7 @@ ghost use Rattle.ada_effects.specs.Effects as effects;
 ghost use Rattle.ada_effects.specs.Found.{implicit_in};
 ghost use Rattle.ada_flow.specs.Flow as rules;
 ghost use Rattle.ada_flow.specs.Implicit.{frees_either};
-ghost use Rattle.ada_flow.specs.Told.{Follows, Leads, broken, implicit_around, types_in, variables_in};
+ghost use Rattle.ada_flow.specs.Told.{Follows, Leads, broken, implicit_around, tracks_around, tracks_in, types_in, variables_in};
 ghost use Rattle.ada_program.specs.Form.{declares_record, initial_items, item_form, record_path_form};
 ghost use Rattle.ada_program.specs.ProgramForm.{type_form};
 
@@ -16,10 +16,11 @@ use crate::implicit::{freed_at_first, start_raises};
 use crate::known::Known;
 use crate::losing::{forget_freed, freed_at_end, freed_by_adjust};
 use crate::moves::broken_in_items;
-use crate::owning::{copied_to, is_owning_record, owns_at_first};
+use crate::owning::{copied_to, gathers_at_first, gathers_owners};
 use crate::passing::{broken_in_passing, record_passes};
 use crate::raised::Raised;
 use crate::rule::{Hold, Region};
+use crate::tracks::Tracks;
 use ada_effects::{Implicit, items_raise, record_path_raises};
 use ada_program::program::{Item, RecordPath, TypeDefinition};
 use ada_program::{Spot, TypeNo, VariableNo};
@@ -28,17 +29,18 @@ use std::alloc::Global;
 /// The leftmost rule that the items break that a record gets which stands at the spot.
 fn broken_in_given(
     types: &[TypeDefinition],
+    tracks: Tracks<'_>,
     spot: Spot,
     owning: bool,
     holds: &[Hold],
     items: &[Item],
 ) -> Option<Breach>
     ensures { let given = rules.uses_in_items (map type_form types.now) spot None [] (map item_form items.now) in
-        broken result ≡ rules.broken_among holds.now (rules.copies_to owning spot ∷ given) }
+        broken result ≡ rules.broken_among (tracks_in tracks.entry) holds.now (rules.copies_to owning spot ∷ given) }
 {
     leftmost(
         copied_to(owning, spot),
-        broken_in_items(types, spot, holds, None, items),
+        broken_in_items(types, tracks, spot, holds, None, items),
     )
 }
 
@@ -54,12 +56,20 @@ fn broken_in_record_path(
     ensures { let may = frees_either ended.now adjusted.now in
         let at = record_path_form path.now in
         let passes = rules.record_passes (types_in around.now) (variables_in around.now) may at in
-        broken result ≡ rules.broken_in holds.now (rules.passes_it passes at.object) }
+        broken result ≡ rules.broken_in (tracks_around around.now) holds.now (rules.passes_it passes at.object) }
 {
     let types = around.setting.types;
     let variables = around.setting.variables;
     let passes = record_passes(types, variables, ended, path);
-    broken_in_passing(types, variables, adjusted, holds, passes, path)
+    broken_in_passing(
+        types,
+        variables,
+        around.setting.tracks,
+        adjusted,
+        holds,
+        passes,
+        path,
+    )
 }
 
 /// The rule that the path to a record breaks which is copied alone.
@@ -71,7 +81,7 @@ fn broken_in_source(
     items: &[Item],
 ) -> Option<Breach>
     ensures { let uses = rules.uses_in_copy (types_in around.now) (variables_in around.now) (frees_either ended.now adjusted.now) (map item_form items.now) in
-        broken result ≡ rules.broken_among holds.now uses }
+        broken result ≡ rules.broken_among (tracks_around around.now) holds.now uses }
 {
     match items {
         [Item::Record(path)] => leftmost(
@@ -98,11 +108,12 @@ fn use_record(
     ensures { let to = record_path_form target.now in
         let may = frees_either ended.now adjusted.now in
         let uses = rules.uses_in_assignment (types_in around.now) (variables_in around.now) may to (map item_form items.now) in
-        Follows result (rules.broken_among holds.now uses) }
+        Follows result (rules.broken_among (tracks_around around.now) holds.now uses) }
 {
     let spot = target.object.spot;
-    let owning = is_owning_record(around.setting.types, target.record);
-    let given = broken_in_given(around.setting.types, spot, owning, holds, items);
+    let types = around.setting.types;
+    let owning = gathers_owners(types, target.record, items);
+    let given = broken_in_given(types, around.setting.tracks, spot, owning, holds, items);
     let source = broken_in_source(around, ended, adjusted, holds, items);
     let to = broken_in_record_path(around, ended, adjusted, holds, target);
     let copied = leftmost(given, source);
@@ -131,7 +142,7 @@ pub(crate) fn give_record(
         let given = map item_form items.now in
         let may = λ (t : ℕ). effects.assignment_frees (implicit_around around.now) t to.record_type in
         Leads result known.new.holds.items raised.old raised.new
-        (rules.gives_record (types_in around.now) (variables_in around.now) may to given known.old.holds.items) }
+        (rules.gives_record (types_in around.now) (variables_in around.now) (tracks_around around.now) may to given known.old.holds.items) }
 {
     let implicit = around.setting.effects.implicit;
     let ended = freed_at_end(implicit, target.record.0);
@@ -149,19 +160,20 @@ pub(crate) fn give_record(
 /// The leftmost rule that it breaks.
 fn use_initial(
     types: &[TypeDefinition],
+    tracks: Tracks<'_>,
     spot: Spot,
     object: TypeNo,
     holds: &[Hold],
     initial: &Option<Vec<Item>>,
 ) -> Result<(), Breach>
     ensures { let uses = rules.uses_in_initial (map type_form types.now) spot object.0 (initial_items initial.now) in
-        Follows result (rules.broken_among holds.now uses) }
+        Follows result (rules.broken_among (tracks_in tracks.entry) holds.now uses) }
 {
     match initial {
         None => Ok(()),
         Some(items) => {
-            let owning = owns_at_first(types, object);
-            unless_broken(broken_in_given(types, spot, owning, holds, items))
+            let owning = gathers_at_first(types, object, items);
+            unless_broken(broken_in_given(types, tracks, spot, owning, holds, items))
         }
     }
 }
@@ -190,10 +202,17 @@ pub(crate) fn create_record(
 ) -> Result<(), FlowFault>
     ensures { let creation = declares_record variable.0 object.0 (initial_items initial.now) in
         Leads result known.new.holds.items raised.old raised.new
-        (rules.declaration_flow (types_in around.now) (variables_in around.now) (implicit_around around.now) creation known.old.holds.items) }
+        (rules.declaration_flow (types_in around.now) (variables_in around.now) (tracks_around around.now) (implicit_around around.now) creation known.old.holds.items) }
 {
     let spot = around.declared_at(variable);
-    use_initial(around.setting.types, spot, object, known.holds(), initial)?;
+    use_initial(
+        around.setting.types,
+        around.setting.tracks,
+        spot,
+        object,
+        known.holds(),
+        initial,
+    )?;
     let implicit = around.setting.effects.implicit;
     let freed = freed_at_first(implicit, object, initial);
     forget_freed(alloc, around.setting.variables, known, freed)?;

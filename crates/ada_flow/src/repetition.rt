@@ -72,7 +72,12 @@ pub(crate) fn repeat(
     ensures { Ends result raised.old raised.new
         (loop_of around.now condition.now body.now end known.holds.items) }
 {
-    open_all(around.setting.variables, &mut known, body);
+    open_all(
+        around.setting.variables,
+        around.setting.tracks,
+        &mut known,
+        body,
+    );
     let leaves = condition.is_some() || have_exit(body);
     turn(alloc, around, known, raised, condition, body, end, leaves)
 }
@@ -91,7 +96,12 @@ pub(crate) fn count(
     ensures { Ends result raised.old raised.new
         (for_of around.now parameter.0 body.now end known.holds.items) }
 {
-    open_all(around.setting.variables, &mut known, body);
+    open_all(
+        around.setting.variables,
+        around.setting.tracks,
+        &mut known,
+        body,
+    );
     known.put(parameter, Hold::Lost);
     turn(alloc, around, known, raised, &None, body, end, true)
 }
@@ -112,7 +122,7 @@ fn turn(
     ensures { Ends result raised.old raised.new
         (turns_of around.now condition.now leaves body.now end start.holds.items) }
 {
-    compute_condition(alloc, &start, raised, condition)?;
+    compute_condition(alloc, around, &start, raised, condition)?;
     let nothing = Gone::nothing(alloc);
     let within = Around::in_loop(around.setting, start.holds(), &nothing, around.within);
     if let Some(after) = statements(alloc, &within, start.copy(alloc)?, raised, body)? {

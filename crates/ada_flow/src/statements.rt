@@ -48,7 +48,7 @@ fn exit(
     match condition {
         None => Ok(None),
         Some(condition) => {
-            compute(alloc, &known, raised, condition)?;
+            compute(alloc, around, &known, raised, condition)?;
             Ok(Some(known))
         }
     }
@@ -121,8 +121,8 @@ fn statement(
             return Ok(Some(known));
         }
         Stmt::Free { access: _, path } => release(alloc, around, &mut known, raised, path)?,
-        Stmt::Get(target) => get(alloc, &mut known, raised, target)?,
-        Stmt::PutImage(expression) => compute(alloc, &known, raised, expression)?,
+        Stmt::Get(target) => get(alloc, around, &mut known, raised, target)?,
+        Stmt::PutImage(expression) => compute(alloc, around, &known, raised, expression)?,
         Stmt::If {
             branches,
             otherwise,
@@ -143,8 +143,8 @@ fn statement(
             statements,
             end,
         } => {
-            compute(alloc, &known, raised, first)?;
-            compute(alloc, &known, raised, last)?;
+            compute(alloc, around, &known, raised, first)?;
+            compute(alloc, around, &known, raised, last)?;
             return count(alloc, around, known, raised, *parameter, statements, *end);
         }
         Stmt::Exit { condition, spot } => {
@@ -226,7 +226,7 @@ fn branches(
 {
     let mut joined = None;
     'branches: for branch in branches {
-        compute(alloc, known, raised, &branch.condition)?;
+        compute(alloc, around, known, raised, &branch.condition)?;
         let end = statements(
             alloc,
             around,

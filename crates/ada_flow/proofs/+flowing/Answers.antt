@@ -19,6 +19,7 @@ use Rattle.ada_flow.specs.Told.{Noted, emptied, ending, end_handled, around_of, 
 use Rattle.ada_flow.proofs.Noted.{End, handlers_end, turn_returns, turn_stops, block_declares_badly, block_breaks, block_handles}
 use Rattle.ada_flow.proofs.+flowing.Goals as goal
 use Rattle.ada_flow.proofs.+flowing.Goals.{repetition::turn-in-Some+in_ok-unless_worse, repetition::turn-in_default}
+use Rattle.ada_flow.specs.Tracking.{Tracks}
 
 -- a handler joins those before it
 handler_step : (so_far joined end : Option Holds) (n k : Noted) (types : List TypeForm) (variables : List VariableForm) (around : Around) (handlers : List Handler) (i : ℕ) (one : Handler) (statements : List Stmt) (raising copied : Holds) (all : End) →
@@ -48,18 +49,18 @@ blocks::handlers-handlers-preserved t c =
 
 -- one turn, where it leads back and where it doesn't
 turned : (leaves : Bool) (n m k : Noted) (condition : Option ExpressionForm) (spot : Spot) (types : List TypeForm) (variables : List VariableForm) (around : Around) (fs : StmtsForm) (start : Holds) (end : Option Holds) →
-    ending n (condition_flow condition start) ≡ Ok (Some start, m) → ending m (stmts_flow types variables (in_loop (Some start) around) fs start) ≡ Ok (end, k) →
+    ending n (condition_flow around.tracks condition start) ≡ Ok (Some start, m) → ending m (stmts_flow types variables (in_loop (Some start) around) fs start) ≡ Ok (end, k) →
     IfSome end (λ after. unless_worse start after spot (goes (Some after) None) ≡ goes (Some after) None) →
-    ending n (loop_flow condition leaves spot (λ place hs. stmts_flow types variables (in_loop place around) fs hs) start) ≡ Ok ((if leaves then Some start else None), k)
+    ending n (loop_flow around.tracks condition leaves spot (λ place hs. stmts_flow types variables (in_loop place around) fs hs) start) ≡ Ok ((if leaves then Some start else None), k)
 turned leaves n m k condition spot types variables around fs start None tests turns keeps = turn_stops leaves n m k condition spot types variables around fs start tests turns
 turned leaves n m k condition spot types variables around fs start (Some after) tests turns keeps = turn_returns leaves n m k condition spot types variables around fs start after tests turns keeps
 
 -- the same of what the code keeps
 turned_in : (leaves b : Bool) (n m k : Noted) (condition : Option ExpressionForm) (spot : Spot) (types ts : List TypeForm) (variables vs : List VariableForm) (around place : Around) (fs : StmtsForm) (start placed copied : Holds) (end : Option Holds) →
     leaves ≡ b → placed ≡ start → copied ≡ start → ts ≡ types → vs ≡ variables → place ≡ in_loop (Some placed) around →
-    ending n (condition_flow condition start) ≡ Ok (Some start, m) → ending m (stmts_flow ts vs place fs copied) ≡ Ok (end, k) →
+    ending n (condition_flow around.tracks condition start) ≡ Ok (Some start, m) → ending m (stmts_flow ts vs place fs copied) ≡ Ok (end, k) →
     IfSome end (λ after. unless_worse start after spot (goes (Some after) None) ≡ goes (Some after) None) →
-    ending n (loop_flow condition leaves spot (λ place hs. stmts_flow types variables (in_loop place around) fs hs) start) ≡ Ok ((if b then Some start else None), k)
+    ending n (loop_flow around.tracks condition leaves spot (λ place hs. stmts_flow types variables (in_loop place around) fs hs) start) ≡ Ok ((if b then Some start else None), k)
 turned_in leaves b n m k condition spot types ts variables vs around place fs start placed copied end leaves_is placed_is copied_is ts_is vs_is place_is tests turns keeps =
     let at_start : place ≡ in_loop (Some start) around = place_is ∙ ap (λ (d : Holds). in_loop (Some d) around) placed_is in
     let second : ending m (stmts_flow types variables (in_loop (Some start) around) fs start) ≡ Ok (end, k) =
@@ -67,7 +68,7 @@ turned_in leaves b n m k condition spot types ts variables vs around place fs st
     (subst (λ (v : List VariableForm). ending m (stmts_flow ts v (in_loop (Some start) around) fs start) ≡ Ok (end, k)) vs_is
     (subst (λ (p : Around). ending m (stmts_flow ts vs p fs start) ≡ Ok (end, k)) at_start
     (subst (λ (d : Holds). ending m (stmts_flow ts vs place fs d) ≡ Ok (end, k)) copied_is turns))) in
-    subst (λ (l : Bool). ending n (loop_flow condition leaves spot (λ place hs. stmts_flow types variables (in_loop place around) fs hs) start) ≡ Ok ((if l then Some start else None), k)) leaves_is
+    subst (λ (l : Bool). ending n (loop_flow around.tracks condition leaves spot (λ place hs. stmts_flow types variables (in_loop place around) fs hs) start) ≡ Ok ((if l then Some start else None), k)) leaves_is
     (turned leaves n m k condition spot types variables around fs start end tests second keeps)
 
 keeps_start : (start first after seen : Holds) (spot : Spot) → first ≡ start → seen ≡ after → unless_worse first seen spot (goes (Some seen) None) ≡ goes (Some seen) None →
@@ -108,11 +109,11 @@ repetition::turn-returns-else-leaves t c =
     c.in_ok-compute_condition.ensures c.in_ok-after.ensures keeps
 
 -- how the declarations of a block end
-declared : (n own : Noted) (types : List TypeForm) (variables : List VariableForm) (implicit : Implicit) (ds ds' : List DeclarationForm) (holds : Holds) (end : End) → own ≡ emptied n → ds' ≡ ds →
-    ending own (declarations_flow types variables implicit ds' holds) ≡ end → ending (emptied n) (declarations_flow types variables implicit ds holds) ≡ end
-declared n own types variables implicit ds ds' holds end own_is ds_is ends =
-    subst (λ (o : Noted). ending o (declarations_flow types variables implicit ds holds) ≡ end) own_is
-    (subst (λ (xs : List DeclarationForm). ending own (declarations_flow types variables implicit xs holds) ≡ end) ds_is ends)
+declared : (n own : Noted) (types : List TypeForm) (variables : List VariableForm) (tracks : Tracks) (implicit : Implicit) (ds ds' : List DeclarationForm) (holds : Holds) (end : End) → own ≡ emptied n → ds' ≡ ds →
+    ending own (declarations_flow types variables tracks implicit ds' holds) ≡ end → ending (emptied n) (declarations_flow types variables tracks implicit ds holds) ≡ end
+declared n own types variables tracks implicit ds ds' holds end own_is ds_is ends =
+    subst (λ (o : Noted). ending o (declarations_flow types variables tracks implicit ds holds) ≡ end) own_is
+    (subst (λ (xs : List DeclarationForm). ending own (declarations_flow types variables tracks implicit xs holds) ≡ end) ds_is ends)
 
 -- and its statements
 inner_ends : (m inner : Noted) (types : List TypeForm) (variables : List VariableForm) (around within : Around) (gone : Gone) (fs fs' : StmtsForm) (hs hs' : HandlersForm) (at : Holds) (end : End) →
@@ -134,17 +135,17 @@ stands_in gone inside within around e f = ap (λ (g : Gone). stands around g wit
 -- its declarations break a rule
 declares_badly : (fault : FlowFault) (n own : Noted) (types : List TypeForm) (variables : List VariableForm) (cleared : Bool) (around : Around) (f : StmtForm) (ds ds' : List DeclarationForm) (fs : StmtsForm) (hs : HandlersForm) (holds : Holds) →
     f ≡ encloses ds fs hs → own ≡ emptied n → ds' ≡ ds →
-    IfSome (breach_of fault) (λ breach. ending own (declarations_flow types variables around.effects.implicit ds' holds) ≡ Err breach) →
+    IfSome (breach_of fault) (λ breach. ending own (declarations_flow types variables around.tracks around.effects.implicit ds' holds) ≡ Err breach) →
     IfSome (breach_of fault) (λ breach. ending n (stmt_flow types variables around cleared f holds) ≡ Err breach)
 declares_badly NoMemory n own types variables cleared around f ds ds' fs hs holds form own_is ds_is breaks = tt
 declares_badly (Broken spot rule) n own types variables cleared around f ds ds' fs hs holds form own_is ds_is breaks =
     subst (λ (g : StmtForm). ending n (stmt_flow types variables around cleared g holds) ≡ Err (spot, rule)) (sym form)
-    (block_declares_badly n types variables around cleared ds fs hs holds (spot, rule) (declared n own types variables around.effects.implicit ds ds' holds (Err (spot, rule)) own_is ds_is breaks))
+    (block_declares_badly n types variables around cleared ds fs hs holds (spot, rule) (declared n own types variables around.tracks around.effects.implicit ds ds' holds (Err (spot, rule)) own_is ds_is breaks))
 
 -- its statements do
 inner_breaks : (fault : FlowFault) (n own m inner : Noted) (types : List TypeForm) (variables : List VariableForm) (cleared : Bool) (around within : Around) (gone : Gone) (f : StmtForm) (ds ds' : List DeclarationForm) (fs fs' : StmtsForm) (hs hs' : HandlersForm) (holds at : Holds) →
     f ≡ encloses ds fs hs → gone ≡ gone_with ds → own ≡ emptied n → ds' ≡ ds →
-    ending own (declarations_flow types variables around.effects.implicit ds' holds) ≡ Ok (Some at, m) →
+    ending own (declarations_flow types variables around.tracks around.effects.implicit ds' holds) ≡ Ok (Some at, m) →
     within ≡ in_block gone around → inner ≡ noted_for m hs' → hs' ≡ hs → fs' ≡ fs →
     IfSome (breach_of fault) (λ breach. ending inner (stmts_flow types variables within fs' at) ≡ Err breach) →
     IfSome (breach_of fault) (λ breach. ending n (stmt_flow types variables around cleared f holds) ≡ Err breach)
@@ -152,13 +153,13 @@ inner_breaks NoMemory n own m inner types variables cleared around within gone f
 inner_breaks (Broken spot rule) n own m inner types variables cleared around within gone f ds ds' fs fs' hs hs' holds at form gone_is own_is ds_is declares within_is inner_is hs_is fs_is breaks =
     subst (λ (g : StmtForm). ending n (stmt_flow types variables around cleared g holds) ≡ Err (spot, rule)) (sym form)
     (block_breaks n m types variables around cleared gone ds fs hs holds at (spot, rule) gone_is
-    (declared n own types variables around.effects.implicit ds ds' holds (Ok (Some at, m)) own_is ds_is declares)
+    (declared n own types variables around.tracks around.effects.implicit ds ds' holds (Ok (Some at, m)) own_is ds_is declares)
     (inner_ends m inner types variables around within gone fs fs' hs hs' at (Err (spot, rule)) within_is inner_is hs_is fs_is breaks))
 
 -- and where nothing does
 block_is_left : (n own m inner k l raised : Noted) (types : List TypeForm) (variables : List VariableForm) (cleared : Bool) (around within : Around) (gone : Gone) (f : StmtForm) (ds ds' : List DeclarationForm) (fs fs' fs'' : StmtsForm) (hs hs' hs'' : HandlersForm) (holds at : Holds) (normal end leaves : Option Holds) →
     f ≡ encloses ds fs hs → gone ≡ gone_with ds → own ≡ emptied n → ds' ≡ ds →
-    ending own (declarations_flow types variables around.effects.implicit ds' holds) ≡ Ok (Some at, m) →
+    ending own (declarations_flow types variables around.tracks around.effects.implicit ds' holds) ≡ Ok (Some at, m) →
     within ≡ in_block gone around → inner ≡ noted_for m hs' → hs' ≡ hs → fs' ≡ fs →
     ending inner (stmts_flow types variables within fs' at) ≡ Ok (normal, k) →
     fs'' ≡ fs → hs'' ≡ hs → end_handled m (passes around.effects fs'' hs'') (handlers_flow types variables within hs'') normal k ≡ Ok (end, l) →
@@ -173,14 +174,14 @@ block_is_left n own m inner k l raised types variables cleared around within gon
     (subst (λ (x : Noted). ending n (stmt_flow types variables around cleared f holds) ≡ Ok (finalized_option variables around.effects.implicit gone end, x)) (sym raised_is)
     (subst (λ (g : StmtForm). ending n (stmt_flow types variables around cleared g holds) ≡ Ok (finalized_option variables around.effects.implicit gone end, noted_behind n variables around.effects.implicit gone l)) (sym form)
     (block_handles n m k types variables around cleared gone ds fs hs holds at normal (Ok (end, l)) gone_is
-    (declared n own types variables around.effects.implicit ds ds' holds (Ok (Some at, m)) own_is ds_is declares)
+    (declared n own types variables around.tracks around.effects.implicit ds ds' holds (Ok (Some at, m)) own_is ds_is declares)
     (inner_ends m inner types variables around within gone fs fs' hs hs' at (Ok (normal, k)) within_is inner_is hs_is fs_is ends)
     handlers_end)))
 
 -- its handlers do
 handlers_break_rule : (fault : FlowFault) (n own m inner k : Noted) (types : List TypeForm) (variables : List VariableForm) (cleared : Bool) (around within : Around) (gone : Gone) (f : StmtForm) (ds ds' : List DeclarationForm) (fs fs' fs'' : StmtsForm) (hs hs' hs'' : HandlersForm) (holds at : Holds) (normal : Option Holds) →
     f ≡ encloses ds fs hs → gone ≡ gone_with ds → own ≡ emptied n → ds' ≡ ds →
-    ending own (declarations_flow types variables around.effects.implicit ds' holds) ≡ Ok (Some at, m) →
+    ending own (declarations_flow types variables around.tracks around.effects.implicit ds' holds) ≡ Ok (Some at, m) →
     within ≡ in_block gone around → inner ≡ noted_for m hs' → hs' ≡ hs → fs' ≡ fs →
     ending inner (stmts_flow types variables within fs' at) ≡ Ok (normal, k) →
     fs'' ≡ fs → hs'' ≡ hs →
@@ -194,7 +195,7 @@ handlers_break_rule (Broken spot rule) n own m inner k types variables cleared a
     (subst (λ (g : StmtsForm). end_handled m (passes around.effects g hs'') (handlers_flow types variables within hs'') normal k ≡ Err (spot, rule)) fs_is' breaks)) in
     subst (λ (g : StmtForm). ending n (stmt_flow types variables around cleared g holds) ≡ Err (spot, rule)) (sym form)
     (block_handles n m k types variables around cleared gone ds fs hs holds at normal (Err (spot, rule)) gone_is
-    (declared n own types variables around.effects.implicit ds ds' holds (Ok (Some at, m)) own_is ds_is declares)
+    (declared n own types variables around.tracks around.effects.implicit ds ds' holds (Ok (Some at, m)) own_is ds_is declares)
     (inner_ends m inner types variables around within gone fs fs' hs hs' at (Ok (normal, k)) within_is inner_is hs_is fs_is ends)
     handlers_end)
 
@@ -267,12 +268,12 @@ statements::statement-returns-in-Block t c =
 -- an assignment to a record
 record_assigned : (n : Noted) (types : List TypeForm) (variables : List VariableForm) (cleared : Bool) (around : Around) (s : Stmt) (target : RecordPath) (items : Vec Item) (given : List Item) (holds : Holds) (end : End) →
     s ≡ AssignRecord target items → given ≡ items.items →
-    ending n (gives_record types variables (λ t. assignment_frees around.effects.implicit t (record_path_form target).record_type) (record_path_form target) (map item_form given) holds) ≡ end →
+    ending n (gives_record types variables around.tracks (λ t. assignment_frees around.effects.implicit t (record_path_form target).record_type) (record_path_form target) (map item_form given) holds) ≡ end →
     ending n (stmt_flow types variables around cleared (stmt_form s) holds) ≡ end
 record_assigned n types variables cleared around s target items given holds end is same gives =
     let may : ℕ → Bool = λ t. assignment_frees around.effects.implicit t (record_path_form target).record_type in
     ap (λ (f : StmtForm). ending n (stmt_flow types variables around cleared f holds)) (ap stmt_form is ∙ assigns_record_form target items)
-    ∙ ap (λ (xs : List Item). ending n (gives_record types variables may (record_path_form target) (map item_form xs) holds)) (sym same)
+    ∙ ap (λ (xs : List Item). ending n (gives_record types variables around.tracks may (record_path_form target) (map item_form xs) holds)) (sym same)
     ∙ gives
 
 pub statements::statement-returns-in-AssignRecord : goal.statements::statement-returns-in-AssignRecord
@@ -280,3 +281,19 @@ statements::statement-returns-in-AssignRecord t c =
     record_assigned (noted c.args.raised.now) (types_in c.args.around.now) (variables_in c.args.around.now) c.args.cleared (around_of c.args.around.now) c.args.statement.now
     c.in-AssignRecord.target c.in-AssignRecord.items c.deref.result.now c.args.known.holds.items (Ok (Some c.give_record.new.known.holds.items, noted c.give_record.new.raised))
     c.in-AssignRecord.is c.deref.ensures.value c.in_ok-give_record-in-AssignRecord.ensures
+
+-- and one that breaks a rule
+record_breaks_rule : (fault : FlowFault) (n : Noted) (types : List TypeForm) (variables : List VariableForm) (cleared : Bool) (around : Around) (s : Stmt) (target : RecordPath) (items : Vec Item) (given : List Item) (holds : Holds) →
+    s ≡ AssignRecord target items → given ≡ items.items →
+    IfSome (breach_of fault) (λ breach. ending n (gives_record types variables around.tracks (λ t. assignment_frees around.effects.implicit t (record_path_form target).record_type) (record_path_form target) (map item_form given) holds) ≡ Err breach) →
+    IfSome (breach_of fault) (λ breach. ending n (stmt_flow types variables around cleared (stmt_form s) holds) ≡ Err breach)
+record_breaks_rule NoMemory n types variables cleared around s target items given holds is same breaks = tt
+record_breaks_rule (Broken spot rule) n types variables cleared around s target items given holds is same breaks =
+    record_assigned n types variables cleared around s target items given holds (Err (spot, rule)) is same breaks
+
+pub statements::statement-returns-in_err-give_record-in-AssignRecord :
+    goal.statements::statement-returns-in_err-give_record-in-AssignRecord
+statements::statement-returns-in_err-give_record-in-AssignRecord t c =
+    let p = err_from_is_err_and c.from_residual-in_err-give_record-in-AssignRecord.result c.from_residual-in_err-give_record-in-AssignRecord.ensures.1 in
+    rw (p.1, p.2) (record_breaks_rule c.in_err-give_record-in-AssignRecord.field-0.0 (noted c.args.raised.now) (types_in c.args.around.now) (variables_in c.args.around.now) c.args.cleared (around_of c.args.around.now) c.args.statement.now
+    c.in-AssignRecord.target c.in-AssignRecord.items c.deref.result.now c.args.known.holds.items c.in-AssignRecord.is c.deref.ensures.value c.in_err-give_record-in-AssignRecord.ensures)

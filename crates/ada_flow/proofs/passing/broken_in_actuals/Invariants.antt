@@ -1,7 +1,7 @@
 use Rattle.std.proofs.Common.{◌≡◌, [], take, drop, map}
 use Rattle.ada_effects.specs.Found.{has_number}
 use Rattle.ada_flow.specs.Flow.{uses_in_actuals, leftmost, broken_among}
-use Rattle.ada_flow.specs.Told.{broken}
+use Rattle.ada_flow.specs.Told.{broken, tracks_in}
 use Rattle.ada_program.specs.Form.{actual_form}
 use Rattle.ada_program.specs.ProgramForm.{type_form, variable_form}
 use Rattle.ada_flow.proofs.passing.broken_in_actuals.Given as goal
@@ -14,5 +14,5 @@ invariant-loop-number l =
     let may = has_number l.freed in
     let done = map actual_form (take l.number l.actuals) in
     let left = map actual_form (drop l.number l.actuals) in
-    leftmost (broken l.found) (broken_among l.holds (uses_in_actuals types variables may done left))
-    ≡ broken_among l.holds (uses_in_actuals types variables may [] (map actual_form l.actuals))
+    leftmost (broken l.found) (broken_among (tracks_in l.tracks) l.holds (uses_in_actuals types variables may done left))
+    ≡ broken_among (tracks_in l.tracks) l.holds (uses_in_actuals types variables may [] (map actual_form l.actuals))

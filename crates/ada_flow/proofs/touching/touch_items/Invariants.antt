@@ -2,8 +2,9 @@ use Rattle.std.proofs.Common.{◌≡◌, drop, map}
 use Rattle.ada_flow.specs.Flow.{moved_by_items, all_touched}
 use Rattle.ada_program.specs.Form.{item_form}
 use Rattle.ada_flow.proofs.touching.touch_items.Given as goal
+use Rattle.ada_flow.specs.Told.{tracks_in}
 
 -- what is left touches the rest
 abbrev pub invariant-items : goal.invariant-items
 invariant-items l =
-    all_touched (moved_by_items (map item_form (drop l.item-index l.items))) l.known.holds.items ≡ all_touched (moved_by_items (map item_form l.items)) l.fn.known.holds.items
+    all_touched (moved_by_items (tracks_in l.tracks) (map item_form (drop l.item-index l.items))) l.known.holds.items ≡ all_touched (moved_by_items (tracks_in l.tracks) (map item_form l.items)) l.fn.known.holds.items

@@ -1,0 +1,11 @@
+use Rattle.std.proofs.Common.{◌≡◌, drop, map}
+use Rattle.std.specs.List.{list_any}
+use Rattle.ada_flow.specs.Flow.{owns_within}
+use Rattle.ada_program.specs.ProgramForm.{part_form, type_form}
+use Rattle.ada_flow.proofs.owning.have_owner.Given as goal
+
+-- what is left tells of all
+abbrev pub invariant-parts : goal.invariant-parts
+invariant-parts l =
+    list_any (λ p. owns_within (map type_form l.types) p.kind) (map part_form (drop l.part-index l.parts))
+    ≡ list_any (λ p. owns_within (map type_form l.types) p.kind) (map part_form l.parts)
