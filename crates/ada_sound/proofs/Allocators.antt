@@ -16,7 +16,8 @@ use Rattle.ada_effects.specs.Effects.{items_raise, item_raises}
 use Rattle.ada_flow.specs.declared.rule.Hold.{Hold}
 use Rattle.ada_flow.specs.declared.rule.Hold.TheVariants as hold
 use Rattle.ada_flow.specs.declared.rule.Region.TheVariants.{Whole}
-use Rattle.ada_flow.specs.Flow.{Holds, hold_at, variable_access, uses_in_item, copies_to, reaches_it, is_owning_record, is_target, lost_by, lost_behind, moved_behind, without_values, moved_by_items}
+use Rattle.ada_flow.specs.Flow.{Holds, hold_at, variable_access, uses_in_item, copies_to, reaches_it, is_owning_record, is_target, lost_by, lost_behind, moved_behind, without_values, moved_by_items, leaves_owners, shares_it}
+use Rattle.ada_flow.specs.Tracking.{no_tracks}
 use Rattle.ada_meaning.specs.declared.state.Value.{Value}
 use Rattle.ada_meaning.specs.declared.state.Value.TheVariants.{Null, Names, Scalar, Part}
 use Rattle.ada_meaning.specs.declared.state.Mode.TheVariants.{Raising}
@@ -50,6 +51,8 @@ use Rattle.ada_sound.proofs.Lendings.{lends_none, lends_some}
 use Rattle.ada_sound.proofs.Undone.{new_may_undo}
 use Rattle.ada_sound.proofs.Walks.{finds_fine, fills_fine}
 use Rattle.ada_sound.proofs.Raising.{or_left}
+use Rattle.ada_sound.specs.Untracked.{AdjustsNoOwners}
+use Rattle.ada_sound.proofs.Untracked.{owns_nothing}
 
 module _ (known : Known) (heap : List Object) (places : List Value) where
   -- An item has its value.
@@ -129,11 +132,11 @@ module _ (known : Known) (k : Control) (a : Activation Value) (rest : List (Acti
       )) (root_follows path.root path.spot kept.1 w.fit)
 
   -- A record that is copied owns nothing, and its path is not lost.
-  record_kept : (holds : Holds) (p : RecordPathForm) → NextKeeps known s.heap a.places holds (item_of_record p) → (is_owning_record known.program.types p.record_type ≡ false) × (lost_by (hold_at holds p.object.root) p.object.spot ≡ None)
-  record_kept holds p (spot, target, earlier, keeps) =
-      let owning = is_owning_record known.program.types p.record_type in
-      let h = first_kept holds (copies_to owning spot) (reaches_it p.object ∷ []) keeps in
-      (copied_plain owning spot h.0, (first_kept holds (reaches_it p.object) [] h.1).0)
+  record_kept : AdjustsNoOwners known.program.types → (holds : Holds) (p : RecordPathForm) → NextKeeps known s.heap a.places holds (item_of_record p) → (is_owning_record known.program.types p.record_type ≡ false) × (lost_by (hold_at holds p.object.root) p.object.spot ≡ None)
+  record_kept adjusts holds p (spot, target, earlier, keeps) =
+      let leaves = leaves_owners known.program.types p.record_type in
+      let h = first_kept holds (copies_to leaves spot) (shares_it p ∷ reaches_it p.object ∷ []) keeps in
+      (owns_nothing known.program.types adjusts p.record_type (copied_plain leaves spot h.0), (first_kept holds (reaches_it p.object) [] h.1).0)
 
   -- A path that typing knows of leads somewhere.
   and_left : (x y : Bool) → (x && y) ≡ true → x ≡ true
@@ -161,8 +164,8 @@ module _ (known : Known) (k : Control) (a : Activation Value) (rest : List (Acti
       record_there known.program.types known.program.variables p (and_left (is_record_path known.program.types known.program.variables p) _ (and_left _ _ e))
 
   -- The items of an aggregate are evaluated, and then its object is asked for, or its values are stored.
-  pub items_fine : (items : List ItemForm) (cs : List ComponentKind) → items_fit known.program.types known.program.variables cs items ≡ true → Working known s.heap a.places s.masters (FillsTo known s.heap a.places items k a.operands) → Fine known s.heap s.masters (items_next named items (running k a rest s))
-  items_fine [] cs fits w = asked k w
+  pub items_fine : AdjustsNoOwners known.program.types → (items : List ItemForm) (cs : List ComponentKind) → items_fit known.program.types known.program.variables cs items ≡ true → Working known s.heap a.places s.masters (FillsTo known s.heap a.places items k a.operands) → Fine known s.heap s.masters (items_next named items (running k a rest s))
+  items_fine adjusts [] cs fits w = asked k w
     where
       asked : (k' : Control) → Working known s.heap a.places s.masters (FillsTo known s.heap a.places [] k' a.operands) → Stepped known s.heap Quiet (running k' a rest s)
       asked [] w' = absurd w'.rest
@@ -170,16 +173,16 @@ module _ (known : Known) (k : Control) (a : Activation Value) (rest : List (Acti
       asked (StoresRecord o first count ∷ k') w' = ready_on known (StoresRecord o first count ∷ k') a rest s a.operands (at_work w' w'.rest.1)
       asked (DeclaresRecord x t ∷ k') w' = ready_on known (DeclaresRecord x t ∷ k') a rest s a.operands (at_work w' w'.rest.1)
       asked (f ∷ k') w' = absurd w'.rest
-  items_fine (null_item ∷ items) cs fits w = item_there null_item items Null refl w
-  items_fine (item_of_path path ∷ items) cs fits w =
+  items_fine adjusts (null_item ∷ items) cs fits w = item_there null_item items Null refl w
+  items_fine adjusts (item_of_path path ∷ items) cs fits w =
       let keeps = next_keeps known s.heap a.places (item_of_path path) items k a.operands w.rooms w.holds w.rest in
       path_item path items path.selectors refl w (path_fits cs path items fits)
       (moved_kept (is_target keeps.1 path) path.selectors (hold_at w.holds path.root) path.spot (kept_by keeps.1 w.holds keeps.2 path keeps.3).1)
-  items_fine (item_of_value e ∷ items) cs fits w =
+  items_fine adjusts (item_of_value e ∷ items) cs fits w =
       let keeps = next_keeps known s.heap a.places (item_of_value e) items k a.operands w.rooms w.holds w.rest in
       ready_on known (Computes e ∷ Fills items ∷ k) a rest s a.operands (at_work w (keeps.3, next_raises known s.heap a.places (item_of_value e) items k a.operands w.rooms w.holds w.rest, λ v. fills_on known s.heap a.places (item_of_value e) items k a.operands v w.rooms w.holds tt w.rest))
-  items_fine (item_of_record p ∷ items) cs fits w =
-      record_item p items (record_fits cs p items fits) w (record_kept w.holds p (next_keeps known s.heap a.places (item_of_record p) items k a.operands w.rooms w.holds w.rest))
+  items_fine adjusts (item_of_record p ∷ items) cs fits w =
+      record_item p items (record_fits cs p items fits) w (record_kept adjusts w.holds p (next_keeps known s.heap a.places (item_of_record p) items k a.operands w.rooms w.holds w.rest))
 
   -- A new object is granted, or refused.
   module _ (types : List TypeDefinition) (access count words : ℕ) (home : Destination) (is_home : home_of access s.masters ≡ Some home) (w : Working known s.heap a.places s.masters (Filling known s.heap a.places access count [] k a.operands)) (kinds : HaveKinds known.program.types (cells_of s.heap) w.rest.leads.components (reverse (take count a.operands))) where
@@ -188,23 +191,23 @@ module _ (known : Known) (k : Control) (a : Activation Value) (rest : List (Acti
 
     -- What is known once the variables that the items move are lost.
     lost : Holds
-    lost = without_values (moved_by_items (back_onto w.rest.done [])) w.holds
+    lost = without_values (moved_by_items no_tracks (back_onto w.rest.done [])) w.holds
 
     counted : count ≡ length (back_onto w.rest.done [])
     counted = w.rest.counted ∙ sym (filled_length known.program.types known.program.variables s.heap a.places w.rest.leads.components w.rest.done a.operands w.rest.filled w.rest.leads.fit)
 
     -- The values of the items are in hand, as far as nothing more is relied on than what they leave.
-    in_hand_by : (after : Place → Hold) → Lends (outers known) s.heap a.places w.holds w.rest.target (moved_by_items (back_onto w.rest.done [])) after → (n : ℕ) → n ≡ length (back_onto w.rest.done []) → HaveKinds known.program.types (cells_of s.heap) w.rest.leads.components (reverse (take n a.operands)) → AreInHand s.heap (stacked a.places (outers known)) after (λ c. access_of (kind_among (reached_components known.program.types access) c)) 0 (reverse (take n a.operands))
+    in_hand_by : (after : Place → Hold) → Lends (outers known) s.heap a.places w.holds w.rest.target (moved_by_items no_tracks (back_onto w.rest.done [])) after → (n : ℕ) → n ≡ length (back_onto w.rest.done []) → HaveKinds known.program.types (cells_of s.heap) w.rest.leads.components (reverse (take n a.operands)) → AreInHand s.heap (stacked a.places (outers known)) after (λ c. access_of (kind_among (reached_components known.program.types access) c)) 0 (reverse (take n a.operands))
     in_hand_by after lends n e h =
-        rw e (filled_in_hand known.program.types known.program.variables (outers known) s.heap a.places w.holds w.rest.spot w.rest.target (moved_by_items (back_onto w.rest.done [])) after w.fit lends access w.rest.leads.components w.rest.done a.operands (λ x is. is) w.rest.leads.reached w.rest.leads.fit w.rest.before w.rest.filled (rw e at h))
+        rw e (filled_in_hand known.program.types known.program.variables (outers known) s.heap a.places w.holds w.rest.spot w.rest.target (moved_by_items no_tracks (back_onto w.rest.done [])) after w.fit lends access w.rest.leads.components w.rest.done a.operands (λ x is. is) w.rest.leads.reached w.rest.leads.fit w.rest.before w.rest.filled (rw e at h))
 
     -- Where it goes to a variable, no component is an item.
     made : w.rest.target ≡ None → Fit known.program.types known.program.variables (outers known) none_spared (create s.heap words cell) a.places lost × Hand known.program.types known.program.variables (outers known) none_spared (create s.heap words cell) a.places lost (Some access) (created s.heap words)
     unfolding cell lost
     made none =
         let after = hold_in (outers known) none_spared lost in
-        create_fit words cell (in_hand_by after (lends_none (outers known) s.heap a.places w.holds w.rest.target (moved_by_items (back_onto w.rest.done [])) none) count counted kinds)
-        (lose_all (moved_by_items (back_onto w.rest.done [])) w.fit)
+        create_fit words cell (in_hand_by after (lends_none (outers known) s.heap a.places w.holds w.rest.target (moved_by_items no_tracks (back_onto w.rest.done [])) none) count counted kinds)
+        (lose_all (moved_by_items no_tracks (back_onto w.rest.done [])) w.fit)
 
     stored : Stored (outers known).under (create s.heap words cell) s.masters
     unfolding cell
@@ -224,7 +227,7 @@ module _ (known : Known) (k : Control) (a : Activation Value) (rest : List (Acti
     inserted : (o : Id) (object : Object) (c : ℕ) → object_at s.heap o ≡ Some object → is_there object.stage ≡ true → component_access known.program.types object c ≡ Some access → ((path : PathForm) → w.rest.target ≡ Some path → LeadsTo s.heap a.places (Names o) [] c path) → Fit known.program.types known.program.variables (outers known) none_spared (store (create s.heap words cell) (Names o) c (created s.heap words)) a.places lost
     unfolding cell lost
     inserted o object c found listed same leads =
-        let moved = moved_by_items (back_onto w.rest.done []) in
+        let moved = moved_by_items no_tracks (back_onto w.rest.done []) in
         let after = hold_of (with_lent o c (as_reliance (outers known) lost)) in
         insert_fit words cell o object c found listed same (in_hand_by after (lends_some (outers known) s.heap a.places w.holds w.rest.target moved o object c found listed leads) count counted kinds) (lose_all moved w.fit)
 

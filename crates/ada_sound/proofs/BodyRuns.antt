@@ -12,6 +12,7 @@ use Rattle.ada_effects.specs.Effects.{Effect, Effects, declarations_free, leavin
 use Rattle.ada_flow.specs.declared.rule.Hold.{Hold}
 use Rattle.ada_flow.specs.declared.rule.Hold.TheVariants as hold
 use Rattle.ada_flow.specs.Flow.{left_finalized, Holds, hold_at, variable_access, Outcome, then_flow, declarations_flow, stmts_flow, handlers_flow, handled, leaves_block, Keeping, keeping_of, body_keeps, kept_from, is_kept, all_give_back, first_kept, others_kept, unless_kept, left_unkept, left_by_move, without_alias, without_freed, left_by_call, left, gone_with, nothing_gone, collected, have_exit, handlers_have_exit, body_flow, first_holds}
+use Rattle.ada_flow.specs.Tracking.{no_tracks}
 use Rattle.ada_meaning.specs.declared.state.Id.{Id}
 use Rattle.ada_meaning.specs.declared.state.Value.{Value}
 use Rattle.ada_program.specs.WellFormed.{is_access}
@@ -45,7 +46,7 @@ kept_there holds n (m ∷ ms) (suc x) kept =
     rw at at (kept_there holds (n + 1) ms x kept)
 
 -- Where a body breaks no rule, formal parameters give back what they owe at its end, and are kept where an exception leaves it.
-pub gives_and_keeps : (types : List TypeForm) (effects : Effects) (kept : List Keeping) (b : BodyForm) → IsFine (body_flow types effects kept b) → Goes (body_flow types effects kept b) (λ holds. Unit {0}) (KeepsAll (body_keeps types effects kept b))
+pub gives_and_keeps : (types : List TypeForm) (effects : Effects) (kept : List Keeping) (b : BodyForm) → IsFine (body_flow types effects kept no_tracks b) → Goes (body_flow types effects kept no_tracks b) (λ holds. Unit {0}) (KeepsAll (body_keeps types effects kept no_tracks b))
 gives_and_keeps types effects kept b (normal, raising, is) = rw is (goes_anywhere normal, keeps raising)
   where
     keeps : (raising : Option Holds) → GoesBy raising (KeepsAll (kept_from raising 0 b.formals))
@@ -69,7 +70,7 @@ module _ (program : Program) (procedure : Option ℕ) (gs : List Suspension) whe
 
   -- What the body keeps, by its outcome.
   abbrev kept : Keeping
-  kept = body_keeps p.types (effects_of known.implicit p) (keeping_of known.implicit p) (main_body p)
+  kept = body_keeps p.types (effects_of known.implicit p) (keeping_of known.implicit p) no_tracks (main_body p)
 
   -- The body's caller waits for what it keeps.
   abbrev pub KeepsFor : List Suspension → Type 0
@@ -94,7 +95,7 @@ module _ (program : Program) (procedure : Option ℕ) (gs : List Suspension) whe
   -- Its part: its declarations, its statements and its handlers, before the body is left.
   abbrev part : Outcome
   part =
-      then_flow (declarations_flow p.types p.variables known.implicit p.declarations (first_holds p.formals p.variables))
+      then_flow (declarations_flow p.types p.variables no_tracks known.implicit p.declarations (first_holds p.formals p.variables))
       (λ at. handled (passes (effects_of known.implicit p) p.statements p.handlers)
       (handlers_flow p.types p.variables (around_at known nowhere_yet) p.handlers)
       (stmts_flow p.types p.variables (around_at known nowhere_yet) p.statements at))
@@ -105,7 +106,7 @@ module _ (program : Program) (procedure : Option ℕ) (gs : List Suspension) whe
   abbrev behind_there : Holds → Holds
   behind_there holds = left_finalized p.variables known.implicit (gone_with p.declarations) holds
 
-  part_goes : IsFine (body_flow p.types (effects_of known.implicit p) (keeping_of known.implicit p) (main_body p)) → Goes part (λ h. all_give_back (owed_in p) (left_there h) ≡ true) (λ h. KeepsAll kept (left_there h))
+  part_goes : IsFine (body_flow p.types (effects_of known.implicit p) (keeping_of known.implicit p) no_tracks (main_body p)) → Goes part (λ h. all_give_back (owed_in p) (left_there h) ≡ true) (λ h. KeepsAll kept (left_there h))
   part_goes fine =
       block_goes p.variables (gone_with p.declarations) part (λ h. all_give_back (owed_in p) h ≡ true) (KeepsAll kept)
       (body_goes (owed_in p) p.end_spot (leaves_block p.variables (gone_with p.declarations) part) (λ h. Unit {0}) (KeepsAll kept)
@@ -119,7 +120,7 @@ module _ (program : Program) (procedure : Option ℕ) (gs : List Suspension) whe
 
   -- It runs, if it breaks no rule, no exit leads out of it, no suspended activation has an alias of what it may free, and its caller waits for what it
   -- keeps.
-  pub body_runs : IsFine (body_flow p.types (effects_of known.implicit p) (keeping_of known.implicit p) (main_body p)) → have_exit p.statements ≡ false → handlers_have_exit p.handlers ≡ false → Spares known (body_frees p.types (effects_of known.implicit p) (main_body p)) → KeepsFor gs → RunsOn known (Elaborates p.declarations p.statements p.handlers ∷ rest_of gs) (gone_with p.declarations ∷ []) (first_holds p.formals p.variables)
+  pub body_runs : IsFine (body_flow p.types (effects_of known.implicit p) (keeping_of known.implicit p) no_tracks (main_body p)) → have_exit p.statements ≡ false → handlers_have_exit p.handlers ≡ false → Spares known (body_frees p.types (effects_of known.implicit p) (main_body p)) → KeepsFor gs → RunsOn known (Elaborates p.declarations p.statements p.handlers ∷ rest_of gs) (gone_with p.declarations ∷ []) (first_holds p.formals p.variables)
   body_runs fine none_out none_on spares same =
       let may_end : MayEnd known (gone_with p.declarations) = λ t i. spares t (or_right (stmts_free p.types p.variables (effects_of known.implicit p) t p.statements || handlers_free p.types p.variables (effects_of known.implicit p) t p.handlers) (declarations_free known.implicit t p.declarations || leaving_frees known.implicit t p.declarations) (or_right (declarations_free known.implicit t p.declarations) (leaving_frees known.implicit t p.declarations) (endings_leave known.implicit t p.declarations i))) in (
         all_among (collected p.declarations),

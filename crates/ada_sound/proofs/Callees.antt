@@ -18,7 +18,8 @@ use Rattle.ada_flow.specs.declared.rule.Region.{Region}
 use Rattle.ada_flow.specs.declared.rule.Region.TheVariants.{Whole}
 use Rattle.ada_flow.specs.declared.rule.Rule.TheVariants.{LostValue}
 use Rattle.ada_flow.specs.declared.rule.Rule.{Rule}
-use Rattle.ada_flow.specs.Flow.{Holds, Outcome, goes, faults, hold_at, variable_access, is_freed, without_alias, without_freed, left_by_move, left_by_call, Use, reads_it, compares_it, gives_again, lends_it, hands_it, opens_it, passes_it, uses_in, uses_in_links, is_given, is_begun_with, passes_freed, component_passes, record_passes, names_value, uses_in_actual, uses_in_actuals, handed_back, Keeping, first_kept, others_kept, unless_kept, left_unkept, kept_at, Breach, leftmost, is_left_of, lost_by, lost_behind, given_by_both, lent_by, handed_by, passed_by, taken_by, opened_by_call, broken_in, broken_among, unless_broken, ends_with, called}
+use Rattle.ada_flow.specs.Flow.{Holds, Outcome, goes, faults, hold_at, variable_access, is_freed, without_alias, without_freed, left_by_move, left_by_call, Use, reads_it, compares_it, gives_again, lends_it, hands_it, opens_it, passes_it, uses_in, uses_in_links, is_given, is_begun_with, passes_freed, component_passes, record_passes, names_value, uses_in_actual, uses_in_actuals, handed_back, Keeping, first_kept, others_kept, unless_kept, left_unkept, kept_at, Breach, leftmost, is_left_of, lost_by, lost_behind, given_by_both, lent_by, handed_by, passed_by, taken_by, opened_by_call, broken_in, broken_among, unless_broken, ends_with, called, shares_it}
+use Rattle.ada_flow.specs.Tracking.{no_tracks}
 use Rattle.ada_owners.specs.Reliance.{Owns}
 use Rattle.ada_sound.specs.Agreement.{IsOwner}
 use Rattle.ada_sound.specs.Callees.{CallLeavesNoAlias, RaisedCallLeavesNoAlias, IsHandedOver, CallMovesNothing, RaisedCallMovesNothing, OnlyOwnersAreHandedOver, CallHandsBack, UnkeptOwnNothing, CallKeepsOthers, RaisedCallKeepsOthers, has_selector, relies_on, links_rely_on, value_relies_on, begins_with, writes_from, AreGivenApart, IsFollowed, FollowsTo, IsPassedSafely, ArePassedSafely, CallsSpareWhatTheyPass, HandsNoAlias, LostIsNoActual, NoneIsGivenTwice}
@@ -31,7 +32,7 @@ use Rattle.ada_sound.proofs.Invariant.{NoneBroken}
 -- What a call comes to its end with, and what it raises with: what is left by it, where what it handed over comes back, or doesn't. It breaks no rule.
 called_as : (types : List TypeForm) (variables : List VariableForm) (effect : Option Effect) (kept : Keeping) (actuals : List ActualForm)
     (holds : Holds) (normal raising : Option Holds)
-    → called types variables effect kept actuals holds ≡ goes normal raising
+    → called types variables no_tracks effect kept actuals holds ≡ goes normal raising
     → NoneBroken holds (uses_in_actuals types variables (call_frees effect) [] actuals)
     × (normal ≡ Some (handed_back actuals (left_by_call variables effect holds)))
     × ((raised : Holds) → raising ≡ Some raised → raised ≡ left_unkept kept actuals (left_by_call variables effect holds))
@@ -46,7 +47,7 @@ called_as types variables effect kept actuals holds normal raising e =
 
 ends_as : (types : List TypeForm) (variables : List VariableForm) (effect : Option Effect) (kept : Keeping) (actuals : List ActualForm)
     (holds after : Holds) (raising : Option Holds)
-    → called types variables effect kept actuals holds ≡ goes (Some after) raising → after ≡ handed_back actuals (left_by_call variables effect holds)
+    → called types variables no_tracks effect kept actuals holds ≡ goes (Some after) raising → after ≡ handed_back actuals (left_by_call variables effect holds)
 ends_as types variables effect kept actuals holds after raising e =
     let same : Some after ≡ Some (handed_back actuals (left_by_call variables effect holds)) =
     (called_as types variables effect kept actuals holds (Some after) raising e).1 in
@@ -54,7 +55,7 @@ ends_as types variables effect kept actuals holds after raising e =
 
 raises_as : (types : List TypeForm) (variables : List VariableForm) (effect : Option Effect) (kept : Keeping) (actuals : List ActualForm)
     (holds raised : Holds) (normal : Option Holds)
-    → called types variables effect kept actuals holds ≡ goes normal (Some raised) → raised ≡ left_unkept kept actuals (left_by_call variables effect holds)
+    → called types variables no_tracks effect kept actuals holds ≡ goes normal (Some raised) → raised ≡ left_unkept kept actuals (left_by_call variables effect holds)
 raises_as types variables effect kept actuals holds raised normal e = (called_as types variables effect kept actuals holds normal (Some raised) e).2 raised refl
 
 -- What is said of a hold: of what was written, or of what was there.
@@ -268,7 +269,7 @@ owner_among types variables may holds earlier (a ∷ rest) kept (suc formal) pat
 
 handed_owns : (types : List TypeForm) (variables : List VariableForm) (effect : Option Effect) (kept : Keeping) (x : ℕ) (actuals : List ActualForm)
     (holds : Holds) (normal raising : Option Holds)
-    → called types variables effect kept actuals holds ≡ goes normal raising → IsHandedOver x actuals → IsOwner (hold_at holds x)
+    → called types variables no_tracks effect kept actuals holds ≡ goes normal raising → IsHandedOver x actuals → IsOwner (hold_at holds x)
 handed_owns types variables effect kept x actuals holds normal raising e (formal, path, at, is) =
     subst (λ (y : ℕ). IsOwner (hold_at holds y)) is
     (owner_among types variables (call_frees effect) holds [] actuals (called_as types variables effect kept actuals holds normal raising e).0 formal path at)
@@ -635,6 +636,7 @@ module _ (Apart : Type 0) (holds : Holds) where
   IsReading (hands_it again path) = (Apart → again ≡ true → ⊥) × (Apart → (r : Region) → hold_at holds path.root ≢ hold.Alias r)
   IsReading (opens_it owning unsafe path) = (Apart → owning ≡ true → ⊥) × (Apart → unsafe ≡ true → ⊥)
   IsReading (passes_it unsafe path) = Apart → unsafe ≡ true → ⊥
+  IsReading (shares_it p) = Unit {0}
   IsReading u = ⊥
 
   abbrev AllRead : List Use → Type 0
@@ -672,9 +674,12 @@ module _ (Apart : Type 0) (holds : Holds) where
   one_alone types variables may earlier in_null new safe owner = tt
   one_alone types variables may earlier (in_access path) new safe owner = (λ apart. (new apart path.root).0 refl, tt)
   one_alone types variables may earlier (in_record p) new safe owner = (
-    λ apart. neither (is_given earlier p.object.root) (record_passes types variables may p) ((new apart p.object.root).0 refl)
-        (λ is. let one = record_some types variables may p is in safe apart one.0 one.1 one.2),
     tt,
+    (
+      λ apart. neither (is_given earlier p.object.root) (record_passes types variables may p) ((new apart p.object.root).0 refl)
+          (λ is. let one = record_some types variables may p is in safe apart one.0 one.1 one.2),
+      tt,
+    ),
   )
   one_alone types variables may earlier (in_out_path path) new safe owner =
       (given_alone (is_begun_with earlier path.root) path (λ apart. (new apart path.root).1 refl), tt)
@@ -688,9 +693,12 @@ module _ (Apart : Type 0) (holds : Holds) where
     tt,
   )
   one_alone types variables may earlier (in_out_record p) new safe owner = (
-    λ apart. neither (is_begun_with earlier p.object.root) (record_passes types variables may p) ((new apart p.object.root).1 refl)
-        (λ is. let one = record_some types variables may p is in safe apart one.0 one.1 one.2),
     tt,
+    (
+      λ apart. neither (is_begun_with earlier p.object.root) (record_passes types variables may p) ((new apart p.object.root).1 refl)
+          (λ is. let one = record_some types variables may p is in safe apart one.0 one.1 one.2),
+      tt,
+    ),
   )
 
   actuals_alone : (types : List TypeForm) (variables : List VariableForm) (may : ℕ → Bool) (earlier actuals : List ActualForm)
@@ -791,7 +799,7 @@ module _ (Apart : Type 0) (holds : Holds) where
   opened_may true unsafe h spot none safe = taken_may h spot (λ apart. none apart refl)
   opened_may false unsafe h spot none safe = passed_may unsafe h spot safe
 
-  use_may : (u : Use) → IsReading u → MayBeLost (broken_in holds u)
+  use_may : (u : Use) → IsReading u → MayBeLost (broken_in no_tracks holds u)
   use_may (reads_it path) is = behind_may path.selectors (hold_at holds path.root) path.spot
   use_may (compares_it path) is = lost_may (hold_at holds path.root) path.spot
   use_may (gives_again path) is = λ apart. absurd (is apart)
@@ -799,11 +807,12 @@ module _ (Apart : Type 0) (holds : Holds) where
   use_may (hands_it again path) is = handed_may again (hold_at holds path.root) path.spot is.0 is.1
   use_may (opens_it owning unsafe path) is = opened_may owning unsafe (hold_at holds path.root) path.spot is.0 is.1
   use_may (passes_it unsafe path) is = passed_may unsafe (hold_at holds path.root) path.spot is
+  use_may (shares_it p) is = tt
   use_may u is = absurd is
 
-  uses_may : (us : List Use) → AllRead us → MayBeLost (broken_among holds us)
+  uses_may : (us : List Use) → AllRead us → MayBeLost (broken_among no_tracks holds us)
   uses_may [] all = tt
-  uses_may (u ∷ us) all = leftmost_may (broken_in holds u) (broken_among holds us) (use_may u all.0) (uses_may us all.1)
+  uses_may (u ∷ us) all = leftmost_may (broken_in no_tracks holds u) (broken_among no_tracks holds us) (use_may u all.0) (uses_may us all.1)
 
   behind_lost : (cs : List ℕ) (h : Hold) (spot : Spot) → has_selector cs ≡ true → h ≡ hold.Lost → IsLost (lost_behind cs h spot)
   behind_lost [] h spot is lost = absurd (cc is)
@@ -813,7 +822,7 @@ module _ (Apart : Type 0) (holds : Holds) where
   opened_lost true unsafe spot = λ apart. refl
   opened_lost false unsafe spot = λ apart. refl
 
-  use_lost : (x : ℕ) (u : Use) → IsReading u → relies_by x u ≡ true → hold_at holds x ≡ hold.Lost → IsLost (broken_in holds u)
+  use_lost : (x : ℕ) (u : Use) → IsReading u → relies_by x u ≡ true → hold_at holds x ≡ hold.Lost → IsLost (broken_in no_tracks holds u)
   use_lost x (reads_it path) reading is lost =
       let parts = and_parts (path.root == x) (has_selector path.selectors) is in
       behind_lost path.selectors (hold_at holds path.root) path.spot parts.1 (rw (eqb-true path.root x parts.0) lost)
@@ -823,16 +832,17 @@ module _ (Apart : Type 0) (holds : Holds) where
   use_lost x (hands_it again path) reading is lost = rw (eqb-true path.root x is, lost) (λ apart. refl)
   use_lost x (opens_it owning unsafe path) reading is lost = rw (eqb-true path.root x is, lost) (opened_lost owning unsafe path.spot)
   use_lost x (passes_it unsafe path) reading is lost = rw (eqb-true path.root x is, lost) (λ apart. refl)
+  use_lost x (shares_it p) reading is lost = absurd (cc is)
   use_lost x u reading is lost = absurd reading
 
-  uses_lost : (x : ℕ) (us : List Use) → AllRead us → list_any (relies_by x) us ≡ true → hold_at holds x ≡ hold.Lost → IsLost (broken_among holds us)
+  uses_lost : (x : ℕ) (us : List Use) → AllRead us → list_any (relies_by x) us ≡ true → hold_at holds x ≡ hold.Lost → IsLost (broken_among no_tracks holds us)
   uses_lost x [] all some lost = absurd (cc some)
   uses_lost x (u ∷ us) all some lost = go (relies_by x u) refl some (λ one. uses_lost x us all.1 one lost)
     where
       go : (b : Bool) → relies_by x u ≡ b → (b || list_any (relies_by x) us) ≡ true
-          → (list_any (relies_by x) us ≡ true → IsLost (broken_among holds us)) → IsLost (broken_among holds (u ∷ us))
-      go true is one later = first_lost (broken_in holds u) (broken_among holds us) (use_lost x u all.0 is lost) (uses_may us all.1)
-      go false is one later = later_lost (broken_in holds u) (broken_among holds us) (use_may u all.0) (later one)
+          → (list_any (relies_by x) us ≡ true → IsLost (broken_among no_tracks holds us)) → IsLost (broken_among no_tracks holds (u ∷ us))
+      go true is one later = first_lost (broken_in no_tracks holds u) (broken_among no_tracks holds us) (use_lost x u all.0 is lost) (uses_may us all.1)
+      go false is one later = later_lost (broken_in no_tracks holds u) (broken_among no_tracks holds us) (use_may u all.0) (later one)
 
   -- So that is the fault.
   lost_faults : (b : Option Breach) (more : Outcome) → IsLost b
@@ -851,7 +861,7 @@ lost_is_no_actual types variables around cleared procedure x actuals holds some 
     actuals_alone apart holds types variables may [] actuals (λ all. all.0) (λ all j x a at. (λ begins given. cc given, λ gives begun. cc begun))
     (λ all. all.2) (λ all. all.1) in
     let fault =
-    lost_faults apart holds (broken_among holds uses)
+    lost_faults apart holds (broken_among no_tracks holds uses)
     (ends_with (actuals_raise actuals || call_raises effect (λ e. true)) (left_unkept (kept_at around.kept procedure) actuals less) (handed_back actuals less))
     (uses_lost apart holds x uses read (actuals_as types variables may x [] actuals ∙ some) lost) in
     (fault.0, fault.1, fault.2, λ each owners safe. fault.3 (each, owners, safe))

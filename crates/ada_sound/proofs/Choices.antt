@@ -15,6 +15,7 @@ use Rattle.ada_program.specs.Freed.{statements_free_own, handlers_free_own, body
 use Rattle.ada_effects.specs.Effects.{Implicit, effects_of}
 use Rattle.ada_flow.specs.declared.rule.Rule.{Rule}
 use Rattle.ada_flow.specs.Flow.{Holds, Outcome, Around, goes, faults, stmts_flow, handlers_flow, declarations_flow, keeping_of, body_around, types_of, variables_of, first_holds, flow_of, program_flow}
+use Rattle.ada_flow.specs.Tracking.{no_tracks}
 use Rattle.ada_meaning.specs.declared.event.Halt.{Halt}
 use Rattle.ada_meaning.specs.Frame as frame
 use Rattle.ada_meaning.specs.Event.{Quiet}
@@ -124,7 +125,7 @@ implicit_with program bodies fs hs = implicit_of (form_with program bodies fs hs
 
 -- Where its statements stand.
 abbrev pub around_in : ProgramForm → Around
-around_in p = body_around (effects_of (implicit_of p) p) (keeping_of (implicit_of p) p) (main_body p)
+around_in p = body_around (effects_of (implicit_of p) p) (keeping_of (implicit_of p) p) no_tracks (main_body p)
 
 abbrev pub around_with : Program → List BodyForm → StmtsForm → HandlersForm → Around
 around_with program bodies fs hs = around_in (form_with program bodies fs hs)
@@ -275,7 +276,7 @@ module _ (program : Program) (bodies : List BodyForm) (fs : StmtsForm) (hs : Han
 
   -- Its parts, where its handlers would be fine at the ends of its statements.
   pub fine_at_ends_in : (holds : Holds) (before within normal raising : Option Holds)
-      → declarations_flow (types_of program) (variables_of program) (implicit_with program bodies fs hs) (declaration_forms program) (first_holds [] (variables_of program)) ≡ goes (Some holds) before
+      → declarations_flow (types_of program) (variables_of program) no_tracks (implicit_with program bodies fs hs) (declaration_forms program) (first_holds [] (variables_of program)) ≡ goes (Some holds) before
       → stmts_flow (types_of program) (variables_of program) (around_with program bodies fs hs) fs holds ≡ goes (Some holds) within
       → handlers_flow (types_of program) (variables_of program) (around_with program bodies fs hs) hs holds ≡ goes normal raising
       → IsFineAtEnds holds program
@@ -284,7 +285,7 @@ module _ (program : Program) (bodies : List BodyForm) (fs : StmtsForm) (hs : Han
     within,
     normal,
     raising,
-    ap (λ p. declarations_flow (types_of program) (variables_of program) (implicit_of p) (declaration_forms program) (first_holds [] (variables_of program))) form_is ∙ d,
+    ap (λ p. declarations_flow (types_of program) (variables_of program) no_tracks (implicit_of p) (declaration_forms program) (first_holds [] (variables_of program))) form_is ∙ d,
     ap (λ p. stmts_flow (types_of program) (variables_of program) (around_in p) p.statements holds) form_is ∙ e,
     ap (λ p. handlers_flow (types_of program) (variables_of program) (around_in p) p.handlers holds) form_is ∙ g,
   )
@@ -363,7 +364,7 @@ module _ (program : Program) (fs : StmtsForm) (hs : HandlersForm) (is : stmt_for
 
   -- The same of its parts.
   pub fine_at_ends_by : (holds : Holds) (before within normal raising : Option Holds)
-      → declarations_flow (types_of program) (variables_of program) (implicit_with program (body_forms program) fs hs) (declaration_forms program) (first_holds [] (variables_of program)) ≡ goes (Some holds) before
+      → declarations_flow (types_of program) (variables_of program) no_tracks (implicit_with program (body_forms program) fs hs) (declaration_forms program) (first_holds [] (variables_of program)) ≡ goes (Some holds) before
       → stmts_flow (types_of program) (variables_of program) (around_with program (body_forms program) fs hs) fs holds ≡ goes (Some holds) within
       → handlers_flow (types_of program) (variables_of program) (around_with program (body_forms program) fs hs) hs holds ≡ goes normal raising → IsFineAtEnds holds program
   fine_at_ends_by holds before within normal raising d e g =

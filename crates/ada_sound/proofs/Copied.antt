@@ -12,6 +12,7 @@ use Rattle.ada_program.specs.ProgramForm.{TypeForm, VariableForm}
 use Rattle.ada_program.specs.WellFormed.{access_of, path_kind, record_components, object_components, is_alike, begins_with, begins_with_record, has_record_at, is_record_path, item_fits, item_width, width_in, items_fit}
 use Rattle.ada_effects.specs.Effects.{items_raise, item_raises}
 use Rattle.ada_flow.specs.Flow.{Holds, moved_by_item, moved_by_items, named_by_item, is_owning, is_owning_record, uses_in, uses_in_item, uses_in_items, copied_to}
+use Rattle.ada_flow.specs.Tracking.{no_tracks}
 use Rattle.ada_meaning.specs.declared.state.Value.{Value}
 use Rattle.ada_meaning.specs.Frame.{Creates, StoresRecord, DeclaresRecord}
 use Rattle.ada_meaning.specs.Step.{in_front}
@@ -74,9 +75,9 @@ back_raise : (done todo other : List ItemForm) → (items_raise todo ≡ true �
 back_raise [] todo other f e = f e
 back_raise (d ∷ done) todo other f e = back_raise done (d ∷ todo) (d ∷ other) (or_map (item_raises d) (items_raise todo) (items_raise other) f) e
 
-back_move : (done todo other : List ItemForm) → moved_by_items todo ≡ moved_by_items other → moved_by_items (back_onto done todo) ≡ moved_by_items (back_onto done other)
+back_move : (done todo other : List ItemForm) → moved_by_items no_tracks todo ≡ moved_by_items no_tracks other → moved_by_items no_tracks (back_onto done todo) ≡ moved_by_items no_tracks (back_onto done other)
 back_move [] todo other e = e
-back_move (d ∷ done) todo other e = back_move done (d ∷ todo) (d ∷ other) (ap (λ xs. moved_by_item d ++ xs) e)
+back_move (d ∷ done) todo other e = back_move done (d ∷ todo) (d ∷ other) (ap (λ xs. moved_by_item no_tracks d ++ xs) e)
 
 -- What a record's components hold at first, in place of the record.
 both : (a b : Bool) → (a && b) ≡ true → (a ≡ true) × (b ≡ true)
@@ -113,7 +114,7 @@ unrolled_raises (component.Integer initial ∷ kinds) items = unrolled_raises ki
 unrolled_raises (component.Boolean initial ∷ kinds) items = unrolled_raises kinds items
 unrolled_raises (component.Access access ∷ kinds) items = unrolled_raises kinds items
 
-unrolled_moves : (kinds : List ComponentKind) (items : List ItemForm) → moved_by_items (map default_item kinds ++ items) ≡ moved_by_items items
+unrolled_moves : (kinds : List ComponentKind) (items : List ItemForm) → moved_by_items no_tracks (map default_item kinds ++ items) ≡ moved_by_items no_tracks items
 unrolled_moves [] items = refl
 unrolled_moves (component.Integer initial ∷ kinds) items = unrolled_moves kinds items
 unrolled_moves (component.Boolean initial ∷ kinds) items = unrolled_moves kinds items
@@ -132,7 +133,7 @@ module _ (known : Known) (heap : List Object) (places : List Value) where
       let types = known.program.types in
       let variables = known.program.variables in
       let others = map default_item kinds ++ items in
-      let moves : moved_by_items (back_onto f.done (item_of_record p ∷ items)) ≡ moved_by_items (back_onto f.done others) =
+      let moves : moved_by_items no_tracks (back_onto f.done (item_of_record p ∷ items)) ≡ moved_by_items no_tracks (back_onto f.done others) =
       back_move f.done (item_of_record p ∷ items) others (rw (unrolled_moves kinds items) refl) in
       record {
         done = f.done;

@@ -20,6 +20,7 @@ use Rattle.ada_program.specs.Typed.{components_by, components_of, reached_of}
 use Rattle.ada_program.specs.WellFormed.{finalization_of, access_of, components_in, record_components, reached_components, items_fit, kind_takes}
 use Rattle.ada_effects.specs.Effects.{items_raise}
 use Rattle.ada_flow.specs.Flow.{Holds, moved_by_items, uses_in}
+use Rattle.ada_flow.specs.Tracking.{no_tracks}
 use Rattle.ada_meaning.specs.declared.state.Value.{Value}
 use Rattle.ada_meaning.specs.Step.{record_tasks, initial_value, in_front}
 use Rattle.ada_meaning.specs.Named.{Object, named}
@@ -42,7 +43,7 @@ defaults_raise (component.Integer initial ∷ kinds) = defaults_raise kinds
 defaults_raise (component.Boolean initial ∷ kinds) = defaults_raise kinds
 defaults_raise (component.Access access ∷ kinds) = defaults_raise kinds
 
-pub defaults_move : (kinds : List ComponentKind) → moved_by_items (map default_item kinds) ≡ []
+pub defaults_move : (kinds : List ComponentKind) → moved_by_items no_tracks (map default_item kinds) ≡ []
 defaults_move [] = refl
 defaults_move (component.Integer initial ∷ kinds) = defaults_move kinds
 defaults_move (component.Boolean initial ∷ kinds) = defaults_move kinds

@@ -18,6 +18,7 @@ use Rattle.ada_flow.specs.declared.rule.Hold.{Hold}
 use Rattle.ada_flow.specs.declared.rule.Hold.TheVariants as hold
 use Rattle.ada_flow.specs.declared.rule.Region.TheVariants.{Whole}
 use Rattle.ada_flow.specs.Flow.{Holds, hold_at, variable_access, uses_in, uses_in_items, uses_in_target, gives_component, lost_by, without_values, moved_by_items, value_hold, borrowed_hold, ends_with, gives, same_selectors, same_path, clears, touched_hold}
+use Rattle.ada_flow.specs.Tracking.{no_tracks}
 use Rattle.ada_meaning.specs.declared.state.Id.{Id}
 use Rattle.ada_meaning.specs.declared.state.Value.{Value}
 use Rattle.ada_meaning.specs.declared.state.Value.TheVariants.{Null, Names, Scalar, Part}
@@ -103,7 +104,7 @@ module _ (known : Known) (k : Control) (a : Activation Value) (rest : List (Acti
       into (Scalar n) c k' kind takes fits' w' = absurd (w'.rest.0)
       into (Part object_id base) c k' kind takes fits' w' = absurd (w'.rest.0)
 
-      to : (More : Rooms → Holds → Type 0) (here : Spot) (cleared : Bool) (x : ℕ) (k' : Control) → is_object known.program.variables x ≡ false → is_object known.program.variables root ≡ false → variable_access known.program.variables x ≡ variable_access known.program.variables root → (rooms : Rooms) (holds : Holds) → Stored (outers known).under s.heap s.masters → Roomed (below known) s.masters rooms → Fit known.program.types known.program.variables (outers known) none_spared s.heap a.places holds → ((h : Holds) → RunsOn known k' rooms h → More rooms h) → Goes (gives known.program.types known.program.variables here cleared x (value_of (at_path whole root [] spot)) holds) (RunsOn known k' rooms) (Raised (assignment_among known (value_of (at_path whole root [] spot))) (ways known k' rooms)) → Working known s.heap (slice_set a.places x (place_at a.places root)) s.masters More
+      to : (More : Rooms → Holds → Type 0) (here : Spot) (cleared : Bool) (x : ℕ) (k' : Control) → is_object known.program.variables x ≡ false → is_object known.program.variables root ≡ false → variable_access known.program.variables x ≡ variable_access known.program.variables root → (rooms : Rooms) (holds : Holds) → Stored (outers known).under s.heap s.masters → Roomed (below known) s.masters rooms → Fit known.program.types known.program.variables (outers known) none_spared s.heap a.places holds → ((h : Holds) → RunsOn known k' rooms h → More rooms h) → Goes (gives known.program.types known.program.variables no_tracks here cleared x (value_of (at_path whole root [] spot)) holds) (RunsOn known k' rooms) (Raised (assignment_among known (value_of (at_path whole root [] spot))) (ways known k' rooms)) → Working known s.heap (slice_set a.places x (place_at a.places root)) s.masters More
       to More here cleared x k' none other same rooms holds stored roomed fit more g = by (is_borrower known.program.variables x) refl
         where
           by : (b : Bool) → is_borrower known.program.variables x ≡ b → Working known s.heap (slice_set a.places x (place_at a.places root)) s.masters More
@@ -186,7 +187,7 @@ module _ (known : Known) (k : Control) (a : Activation Value) (rest : List (Acti
     borrow_component_by x d ds (hold.Alias r) none is kept f walks same = put_alias x v r none (plain o object c v found at) (rw same (λ p e. component_is o object c v p refl found listed at e f)) f
     borrow_component_by x d ds hold.Lost none is kept f walks same = absurd (cc kept)
 
-    borrow_to : (More : Rooms → Holds → Type 0) (here : Spot) (cleared : Bool) (x d : ℕ) (ds : List ℕ) (k' : Control) (rooms : Rooms) (holds : Holds) → is_object known.program.variables x ≡ false → is_borrower known.program.variables x ≡ true → Stored (outers known).under s.heap s.masters → Roomed (below known) s.masters rooms → Fit known.program.types known.program.variables (outers known) none_spared s.heap a.places holds → WalksOn s.heap a.places (at_path whole root (d ∷ ds) spot) (Names o) (c ∷ []) → variable_access known.program.variables x ≡ component_access known.program.types object c → ((h : Holds) → RunsOn known k' rooms h → More rooms h) → Goes (gives known.program.types known.program.variables here cleared x (value_of (at_path whole root (d ∷ ds) spot)) holds) (RunsOn known k' rooms) (Raised (assignment_among known (value_of (at_path whole root (d ∷ ds) spot))) (ways known k' rooms)) → Working known s.heap (slice_set a.places x v) s.masters More
+    borrow_to : (More : Rooms → Holds → Type 0) (here : Spot) (cleared : Bool) (x d : ℕ) (ds : List ℕ) (k' : Control) (rooms : Rooms) (holds : Holds) → is_object known.program.variables x ≡ false → is_borrower known.program.variables x ≡ true → Stored (outers known).under s.heap s.masters → Roomed (below known) s.masters rooms → Fit known.program.types known.program.variables (outers known) none_spared s.heap a.places holds → WalksOn s.heap a.places (at_path whole root (d ∷ ds) spot) (Names o) (c ∷ []) → variable_access known.program.variables x ≡ component_access known.program.types object c → ((h : Holds) → RunsOn known k' rooms h → More rooms h) → Goes (gives known.program.types known.program.variables no_tracks here cleared x (value_of (at_path whole root (d ∷ ds) spot)) holds) (RunsOn known k' rooms) (Raised (assignment_among known (value_of (at_path whole root (d ∷ ds) spot))) (ways known k' rooms)) → Working known s.heap (slice_set a.places x v) s.masters More
     borrow_to More here cleared x d ds k' rooms holds none is stored roomed f walks same more g =
         let h = borrow_gives known.program.types known.program.variables here cleared x whole root (d ∷ ds) spot holds (RunsOn known k' rooms) (Raised (assignment_among known (value_of (at_path whole root (d ∷ ds) spot))) (ways known k' rooms)) is g in
         record { rooms = rooms; holds = slice_set holds x (borrowed_hold (hold_at holds root)); stored = stored; roomed = roomed; fit = borrow_component_by x d ds (hold_at holds root) none refl h.0 f walks same; rest = more _ h.1 }
@@ -210,7 +211,7 @@ module _ (known : Known) (k : Control) (a : Activation Value) (rest : List (Acti
         (λ p e. named_there f p (sym (component_value s.heap [] o object c v found listed at) ∙ e))
         (record { rooms = rooms; holds = slice_set holds x (hold.Own r); stored = stored_after s.heap o c Null stored; roomed = roomed; fit = take_variable x r none o object c v (plain o object c v found at) found listed at same f; rest = more })
 
-    take_to : (here : Spot) (cleared : Bool) (x d : ℕ) (ds : List ℕ) (k' : Control) (rooms : Rooms) (holds : Holds) → is_object known.program.variables x ≡ false → is_borrower known.program.variables x ≡ false → Stored (outers known).under s.heap s.masters → Roomed (below known) s.masters rooms → Fit known.program.types known.program.variables (outers known) none_spared s.heap a.places holds → WalksOn s.heap a.places (at_path whole root (d ∷ ds) spot) (Names o) (c ∷ []) → variable_access known.program.variables x ≡ component_access known.program.types object c → Goes (gives known.program.types known.program.variables here cleared x (value_of (at_path whole root (d ∷ ds) spot)) holds) (RunsOn known k' rooms) (Raised (assignment_among known (value_of (at_path whole root (d ∷ ds) spot))) (ways known k' rooms)) → Pairs cleared (value_of (at_path whole root (d ∷ ds) spot)) (λ path. x ≢ path.root) k' → HalfBy known k' s.heap (slice_set a.places x v) s.masters
+    take_to : (here : Spot) (cleared : Bool) (x d : ℕ) (ds : List ℕ) (k' : Control) (rooms : Rooms) (holds : Holds) → is_object known.program.variables x ≡ false → is_borrower known.program.variables x ≡ false → Stored (outers known).under s.heap s.masters → Roomed (below known) s.masters rooms → Fit known.program.types known.program.variables (outers known) none_spared s.heap a.places holds → WalksOn s.heap a.places (at_path whole root (d ∷ ds) spot) (Names o) (c ∷ []) → variable_access known.program.variables x ≡ component_access known.program.types object c → Goes (gives known.program.types known.program.variables no_tracks here cleared x (value_of (at_path whole root (d ∷ ds) spot)) holds) (RunsOn known k' rooms) (Raised (assignment_among known (value_of (at_path whole root (d ∷ ds) spot))) (ways known k' rooms)) → Pairs cleared (value_of (at_path whole root (d ∷ ds) spot)) (λ path. x ≢ path.root) k' → HalfBy known k' s.heap (slice_set a.places x v) s.masters
     take_to here false x d ds k' rooms holds none owned stored roomed f walks same g pairs =
         let h = value_gives known.program.types known.program.variables here false x whole root (d ∷ ds) spot holds (RunsOn known k' rooms) (Raised (assignment_among known (value_of (at_path whole root (d ∷ ds) spot))) (ways known k' rooms)) owned g in
         let never = cleared_is false (hold_at holds root) spot h.0 in
@@ -219,7 +220,7 @@ module _ (known : Known) (k : Control) (a : Activation Value) (rest : List (Acti
         let h = value_gives known.program.types known.program.variables here true x whole root (d ∷ ds) spot holds (RunsOn known k' rooms) (Raised (assignment_among known (value_of (at_path whole root (d ∷ ds) spot))) (ways known k' rooms)) owned g in
         take_variable_by x d ds k' rooms holds (hold_at holds root) none refl h.0 stored roomed f pairs.0 pairs.1 walks same h.1
 
-    declares_none : (here : Spot) (cleared : Bool) (x d : ℕ) (ds : List ℕ) (k' : Control) (rooms : Rooms) (holds : Holds) → is_borrower known.program.variables x ≡ false → Goes (gives known.program.types known.program.variables here cleared x (value_of (at_path whole root (d ∷ ds) spot)) holds) (RunsOn known k' rooms) (Raised (assignment_among known (value_of (at_path whole root (d ∷ ds) spot))) (ways known k' rooms)) → IsAlone cleared → ⊥
+    declares_none : (here : Spot) (cleared : Bool) (x d : ℕ) (ds : List ℕ) (k' : Control) (rooms : Rooms) (holds : Holds) → is_borrower known.program.variables x ≡ false → Goes (gives known.program.types known.program.variables no_tracks here cleared x (value_of (at_path whole root (d ∷ ds) spot)) holds) (RunsOn known k' rooms) (Raised (assignment_among known (value_of (at_path whole root (d ∷ ds) spot))) (ways known k' rooms)) → IsAlone cleared → ⊥
     declares_none here true x d ds k' rooms holds owned g alone = alone
     declares_none here false x d ds k' rooms holds owned g alone =
         let h = value_gives known.program.types known.program.variables here false x whole root (d ∷ ds) spot holds (RunsOn known k' rooms) (Raised (assignment_among known (value_of (at_path whole root (d ∷ ds) spot))) (ways known k' rooms)) owned g in
@@ -227,14 +228,14 @@ module _ (known : Known) (k : Control) (a : Activation Value) (rest : List (Acti
         cc (none.0)
 
     -- A variable gets the value: a borrower as it is, any other with the first half of a take pair; a declaration is none.
-    stores_to : (here : Spot) (cleared : Bool) (x d : ℕ) (ds : List ℕ) (k' : Control) (rooms : Rooms) (holds : Holds) → is_object known.program.variables x ≡ false → Stored (outers known).under s.heap s.masters → Roomed (below known) s.masters rooms → Fit known.program.types known.program.variables (outers known) none_spared s.heap a.places holds → WalksOn s.heap a.places (at_path whole root (d ∷ ds) spot) (Names o) (c ∷ []) → variable_access known.program.variables x ≡ component_access known.program.types object c → Goes (gives known.program.types known.program.variables here cleared x (value_of (at_path whole root (d ∷ ds) spot)) holds) (RunsOn known k' rooms) (Raised (assignment_among known (value_of (at_path whole root (d ∷ ds) spot))) (ways known k' rooms)) → Pairs cleared (value_of (at_path whole root (d ∷ ds) spot)) (λ path. x ≢ path.root) k' → Resumes known s.heap (slice_set a.places x v) s.masters k'
+    stores_to : (here : Spot) (cleared : Bool) (x d : ℕ) (ds : List ℕ) (k' : Control) (rooms : Rooms) (holds : Holds) → is_object known.program.variables x ≡ false → Stored (outers known).under s.heap s.masters → Roomed (below known) s.masters rooms → Fit known.program.types known.program.variables (outers known) none_spared s.heap a.places holds → WalksOn s.heap a.places (at_path whole root (d ∷ ds) spot) (Names o) (c ∷ []) → variable_access known.program.variables x ≡ component_access known.program.types object c → Goes (gives known.program.types known.program.variables no_tracks here cleared x (value_of (at_path whole root (d ∷ ds) spot)) holds) (RunsOn known k' rooms) (Raised (assignment_among known (value_of (at_path whole root (d ∷ ds) spot))) (ways known k' rooms)) → Pairs cleared (value_of (at_path whole root (d ∷ ds) spot)) (λ path. x ≢ path.root) k' → Resumes known s.heap (slice_set a.places x v) s.masters k'
     stores_to here cleared x d ds k' rooms holds none stored roomed f walks same g pairs = by (is_borrower known.program.variables x) refl
       where
         by : (b : Bool) → is_borrower known.program.variables x ≡ b → Resumes known s.heap (slice_set a.places x v) s.masters k'
         by true is = inl (borrow_to (RunsOn known k') here cleared x d ds k' rooms holds none is stored roomed f walks same (λ h r. r) g)
         by false is = inr (take_to here cleared x d ds k' rooms holds none is stored roomed f walks same g pairs)
 
-    declares_to : (More : Rooms → Holds → Type 0) (here : Spot) (cleared : Bool) (x d : ℕ) (ds : List ℕ) (k' : Control) (rooms : Rooms) (holds : Holds) → is_object known.program.variables x ≡ false → Stored (outers known).under s.heap s.masters → Roomed (below known) s.masters rooms → Fit known.program.types known.program.variables (outers known) none_spared s.heap a.places holds → WalksOn s.heap a.places (at_path whole root (d ∷ ds) spot) (Names o) (c ∷ []) → variable_access known.program.variables x ≡ component_access known.program.types object c → ((h : Holds) → RunsOn known k' rooms h → More rooms h) → Goes (gives known.program.types known.program.variables here cleared x (value_of (at_path whole root (d ∷ ds) spot)) holds) (RunsOn known k' rooms) (Raised (assignment_among known (value_of (at_path whole root (d ∷ ds) spot))) (ways known k' rooms)) → IsAlone cleared → Working known s.heap (slice_set a.places x v) s.masters More
+    declares_to : (More : Rooms → Holds → Type 0) (here : Spot) (cleared : Bool) (x d : ℕ) (ds : List ℕ) (k' : Control) (rooms : Rooms) (holds : Holds) → is_object known.program.variables x ≡ false → Stored (outers known).under s.heap s.masters → Roomed (below known) s.masters rooms → Fit known.program.types known.program.variables (outers known) none_spared s.heap a.places holds → WalksOn s.heap a.places (at_path whole root (d ∷ ds) spot) (Names o) (c ∷ []) → variable_access known.program.variables x ≡ component_access known.program.types object c → ((h : Holds) → RunsOn known k' rooms h → More rooms h) → Goes (gives known.program.types known.program.variables no_tracks here cleared x (value_of (at_path whole root (d ∷ ds) spot)) holds) (RunsOn known k' rooms) (Raised (assignment_among known (value_of (at_path whole root (d ∷ ds) spot))) (ways known k' rooms)) → IsAlone cleared → Working known s.heap (slice_set a.places x v) s.masters More
     declares_to More here cleared x d ds k' rooms holds none stored roomed f walks same more g alone = by (is_borrower known.program.variables x) refl
       where
         by : (b : Bool) → is_borrower known.program.variables x ≡ b → Working known s.heap (slice_set a.places x v) s.masters More
@@ -242,7 +243,7 @@ module _ (known : Known) (k : Control) (a : Activation Value) (rest : List (Acti
         by false is = absurd (declares_none here cleared x d ds k' rooms holds is g alone)
 
     -- The same into a component: then the path has one selector.
-    take_into : (cleared : Bool) (target : PathForm) (q : Id) (holder : Object) (e d : ℕ) (ds : List ℕ) (k' : Control) (rooms : Rooms) (holds : Holds) → object_at s.heap q ≡ Some holder → is_there holder.stage ≡ true → Stored (outers known).under s.heap s.masters → Roomed (below known) s.masters rooms → Fit known.program.types known.program.variables (outers known) none_spared s.heap a.places holds → WalksOn s.heap a.places (at_path whole root (d ∷ ds) spot) (Names o) (c ∷ []) → component_access known.program.types holder e ≡ component_access known.program.types object c → Goes (gives_component known.program.types cleared target (value_of (at_path whole root (d ∷ ds) spot)) holds) (RunsOn known k' rooms) (Raised (component_among known (path_raises target) (value_of (at_path whole root (d ∷ ds) spot))) (ways known k' rooms)) → Pairs cleared (value_of (at_path whole root (d ∷ ds) spot)) (λ taken. IsOne taken.selectors) k' → HalfBy known k' (store s.heap (Names q) e v) a.places s.masters
+    take_into : (cleared : Bool) (target : PathForm) (q : Id) (holder : Object) (e d : ℕ) (ds : List ℕ) (k' : Control) (rooms : Rooms) (holds : Holds) → object_at s.heap q ≡ Some holder → is_there holder.stage ≡ true → Stored (outers known).under s.heap s.masters → Roomed (below known) s.masters rooms → Fit known.program.types known.program.variables (outers known) none_spared s.heap a.places holds → WalksOn s.heap a.places (at_path whole root (d ∷ ds) spot) (Names o) (c ∷ []) → component_access known.program.types holder e ≡ component_access known.program.types object c → Goes (gives_component known.program.types no_tracks cleared target (value_of (at_path whole root (d ∷ ds) spot)) holds) (RunsOn known k' rooms) (Raised (component_among known (path_raises target) (value_of (at_path whole root (d ∷ ds) spot))) (ways known k' rooms)) → Pairs cleared (value_of (at_path whole root (d ∷ ds) spot)) (λ taken. IsOne taken.selectors) k' → HalfBy known k' (store s.heap (Names q) e v) a.places s.masters
     take_into false target q holder e d ds k' rooms holds at_q listed_q stored roomed f walks same g pairs =
         let h = value_fills known.program.types false target whole root (d ∷ ds) spot holds (RunsOn known k' rooms) (Raised (component_among known (path_raises target) (value_of (at_path whole root (d ∷ ds) spot))) (ways known k' rooms)) g in
         let no = cleared_is false (hold_at holds root) spot h.0 in
@@ -339,17 +340,17 @@ module _ (known : Known) (k : Control) (a : Activation Value) (rest : List (Acti
       al : Allocated known.program.types known.program.variables kind access items
       al = allocated_goes known.program.types known.program.variables kind access items takes
 
-      to : (x : ℕ) (k' : Control) → variable_access known.program.variables x ≡ access_of (Some kind) → (here : Spot) (cleared : Bool) → Goes (gives known.program.types known.program.variables here cleared x (allocates access items) holds) (To (RunsOn known k' rooms)) (Raised (assignment_among known (allocates access items)) (ways known k' rooms)) → NoneBroken holds (uses_in_items known.program.types here None [] items) × (((variable_access known.program.variables x ≡ Some access) × To (RunsOn known k' rooms) (slice_set (without_values (moved_by_items items) holds) x (hold.Own Whole))) × Raised (assignment_among known (allocates access items)) (ways known k' rooms) holds)
+      to : (x : ℕ) (k' : Control) → variable_access known.program.variables x ≡ access_of (Some kind) → (here : Spot) (cleared : Bool) → Goes (gives known.program.types known.program.variables no_tracks here cleared x (allocates access items) holds) (To (RunsOn known k' rooms)) (Raised (assignment_among known (allocates access items)) (ways known k' rooms)) → NoneBroken holds (uses_in_items known.program.types here None [] items) × (((variable_access known.program.variables x ≡ Some access) × To (RunsOn known k' rooms) (slice_set (without_values (moved_by_items no_tracks items) holds) x (hold.Own Whole))) × Raised (assignment_among known (allocates access items)) (ways known k' rooms) holds)
       to x k' is here cleared g =
-          let u = using_goes (uses_in_items known.program.types here None [] items) holds (ends_with true holds (slice_set (without_values (moved_by_items items) holds) x (hold.Own Whole))) (To (RunsOn known k' rooms)) (Raised (assignment_among known (allocates access items)) (ways known k' rooms)) g in
+          let u = using_goes (uses_in_items known.program.types here None [] items) holds (ends_with true holds (slice_set (without_values (moved_by_items no_tracks items) holds) x (hold.Own Whole))) (To (RunsOn known k' rooms)) (Raised (assignment_among known (allocates access items)) (ways known k' rooms)) g in
           (u.0, ((is ∙ al.goes, u.1.0), u.1.1))
 
-      into : (o : Value) (c : ℕ) (k' : Control) → typed.Fits known.program (cells_of s.heap) (of_kind kind ∷ kinds) (StoresIn o c ∷ k') → IsHolder s.heap o → (g : FillsIn known (allocates access items) (LeadsTo s.heap a.places o [] c) rooms holds k') → NoneBroken holds (uses_in_items known.program.types (spot_of g.0) (Some g.0) [] items) × ((Accepts known s.heap o c (Some access) × To (RunsOn known k' rooms) (without_values (moved_by_items items) holds)) × Raised (component_among known (path_raises g.0) (allocates access items)) (ways known k' rooms) holds)
+      into : (o : Value) (c : ℕ) (k' : Control) → typed.Fits known.program (cells_of s.heap) (of_kind kind ∷ kinds) (StoresIn o c ∷ k') → IsHolder s.heap o → (g : FillsIn known (allocates access items) (LeadsTo s.heap a.places o [] c) rooms holds k') → NoneBroken holds (uses_in_items known.program.types (spot_of g.0) (Some g.0) [] items) × ((Accepts known s.heap o c (Some access) × To (RunsOn known k' rooms) (without_values (moved_by_items no_tracks items) holds)) × Raised (component_among known (path_raises g.0) (allocates access items)) (ways known k' rooms) holds)
       into Null c k' fits' there g = absurd there
       into (Names o) c k' fits' there g =
           let items_use = uses_in_items known.program.types (spot_of g.0) (Some g.0) [] items in
           let may = path_raises g.0 || true in
-          let after = without_values (moved_by_items items) holds in
+          let after = without_values (moved_by_items no_tracks items) holds in
           let raised' = Raised (component_among known (path_raises g.0) (allocates access items)) (ways known k' rooms) in
           let u = using_goes (uses_in_target g.0 ++ items_use) holds (ends_with may holds after) (To (RunsOn known k' rooms)) raised' g.2 in
           let n = ends_goes may holds after (To (RunsOn known k' rooms)) raised' u.1 in
@@ -381,7 +382,7 @@ module _ (known : Known) (k : Control) (a : Activation Value) (rest : List (Acti
   defaulting : (access : ℕ) (kind : VariableKind) (kinds : List OperandKind) (d : DefaultFor known.program.types kind access) → names_object (Some kind) ≡ false → typed.Fits known.program (cells_of s.heap) (of_kind kind ∷ kinds) k → (rooms : Rooms) (holds : Holds) → Takes known s.heap a.places (allocates_default access) k rooms holds → Defaulted_to access d.components k rooms holds
   defaulting access kind kinds d none fits rooms holds = go k fits
     where
-      to : (x : ℕ) (k' : Control) (here : Spot) (cleared : Bool) → Goes (gives known.program.types known.program.variables here cleared x (allocates_default access) holds) (To (RunsOn known k' rooms)) (Raised (assignment_among known (allocates_default access)) (ways known k' rooms)) → To (RunsOn known k' rooms) (slice_set holds x (hold.Own Whole)) × Raised (assignment_among known (allocates_default access)) (ways known k' rooms) holds
+      to : (x : ℕ) (k' : Control) (here : Spot) (cleared : Bool) → Goes (gives known.program.types known.program.variables no_tracks here cleared x (allocates_default access) holds) (To (RunsOn known k' rooms)) (Raised (assignment_among known (allocates_default access)) (ways known k' rooms)) → To (RunsOn known k' rooms) (slice_set holds x (hold.Own Whole)) × Raised (assignment_among known (allocates_default access)) (ways known k' rooms) holds
       to x k' here cleared g =
           (using_goes [] holds (ends_with true holds (slice_set holds x (hold.Own Whole))) (To (RunsOn known k' rooms)) (Raised (assignment_among known (allocates_default access)) (ways known k' rooms)) g).1
 
@@ -413,7 +414,7 @@ module _ (known : Known) (k : Control) (a : Activation Value) (rest : List (Acti
   computing : (e : ExpressionForm) (kind : VariableKind) (kinds : List OperandKind) → kind_takes known.program.types known.program.variables kind (computes e) ≡ true → typed.Fits known.program (cells_of s.heap) (of_kind kind ∷ kinds) k → (rooms : Rooms) (holds : Holds) → Takes known s.heap a.places (computes e) k rooms holds → Computing known s.heap a.places a.operands e k rooms holds
   computing e kind kinds takes fits rooms holds = go k fits
     where
-      to : (x : ℕ) (k' : Control) (here : Spot) (cleared : Bool) → Goes (gives known.program.types known.program.variables here cleared x (computes e) holds) (RunsOn known k' rooms) (Raised (assignment_among known (computes e)) (ways known k' rooms)) → NoneBroken holds (uses_in e) × (RunsOn known k' rooms (slice_set holds x hold.Lost) × (expression_raises e ≡ true → Raised (assignment_among known (computes e)) (ways known k' rooms) holds))
+      to : (x : ℕ) (k' : Control) (here : Spot) (cleared : Bool) → Goes (gives known.program.types known.program.variables no_tracks here cleared x (computes e) holds) (RunsOn known k' rooms) (Raised (assignment_among known (computes e)) (ways known k' rooms)) → NoneBroken holds (uses_in e) × (RunsOn known k' rooms (slice_set holds x hold.Lost) × (expression_raises e ≡ true → Raised (assignment_among known (computes e)) (ways known k' rooms) holds))
       to x k' here cleared g =
           let raised' = Raised (assignment_among known (computes e)) (ways known k' rooms) in
           let u = using_goes (uses_in e) holds (ends_with (expression_raises e) holds (slice_set holds x hold.Lost)) (RunsOn known k' rooms) raised' g in
@@ -442,7 +443,7 @@ module _ (known : Known) (k : Control) (a : Activation Value) (rest : List (Acti
   nothing_ready : (kind : VariableKind) (kinds : List OperandKind) → names_object (Some kind) ≡ false → typed.Fits known.program (cells_of s.heap) (of_kind kind ∷ kinds) k → EvaluatesTo known nothing k s.heap a.places s.masters → ReadyIn known Running k s.heap a.places (Null ∷ a.operands) s.masters
   nothing_ready kind kinds none fits e = go k fits e
     where
-      to : (More : Rooms → Holds → Type 0) (here : Spot) (cleared : Bool) (x : ℕ) (k' : Control) (rooms : Rooms) (holds : Holds) → is_object known.program.variables x ≡ false → Stored (outers known).under s.heap s.masters → Roomed (below known) s.masters rooms → Fit known.program.types known.program.variables (outers known) none_spared s.heap a.places holds → ((h : Holds) → RunsOn known k' rooms h → More rooms h) → Goes (gives known.program.types known.program.variables here cleared x nothing holds) (RunsOn known k' rooms) (Raised (assignment_among known nothing) (ways known k' rooms)) → Working known s.heap (slice_set a.places x Null) s.masters More
+      to : (More : Rooms → Holds → Type 0) (here : Spot) (cleared : Bool) (x : ℕ) (k' : Control) (rooms : Rooms) (holds : Holds) → is_object known.program.variables x ≡ false → Stored (outers known).under s.heap s.masters → Roomed (below known) s.masters rooms → Fit known.program.types known.program.variables (outers known) none_spared s.heap a.places holds → ((h : Holds) → RunsOn known k' rooms h → More rooms h) → Goes (gives known.program.types known.program.variables no_tracks here cleared x nothing holds) (RunsOn known k' rooms) (Raised (assignment_among known nothing) (ways known k' rooms)) → Working known s.heap (slice_set a.places x Null) s.masters More
       to More here cleared x k' rooms holds other stored roomed fit more g = record { rooms = rooms; holds = slice_set holds x hold.Null; stored = stored; roomed = roomed; fit = put_null x other fit; rest = more _ g.0 }
 
       clears_in : (o : Value) (c : ℕ) (k' : Control) → Clearing known o c k' s.heap a.places s.masters → StoringIn known o c Null k' s.heap a.places s.masters

@@ -16,6 +16,7 @@ use Rattle.ada_flow.specs.declared.rule.Hold.{Hold}
 use Rattle.ada_flow.specs.declared.rule.Hold.TheVariants as hold
 use Rattle.ada_program.specs.Nested.{is_one_of}
 use Rattle.ada_flow.specs.Flow.{Holds, hold_at, moves_it, moves_again, variable_of, moved_by_item, same_selectors, same_path, is_named, is_target, item_move, named_by_item, uses_in_item, moved_by, taken_by, moved_behind, broken_in, left_by_move, without_value, without_values, moved_by_items}
+use Rattle.ada_flow.specs.Tracking.{no_tracks}
 use Rattle.ada_meaning.specs.declared.state.Id.{Id}
 use Rattle.ada_meaning.specs.declared.state.Value.{Value}
 use Rattle.ada_meaning.specs.declared.state.Value.TheVariants.{Null, Names}
@@ -109,7 +110,7 @@ keep_in_order types spot target holds (d ∷ done) todo before behind = keep_in_
 pub kept_by : (target : Option PathForm) (holds : Holds) (earlier : List PathForm) (path : PathForm) → NoneBroken holds (item_move target earlier path ∷ []) → (is_named earlier path ≡ false) × (moved_behind (is_target target path) path.selectors (hold_at holds path.root) path.spot ≡ None)
 kept_by target holds earlier path e = go (is_named earlier path) refl (first_kept holds (item_move target earlier path) [] e).0
   where
-    go : (b : Bool) → is_named earlier path ≡ b → broken_in holds (if b then moves_again path else moves_it (is_target target path) path) ≡ None → (is_named earlier path ≡ false) × (moved_behind (is_target target path) path.selectors (hold_at holds path.root) path.spot ≡ None)
+    go : (b : Bool) → is_named earlier path ≡ b → broken_in no_tracks holds (if b then moves_again path else moves_it (is_target target path) path) ≡ None → (is_named earlier path ≡ false) × (moved_behind (is_target target path) path.selectors (hold_at holds path.root) path.spot ≡ None)
     go true is kept = absurd (cc kept)
     go false is kept = (is, kept)
 
@@ -286,7 +287,7 @@ module _ (types : List TypeForm) (variables : List VariableForm) (outer : Outsid
         of_moved = λ x e. absurd (cc e);
       }
 
-  item_moves : (earlier : List PathForm) (kind : ComponentKind) (item : ItemForm) (v : Value) (o : Id) → component_item_fits types variables kind item ≡ true → NoneBroken holds (uses_in_item types spot target earlier item) → FilledBy heap places item v → HasKind types (cells_of heap) (held_kind kind) v → v ≡ Names o → Moves outer heap places holds target lends.h lends.d earlier (named_by_item item) (moved_by_item item) o
+  item_moves : (earlier : List PathForm) (kind : ComponentKind) (item : ItemForm) (v : Value) (o : Id) → component_item_fits types variables kind item ≡ true → NoneBroken holds (uses_in_item types spot target earlier item) → FilledBy heap places item v → HasKind types (cells_of heap) (held_kind kind) v → v ≡ Names o → Moves outer heap places holds target lends.h lends.d earlier (named_by_item item) (moved_by_item no_tracks item) o
   item_moves earlier kind null_item v o fits keep is has names = absurd (cc (is, names))
   item_moves earlier (component_kinds.Integer initial) (item_of_value e) v o fits keep is has names = absurd (rw names at has)
   item_moves earlier (component_kinds.Boolean initial) (item_of_value e) v o fits keep is has names = absurd (rw names at has)
@@ -345,7 +346,7 @@ module _ (types : List TypeForm) (variables : List VariableForm) (outer : Outsid
       rw (same, there.found, there.there) refl
 
   -- All values of items are, from one component on.
-  items_in_hand : (kind : ℕ → Option ℕ) (c : ℕ) (cs : List ComponentKind) (items : List ItemForm) (vs : List Value) (earlier : List PathForm) → ((n : ℕ) → kind (n + c) ≡ access_of (component_kind (slice_get cs n))) → ((x : ℕ) → is_one_of (moved_by_items items) x ≡ true → is_one_of xs x ≡ true) → items_fit types variables cs items ≡ true → ItemsKeep types spot target holds earlier items → FilledInOrder heap places items vs → HaveKinds types (cells_of heap) cs vs → AreInHand heap (stacked places outer) after kind c vs
+  items_in_hand : (kind : ℕ → Option ℕ) (c : ℕ) (cs : List ComponentKind) (items : List ItemForm) (vs : List Value) (earlier : List PathForm) → ((n : ℕ) → kind (n + c) ≡ access_of (component_kind (slice_get cs n))) → ((x : ℕ) → is_one_of (moved_by_items no_tracks items) x ≡ true → is_one_of xs x ≡ true) → items_fit types variables cs items ≡ true → ItemsKeep types spot target holds earlier items → FilledInOrder heap places items vs → HaveKinds types (cells_of heap) cs vs → AreInHand heap (stacked places outer) after kind c vs
   items_in_hand kind c cs items [] earlier kinds_are among fits keep filled kinds = tt
   items_in_hand kind c [] items (v ∷ vs) earlier kinds_are among fits keep filled kinds = absurd kinds
   items_in_hand kind c (f ∷ cs) [] (v ∷ vs) earlier kinds_are among fits keep filled kinds = absurd (cc fits)
@@ -353,7 +354,7 @@ module _ (types : List TypeForm) (variables : List VariableForm) (outer : Outsid
       let one = one_fits types variables heap places f cs item items v filled.0 fits in
       let here = one.0 in
       let behind = one.1 in
-      (moved_in_hand (kind c) v (λ o e. right here o e) (λ o e. moved here o e), not_again here behind, items_in_hand kind (suc c) cs items vs (named_by_item item ++ earlier) (λ n. shifted n) (λ x e. among x (later_one (moved_by_item item) (moved_by_items items) x e)) behind keep.1 filled.1 kinds.1)
+      (moved_in_hand (kind c) v (λ o e. right here o e) (λ o e. moved here o e), not_again here behind, items_in_hand kind (suc c) cs items vs (named_by_item item ++ earlier) (λ n. shifted n) (λ x e. among x (later_one (moved_by_item no_tracks item) (moved_by_items no_tracks items) x e)) behind keep.1 filled.1 kinds.1)
     where
       at_c : kind c ≡ access_of (Some (held_kind f))
       at_c = let first : c ≡ 0 + c = omega arith in ap kind first ∙ kinds_are 0
@@ -366,7 +367,7 @@ module _ (types : List TypeForm) (variables : List VariableForm) (outer : Outsid
       moved : component_item_fits types variables f item ≡ true → (o : Id) → v ≡ Names o → (place : Place) × Owns (hold_in outer none_spared holds place) × (value_at heap (stacked places outer) place ≡ Names o) × (Owns (after place) → ⊥)
       moved here o e =
           let m = item_moves earlier f item v o here keep.0 filled.0 kinds.0 e in
-          (m.place, m.own, m.names, place_gone m.path m.place m.is_place (λ x is. among x (rw (m.of_moved x is) (first_one x (moved_by_items items)))))
+          (m.place, m.own, m.names, place_gone m.path m.place m.is_place (λ x is. among x (rw (m.of_moved x is) (first_one x (moved_by_items no_tracks items)))))
 
       not_again : component_item_fits types variables f item ≡ true → items_fit types variables cs items ≡ true → IsNotAmong v vs
       not_again here behind o i e n =
@@ -381,7 +382,7 @@ module _ (types : List TypeForm) (variables : List VariableForm) (outer : Outsid
       shifted n = let e : n + suc c ≡ suc n + c = omega arith in ap kind e ∙ kinds_are (suc n)
 
   -- The newest operands, in order, are in hand.
-  pub filled_in_hand : (access : ℕ) (components : List ComponentKind) (done : List ItemForm) (operands : List Value) → ((x : ℕ) → is_one_of (moved_by_items (back_onto done [])) x ≡ true → is_one_of xs x ≡ true) → reached_components types access ≡ Some components → items_fit types variables components (back_onto done []) ≡ true → DoneKeep types spot target holds done → Filled heap places done operands → HaveKinds types (cells_of heap) components (reverse (take (length (back_onto done [])) operands)) → AreInHand heap (stacked places outer) after (λ c. access_of (kind_among (reached_components types access) c)) 0 (reverse (take (length (back_onto done [])) operands))
+  pub filled_in_hand : (access : ℕ) (components : List ComponentKind) (done : List ItemForm) (operands : List Value) → ((x : ℕ) → is_one_of (moved_by_items no_tracks (back_onto done [])) x ≡ true → is_one_of xs x ≡ true) → reached_components types access ≡ Some components → items_fit types variables components (back_onto done []) ≡ true → DoneKeep types spot target holds done → Filled heap places done operands → HaveKinds types (cells_of heap) components (reverse (take (length (back_onto done [])) operands)) → AreInHand heap (stacked places outer) after (λ c. access_of (kind_among (reached_components types access) c)) 0 (reverse (take (length (back_onto done [])) operands))
   filled_in_hand access components done operands among reached fits keep filled kinds =
       let all = back_onto done [] in
       let counted : length all ≡ length done = let h = back_length done [] in omega (arith, h) in

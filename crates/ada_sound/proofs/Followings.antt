@@ -3,6 +3,7 @@
 use Rattle.std.proofs.Common.{◌≡◌, Bool, true, false, List, [], ◌∷◌, ◌++◌, refl}
 use Rattle.std.specs.Prelude.{if◌then◌else◌, Option, Some, None}
 use Rattle.ada_flow.specs.Flow.{Holds, Use, Breach, is_left_of, leftmost, broken_in, broken_among}
+use Rattle.ada_flow.specs.Tracking.{no_tracks}
 use Rattle.ada_sound.proofs.Invariant.{NoneBroken}
 
 -- The leftmost of two breaches is none only where both are.
@@ -15,8 +16,8 @@ leftmost_none (Some a) (Some b) e = go (is_left_of b.0 a.0) e
     go true e' = absurd (cc e')
     go false e' = absurd (cc e')
 
-pub first_kept : (holds : Holds) (u : Use) (us : List Use) → NoneBroken holds (u ∷ us) → (broken_in holds u ≡ None) × NoneBroken holds us
-first_kept holds u us e = leftmost_none (broken_in holds u) (broken_among holds us) e
+pub first_kept : (holds : Holds) (u : Use) (us : List Use) → NoneBroken holds (u ∷ us) → (broken_in no_tracks holds u ≡ None) × NoneBroken holds us
+first_kept holds u us e = leftmost_none (broken_in no_tracks holds u) (broken_among no_tracks holds us) e
 
 -- What is used comes in two parts.
 pub kept_apart : (holds : Holds) (us vs : List Use) → NoneBroken holds (us ++ vs) → NoneBroken holds us × NoneBroken holds vs

@@ -15,7 +15,8 @@ use Rattle.ada_flow.specs.declared.rule.Hold.TheVariants as hold
 use Rattle.ada_flow.specs.declared.rule.Region.{Region}
 use Rattle.ada_flow.specs.declared.rule.Rule.{Rule}
 use Rattle.ada_flow.specs.declared.rule.Rule.TheVariants.{LostValue}
-use Rattle.ada_flow.specs.Flow.{Holds, hold_at, faults, goes, raising_if, ends_with, Breach, unless_broken, variable_access, without_alias, freed_behind, Outcome, passes_type, passes_own, passes_reached, formal_reached, way_reached, released_behind, without_aliases, without_freed, is_freed, behind_end, freed, released, frees_path, finalizes}
+use Rattle.ada_flow.specs.Flow.{Holds, hold_at, faults, goes, raising_if, ends_with, Breach, unless_broken, variable_access, without_alias, freed_behind, Outcome, passes_type, passes_own, passes_reached, formal_reached, way_reached, released_behind, without_aliases, without_freed, is_freed, behind_end, freed, released, frees_seen, finalizes}
+use Rattle.ada_flow.specs.Tracking.{no_tracks}
 use Rattle.ada_sound.specs.Agreement.{IsOwner}
 use Rattle.ada_sound.specs.Owners.{OwnsNothing, RaisedFreeLeavesNoAlias, FreedLiesOffItsWay, LostIsNotFreedBehind, OnlyOwnersAreFreed, FreedOwnsNothing, FreeLeavesNoAlias}
 use Rattle.ada_sound.proofs.Values.{read_same, read_other, same_or_not}
@@ -31,7 +32,7 @@ freed_owner variables x spot holds normal raising (hold.Own r) e = tt
 freed_owner variables x spot holds normal raising (hold.Alias r) e = absurd (cc e)
 freed_owner variables x spot holds normal raising hold.Lost e = absurd (cc e)
 
-path_owner : (types : List TypeForm) (variables : List VariableForm) (implicit : Implicit) (cs : List ℕ) (path : PathForm) (holds : Holds) (normal raising : Option Holds) → cs ≡ [] → frees_path types variables implicit cs path holds ≡ goes normal raising → IsOwner (hold_at holds path.root)
+path_owner : (types : List TypeForm) (variables : List VariableForm) (implicit : Implicit) (cs : List ℕ) (path : PathForm) (holds : Holds) (normal raising : Option Holds) → cs ≡ [] → frees_seen types variables no_tracks false implicit cs path holds ≡ goes normal raising → IsOwner (hold_at holds path.root)
 path_owner types variables implicit [] path holds normal raising is e = freed_owner variables path.root path.spot holds normal raising (hold_at holds path.root) e
 path_owner types variables implicit (c ∷ cs) path holds normal raising is e = absurd (cc is)
 
@@ -43,7 +44,7 @@ finalizes_through variables implicit (Some t) o normal raising e = loses_through
 pub only_owners_freed : OnlyOwnersAreFreed
 only_owners_freed types variables access path holds is kept =
     let implicit = kept.0.effects.implicit in
-    let through = finalizes_through variables implicit (path_access types variables path) (frees_path types variables implicit path.selectors path holds) kept.2 kept.3 kept.4 in
+    let through = finalizes_through variables implicit (path_access types variables path) (frees_seen types variables no_tracks false implicit path.selectors path holds) kept.2 kept.3 kept.4 in
     path_owner types variables implicit path.selectors path holds through.0 through.1 is through.2
 
 -- What it comes to its end with; it raises no exception.
@@ -65,7 +66,7 @@ record Behind (types : List TypeForm) (variables : List VariableForm) (implicit 
   normal_is : normal ≡ Some (behind_end variables access holds)
   raising_is : (raised : Holds) → raising ≡ Some raised → raised ≡ behind_end variables access holds
 
-behind_goes : (types : List TypeForm) (variables : List VariableForm) (implicit : Implicit) (path : PathForm) (holds : Holds) (access : Option ℕ) (normal raising : Option Holds) → released_behind types variables implicit path holds access ≡ goes normal raising → Behind types variables implicit path holds access normal raising
+behind_goes : (types : List TypeForm) (variables : List VariableForm) (implicit : Implicit) (path : PathForm) (holds : Holds) (access : Option ℕ) (normal raising : Option Holds) → released_behind types variables no_tracks implicit path holds access ≡ goes normal raising → Behind types variables implicit path holds access normal raising
 behind_goes types variables implicit path holds access normal raising e = go (freed_behind (way_reached types variables implicit path (hold_at holds path.root) access) (hold_at holds path.root) path.spot) refl e
   where
     after : Holds
@@ -75,7 +76,7 @@ behind_goes types variables implicit path holds access normal raising e = go (fr
     go None is e' = record { kept = is; normal_is = cc e'; raising_is = λ raised at. raised_is (path_raises path) after raised (let same : raising_if (path_raises path) after ≡ raising = cc e' in same ∙ at) }
     go (Some breach) is e' = absurd (cc e')
 
-path_nothing : (types : List TypeForm) (variables : List VariableForm) (implicit : Implicit) (cs : List ℕ) (path : PathForm) (holds after : Holds) (raising : Option Holds) → cs ≡ [] → frees_path types variables implicit cs path holds ≡ goes (Some after) raising → OwnsNothing after path.root
+path_nothing : (types : List TypeForm) (variables : List VariableForm) (implicit : Implicit) (cs : List ℕ) (path : PathForm) (holds after : Holds) (raising : Option Holds) → cs ≡ [] → frees_seen types variables no_tracks false implicit cs path holds ≡ goes (Some after) raising → OwnsNothing after path.root
 path_nothing types variables implicit [] path holds after raising is e =
     let x = path.root in
     let same : freed variables x holds ≡ after = cc ((freed_goes variables x path.spot holds (Some after) raising (hold_at holds x) e).0) in
@@ -106,7 +107,7 @@ finalized_nothing variables implicit (Some t) o after raising x e none =
 pub freed_owns_nothing : FreedOwnsNothing
 freed_owns_nothing types variables access path holds after is ends =
     let implicit = ends.0.effects.implicit in
-    finalized_nothing variables implicit (path_access types variables path) (frees_path types variables implicit path.selectors path holds) after ends.2 path.root ends.3
+    finalized_nothing variables implicit (path_access types variables path) (frees_seen types variables no_tracks false implicit path.selectors path holds) after ends.2 path.root ends.3
     (λ before raised e. path_nothing types variables implicit path.selectors path holds before raised is e)
 
 -- Behind it aliases of its access type are lost.
@@ -141,7 +142,7 @@ none_once_null variables t y holds none x of_type r e = go (same_or_not x y)
         elim (read_same holds y hold.Null hold.Lost) [ inl null ↦ cc (null, at_y) | inr lost ↦ cc (lost, at_y) ]
     go (inr ne) = none x of_type r (rw (read_other holds y x hold.Null hold.Lost ne) at e)
 
-none_after : (types : List TypeForm) (variables : List VariableForm) (implicit : Implicit) (t : ℕ) (path : PathForm) (cs : List ℕ) (holds after : Holds) (raising : Option Holds) → path.selectors ≡ cs → frees_path types variables implicit cs path holds ≡ goes (Some after) raising → path_access types variables path ≡ Some t → NoAlias variables t after
+none_after : (types : List TypeForm) (variables : List VariableForm) (implicit : Implicit) (t : ℕ) (path : PathForm) (cs : List ℕ) (holds after : Holds) (raising : Option Holds) → path.selectors ≡ cs → frees_seen types variables no_tracks false implicit cs path holds ≡ goes (Some after) raising → path_access types variables path ≡ Some t → NoAlias variables t after
 none_after types variables implicit t path [] holds after raising is e own =
     let y = path.root in
     let same : freed variables y holds ≡ after = cc ((freed_goes variables y path.spot holds (Some after) raising (hold_at holds y) e).0) in
@@ -167,10 +168,10 @@ pub free_leaves_no_alias : FreeLeavesNoAlias
 free_leaves_no_alias types variables access t path holds after ends own x of_type r e =
     let implicit = ends.0.effects.implicit in
     let may = implicit.end_frees t in
-    let less = loses_ended variables may (frees_path types variables implicit path.selectors path holds) after ends.2 (rw own at ends.3) in
+    let less = loses_ended variables may (frees_seen types variables no_tracks false implicit path.selectors path holds) after ends.2 (rw own at ends.3) in
     less_aliases variables may less.0 x r (none_after types variables implicit t path path.selectors holds less.0 less.1 refl less.2 own x of_type r) (rw less.3 at e)
 
-none_raised : (types : List TypeForm) (variables : List VariableForm) (implicit : Implicit) (t : ℕ) (path : PathForm) (cs : List ℕ) (holds raised : Holds) (normal : Option Holds) → frees_path types variables implicit cs path holds ≡ goes normal (Some raised) → path_access types variables path ≡ Some t → NoAlias variables t raised
+none_raised : (types : List TypeForm) (variables : List VariableForm) (implicit : Implicit) (t : ℕ) (path : PathForm) (cs : List ℕ) (holds raised : Holds) (normal : Option Holds) → frees_seen types variables no_tracks false implicit cs path holds ≡ goes normal (Some raised) → path_access types variables path ≡ Some t → NoAlias variables t raised
 none_raised types variables implicit t path [] holds raised normal e own =
     let never : Some raised ≡ None = (freed_goes variables path.root path.spot holds normal (Some raised) (hold_at holds path.root) e).1 in
     absurd (cc never)
@@ -183,7 +184,7 @@ pub raised_free_leaves_no_alias : RaisedFreeLeavesNoAlias
 raised_free_leaves_no_alias types variables access t path holds raised raises own x of_type r e =
     let implicit = raises.0.effects.implicit in
     let may = implicit.end_frees t in
-    let less = loses_raised variables may (frees_path types variables implicit path.selectors path holds) raised raises.2 (rw own at raises.3) in
+    let less = loses_raised variables may (frees_seen types variables no_tracks false implicit path.selectors path holds) raised raises.2 (rw own at raises.3) in
     less_aliases variables may less.0 x r (none_raised types variables implicit t path path.selectors holds less.0 less.1 less.2 own x of_type r) (rw less.3 at e)
 
 -- A component's path that the rules let through passes no value of the component's own type.
@@ -217,7 +218,7 @@ some_there : (before behind : List ℕ) (c : ℕ) → before ++ c ∷ behind ≢
 some_there [] behind c e = cc e
 some_there (b ∷ before) behind c e = cc e
 
-component_kept : (types : List TypeForm) (variables : List VariableForm) (implicit : Implicit) (cs : List ℕ) (t : ℕ) (path : PathForm) (holds : Holds) (normal raising : Option Holds) → cs ≢ [] → path_access types variables path ≡ Some t → frees_path types variables implicit cs path holds ≡ goes normal raising → passes_type types (variable_kind variables path.root) path.selectors t ≡ false
+component_kept : (types : List TypeForm) (variables : List VariableForm) (implicit : Implicit) (cs : List ℕ) (t : ℕ) (path : PathForm) (holds : Holds) (normal raising : Option Holds) → cs ≢ [] → path_access types variables path ≡ Some t → frees_seen types variables no_tracks false implicit cs path holds ≡ goes normal raising → passes_type types (variable_kind variables path.root) path.selectors t ≡ false
 component_kept types variables implicit [] t path holds normal raising some own e = absurd (some refl)
 component_kept types variables implicit (c ∷ cs) t path holds normal raising some own e =
     let b = behind_goes types variables implicit path holds (Some t) normal raising (rw own at e) in
@@ -231,7 +232,7 @@ pub freed_lies_off_its_way : FreedLiesOffItsWay
 freed_lies_off_its_way types variables access t c path before behind holds kept own is =
     let some : path.selectors ≢ [] = λ none. some_there before behind c (sym is ∙ none) in
     let implicit = kept.0.effects.implicit in
-    let through = finalizes_through variables implicit (path_access types variables path) (frees_path types variables implicit path.selectors path holds) kept.2 kept.3 kept.4 in
+    let through = finalizes_through variables implicit (path_access types variables path) (frees_seen types variables no_tracks false implicit path.selectors path holds) kept.2 kept.3 kept.4 in
     let passes = component_kept types variables implicit path.selectors t path holds through.0 through.1 some own through.2 in
     off_way types (variable_kind variables path.root) t c before behind (rw is at passes)
 
@@ -240,7 +241,7 @@ lost_behind_is : (passes : Bool) (spot : Spot) → freed_behind passes hold.Lost
 lost_behind_is true spot = refl
 lost_behind_is false spot = refl
 
-lost_is_fault : (types : List TypeForm) (variables : List VariableForm) (implicit : Implicit) (cs : List ℕ) (path : PathForm) (holds : Holds) → hold_at holds path.root ≡ hold.Lost → frees_path types variables implicit cs path holds ≡ faults path.spot LostValue
+lost_is_fault : (types : List TypeForm) (variables : List VariableForm) (implicit : Implicit) (cs : List ℕ) (path : PathForm) (holds : Holds) → hold_at holds path.root ≡ hold.Lost → frees_seen types variables no_tracks false implicit cs path holds ≡ faults path.spot LostValue
 lost_is_fault types variables implicit [] path holds lost = rw lost refl
 lost_is_fault types variables implicit (c ∷ cs) path holds lost =
     rw (lost, lost_behind_is (way_reached types variables implicit path hold.Lost (path_access types variables path)) path.spot) refl

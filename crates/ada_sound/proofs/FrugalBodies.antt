@@ -19,7 +19,7 @@ none_collected : (ds : List DeclarationForm) → are_frugal_declarations ds ≡ 
 none_collected [] is = (refl, refl)
 none_collected (creates_pool p ∷ ds) is = absurd (cc is)
 none_collected (collects access ∷ ds) is = absurd (cc is)
-none_collected (declares x right ∷ ds) is = none_collected ds (apart _ _ is).1
+none_collected (declares x right ∷ ds) is = none_collected ds is
 none_collected (declares_record x t initial ∷ ds) is = absurd (cc is)
 
 -- What calls of frugal procedures create nests.

@@ -57,7 +57,8 @@ none_numbered : (o : Option Finalization) → is_some o ≡ false → number_in 
 none_numbered None none = refl
 none_numbered (Some f) none = absurd (cc none)
 
-bare_number : (types : List TypeForm) → NoAccessToParts types → (access : ℕ) → is_access types access ≡ true → shown_number types (named_in (slice_get types access)) ≡ None
+-- What an access type designates has no number among the record types that have controlled parts.
+pub bare_number : (types : List TypeForm) → NoAccessToParts types → (access : ℕ) → is_access types access ≡ true → shown_number types (named_in (slice_get types access)) ≡ None
 bare_number types none access is = by (slice_get types access) refl is
   where
     by : (found : Option TypeForm) → slice_get types access ≡ found → is_some (designated_in found) ≡ true → shown_number types (named_in found) ≡ None

@@ -8,7 +8,7 @@ use Rattle.std.specs.List.{filter, list_all, list_any, slice_get, slice_index_or
 use Rattle.std.specs.Option.{option_map}
 use Rattle.std.specs.Prelude.{Option, Some, None, is_some}
 use Rattle.ada_deeds.proofs.Known.{raises_are_done}
-use Rattle.ada_deeds.proofs.Naming.{KindFits, allocates_access, default_access, path_fits_kind}
+use Rattle.ada_deeds.proofs.Naming.{KindFits, allocates_access, default_access, path_fits_kind, variable_fits_kind}
 use Rattle.ada_deeds.proofs.Parted.{does_parted}
 use Rattle.ada_deeds.proofs.Starting.{created_out}
 use Rattle.ada_deeds.proofs.Within.{counts_are_enough, is_one_of}
@@ -31,7 +31,7 @@ use Rattle.ada_program.specs.Controlled.{procedure_number, operations_of}
 use Rattle.ada_program.specs.Form.{ActualForm, nothing, calls, raises, StmtForm, skips, assigns, assigns_record, frees, gets, writes, writes_text, chooses, repeats, counts, exits, returns, encloses, StmtsForm, no_stmts, a_stmt, BranchesForm, otherwise, a_branch, HandlersForm, no_handlers, a_handler, RightForm, value_of, allocates, allocates_default, computes, DeclarationForm, creates_pool, collects, declares, declares_record}
 use Rattle.ada_program.specs.Handling.{is_same}
 use Rattle.ada_program.specs.ProgramForm.{BodyForm, ProgramForm, VariableForm, TypeForm, record_of, access_to, object_of, seen_in, program_form, body_forms}
-use Rattle.ada_program.specs.WellFormed.{type_fits, variable_fits, finalization_of, designated_in, is_access, path_kind, right_fits, suits_profile, statement_fits, stmts_fit, branches_fit, handlers_fit, body_fits, bodies_fit, IsWellFormed, Profile, profile_of}
+use Rattle.ada_program.specs.WellFormed.{type_fits, variable_kind, variable_fits, finalization_of, designated_in, is_access, path_kind, right_fits, initial_fits, declarations_fit, suits_profile, statement_fits, stmts_fit, branches_fit, handlers_fit, body_fits, bodies_fit, IsWellFormed, Profile, profile_of}
 use Rattle.ada_program.specs.declared.program.Exception.{Exception}
 use Rattle.ada_program.specs.declared.program.Exception.TheVariants.{ConstraintError}
 use Rattle.ada_program.specs.declared.program.Program.{Program}
@@ -79,22 +79,6 @@ module _ (p : ProgramForm) (types_fit : list_all (type_fits p.types) p.types ≡
   starts_none among access is =
       none_among (λ e. creation_does (does_by p (Raises e)) (record_at p.types access)) among (exceptions_of p) (λ e. created_nothing e access (slice_get p.types access) refl is)
 
-  declaration_same : (among : Exception → Bool) (d : DeclarationForm) → is_frugal_declaration d ≡ true → declaration_raises (implicit_of p) among d ≡ declaration_raises no_implicit among d
-  declaration_same among (creates_pool pool) frugal = refl
-  declaration_same among (collects access) frugal = refl
-  declaration_same among (declares x nothing) frugal = refl
-  declaration_same among (declares x (value_of path)) frugal = refl
-  declaration_same among (declares x (allocates access items)) frugal = absurd (cc frugal)
-  declaration_same among (declares x (allocates_default access)) frugal = absurd (cc frugal)
-  declaration_same among (declares x (computes e)) frugal = refl
-  declaration_same among (declares_record x object initial) frugal = absurd (cc frugal)
-
-  declarations_same : (among : Exception → Bool) (ds : List DeclarationForm) → are_frugal_declarations ds ≡ true → declarations_raise (implicit_of p) among ds ≡ declarations_raise no_implicit among ds
-  declarations_same among [] frugal = refl
-  declarations_same among (d ∷ ds) frugal =
-      let two = apart _ _ frugal in
-      rw (declaration_same among d two.0, declarations_same among ds two.1) refl
-
   -- The procedures that it may call are known to raise the same, as far as they are frugal: then it raises the same.
   module _ (frugal : List Bool) (first second : List Effect) (callable : List Profile)
       (called : (procedure : ℕ) (profile : Profile) → slice_get callable procedure ≡ Some profile → slice_index_or frugal procedure false ≡ true → (among : Exception → Bool)
@@ -113,6 +97,27 @@ module _ (p : ProgramForm) (types_fit : list_all (type_fits p.types) p.types ≡
       starts_same among kind (allocates access items) fits taken = starts_none among access (allocates_access p.types types_fit variables variables_fit kind access items fits taken)
       starts_same among kind (allocates_default access) fits taken = starts_none among access (default_access p.types types_fit variables variables_fit kind access fits taken)
       starts_same among kind (computes e) fits taken = refl
+
+      declaration_same : (among : Exception → Bool) (d : DeclarationForm) → is_frugal_declaration d ≡ true → initial_fits p.types variables d ≡ true
+          → declaration_raises (implicit_of p) among d ≡ declaration_raises no_implicit among d
+      declaration_same among (creates_pool pool) is fits = refl
+      declaration_same among (collects access) is fits = refl
+      declaration_same among (declares x right) is fits =
+          ap (λ (b : Bool). right_raises among right || b)
+          (starts_same among (variable_kind variables x) right (variable_fits_kind p.types types_fit variables variables_fit x) (apart _ _ (apart _ _ fits).0).1)
+      declaration_same among (declares_record x object initial) is fits = absurd (cc is)
+
+      each_same : (among : Exception → Bool) (ds : List DeclarationForm) → are_frugal_declarations ds ≡ true → list_all (initial_fits p.types variables) ds ≡ true
+          → declarations_raise (implicit_of p) among ds ≡ declarations_raise no_implicit among ds
+      each_same among [] is fits = refl
+      each_same among (d ∷ ds) is fits =
+          let both = apart _ _ is in
+          let two = apart _ _ fits in
+          rw (declaration_same among d both.0 two.0, each_same among ds both.1 two.1) refl
+
+      declarations_same : (among : Exception → Bool) (ds : List DeclarationForm) → are_frugal_declarations ds ≡ true → declarations_fit p.types variables ds ≡ true
+          → declarations_raise (implicit_of p) among ds ≡ declarations_raise no_implicit among ds
+      declarations_same among ds is fits = each_same among ds is (apart _ _ fits).1
 
       call_same : (among : Exception → Bool) (procedure : ℕ) (actuals : List ActualForm) (o : Option Profile) → slice_get callable procedure ≡ o → suits_profile p.types variables o actuals ≡ true
           → slice_index_or frugal procedure false ≡ true → call_raises (slice_get first procedure) among ≡ call_raises (slice_get second procedure) among
@@ -146,7 +151,7 @@ module _ (p : ProgramForm) (types_fit : list_all (type_fits p.types) p.types ≡
             let fits_two = apart _ _ fits in
             let fits_three = apart _ _ fits_two.0 in
             rw (
-              declarations_same among ds three.0,
+              declarations_same among ds three.0 fits_three.0,
               stmts_same inside fs (untaken hs among) three.1 fits_three.1,
               handlers_same inside hs among two.1 fits_two.1,
             ) refl
@@ -185,9 +190,10 @@ module _ (p : ProgramForm) (types_fit : list_all (type_fits p.types) p.types ≡
         let three = apart _ _ two.0 in
         let five = apart _ _ fits in
         let four = apart _ _ five.0 in
-        let variables_fit = (apart _ _ (apart _ _ four.0).0).0 in
+        let declared = apart _ _ four.0 in
+        let variables_fit = (apart _ _ declared.0).0 in
         rw (
-          declarations_same among b.declarations three.0,
+          declarations_same b.variables variables_fit among b.declarations three.0 declared.1,
           stmts_same b.variables variables_fit false b.statements (untaken b.handlers among) three.1 four.1,
           handlers_same b.variables variables_fit false b.handlers among two.1 five.1,
         ) refl

@@ -19,7 +19,8 @@ use Rattle.ada_flow.specs.declared.rule.Hold.TheVariants as hold
 use Rattle.ada_flow.specs.declared.rule.Region.{Region}
 use Rattle.ada_flow.specs.declared.rule.Region.TheVariants.{Whole}
 use Rattle.ada_flow.specs.declared.rule.Rule.TheVariants.{LoopState}
-use Rattle.ada_flow.specs.Flow.{Holds, Outcome, faults, goes, hold_at, is_freed, is_among, if_own, without_alias, without_freed, without_types, without_variables, Gone, gone_with, collected, left, left_option, leaves_block, leaves_finalized, loses, declared_at, gives, gives_path, frees_path, waits_for, uses_in_record, uses_in_copy, uses_in_assignment, passes_it, passes_freed, component_passes, record_passes, passes_own, passes_reached, formal_record, formal_reached, way_reached, freed_behind, using_paths, ends_with, unless_broken, is_as_good, are_as_good, unless_worse, exit_of, reaches_part, formal_hold, uses_in_initial, passes_type, object_record, stays_inside, finalizes, released_behind, behind_end, without_freed_option, raising_if, Breach}
+use Rattle.ada_flow.specs.Flow.{Holds, Outcome, faults, goes, hold_at, is_freed, is_among, if_own, without_alias, without_freed, without_types, without_variables, Gone, gone_with, collected, left, left_option, leaves_block, leaves_finalized, loses, declared_at, gives, gives_seen, frees_seen, waits_for, uses_in_record, uses_in_copy, uses_in_assignment, passes_it, passes_freed, component_passes, record_passes, passes_own, passes_reached, formal_record, formal_reached, way_reached, freed_behind, using_paths, ends_with, unless_broken, is_as_good, are_as_good, unless_worse, exit_of, reaches_part, formal_hold, uses_in_initial, passes_type, object_record, stays_inside, finalizes, released_behind, behind_end, without_freed_option, raising_if, Breach}
+use Rattle.ada_flow.specs.Tracking.{no_tracks}
 use Rattle.ada_flow.specs.Aliases.{is_alias}
 use Rattle.ada_flow.specs.Parts.{has_part, has_part_within}
 use Rattle.ada_flow.proofs.Parts.{depths_are_enough, designate_is, designate_from}
@@ -55,7 +56,7 @@ loses_none variables may t o is = (
 pub finalized_free_leaves_no_alias : FinalizedFreeLeavesNoAlias
 finalized_free_leaves_no_alias types variables around cleared access u t path holds own is =
     let implicit = around.effects.implicit in
-    rw own (loses_none variables (implicit.end_frees u) t (frees_path types variables implicit path.selectors path holds) is)
+    rw own (loses_none variables (implicit.end_frees u) t (frees_seen types variables no_tracks false implicit path.selectors path holds) is)
 
 -- What is left behind blocks holds what it did, where it is not lost.
 one_same : (holds : Holds) (y x : ℕ) (g : Hold) → g ≢ hold.Lost → hold_at (slice_set holds y hold.Lost) x ≡ g → hold_at holds x ≡ g
@@ -164,7 +165,7 @@ pub exits_leave_no_alias : ExitsLeaveNoAlias
 exits_leave_no_alias types variables around cleared t condition spot start holds normal raising begun may e x of_type r is =
     let frees = endings_free around.effects.implicit around.inside.types in
     let less = without_freed variables frees holds in
-    let good = unworse start (left variables around.inside less) spot (exit_of condition holds) normal raising (rw begun at e) x in
+    let good = unworse start (left variables around.inside less) spot (exit_of no_tracks condition holds) normal raising (rw begun at e) x in
     let same : (g : Hold) → g ≢ hold.Lost → hold_at (left variables around.inside less) x ≡ g → hold_at less x ≡ g = left_same variables around.inside less x in
     elim (alias_or_null (hold_at (left variables around.inside less) x) r (rw is at good)) [
       | inl null ↦ null_before variables frees holds x (same hold.Null (λ lost. cc lost) null)
@@ -177,7 +178,7 @@ declared_record_leaves_no_alias types variables implicit x object t initial hold
 
 pub declared_object_leaves_no_alias : DeclaredObjectLeavesNoAlias
 declared_object_leaves_no_alias types variables implicit x access t holds is =
-    loses_none variables (implicit.start_frees access) t (gives types variables (declared_at variables x) false x (allocates_default access) holds) is
+    loses_none variables (implicit.start_frees access) t (gives types variables no_tracks (declared_at variables x) false x (allocates_default access) holds) is
 
 -- A path that follows a value of a type of which an object may be freed passes one.
 freed_is : (may : ℕ → Bool) (access : Option ℕ) (t : ℕ) → may t ≡ true → access ≡ Some t → is_freed may access ≡ true
@@ -212,15 +213,15 @@ waits types variables may (c ∷ cs) path holds t kept is here followed =
 pub starts_spare_the_target : StartsSpareTheTarget
 starts_spare_the_target types variables around cleared access t target holds normal raising e is followed =
     let may = around.effects.implicit.start_frees access in
-    let kept = (kept_uses (waits_for types variables may target.selectors target) holds (loses variables may (gives_path types variables cleared target.selectors target (allocates_default access) holds)) normal raising e).0 in
+    let kept = (kept_uses (waits_for types variables may target.selectors target) holds (loses variables may (gives_seen types variables no_tracks false cleared target.selectors target (allocates_default access) holds)) normal raising e).0 in
     waits types variables may target.selectors target holds t kept is followed followed
 
 -- What an assignment of a record uses.
-assigned : (types : List TypeForm) (variables : List VariableForm) (may : ℕ → Bool) (target : RecordPathForm) (items : List ItemForm) (holds : Holds) (normal raising : Option Holds) → loses variables may (using_paths (uses_in_assignment types variables may target items) holds (ends_with (record_path_raises target || items_raise items) holds holds)) ≡ goes normal raising → (record_passes types variables may target ≡ true → ⊥) × NoneBroken holds (uses_in_copy types variables may items)
+assigned : (types : List TypeForm) (variables : List VariableForm) (may : ℕ → Bool) (target : RecordPathForm) (items : List ItemForm) (holds : Holds) (normal raising : Option Holds) → loses variables may (using_paths no_tracks (uses_in_assignment types variables may target items) holds (ends_with (record_path_raises target || items_raise items) holds holds)) ≡ goes normal raising → (record_passes types variables may target ≡ true → ⊥) × NoneBroken holds (uses_in_copy types variables may items)
 assigned types variables may target items holds normal raising e =
     let used = uses_in_assignment types variables may target items in
     let after = ends_with (record_path_raises target || items_raise items) holds holds in
-    let through = loses_through variables may (using_paths used holds after) normal raising e in
+    let through = loses_through variables may (using_paths no_tracks used holds after) normal raising e in
     let of_record = uses_in_record types target.object.spot target.record_type items in
     let of_copy = uses_in_copy types variables may items in
     let unsafe = record_passes types variables may target in
@@ -247,7 +248,7 @@ freed_safe true (hold.Own r) spot o normal raising e is = cc e
 freed_safe true (hold.Alias r) spot o normal raising e is = cc e
 freed_safe true hold.Lost spot o normal raising e is = cc e
 
-frees : (types : List TypeForm) (variables : List VariableForm) (implicit : Implicit) (cs : List ℕ) (path : PathForm) (holds : Holds) (u t : ℕ) (normal raising : Option Holds) → path_access types variables path ≡ Some u → frees_path types variables implicit cs path holds ≡ goes normal raising → implicit.end_reaches u t ≡ true → IsFollowed types (variable_kind variables path.root) cs t → IsFollowed types (variable_kind variables path.root) path.selectors t → ⊥
+frees : (types : List TypeForm) (variables : List VariableForm) (implicit : Implicit) (cs : List ℕ) (path : PathForm) (holds : Holds) (u t : ℕ) (normal raising : Option Holds) → path_access types variables path ≡ Some u → frees_seen types variables no_tracks false implicit cs path holds ≡ goes normal raising → implicit.end_reaches u t ≡ true → IsFollowed types (variable_kind variables path.root) cs t → IsFollowed types (variable_kind variables path.root) path.selectors t → ⊥
 frees types variables implicit [] path holds u t normal raising own e is here followed = here
 frees types variables implicit (c ∷ cs) path holds u t normal raising own e is here followed =
     let own_way = passes_own types variables path (Some u) in
@@ -260,12 +261,12 @@ frees types variables implicit (c ∷ cs) path holds u t normal raising own e is
 pub frees_spare_the_way : FreesSpareTheWay
 frees_spare_the_way types variables around cleared access u t path holds normal raising e own is followed =
     let implicit = around.effects.implicit in
-    let through = loses_through variables (implicit.end_frees u) (frees_path types variables implicit path.selectors path holds) normal raising (rw own at e) in
+    let through = loses_through variables (implicit.end_frees u) (frees_seen types variables no_tracks false implicit path.selectors path holds) normal raising (rw own at e) in
     frees types variables implicit path.selectors path holds u t through.0 through.1 own through.2 is followed followed
 
 -- A component of a record parameter's own is freed only where the finalization reaches no object in which the parameter may lie.
 
-frees_formal : (types : List TypeForm) (variables : List VariableForm) (implicit : Implicit) (cs : List ℕ) (path : PathForm) (holds : Holds) (u t r whole : ℕ) (normal raising : Option Holds) → cs ≡ path.selectors → path_access types variables path ≡ Some u → frees_path types variables implicit cs path holds ≡ goes normal raising → LiesInFormal types variables path holds r → implicit.end_reaches u t ≡ true → designated_type types t ≡ Some whole → has_part types r whole ≡ true → ⊥
+frees_formal : (types : List TypeForm) (variables : List VariableForm) (implicit : Implicit) (cs : List ℕ) (path : PathForm) (holds : Holds) (u t r whole : ℕ) (normal raising : Option Holds) → cs ≡ path.selectors → path_access types variables path ≡ Some u → frees_seen types variables no_tracks false implicit cs path holds ≡ goes normal raising → LiesInFormal types variables path holds r → implicit.end_reaches u t ≡ true → designated_type types t ≡ Some whole → has_part types r whole ≡ true → ⊥
 frees_formal types variables implicit [] path holds u t r whole normal raising same own e lies is at has =
     let (object, kind, of_type, held, (c, stays)) = lies in
     cc (same, stays)
@@ -282,7 +283,7 @@ frees_formal types variables implicit (d ∷ ds) path holds u t r whole normal r
 pub frees_spare_the_formal : FreesSpareTheFormal
 frees_spare_the_formal types variables around cleared access u t r whole path holds normal raising e own lies is_record is at has =
     let implicit = around.effects.implicit in
-    let through = loses_through variables (implicit.end_frees u) (frees_path types variables implicit path.selectors path holds) normal raising (rw own at e) in
+    let through = loses_through variables (implicit.end_frees u) (frees_seen types variables no_tracks false implicit path.selectors path holds) normal raising (rw own at e) in
     frees_formal types variables implicit path.selectors path holds u t r whole through.0 through.1 refl own through.2 lies is at
     ((depths_are_enough types r whole is_record).1 has)
 
@@ -323,7 +324,7 @@ declared_records_are_their_own types variables implicit x object initial holds a
     let raises = initial_raises initial || initial_starts implicit (λ e. true) object initial in
     let declared = slice_set holds x (hold.Own Whole) in
     let uses = uses_in_initial types (declared_at variables x) object initial in
-    let less = loses_ended variables may (using_paths uses holds (ends_with raises holds declared)) after raising e in
+    let less = loses_ended variables may (using_paths no_tracks uses holds (ends_with raises holds declared)) after raising e in
     let kept = kept_uses uses holds (ends_with raises holds declared) (Some less.0) less.1 less.2 in
     let same : declared ≡ less.0 = cc kept.1 in
     rw (less.3, ← same) (own_there variables may holds x lt inside)
@@ -410,8 +411,8 @@ pub safe_frees_are_let_through : SafeFreesAreLetThrough
 safe_frees_are_let_through types variables around cleared access u c cs path holds is own there own_free reached_free formal_free = (
   Some (without_freed variables may after),
   without_freed_option variables may (raising_if (path_raises path) after),
-  ap (λ (ds : List ℕ). finalizes variables implicit (path_access types variables path) (frees_path types variables implicit ds path holds)) is
-      ∙ ap (λ (o : Option ℕ). finalizes variables implicit o (released_behind types variables implicit path holds o)) own
+  ap (λ (ds : List ℕ). finalizes variables implicit (path_access types variables path) (frees_seen types variables no_tracks false implicit ds path holds)) is
+      ∙ ap (λ (o : Option ℕ). finalizes variables implicit o (released_behind types variables no_tracks implicit path holds o)) own
       ∙ ap (λ (b : Option Breach). loses variables may (unless_broken b (ends_with (path_raises path) after after))) unbroken,
 )
   where

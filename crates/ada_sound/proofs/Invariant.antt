@@ -19,7 +19,8 @@ use Rattle.ada_program.specs.Handling.{is_same, handler_of}
 use Rattle.ada_effects.specs.Effects.{expression_raises, links_raise, items_raise, path_raises, record_path_raises, condition_raises, unary_raises, binary_raises, right_raises, right_starts, declaration_raises, stmts_raise, branches_raise, handlers_raise, Effect, Implicit, call_raises, body_raises, stmts_free, branches_free, handlers_free, body_frees, call_frees, effects_of, endings_free, declaration_frees, assignment_frees}
 use Rattle.ada_flow.specs.declared.rule.Hold.TheVariants as hold
 use Rattle.ada_flow.specs.declared.rule.Region.TheVariants.{Whole}
-use Rattle.ada_flow.specs.Flow.{Holds, hold_at, variable_access, lost_by, Outcome, faults, goes, Use, uses_in, uses_in_links, uses_in_item, named_by_item, is_owning, is_owning_record, owns_at_first, broken_among, without_values, moved_by_items, passes_type, behind_end, gives, gives_component, clears, compares_it, uses_in_actuals, Keeping, keeping_of, kept_at, is_kept, handed_back, left_unkept, owed_from, gives_back, all_give_back, are_as_good, have_exit, branches_have_exit, handlers_have_exit, is_left, condition_flow, stmts_flow, branches_flow, handlers_flow, declaration_flow, Gone as GoneWith, collected, is_among, left, left_finalized, left_by_call, nothing_gone, Around}
+use Rattle.ada_flow.specs.Flow.{Holds, hold_at, variable_access, lost_by, Outcome, faults, goes, Use, uses_in, uses_in_links, uses_in_item, named_by_item, is_owning, is_owning_record, broken_among, without_values, moved_by_items, passes_type, behind_end, gives, gives_component, clears, compares_it, uses_in_actuals, Keeping, keeping_of, kept_at, is_kept, handed_back, left_unkept, owed_from, gives_back, all_give_back, are_as_good, have_exit, branches_have_exit, handlers_have_exit, is_left, condition_flow, stmts_flow, branches_flow, handlers_flow, declaration_flow, Gone as GoneWith, collected, is_among, left, left_finalized, left_by_call, nothing_gone, Around, owns_among}
+use Rattle.ada_flow.specs.Tracking.{no_tracks}
 use Rattle.ada_meaning.specs.declared.state.Id.{Id}
 use Rattle.ada_meaning.specs.declared.state.Place.{Place}
 use Rattle.ada_meaning.specs.declared.state.Value.{Value}
@@ -238,6 +239,7 @@ abbrev pub around_at : Known → Where → Around
 around_at known at = record {
   effects = effects_of known.implicit known.program;
   kept = keeping_of known.implicit known.program;
+  tracks = no_tracks;
   owed = owed_in known.program;
   start = at.start;
   inside = at.inside;
@@ -287,7 +289,7 @@ abbrev pub Repeating : Known → Option ExpressionForm → StmtsForm → Control
 Repeating known condition body k w holds =
     (start : Holds) × AsGood holds start
     × ((within : GoneWith)
-    × Goes (condition_flow condition start) (TurnsTo known body (Repeats condition body ∷ k) w within start) (Raised (condition_among condition) w)
+    × Goes (condition_flow no_tracks condition start) (TurnsTo known body (Repeats condition body ∷ k) w within start) (Raised (condition_among condition) w)
     × OnReturn known.program.variables (around_at known (in_turn start within)) w.returned)
     × (is_left condition body ≡ true → To w.normal start)
 
@@ -330,7 +332,7 @@ Outside known gone w = record w {
 abbrev pub Elaborating : Known → List DeclarationForm → (more : Holds → Type 0) → Ways → Holds → Type 0
 Elaborating known [] more w holds = more holds
 Elaborating known (d ∷ ds) more w holds =
-    Goes (declaration_flow known.program.types known.program.variables known.implicit d holds) (Elaborating known ds more w)
+    Goes (declaration_flow known.program.types known.program.variables no_tracks known.implicit d holds) (Elaborating known ds more w)
     (Raised (λ e. declaration_raises known.implicit (is_same e) d) w)
     × Spares known (λ t. declaration_frees known.implicit t d)
 
@@ -426,7 +428,7 @@ GoesOn known mode k rooms holds = By mode (ways known k rooms) holds
 
 -- None of these paths breaks a rule.
 abbrev pub NoneBroken : Holds → List Use → Type 0
-NoneBroken holds uses = broken_among holds uses ≡ None
+NoneBroken holds uses = broken_among no_tracks holds uses ≡ None
 
 -- If this may be raised, what passes the frames is known.
 abbrev pub MayRaise : Known → Bool → Exception → Control → Rooms → Holds → Type 0
@@ -486,7 +488,7 @@ assignment_among known right e = right_raises (is_same e) right || right_starts 
 abbrev pub GivesTo : Known → RightForm → Rooms → Holds → ℕ → Control → Type 0
 GivesTo known right rooms holds x k =
     (cleared : Bool)
-    × ((spot : Spot) × Goes (gives known.program.types known.program.variables spot cleared x right holds) (RunsAfter known right k rooms) (Raised (assignment_among known right) (ways known k rooms)))
+    × ((spot : Spot) × Goes (gives known.program.types known.program.variables no_tracks spot cleared x right holds) (RunsAfter known right k rooms) (Raised (assignment_among known right) (ways known k rooms)))
     × Pairs cleared right (λ path. x ≢ path.root) k
 
 -- A declaration is no half of a take pair.
@@ -503,7 +505,7 @@ HasRoom (gone ∷ rooms) = Unit {0}
 abbrev pub DeclaresTo : Known → RightForm → Rooms → Holds → ℕ → Control → Type 0
 DeclaresTo known right rooms holds x k =
     HasRoom rooms × (cleared : Bool)
-    × ((spot : Spot) × Goes (gives known.program.types known.program.variables spot cleared x right holds) (RunsAfter known right k rooms) (Raised (assignment_among known right) (ways known k rooms)))
+    × ((spot : Spot) × Goes (gives known.program.types known.program.variables no_tracks spot cleared x right holds) (RunsAfter known right k rooms) (Raised (assignment_among known right) (ways known k rooms)))
     × IsAlone cleared
 
 -- Which exceptions an assignment to a component may raise, whose path may raise one or not.
@@ -526,7 +528,7 @@ LeadsTo heap places w cs c path = (walk heap (begun places path) (front (along p
 abbrev pub FillsIn : Known → RightForm → (leads : PathForm → Type 0) → Rooms → Holds → Control → Type 0
 FillsIn known right leads rooms holds k =
     (path : PathForm) × (cleared : Bool)
-    × Goes (gives_component known.program.types cleared path right holds) (RunsAfter known right k rooms) (Raised (component_among known (path_raises path) right) (ways known k rooms))
+    × Goes (gives_component known.program.types no_tracks cleared path right holds) (RunsAfter known right k rooms) (Raised (component_among known (path_raises path) right) (ways known k rooms))
     × Pairs cleared right (λ taken. IsOne taken.selectors) k × leads path
 
 -- An object that a component lies in is there.
@@ -613,8 +615,8 @@ pub record Allocating (known : Known) (heap : List Object) (access : ℕ) (all :
   pub room : RoomFor k rooms
   pub to : StoresTo k
       (λ x k'. ((variable_access known.program.variables x ≡ Some access) × (is_object known.program.variables x ≡ false))
-      × To (RunsOn known k' rooms) (slice_set (without_values (moved_by_items all) holds) x (hold.Own Whole)))
-      (λ o c k'. Accepts known heap o c (Some access) × To (RunsOn known k' rooms) (without_values (moved_by_items all) holds))
+      × To (RunsOn known k' rooms) (slice_set (without_values (moved_by_items no_tracks all) holds) x (hold.Own Whole)))
+      (λ o c k'. Accepts known heap o c (Some access) × To (RunsOn known k' rooms) (without_values (moved_by_items no_tracks all) holds))
 
 -- Some items are evaluated, and these are left.
 pub record Filling (known : Known) (heap : List Object) (places : List Value) (access count : ℕ) (todo : List ItemForm) (k : Control) (operands : List Value) (rooms : Rooms) (holds : Holds) : Type 0 where
@@ -658,6 +660,10 @@ IsPlainIn known heap (Part o base) first count = ⊥
 abbrev pub MayOwn : Rooms → (object_type : ℕ) → Type 0
 MayOwn [] t = ⊥
 MayOwn (gone ∷ rooms) t = is_among gone.types (Some t) ≡ true
+
+-- Has the object that is known by a type a component of an access type?
+abbrev pub owns_at_first : List TypeForm → (object_type : ℕ) → Bool
+owns_at_first types t = owns_among (reached_components types t)
 
 -- A record object of Integers and Booleans is declared, of this type: less may be known behind it, where its operations free objects.
 abbrev pub Recording : Known → (x object_type : ℕ) → Control → Rooms → Holds → Type 0

@@ -11,7 +11,8 @@ use Rattle.ada_program.specs.WellFormed.{names_borrower}
 use Rattle.ada_program.specs.Nested.{is_one_of}
 use Rattle.ada_flow.specs.declared.rule.Hold.TheVariants.{Own, Lost}
 use Rattle.ada_flow.specs.declared.rule.Region.TheVariants.{Whole}
-use Rattle.ada_flow.specs.Flow.{Holds, hold_at, goes, loses, initializes, uses_in_start, gives_path, Around, stmt_flow, moves_it, moves_again, variable_of, moved_by_item, uses_in_item, uses_in_items, is_named, is_target, named_by_item, moved_behind, broken_in, moved_by_items, same_selectors, same_path}
+use Rattle.ada_flow.specs.Flow.{Holds, hold_at, goes, loses, initializes, uses_in_start, gives_seen, Around, stmt_flow, moves_it, moves_again, variable_of, moved_by_item, uses_in_item, uses_in_items, is_named, is_target, named_by_item, moved_behind, broken_in, moved_by_items, same_selectors, same_path}
+use Rattle.ada_flow.specs.Tracking.{no_tracks}
 use Rattle.ada_sound.specs.Agreement.{IsOwner}
 use Rattle.ada_sound.specs.Owners.{IsVariable, IsElsewhere, IsSamePath, OnlyOwnersAreItems, ItemsMoveApart, ItemsOwnNothing, ItemsStayWhereRaised, DefaultsMoveNothing, DefaultsStayWhereRaised}
 use Rattle.ada_sound.proofs.Invariant.{NoneBroken}
@@ -20,6 +21,7 @@ use Rattle.ada_sound.proofs.Taken.{cleared_is, selectors_are}
 use Rattle.ada_sound.proofs.Values.{read_other}
 use Rattle.ada_sound.proofs.Moves.{target_at, kept_uses, assigned, assigns_by, loses_ended, loses_raised, stays_lost, moved_owner, ends_nothing}
 use Rattle.ada_sound.proofs.Filled.{first_one, later_one}
+use Rattle.ada_sound.specs.Untracked.{untracked}
 
 -- Items: what one moves is a variable, or the component that the assignment goes to; and no item before it names that path.
 
@@ -57,7 +59,7 @@ record MovesOne (holds : Holds) (target : PathForm) (earlier : List PathForm) (p
 moves_one : (types : List TypeForm) (spot : Spot) (holds : Holds) (target : PathForm) (earlier : List PathForm) (path : PathForm) → NoneBroken holds (uses_in_item types spot (target_at target.selectors target) earlier (item_of_path path)) → MovesOne holds target earlier path
 moves_one types spot holds target earlier path e = go (is_named earlier path) refl (first_kept holds _ [] e).0
   where
-    go : (b : Bool) → is_named earlier path ≡ b → broken_in holds (if b then moves_again path else moves_it (is_target (target_at target.selectors target) path) path) ≡ None → MovesOne holds target earlier path
+    go : (b : Bool) → is_named earlier path ≡ b → broken_in no_tracks holds (if b then moves_again path else moves_it (is_target (target_at target.selectors target) path) path) ≡ None → MovesOne holds target earlier path
     go true b m = absurd (cc m)
     go false b m = record { moved = moved_as holds target path path.selectors refl m; new = b }
 
@@ -114,12 +116,12 @@ variable_here : (cs : List ℕ) (x : ℕ) (rest : List ℕ) → cs ≡ [] → is
 variable_here [] x rest is = first_one x rest
 variable_here (c ∷ cs) x rest is = absurd (cc is)
 
-item_moved : (items : List ItemForm) (i : ℕ) (path : PathForm) → slice_get items i ≡ Some (item_of_path path) → path.selectors ≡ [] → is_one_of (moved_by_items items) path.root ≡ true
+item_moved : (items : List ItemForm) (i : ℕ) (path : PathForm) → slice_get items i ≡ Some (item_of_path path) → path.selectors ≡ [] → is_one_of (moved_by_items no_tracks items) path.root ≡ true
 item_moved [] i path found is = absurd (cc found)
 item_moved (item ∷ items) zero path found is =
     let same : item ≡ item_of_path path = cc found in
-    rw same (variable_here path.selectors path.root (moved_by_items items) is)
-item_moved (item ∷ items) (suc i) path found is = later_one (moved_by_item item) (moved_by_items items) path.root (item_moved items i path found is)
+    rw same (variable_here path.selectors path.root (moved_by_items no_tracks items) is)
+item_moved (item ∷ items) (suc i) path found is = later_one (moved_by_item no_tracks item) (moved_by_items no_tracks items) path.root (item_moved items i path found is)
 
 pub only_owners_are_items : OnlyOwnersAreItems
 only_owners_are_items types variables target path access i items holds found kept =
@@ -146,18 +148,18 @@ default_assigned borrows target [] access holds x is other = read_other holds ta
 default_assigned borrows target (c ∷ cs) access holds x is other = refl
 
 -- It waits for the initialization, which may free objects.
-default_goes : (types : List TypeForm) (variables : List VariableForm) (around : Around) (cleared : Bool) (target : PathForm) (access : ℕ) (holds : Holds) (normal raising : Option Holds) → stmt_flow types variables around cleared (assigns target (allocates_default access)) holds ≡ goes normal raising → loses variables (around.effects.implicit.start_frees access) (gives_path types variables cleared target.selectors target (allocates_default access) holds) ≡ goes normal raising
+default_goes : (types : List TypeForm) (variables : List VariableForm) (around : Around) (cleared : Bool) (target : PathForm) (access : ℕ) (holds : Holds) (normal raising : Option Holds) → stmt_flow types variables (untracked around) cleared (assigns target (allocates_default access)) holds ≡ goes normal raising → loses variables (around.effects.implicit.start_frees access) (gives_seen types variables no_tracks false cleared target.selectors target (allocates_default access) holds) ≡ goes normal raising
 default_goes types variables around cleared target access holds normal raising e =
     let right = allocates_default access in
-    (kept_uses (uses_in_start types variables around.effects.implicit target right) holds
-    (initializes variables around.effects.implicit right (gives_path types variables cleared target.selectors target right holds)) normal raising e).1
+    (kept_uses (uses_in_start types variables no_tracks around.effects.implicit target right) holds
+    (initializes variables around.effects.implicit right (gives_seen types variables no_tracks false cleared target.selectors target right holds)) normal raising e).1
 
 pub defaults_move_nothing : DefaultsMoveNothing
 defaults_move_nothing types variables around cleared target access holds after raising e x v is other =
     let may = around.effects.implicit.start_frees access in
     let borrows = names_borrower variables target in
     let right = allocates_default access in
-    let less = loses_ended variables may (gives_path types variables cleared target.selectors target right holds) after raising (default_goes types variables around cleared target access holds (Some after) raising e) in
+    let less = loses_ended variables may (gives_seen types variables no_tracks false cleared target.selectors target right holds) after raising (default_goes types variables around cleared target access holds (Some after) raising e) in
     let all = assigns_by types variables borrows cleared target right holds (Some less.0) less.1 refl less.2 in
     let same : less.0 ≡ assigned borrows target.selectors target.root right holds = cc (all.ends) in
     let stays : hold_at less.0 x ≡ hold_at holds x = rw same (default_assigned borrows target target.selectors access holds x refl other) in
@@ -167,7 +169,7 @@ pub defaults_stay_where_raised : DefaultsStayWhereRaised
 defaults_stay_where_raised types variables around cleared target access holds raised normal e x v is =
     let may = around.effects.implicit.start_frees access in
     let right = allocates_default access in
-    let less = loses_raised variables may (gives_path types variables cleared target.selectors target right holds) raised normal (default_goes types variables around cleared target access holds normal (Some raised) e) in
+    let less = loses_raised variables may (gives_seen types variables no_tracks false cleared target.selectors target right holds) raised normal (default_goes types variables around cleared target access holds normal (Some raised) e) in
     let all = assigns_by types variables (names_borrower variables target) cleared target right holds less.1 (Some less.0) refl less.2 in
     let same : less.0 ≡ holds = all.raises less.0 refl in
     rw less.3 (rw same (stays_lost variables may holds x v is))

@@ -6,6 +6,10 @@ pub mod Objects
 pub mod Items
 -- what a call and its return do
 pub mod Activations
+-- bodies that track no components
+pub mod Untracked
+-- records that are copied, or get items
+pub mod Gathered
 -- procedures, and what is known of their calls
 pub mod Bodies
 -- what procedures keep

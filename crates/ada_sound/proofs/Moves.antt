@@ -13,7 +13,8 @@ use Rattle.ada_flow.specs.declared.rule.Hold.{Hold}
 use Rattle.ada_flow.specs.declared.rule.Hold.TheVariants as hold
 use Rattle.ada_flow.specs.declared.rule.Region.{Region}
 use Rattle.ada_program.specs.Nested.{is_one_of}
-use Rattle.ada_flow.specs.Flow.{Holds, hold_at, Outcome, faults, goes, then_flow, raising_if, ends_with, Use, moves_it, variable_of, uses_in_right, uses_in_target, Breach, moved_by, moved_behind, broken_among, unless_broken, using_paths, left_by_move, without_value, without_values, moved_by_right, right_hold, evaluation_raises, without_alias, is_freed, without_freed, without_freed_option, loses, gives_path, same_selectors, same_path, leaves_path, clears, begins_pair}
+use Rattle.ada_flow.specs.Flow.{Holds, hold_at, Outcome, faults, goes, then_flow, raising_if, ends_with, Use, moves_it, variable_of, uses_in_right, uses_in_target, Breach, moved_by, moved_behind, broken_among, unless_broken, using_paths, left_by_move, without_value, without_values, moved_by_right, right_hold, evaluation_raises, without_alias, is_freed, without_freed, without_freed_option, loses, gives_seen, same_selectors, same_path, leaves_path, clears, begins_pair}
+use Rattle.ada_flow.specs.Tracking.{no_tracks}
 use Rattle.ada_sound.specs.Agreement.{IsOwner}
 use Rattle.ada_sound.specs.Owners.{OwnsNothing, IsElsewhere, Stays, OnlyOwnersAreMoved, MovedOwnsNothing, OnlyPairsTake, PairsAreTakePairs}
 use Rattle.ada_sound.proofs.Filled.{first_one}
@@ -52,8 +53,8 @@ borrows_is variables target = go target.selectors
 
 -- What an assignment comes to its end with, and raises with.
 abbrev pub assigned : (borrows : Bool) → List ℕ → (x : ℕ) → RightForm → Holds → Holds
-assigned borrows [] x right holds = slice_set (without_values (moved_by_right borrows right) holds) x (right_hold borrows right holds)
-assigned borrows (c ∷ cs) x right holds = without_values (moved_by_right borrows right) holds
+assigned borrows [] x right holds = slice_set (without_values (moved_by_right no_tracks borrows right) holds) x (right_hold no_tracks borrows right holds)
+assigned borrows (c ∷ cs) x right holds = without_values (moved_by_right no_tracks borrows right) holds
 
 -- The component that an assignment goes to, if it goes to one.
 abbrev pub target_at : List ℕ → PathForm → Option PathForm
@@ -66,10 +67,10 @@ pub record Assigns (types : List TypeForm) (borrows cleared : Bool) (cs : List �
   pub ends : normal ≡ Some (assigned borrows cs target.root right holds)
   pub raises : (raised : Holds) → raising ≡ Some raised → raised ≡ holds
 
-pub kept_uses : (uses : List Use) (holds : Holds) (after : Outcome) (normal raising : Option Holds) → using_paths uses holds after ≡ goes normal raising → NoneBroken holds uses × (after ≡ goes normal raising)
-kept_uses uses holds after normal raising e = go (broken_among holds uses) refl e
+pub kept_uses : (uses : List Use) (holds : Holds) (after : Outcome) (normal raising : Option Holds) → using_paths no_tracks uses holds after ≡ goes normal raising → NoneBroken holds uses × (after ≡ goes normal raising)
+kept_uses uses holds after normal raising e = go (broken_among no_tracks holds uses) refl e
   where
-    go : (b : Option Breach) → broken_among holds uses ≡ b → unless_broken b after ≡ goes normal raising → NoneBroken holds uses × (after ≡ goes normal raising)
+    go : (b : Option Breach) → broken_among no_tracks holds uses ≡ b → unless_broken b after ≡ goes normal raising → NoneBroken holds uses × (after ≡ goes normal raising)
     go None is e' = (is, e')
     go (Some breach) is e' = absurd (cc e')
 
@@ -80,7 +81,7 @@ raised_is false holds raised e = absurd (cc e)
 pub ended : (b : Bool) (holds after : Holds) (normal raising : Option Holds) → ends_with b holds after ≡ goes normal raising → (normal ≡ Some after) × ((raised : Holds) → raising ≡ Some raised → raised ≡ holds)
 ended b holds after normal raising e = (cc e, λ raised is. let same : raising_if b holds ≡ raising = cc e in raised_is b holds raised (same ∙ is))
 
-pub assigns_as : (types : List TypeForm) (variables : List VariableForm) (cleared : Bool) (cs : List ℕ) (target : PathForm) (right : RightForm) (holds : Holds) (normal raising : Option Holds) → gives_path types variables cleared cs target right holds ≡ goes normal raising → Assigns types (borrows_at variables cs target.root) cleared cs target right holds normal raising
+pub assigns_as : (types : List TypeForm) (variables : List VariableForm) (cleared : Bool) (cs : List ℕ) (target : PathForm) (right : RightForm) (holds : Holds) (normal raising : Option Holds) → gives_seen types variables no_tracks false cleared cs target right holds ≡ goes normal raising → Assigns types (borrows_at variables cs target.root) cleared cs target right holds normal raising
 assigns_as types variables cleared [] target right holds normal raising e =
     let borrows = is_borrower variables target.root in
     let after = assigned borrows [] target.root right holds in
@@ -95,7 +96,7 @@ assigns_as types variables cleared (c ∷ cs) target right holds normal raising 
     let ends = ended may holds after normal raising uses.1 in
     record { kept = (kept_apart holds (uses_in_target target) of_right uses.0).1; ends = ends.0; raises = ends.1 }
 
-pub assigns_by : (types : List TypeForm) (variables : List VariableForm) (borrows cleared : Bool) (target : PathForm) (right : RightForm) (holds : Holds) (normal raising : Option Holds) → names_borrower variables target ≡ borrows → gives_path types variables cleared target.selectors target right holds ≡ goes normal raising → Assigns types borrows cleared target.selectors target right holds normal raising
+pub assigns_by : (types : List TypeForm) (variables : List VariableForm) (borrows cleared : Bool) (target : PathForm) (right : RightForm) (holds : Holds) (normal raising : Option Holds) → names_borrower variables target ≡ borrows → gives_seen types variables no_tracks false cleared target.selectors target right holds ≡ goes normal raising → Assigns types borrows cleared target.selectors target right holds normal raising
 assigns_by types variables borrows cleared target right holds normal raising is e =
     let same : borrows_at variables target.selectors target.root ≡ borrows = sym (borrows_is variables target) ∙ is in
     subst (λ b. Assigns types b cleared target.selectors target right holds normal raising) same (assigns_as types variables cleared target.selectors target right holds normal raising e)
@@ -188,12 +189,12 @@ moved_nothing (y ∷ ys) holds x is = go (y == x) refl is (λ one. moved_nothing
         still_nothing ys (without_value y holds) x (rw (← same) (set_nothing holds y (left_by_move (hold_at holds y)) (left_nothing (hold_at holds y))))
     go false e one later = later one
 
-assigned_nothing : (borrows : Bool) (target : PathForm) (cs : List ℕ) (right : RightForm) (holds : Holds) (x : ℕ) → target.selectors ≡ cs → IsElsewhere target x → is_one_of (moved_by_right borrows right) x ≡ true → OwnsNothing (assigned borrows cs target.root right holds) x
+assigned_nothing : (borrows : Bool) (target : PathForm) (cs : List ℕ) (right : RightForm) (holds : Holds) (x : ℕ) → target.selectors ≡ cs → IsElsewhere target x → is_one_of (moved_by_right no_tracks borrows right) x ≡ true → OwnsNothing (assigned borrows cs target.root right holds) x
 assigned_nothing borrows target [] right holds x is other moved =
-    set_elsewhere (without_values (moved_by_right borrows right) holds) target.root x (right_hold borrows right holds) (other is) (moved_nothing (moved_by_right borrows right) holds x moved)
-assigned_nothing borrows target (c ∷ cs) right holds x is other moved = moved_nothing (moved_by_right borrows right) holds x moved
+    set_elsewhere (without_values (moved_by_right no_tracks borrows right) holds) target.root x (right_hold no_tracks borrows right holds) (other is) (moved_nothing (moved_by_right no_tracks borrows right) holds x moved)
+assigned_nothing borrows target (c ∷ cs) right holds x is other moved = moved_nothing (moved_by_right no_tracks borrows right) holds x moved
 
-pub ends_nothing : (types : List TypeForm) (variables : List VariableForm) (borrows cleared : Bool) (target : PathForm) (right : RightForm) (holds after : Holds) (raising : Option Holds) (x : ℕ) → names_borrower variables target ≡ borrows → IsElsewhere target x → is_one_of (moved_by_right borrows right) x ≡ true → gives_path types variables cleared target.selectors target right holds ≡ goes (Some after) raising → OwnsNothing after x
+pub ends_nothing : (types : List TypeForm) (variables : List VariableForm) (borrows cleared : Bool) (target : PathForm) (right : RightForm) (holds after : Holds) (raising : Option Holds) (x : ℕ) → names_borrower variables target ≡ borrows → IsElsewhere target x → is_one_of (moved_by_right no_tracks borrows right) x ≡ true → gives_seen types variables no_tracks false cleared target.selectors target right holds ≡ goes (Some after) raising → OwnsNothing after x
 ends_nothing types variables borrows cleared target right holds after raising x is other moved e =
     let all = assigns_by types variables borrows cleared target right holds (Some after) raising is e in
     let same : assigned borrows target.selectors target.root right holds ≡ after = cc (all.ends) in
@@ -215,7 +216,7 @@ first_goes (goes here raised) more normal raising e = (here, raised, refl)
 pub only_pairs_take : OnlyPairsTake
 only_pairs_take types variables target path behind holds owns some kept =
     let pair = begins_pair (assigns target (value_of path)) behind in
-    let first = first_goes (gives_path types variables pair target.selectors target (value_of path) holds) _ kept.1 kept.2 kept.3 in
+    let first = first_goes (gives_seen types variables no_tracks false pair target.selectors target (value_of path) holds) _ kept.1 kept.2 kept.3 in
     let all = assigns_by types variables false pair target (value_of path) holds first.0 first.1 owns first.2 in
     behind_cleared pair path.selectors (hold_at holds path.root) path.spot some (first_kept holds (moves_it pair path) [] all.kept).0
 

@@ -9,6 +9,7 @@ use Rattle.ada_program.specs.Form.{ExpressionForm, DeclarationForm, StmtForm, ch
 use Rattle.ada_program.specs.Handling.{is_same, some_takes, handler_of}
 use Rattle.ada_effects.specs.Effects.{Effects, effects_of, endings_free, declaration_frees, declarations_free, leaving_frees, stmt_frees, stmts_free, branches_free, handlers_free, expression_raises, untaken, declaration_raises, declarations_raise, stmt_raises, stmts_raise, branches_raise, handlers_raise, passes}
 use Rattle.ada_flow.specs.Flow.{Holds, Outcome, loop_flow, uses_in, computed as computed_flow, bounds_flow, either_of, opened_by_all, counting_start, has_exit, have_exit, branches_have_exit, handlers_have_exit, is_left, condition_flow, ends_turn, exit_of, exit_flow, declaration_flow, declarations_flow, Gone, nothing_gone, gone_with, gone_with_both, loses, left, left_finalized, in_loop, begins_pair, stmt_flow, stmts_flow, branches_flow, handlers_flow, handled, then_flow, goes}
+use Rattle.ada_flow.specs.Tracking.{no_tracks}
 use Rattle.ada_meaning.specs.Frame.{Does, Repeats, Counts, Handles, Closes}
 use Rattle.ada_sound.specs.Agreement.{Turning, past, into, counting, behind, in_branches, in_body, in_count, in_enclosed, in_others, in_this, in_next, to_this, to_next, ComesInside, in_statements, in_handlers}
 use Rattle.ada_sound.proofs.Orderings.{AsGood, as_good_then, good_each, all_good, good_to_lost}
@@ -86,11 +87,11 @@ module _ (known : Known) where
   branch_does e fs branches k w holds (here, from, g, out, returns', spares) =
       let v = known.program.variables in
       let among : Exception → Bool = λ x. branches_raise effects (is_same x) (a_branch e fs branches) in
-      let both = computed_goes e holds _ (Raised among w) (goes_with (computed_flow e holds) (λ h. Goes (either_of (stmts_flow known.program.types v (around_at known here) fs h) (branches_flow known.program.types v (around_at known here) branches h)) (To w.normal) (Raised among w)) (Raised among w)
-      (λ h. ((raising : Option Holds) × (computed_flow e holds ≡ goes (Some h) raising)) × Goes (stmts_flow known.program.types v (around_at known here) fs h) (To w.normal) (Raised among w) × Goes (branches_flow known.program.types v (around_at known here) branches h) (To w.normal) (Raised among w)) (Raised among w)
+      let both = computed_goes e holds _ (Raised among w) (goes_with (computed_flow no_tracks e holds) (λ h. Goes (either_of (stmts_flow known.program.types v (around_at known here) fs h) (branches_flow known.program.types v (around_at known here) branches h)) (To w.normal) (Raised among w)) (Raised among w)
+      (λ h. ((raising : Option Holds) × (computed_flow no_tracks e holds ≡ goes (Some h) raising)) × Goes (stmts_flow known.program.types v (around_at known here) fs h) (To w.normal) (Raised among w) × Goes (branches_flow known.program.types v (around_at known here) branches h) (To w.normal) (Raised among w)) (Raised among w)
       (λ h raising is m. let two = either_goes (stmts_flow known.program.types v (around_at known here) fs h) (branches_flow known.program.types v (around_at known here) branches h) (To w.normal) (Raised among w) (to_before w.normal) (raised_before among w) m in ((raising, is), two.0, two.1))
       (λ normal h is r. r)
-      (then_goes (computed_flow e holds) (λ h. either_of (stmts_flow known.program.types v (around_at known here) fs h) (branches_flow known.program.types v (around_at known here) branches h)) (To w.normal) (Raised among w) (raised_before among w) g)) in (
+      (then_goes (computed_flow no_tracks e holds) (λ h. either_of (stmts_flow known.program.types v (around_at known here) fs h) (branches_flow known.program.types v (around_at known here) branches h)) (To w.normal) (Raised among w) (raised_before among w) g)) in (
         both.0,
         (λ may. both.2 may ConstraintError (or_left (expression_raises e || stmts_raise effects (is_same ConstraintError) fs) (branches_raise effects (is_same ConstraintError) branches) (or_left (expression_raises e) (stmts_raise effects (is_same ConstraintError) fs) may))),
         (
@@ -128,14 +129,14 @@ module _ (known : Known) where
   pub repeats_from : (here : Where) (condition : Option ExpressionForm) (body : StmtsForm) (end_spot : Spot) (fs : StmtsForm) (k : Control) (w : Ways) (holds : Holds) → Starting here (repeats condition body end_spot) fs k w holds → Repeating known condition body (Does fs ∷ k) (Then fs k w) holds
   repeats_from here condition body end_spot fs k w holds (from, g, out, returns', spares) =
       let v = known.program.variables in
-      let first = opened_by_all v body holds in
+      let first = opened_by_all v no_tracks body holds in
       let among : Exception → Bool = λ x. stmt_raises effects (is_same x) (repeats condition body end_spot) in
-      let left = left_goes (is_left condition body) first (then_flow (condition_flow condition first) (λ hs. ends_turn first end_spot (stmts_flow known.program.types v (around_at known (in_turn first here.within)) body hs))) (Doing known fs k w) (Raised among w) g in (
+      let left = left_goes (is_left condition body) first (then_flow (condition_flow no_tracks condition first) (λ hs. ends_turn first end_spot (stmts_flow known.program.types v (around_at known (in_turn first here.within)) body hs))) (Doing known fs k w) (Raised among w) g in (
         first,
         all_good v body holds,
         (
           here.within,
-          goes_with (condition_flow condition first) (λ h. Goes (ends_turn first end_spot (stmts_flow known.program.types v (around_at known (in_turn first here.within)) body h)) (λ after. Unit {0}) (Raised among w)) (Raised among w) (TurnsTo known body (Repeats condition body ∷ Does fs ∷ k) (Then fs k w) here.within first) (Raised (condition_among condition) w)
+          goes_with (condition_flow no_tracks condition first) (λ h. Goes (ends_turn first end_spot (stmts_flow known.program.types v (around_at known (in_turn first here.within)) body h)) (λ after. Unit {0}) (Raised among w)) (Raised among w) (TurnsTo known body (Repeats condition body ∷ Does fs ∷ k) (Then fs k w) here.within first) (Raised (condition_among condition) w)
               (λ mid raising is m. (
                 (λ way place at c. from (into ∷ way) place at (in_body mid is c)),
                 goes_map (stmts_flow known.program.types v (around_at known (in_turn first here.within)) body mid) (λ after. AsGood after first) (Raised among w) (λ after. AsGood after first) (Raised (λ x. stmts_raise effects (is_same x) body) w) (λ h n. n)
@@ -144,7 +145,7 @@ module _ (known : Known) where
                 spares,
               ))
               (λ normal h is r. raised_less among (condition_among condition) w (λ x i. or_left (condition_among condition x) (stmts_raise effects (is_same x) body) i) h r)
-              (then_goes (condition_flow condition first) (λ h. ends_turn first end_spot (stmts_flow known.program.types v (around_at known (in_turn first here.within)) body h)) (λ after. Unit {0}) (Raised among w) (raised_before among w) left.0),
+              (then_goes (condition_flow no_tracks condition first) (λ h. ends_turn first end_spot (stmts_flow known.program.types v (around_at known (in_turn first here.within)) body h)) (λ after. Unit {0}) (Raised among w) (raised_before among w) left.0),
           returns',
         ),
         (λ e. to_here (Doing known fs k w) first (left.1 e)),
@@ -172,20 +173,20 @@ module _ (known : Known) where
   )
 
   -- A `for` loop begins once its bounds are computed.
-  pub counts_from : (here : Where) (x : ℕ) (low high : ExpressionForm) (body : StmtsForm) (end_spot : Spot) (fs : StmtsForm) (k : Control) (w : Ways) (holds : Holds) → Starting here (counts x low high body end_spot) fs k w holds → Goes (bounds_flow low high holds) (Counting known x body (Does fs ∷ k) (Then fs k w)) (Raised (λ e. is_same e ConstraintError && (expression_raises low || expression_raises high)) w)
+  pub counts_from : (here : Where) (x : ℕ) (low high : ExpressionForm) (body : StmtsForm) (end_spot : Spot) (fs : StmtsForm) (k : Control) (w : Ways) (holds : Holds) → Starting here (counts x low high body end_spot) fs k w holds → Goes (bounds_flow no_tracks low high holds) (Counting known x body (Does fs ∷ k) (Then fs k w)) (Raised (λ e. is_same e ConstraintError && (expression_raises low || expression_raises high)) w)
   counts_from here x low high body end_spot fs k w holds (from, g, out, returns', spares) =
       let v = known.program.variables in
       let among : Exception → Bool = λ y. stmt_raises effects (is_same y) (counts x low high body end_spot) in
-      let stmt_loop : Holds → Outcome = λ hs. loop_flow None true end_spot (λ start h. stmts_flow known.program.types v (in_loop start (around_at known here)) body h) (counting_start v x body hs) in
+      let stmt_loop : Holds → Outcome = λ hs. loop_flow no_tracks None true end_spot (λ start h. stmts_flow known.program.types v (in_loop start (around_at known here)) body h) (counting_start v no_tracks x body hs) in
       let turn : Holds → Holds → Outcome = λ first h. ends_turn first end_spot (stmts_flow known.program.types v (around_at known (in_turn first here.within)) body h) in
-      goes_with (bounds_flow low high holds) (λ hs. Goes (stmt_loop hs) (Doing known fs k w) (Raised among w)) (Raised among w) (Counting known x body (Does fs ∷ k) (Then fs k w)) (Raised (λ e. is_same e ConstraintError && (expression_raises low || expression_raises high)) w)
+      goes_with (bounds_flow no_tracks low high holds) (λ hs. Goes (stmt_loop hs) (Doing known fs k w) (Raised among w)) (Raised among w) (Counting known x body (Does fs ∷ k) (Then fs k w)) (Raised (λ e. is_same e ConstraintError && (expression_raises low || expression_raises high)) w)
       (λ hs raising is m.
-      let first = counting_start v x body hs in
-      let left = left_goes true first (then_flow (condition_flow None first) (turn first)) (Doing known fs k w) (Raised among w) m in
-      let turns = then_goes (condition_flow None first) (turn first) (λ after. Unit {0}) (Raised among w) (raised_before among w) left.0 in (
+      let first = counting_start v no_tracks x body hs in
+      let left = left_goes true first (then_flow (condition_flow no_tracks None first) (turn first)) (Doing known fs k w) (Raised among w) m in
+      let turns = then_goes (condition_flow no_tracks None first) (turn first) (λ after. Unit {0}) (Raised among w) (raised_before among w) left.0 in (
         first,
-        good_to_lost x hs (opened_by_all v body hs) (all_good v body hs),
-        lost_here (opened_by_all v body hs) x,
+        good_to_lost x hs (opened_by_all v no_tracks body hs) (all_good v body hs),
+        lost_here (opened_by_all v no_tracks body hs) x,
         (
           here.within,
           (λ next last. (
@@ -200,7 +201,7 @@ module _ (known : Known) where
         to_here (Doing known fs k w) first (left.1 refl),
       ))
       (λ normal h is r. raised_less among (λ y. is_same y ConstraintError && (expression_raises low || expression_raises high)) w (λ y i. or_left (is_same y ConstraintError && (expression_raises low || expression_raises high)) (stmts_raise effects (is_same y) body) i) h r)
-      (then_goes (bounds_flow low high holds) stmt_loop (Doing known fs k w) (Raised among w) (raised_before among w) g)
+      (then_goes (bounds_flow no_tracks low high holds) stmt_loop (Doing known fs k w) (Raised among w) (raised_before among w) g)
 
   -- Each turn of it.
   abbrev pub Next : (x : ℕ) → StmtsForm → Control → Ways → Ways
@@ -218,10 +219,10 @@ module _ (known : Known) where
   )
 
   -- An exit goes behind the loop, or on (5.7).
-  pub exit_parts : (start : Option Holds) (inside : Gone) (condition : Option ExpressionForm) (spot : Spot) (holds : Holds) (more raised exited : Holds → Type 0) → Goes (exit_flow known.program.variables known.implicit start inside condition spot holds) more raised → ((h : Holds) → MayExit known.program.variables known.implicit start inside h → exited h) → Goes (exit_of condition holds) more raised × exited holds
+  pub exit_parts : (start : Option Holds) (inside : Gone) (condition : Option ExpressionForm) (spot : Spot) (holds : Holds) (more raised exited : Holds → Type 0) → Goes (exit_flow known.program.variables no_tracks known.implicit start inside condition spot holds) more raised → ((h : Holds) → MayExit known.program.variables known.implicit start inside h → exited h) → Goes (exit_of no_tracks condition holds) more raised × exited holds
   exit_parts None inside condition spot holds more raised exited g out = (g, out holds tt)
   exit_parts (Some start) inside condition spot holds more raised exited g out =
-      let h = worse_goes start (left_finalized known.program.variables known.implicit inside holds) spot (exit_of condition holds) more raised g in
+      let h = worse_goes start (left_finalized known.program.variables known.implicit inside holds) spot (exit_of no_tracks condition holds) more raised g in
       (h.1, out holds h.0)
 
   -- A handler takes an exception, or it passes all of them (11.4).
@@ -254,13 +255,13 @@ module _ (known : Known) where
       pick false here more past' = more past'
 
   -- Declarations come one after another.
-  elaborates_from : (ds : List DeclarationForm) (holds : Holds) (more : Holds → Type 0) (among : Exception → Bool) (w : Ways) → ((e : Exception) → declarations_raise known.implicit (is_same e) ds ≡ true → among e ≡ true) → Goes (declarations_flow known.program.types known.program.variables known.implicit ds holds) more (Raised among w) → Spares known (λ t. declarations_free known.implicit t ds) → Elaborating known ds more w holds
+  elaborates_from : (ds : List DeclarationForm) (holds : Holds) (more : Holds → Type 0) (among : Exception → Bool) (w : Ways) → ((e : Exception) → declarations_raise known.implicit (is_same e) ds ≡ true → among e ≡ true) → Goes (declarations_flow known.program.types known.program.variables no_tracks known.implicit ds holds) more (Raised among w) → Spares known (λ t. declarations_free known.implicit t ds) → Elaborating known ds more w holds
   elaborates_from [] holds more among w m g spares = g.0
   elaborates_from (d ∷ ds) holds more among w m g spares = (
-    goes_map (declaration_flow known.program.types known.program.variables known.implicit d holds) (λ h. Goes (declarations_flow known.program.types known.program.variables known.implicit ds h) more (Raised among w)) (Raised among w) (Elaborating known ds more w) (Raised (λ e. declaration_raises known.implicit (is_same e) d) w)
+    goes_map (declaration_flow known.program.types known.program.variables no_tracks known.implicit d holds) (λ h. Goes (declarations_flow known.program.types known.program.variables no_tracks known.implicit ds h) more (Raised among w)) (Raised among w) (Elaborating known ds more w) (Raised (λ e. declaration_raises known.implicit (is_same e) d) w)
         (λ h n. elaborates_from ds h more among w (λ e i. m e (or_right (declaration_raises known.implicit (is_same e) d) (declarations_raise known.implicit (is_same e) ds) i)) n (λ t i. spares t (or_right (declaration_frees known.implicit t d) (declarations_free known.implicit t ds) i)))
         (λ h r. raised_less among (λ e. declaration_raises known.implicit (is_same e) d) w (λ e i. m e (or_left (declaration_raises known.implicit (is_same e) d) (declarations_raise known.implicit (is_same e) ds) i)) h r)
-        (then_goes (declaration_flow known.program.types known.program.variables known.implicit d holds) (declarations_flow known.program.types known.program.variables known.implicit ds) more (Raised among w) (raised_before among w) g),
+        (then_goes (declaration_flow known.program.types known.program.variables no_tracks known.implicit d holds) (declarations_flow known.program.types known.program.variables no_tracks known.implicit ds) more (Raised among w) (raised_before among w) g),
     (λ t i. spares t (or_left (declaration_frees known.implicit t d) (declarations_free known.implicit t ds) i)),
   )
 
@@ -273,7 +274,7 @@ module _ (known : Known) where
   -- Declarations, the statements behind them, and their handlers, before a master is left.
   pub part_from : (inner : Where) (k : Control) (ds : List DeclarationForm) (fs : StmtsForm) (hs : HandlersForm) (o : Ways) (among : Exception → Bool) (holds : Holds) → PartRaises ds fs hs among
       → ((way : List Turning) (place : Control) (at : Holds) → ComesInside known.program.types known.program.variables (around_at known inner) k ds fs hs holds way place at → known.At place at)
-      → Goes (then_flow (declarations_flow known.program.types known.program.variables known.implicit ds holds) (λ at. handled (passes effects fs hs) (handlers_flow known.program.types known.program.variables (around_at known inner) hs) (stmts_flow known.program.types known.program.variables (around_at known inner) fs at))) (To o.normal) (Raised among o)
+      → Goes (then_flow (declarations_flow known.program.types known.program.variables no_tracks known.implicit ds holds) (λ at. handled (passes effects fs hs) (handlers_flow known.program.types known.program.variables (around_at known inner) hs) (stmts_flow known.program.types known.program.variables (around_at known inner) fs at))) (To o.normal) (Raised among o)
       → OnExit known.program.variables (have_exit fs) (around_at known inner) o.exited → OnExit known.program.variables (handlers_have_exit hs) (around_at known inner) o.exited → OnReturn known.program.variables (around_at known inner) o.returned
       → Spares known (λ t. stmts_may t fs) → Spares known (λ t. handlers_may t hs) → Spares known (λ t. declarations_free known.implicit t ds)
       → Elaborating known ds (Doing known fs (Handles hs ∷ Closes ∷ k) (Handled known hs (Closes ∷ k) o)) o holds
@@ -281,7 +282,7 @@ module _ (known : Known) where
       let v = known.program.variables in
       let part : Holds → Outcome = λ at. handled (passes effects fs hs) (handlers_flow known.program.types v (around_at known inner) hs) (stmts_flow known.program.types v (around_at known inner) fs at) in
       elaborates_from ds holds (Doing known fs (Handles hs ∷ Closes ∷ k) (Handled known hs (Closes ∷ k) o)) among o p.by_declarations
-      (goes_with (declarations_flow known.program.types v known.implicit ds holds) (λ at. Goes (part at) (To o.normal) (Raised among o)) (Raised among o) (Doing known fs (Handles hs ∷ Closes ∷ k) (Handled known hs (Closes ∷ k) o)) (Raised among o)
+      (goes_with (declarations_flow known.program.types v no_tracks known.implicit ds holds) (λ at. Goes (part at) (To o.normal) (Raised among o)) (Raised among o) (Doing known fs (Handles hs ∷ Closes ∷ k) (Handled known hs (Closes ∷ k) o)) (Raised among o)
       (λ at raising declared m. (
         inner,
         (λ way place at' c. from (into ∷ way) place at' (in_statements at declared c)),
@@ -301,7 +302,7 @@ module _ (known : Known) where
         spares',
       ))
       (λ normal h is r. r)
-      (then_goes (declarations_flow known.program.types v known.implicit ds holds) part (To o.normal) (Raised among o) (raised_before among o) g)) first
+      (then_goes (declarations_flow known.program.types v no_tracks known.implicit ds holds) part (To o.normal) (Raised among o) (raised_before among o) g)) first
 
   -- What leaves a block on its way behind a loop.
   exits_block : (gone inside : Gone) (start : Option Holds) (holds : Holds) → MayExit known.program.variables known.implicit start (gone_with_both gone inside) holds → MayExit known.program.variables known.implicit start inside (left_finalized known.program.variables known.implicit gone holds)
@@ -323,7 +324,7 @@ module _ (known : Known) where
       let o : Ways = Outside known (gone_with ds) (Then fs k w) in
       let ends : MayEnd known gone = λ t i. spares t (or_right (stmts_may t body || handlers_may t hs) (parts_may t ds) (or_right (declarations_free known.implicit t ds) (leaving_frees known.implicit t ds) (endings_leave known.implicit t ds i))) in
       let among : Exception → Bool = λ e. stmt_raises effects (is_same e) (encloses ds body hs) in
-      let flow : Outcome = then_flow (declarations_flow known.program.types v known.implicit ds holds) (λ at. handled (passes effects body hs) (handlers_flow known.program.types v (around_at known inner) hs) (stmts_flow known.program.types v (around_at known inner) body at)) in
+      let flow : Outcome = then_flow (declarations_flow known.program.types v no_tracks known.implicit ds holds) (λ at. handled (passes effects body hs) (handlers_flow known.program.types v (around_at known inner) hs) (stmts_flow known.program.types v (around_at known inner) body at)) in
       part_from inner (Does fs ∷ k) ds body hs o among holds
       (record {
         by_declarations = λ e i. or_left (declarations_raise known.implicit (is_same e) ds || stmts_raise effects (untaken hs (is_same e)) body) (handlers_raise effects (is_same e) hs) (or_left (declarations_raise known.implicit (is_same e) ds) (stmts_raise effects (untaken hs (is_same e)) body) i);

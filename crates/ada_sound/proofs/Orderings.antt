@@ -11,6 +11,7 @@ use Rattle.ada_flow.specs.declared.rule.Hold.{Hold}
 use Rattle.ada_flow.specs.declared.rule.Hold.TheVariants.{Null, Kept, Own, Alias, Lost}
 use Rattle.ada_flow.specs.declared.rule.Region.TheVariants.{Whole}
 use Rattle.ada_flow.specs.Flow.{Holds, hold_at, join_hold, join, is_as_good, are_as_good, opened_hold, opened, opened_target, opened_by, opened_by_all, opened_by_branches, opened_by_handlers, opened_by_actuals, touched_hold, touched, all_touched, touched_by_all, moved_by_right, variable_of, without_alias, is_freed, without_freed, left_by_call}
+use Rattle.ada_flow.specs.Tracking.{no_tracks}
 use Rattle.ada_sound.proofs.Values.{read_other, same_or_not, lost_here}
 
 pub good_here : (h : Hold) → is_as_good h h ≡ true
@@ -212,16 +213,16 @@ all_touched_good : (xs : List ℕ) (holds : Holds) → AsGood holds (all_touched
 all_touched_good [] holds = as_good holds
 all_touched_good (x ∷ xs) holds = as_good_then holds (touched x holds) (all_touched xs (touched x holds)) (touched_good x holds) (all_touched_good xs (touched x holds))
 
-parts_good : (variables : List VariableForm) (ds : List DeclarationForm) (holds : Holds) → AsGood holds (touched_by_all variables ds holds)
+parts_good : (variables : List VariableForm) (ds : List DeclarationForm) (holds : Holds) → AsGood holds (touched_by_all variables no_tracks ds holds)
 parts_good variables [] holds = as_good holds
 parts_good variables (creates_pool pool ∷ ds) holds = parts_good variables ds holds
 parts_good variables (collects access ∷ ds) holds = parts_good variables ds holds
 parts_good variables (declares x right ∷ ds) holds =
-    let here = all_touched (moved_by_right (is_borrower variables x) right) holds in
-    as_good_then holds here (touched_by_all variables ds here) (all_touched_good (moved_by_right (is_borrower variables x) right) holds) (parts_good variables ds here)
+    let here = all_touched (moved_by_right no_tracks (is_borrower variables x) right) holds in
+    as_good_then holds here (touched_by_all variables no_tracks ds here) (all_touched_good (moved_by_right no_tracks (is_borrower variables x) right) holds) (parts_good variables ds here)
 parts_good variables (declares_record x object initial ∷ ds) holds = parts_good variables ds holds
 
-actuals_good : (variables : List VariableForm) (actuals : List ActualForm) (holds : Holds) → AsGood holds (opened_by_actuals variables actuals holds)
+actuals_good : (variables : List VariableForm) (actuals : List ActualForm) (holds : Holds) → AsGood holds (opened_by_actuals variables no_tracks actuals holds)
 actuals_good variables [] holds = as_good holds
 actuals_good variables (in_value e ∷ rest) holds = actuals_good variables rest holds
 actuals_good variables (in_null ∷ rest) holds = actuals_good variables rest holds
@@ -232,13 +233,13 @@ actuals_good variables (in_out_record p ∷ rest) holds = actuals_good variables
 actuals_good variables (in_out_path path ∷ rest) holds = actuals_good variables rest holds
 actuals_good variables (in_out_access path ∷ rest) holds =
     let here = opened variables path.root holds in
-    as_good_then holds here (opened_by_actuals variables rest here) (opened_good variables path.root holds) (actuals_good variables rest here)
+    as_good_then holds here (opened_by_actuals variables no_tracks rest here) (opened_good variables path.root holds) (actuals_good variables rest here)
 
 mutual
-  by_good : (variables : List VariableForm) (f : StmtForm) (holds : Holds) → AsGood holds (opened_by variables f holds)
+  by_good : (variables : List VariableForm) (f : StmtForm) (holds : Holds) → AsGood holds (opened_by variables no_tracks f holds)
   by_good variables skips holds = as_good holds
   by_good variables (assigns target right) holds =
-      let moved = moved_by_right (names_borrower variables target) right in
+      let moved = moved_by_right no_tracks (names_borrower variables target) right in
       let here = all_touched moved holds in
       as_good_then holds here (opened_target variables target.selectors target.root here) (all_touched_good moved holds) (target_good variables target.selectors target.root here)
   by_good variables (assigns_record target items) holds = as_good holds
@@ -254,22 +255,22 @@ mutual
   by_good variables (returns spot) holds = as_good holds
   by_good variables (raises e) holds = as_good holds
   by_good variables (encloses ds fs hs) holds =
-      let inside = touched_by_all variables ds holds in
-      let behind = opened_by_all variables fs inside in
-      as_good_then holds inside (opened_by_handlers variables hs behind) (parts_good variables ds holds)
-      (as_good_then inside behind (opened_by_handlers variables hs behind) (all_good variables fs inside) (handlers_good variables hs behind))
+      let inside = touched_by_all variables no_tracks ds holds in
+      let behind = opened_by_all variables no_tracks fs inside in
+      as_good_then holds inside (opened_by_handlers variables no_tracks hs behind) (parts_good variables ds holds)
+      (as_good_then inside behind (opened_by_handlers variables no_tracks hs behind) (all_good variables fs inside) (handlers_good variables hs behind))
 
-  pub all_good : (variables : List VariableForm) (fs : StmtsForm) (holds : Holds) → AsGood holds (opened_by_all variables fs holds)
+  pub all_good : (variables : List VariableForm) (fs : StmtsForm) (holds : Holds) → AsGood holds (opened_by_all variables no_tracks fs holds)
   all_good variables no_stmts holds = as_good holds
-  all_good variables (a_stmt f fs) holds = as_good_then holds (opened_by variables f holds) (opened_by_all variables fs (opened_by variables f holds)) (by_good variables f holds) (all_good variables fs (opened_by variables f holds))
+  all_good variables (a_stmt f fs) holds = as_good_then holds (opened_by variables no_tracks f holds) (opened_by_all variables no_tracks fs (opened_by variables no_tracks f holds)) (by_good variables f holds) (all_good variables fs (opened_by variables no_tracks f holds))
 
-  branches_good : (variables : List VariableForm) (branches : BranchesForm) (holds : Holds) → AsGood holds (opened_by_branches variables branches holds)
+  branches_good : (variables : List VariableForm) (branches : BranchesForm) (holds : Holds) → AsGood holds (opened_by_branches variables no_tracks branches holds)
   branches_good variables (otherwise fs) holds = all_good variables fs holds
-  branches_good variables (a_branch e fs branches) holds = as_good_then holds (opened_by_all variables fs holds) (opened_by_branches variables branches (opened_by_all variables fs holds)) (all_good variables fs holds) (branches_good variables branches (opened_by_all variables fs holds))
+  branches_good variables (a_branch e fs branches) holds = as_good_then holds (opened_by_all variables no_tracks fs holds) (opened_by_branches variables no_tracks branches (opened_by_all variables no_tracks fs holds)) (all_good variables fs holds) (branches_good variables branches (opened_by_all variables no_tracks fs holds))
 
-  handlers_good : (variables : List VariableForm) (hs : HandlersForm) (holds : Holds) → AsGood holds (opened_by_handlers variables hs holds)
+  handlers_good : (variables : List VariableForm) (hs : HandlersForm) (holds : Holds) → AsGood holds (opened_by_handlers variables no_tracks hs holds)
   handlers_good variables no_handlers holds = as_good holds
-  handlers_good variables (a_handler choices fs hs) holds = as_good_then holds (opened_by_all variables fs holds) (opened_by_handlers variables hs (opened_by_all variables fs holds)) (all_good variables fs holds) (handlers_good variables hs (opened_by_all variables fs holds))
+  handlers_good variables (a_handler choices fs hs) holds = as_good_then holds (opened_by_all variables no_tracks fs holds) (opened_by_handlers variables no_tracks hs (opened_by_all variables no_tracks fs holds)) (all_good variables fs holds) (handlers_good variables hs (opened_by_all variables no_tracks fs holds))
 
 -- What is lost is no better than anything.
 pub good_losing : (x : ℕ) (holds other : Holds) → hold_at other x ≡ Lost → AsGood holds other → AsGood (slice_set holds x Lost) other

@@ -9,6 +9,7 @@ use Rattle.ada_program.specs.ProgramForm.{VariableForm}
 use Rattle.ada_effects.specs.Effects.{expression_raises, endings_free, Implicit}
 use Rattle.ada_flow.specs.declared.rule.Rule.TheVariants.{LoopState, FormalNotOwned}
 use Rattle.ada_flow.specs.Flow.{Holds, Outcome, faults, goes, Breach, join, join_option, also_raises, then_flow, raising_if, ends_with, unless_broken, using_paths, uses_in, broken_among, computed, either_of, are_as_good, unless_worse, ends_turn, left_with, without_freed, without_freed_option, loses, initializes, finalizes, Gone, left, left_option, leaves_block, leaves_finalized, left_finalized, handled, all_give_back, ends_body, return_flow}
+use Rattle.ada_flow.specs.Tracking.{no_tracks}
 use Rattle.ada_sound.proofs.Orderings.{AsGood, as_good, as_good_then, good_each, join_left, join_right, without_freed_good}
 use Rattle.ada_sound.proofs.Invariant.{Known, Control, Rooms, GoesBy, Goes, To, Ways, Raised, MayReturn, NoneBroken, RunsOn, RunsAfter}
 
@@ -73,10 +74,10 @@ then_goes (goes None raising) next more raised d g = g
 then_goes (goes (Some h) raising) next more raised d g = also_goes raising (next h) more raised d g
 
 -- Paths that are used: flow goes on only where none breaks a rule.
-pub using_goes : (uses : _) (holds : Holds) (after : Outcome) (more raised : Holds → Type 0) → Goes (using_paths uses holds after) more raised → NoneBroken holds uses × Goes after more raised
-using_goes uses holds after more raised g = go (broken_among holds uses) refl g
+pub using_goes : (uses : _) (holds : Holds) (after : Outcome) (more raised : Holds → Type 0) → Goes (using_paths no_tracks uses holds after) more raised → NoneBroken holds uses × Goes after more raised
+using_goes uses holds after more raised g = go (broken_among no_tracks holds uses) refl g
   where
-    go : (o : Option Breach) → broken_among holds uses ≡ o → Goes (unless_broken o after) more raised → NoneBroken holds uses × Goes after more raised
+    go : (o : Option Breach) → broken_among no_tracks holds uses ≡ o → Goes (unless_broken o after) more raised → NoneBroken holds uses × Goes after more raised
     go None is m = (is, m)
     go (Some breach) is m = absurd m
 
@@ -89,7 +90,7 @@ pub ends_goes : (b : Bool) (before after : Holds) (more raised : Holds → Type 
 ends_goes b before after more raised g = (g.0, raising_goes b before raised g.1)
 
 -- An expression changes nothing.
-pub computed_goes : (e : ExpressionForm) (holds : Holds) (more raised : Holds → Type 0) → Goes (computed e holds) more raised → NoneBroken holds (uses_in e) × more holds × (expression_raises e ≡ true → raised holds)
+pub computed_goes : (e : ExpressionForm) (holds : Holds) (more raised : Holds → Type 0) → Goes (computed no_tracks e holds) more raised → NoneBroken holds (uses_in e) × more holds × (expression_raises e ≡ true → raised holds)
 computed_goes e holds more raised g =
     let u = using_goes (uses_in e) holds (ends_with (expression_raises e) holds holds) more raised g in
     let n = ends_goes (expression_raises e) holds holds more raised u.1 in

@@ -13,10 +13,14 @@ use Rattle.ada_program.specs.WellFormed.{record_components, reached_components, 
 use Rattle.ada_effects.specs.Effects.{record_path_raises, items_raise, initial_starts, initial_frees, assignment_frees}
 use Rattle.ada_flow.specs.declared.rule.Hold.TheVariants as hold
 use Rattle.ada_flow.specs.declared.rule.Region.TheVariants.{Whole}
-use Rattle.ada_flow.specs.Flow.{Holds, Outcome, goes, ends_with, using_paths, passes_it, record_passes, uses_in_copy, uses_in_assignment, is_owning, owns_among, is_owning_record, owns_at_first, declared_at, copies_to, reaches_it, named_by_item, uses_in_item, uses_in_items, uses_in_record}
+use Rattle.ada_flow.specs.Flow.{Holds, Outcome, goes, ends_with, using_paths, passes_it, record_passes, uses_in_copy, uses_in_assignment, is_owning, owns_among, is_owning_record, declared_at, copies_to, reaches_it, named_by_item, uses_in_item, uses_in_items, uses_in_record, gathers_owners, leaves_owners, gathers_at_first, shares_it}
+use Rattle.ada_flow.specs.Tracking.{no_tracks}
 use Rattle.ada_sound.specs.Owners.{IsLetThrough, HasNoAccess, AssignedRecordsArePlain, DeclaredRecordsArePlain, CopiedItemsArePlain, AssignedItemsArePlain, CopiesMoveNothing, CopiesStayWhereRaised}
 use Rattle.ada_sound.proofs.Invariant.{NoneBroken}
 use Rattle.ada_sound.proofs.Followings.{first_kept, kept_apart}
+use Rattle.ada_sound.specs.Untracked.{AdjustsNoOwners}
+use Rattle.ada_sound.proofs.Untracked.{owns_nothing}
+use Rattle.ada_sound.proofs.Gathered.{gathered_plain, gathered_first}
 use Rattle.ada_sound.proofs.Copied.{copied_plain}
 use Rattle.ada_sound.proofs.Moves.{kept_uses, ended, assigns_by, target_at, loses_through, loses_ended, loses_raised, stays_lost}
 
@@ -50,7 +54,7 @@ record Gives (types : List TypeForm) (variables : List VariableForm) (may : ℕ 
 -- That is what operations lose aliases of.
 abbrev before_losing : List TypeForm → List VariableForm → (may : ℕ → Bool) → RecordPathForm → List ItemForm → Holds → Outcome
 before_losing types variables may target items holds =
-    using_paths (uses_in_assignment types variables may target items) holds (ends_with (record_path_raises target || items_raise items) holds holds)
+    using_paths no_tracks (uses_in_assignment types variables may target items) holds (ends_with (record_path_raises target || items_raise items) holds holds)
 
 gives_as : (types : List TypeForm) (variables : List VariableForm) (may : ℕ → Bool) (target : RecordPathForm) (items : List ItemForm) (holds : Holds) (normal raising : Option Holds) → before_losing types variables may target items holds ≡ goes normal raising → Gives types variables may target items holds normal raising
 gives_as types variables may target items holds normal raising e =
@@ -59,60 +63,61 @@ gives_as types variables may target items holds normal raising e =
     let ends = ended some holds holds normal raising uses.1 in
     record { kept = uses.0; ends = ends.0; raises = ends.1 }
 
-record_kept : (types : List TypeForm) (variables : List VariableForm) (may : ℕ → Bool) (target : RecordPathForm) (items : List ItemForm) (holds : Holds) → NoneBroken holds (uses_in_assignment types variables may target items) → (is_owning_record types target.record_type ≡ false) × NoneBroken holds (uses_in_items types target.object.spot None [] items)
-record_kept types variables may target items holds kept =
+record_kept : (types : List TypeForm) → AdjustsNoOwners types → (variables : List VariableForm) (may : ℕ → Bool) (target : RecordPathForm) (items : List ItemForm) (holds : Holds) → NoneBroken holds (uses_in_assignment types variables may target items) → (is_owning_record types target.record_type ≡ false) × NoneBroken holds (uses_in_items types target.object.spot None [] items)
+record_kept types none variables may target items holds kept =
     let spot = target.object.spot in
-    let owning = is_owning_record types target.record_type in
+    let owning = gathers_owners types target.record_type items in
     let of_record = uses_in_record types spot target.record_type items in
     let of_copy = uses_in_copy types variables may items in
     let later = (first_kept holds (passes_it (record_passes types variables may target) target.object) (of_record ++ of_copy) kept).1 in
     let h = first_kept holds (copies_to owning spot) (uses_in_items types spot None [] items) (kept_apart holds of_record of_copy later).0 in
-    (copied_plain owning spot h.0, h.1)
+    (gathered_plain types none spot holds target.record_type items (copied_plain owning spot h.0) h.1, h.1)
 
 -- A statement that is let through breaks no rule.
-assigned_kept : (types : List TypeForm) (variables : List VariableForm) (target : RecordPathForm) (items : List ItemForm) (holds : Holds) → IsLetThrough types variables (assigns_record target items) holds → (is_owning_record types target.record_type ≡ false) × NoneBroken holds (uses_in_items types target.object.spot None [] items)
-assigned_kept types variables target items holds kept =
+assigned_kept : (types : List TypeForm) → AdjustsNoOwners types → (variables : List VariableForm) (target : RecordPathForm) (items : List ItemForm) (holds : Holds) → IsLetThrough types variables (assigns_record target items) holds → (is_owning_record types target.record_type ≡ false) × NoneBroken holds (uses_in_items types target.object.spot None [] items)
+assigned_kept types none variables target items holds kept =
     let may : ℕ → Bool = λ t. assignment_frees kept.0.effects.implicit t target.record_type in
     let through = loses_through variables may (before_losing types variables may target items holds) kept.2 kept.3 kept.4 in
-    record_kept types variables may target items holds (gives_as types variables may target items holds through.0 through.1 through.2).kept
+    record_kept types none variables may target items holds (gives_as types variables may target items holds through.0 through.1 through.2).kept
 
 -- An item that is a record.
-item_plain : (types : List TypeForm) (spot : Spot) (target : Option PathForm) (holds : Holds) (earlier : List PathForm) (items : List ItemForm) (i : ℕ) (p : RecordPathForm) → slice_get items i ≡ Some (item_of_record p) → NoneBroken holds (uses_in_items types spot target earlier items) → is_owning_record types p.record_type ≡ false
-item_plain types spot target holds earlier [] i p found kept = absurd (cc found)
-item_plain types spot target holds earlier (item ∷ items) zero p found kept =
+item_plain : (types : List TypeForm) → AdjustsNoOwners types → (spot : Spot) (target : Option PathForm) (holds : Holds) (earlier : List PathForm) (items : List ItemForm) (i : ℕ) (p : RecordPathForm) → slice_get items i ≡ Some (item_of_record p) → NoneBroken holds (uses_in_items types spot target earlier items) → is_owning_record types p.record_type ≡ false
+item_plain types none spot target holds earlier [] i p found kept = absurd (cc found)
+item_plain types none spot target holds earlier (item ∷ items) zero p found kept =
     let same : item ≡ item_of_record p = cc found in
     let here = (kept_apart holds (uses_in_item types spot target earlier item) (uses_in_items types spot target (named_by_item item ++ earlier) items) kept).0 in
-    let owning = is_owning_record types p.record_type in
-    copied_plain owning spot (first_kept holds (copies_to owning spot) (reaches_it p.object ∷ []) (rw same at here)).0
-item_plain types spot target holds earlier (item ∷ items) (suc i) p found kept =
-    item_plain types spot target holds (named_by_item item ++ earlier) items i p found
+    let leaves = leaves_owners types p.record_type in
+    owns_nothing types none p.record_type (copied_plain leaves spot (first_kept holds (copies_to leaves spot) (shares_it p ∷ reaches_it p.object ∷ []) (rw same at here)).0)
+item_plain types none spot target holds earlier (item ∷ items) (suc i) p found kept =
+    item_plain types none spot target holds (named_by_item item ++ earlier) items i p found
     (kept_apart holds (uses_in_item types spot target earlier item) (uses_in_items types spot target (named_by_item item ++ earlier) items) kept).1
 
 pub assigned_records_are_plain : AssignedRecordsArePlain
-assigned_records_are_plain types variables target items holds kept =
-    has_no_access (record_components types target.record_type) (assigned_kept types variables target items holds kept).0
+assigned_records_are_plain types none variables target items holds kept =
+    has_no_access (record_components types target.record_type) (assigned_kept types none variables target items holds kept).0
 
 pub assigned_items_are_plain : AssignedItemsArePlain
-assigned_items_are_plain types variables target i items p holds found kept =
+assigned_items_are_plain types none variables target i items p holds found kept =
     has_no_access (record_components types p.record_type)
-    (item_plain types target.object.spot None holds [] items i p found (assigned_kept types variables target items holds kept).1)
+    (item_plain types none target.object.spot None holds [] items i p found (assigned_kept types none variables target items holds kept).1)
 
 pub copied_items_are_plain : CopiedItemsArePlain
-copied_items_are_plain types variables target access i items p holds found kept =
+copied_items_are_plain types none variables target access i items p holds found kept =
     let all = assigns_by types variables (names_borrower variables target) kept.1 target (allocates access items) holds kept.2 kept.3 refl kept.4 in
-    has_no_access (record_components types p.record_type) (item_plain types target.spot (target_at target.selectors target) holds [] items i p found all.kept)
+    has_no_access (record_components types p.record_type) (item_plain types none target.spot (target_at target.selectors target) holds [] items i p found all.kept)
 
 pub declared_records_are_plain : DeclaredRecordsArePlain
-declared_records_are_plain types variables implicit x t items holds normal raising e =
+declared_records_are_plain types none variables implicit x t items holds normal raising e =
     let spot = declared_at variables x in
-    let owning = owns_at_first types t in
+    let owning = gathers_at_first types t items in
     let used = uses_in_items types spot None [] items in
     let some = items_raise items || initial_starts implicit (λ e. true) t (Some items) in
     let uses_all = copies_to owning spot ∷ used in
     let after = ends_with some holds (slice_set holds x (hold.Own Whole)) in
-    let through = loses_through variables (λ u. initial_frees implicit u t (Some items)) (using_paths uses_all holds after) normal raising e in
+    let through = loses_through variables (λ u. initial_frees implicit u t (Some items)) (using_paths no_tracks uses_all holds after) normal raising e in
     let uses = kept_uses uses_all holds after through.0 through.1 through.2 in
-    has_no_access (reached_components types t) (copied_plain owning spot (first_kept holds (copies_to owning spot) used uses.0).0)
+    let kept = first_kept holds (copies_to owning spot) used uses.0 in
+    has_no_access (reached_components types t) (gathered_first types none spot holds t items (copied_plain owning spot kept.0) kept.1)
 
 pub copies_move_nothing : CopiesMoveNothing
 copies_move_nothing types variables around cleared target items holds after raising e x v is =

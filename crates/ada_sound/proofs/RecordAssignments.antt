@@ -21,7 +21,8 @@ use Rattle.ada_program.specs.Handling.{is_same}
 use Rattle.ada_program.specs.Typed.{width_of}
 use Rattle.ada_program.specs.WellFormed.{is_copy, held_kind, kind_among, record_components, reached_components, is_record_path, item_fits, is_filled, item_owns, copies_whole, finalization_of, record_fits}
 use Rattle.ada_effects.specs.Effects.{effects_of, record_path_raises, item_raises, items_raise, stmt_raises, assignment_frees}
-use Rattle.ada_flow.specs.Flow.{Holds, hold_at, lost_by, is_owning, is_owning_record, reaches_it, passes_it, copies_to, uses_in_items, uses_in_record, uses_in_copy, record_passes, gives_record, using_paths, ends_with, without_freed}
+use Rattle.ada_flow.specs.Flow.{Holds, hold_at, lost_by, is_owning, is_owning_record, reaches_it, passes_it, copies_to, uses_in_items, uses_in_record, uses_in_copy, record_passes, gives_record, using_paths, ends_with, without_freed, gathers_owners, leaves_owners, shares_it}
+use Rattle.ada_flow.specs.Tracking.{no_tracks}
 use Rattle.ada_meaning.specs.declared.event.Birth.TheVariants.{Adjustment}
 use Rattle.ada_meaning.specs.declared.event.Cause.TheVariants.{Assigning}
 use Rattle.ada_meaning.specs.declared.state.Value.{Value}
@@ -33,6 +34,7 @@ use Rattle.ada_meaning.specs.Step.{first_or, older, treating, record_tasks, assi
 use Rattle.ada_meaning.specs.Named.{State, named, whole, base, part_base, same}
 use Rattle.ada_owners.proofs.Objects.{present_at}
 use Rattle.ada_sound.proofs.Begins.{Referred, record_referred, drop_kind}
+use Rattle.ada_sound.proofs.Gathered.{gathered_plain}
 use Rattle.ada_sound.proofs.Copied.{copied_plain, record_there}
 use Rattle.ada_sound.proofs.Defaults.{Reaches}
 use Rattle.ada_sound.proofs.Followings.{first_kept, kept_apart}
@@ -49,6 +51,7 @@ use Rattle.ada_sound.proofs.LeftFinalized.{freed_none}
 use Rattle.ada_sound.proofs.Orderings.{without_freed_good}
 use Rattle.ada_typed.proofs.Evaluations.{cell_at}
 use Rattle.ada_typed.specs.Holding.{cells_of}
+use Rattle.ada_sound.specs.Untracked.{AdjustsNoOwners}
 
 -- Where a record without access values lies in an object, its components there are no access values.
 same_owning : (c d : ComponentKind) → held_kind c ≡ held_kind d → is_owning c ≡ is_owning d
@@ -141,18 +144,18 @@ module _ (known : Known) (a : Activation Value) (rest : List (Activation Value))
         )
 
   -- The target is found, and then the other record.
-  pub copy_begins : (target : RecordPathForm) (items : List ItemForm) (fs : StmtsForm) (k : Control) → Spares known (λ u. assignment_frees known.implicit u target.record_type) → is_record_path known.program.types known.program.variables target ≡ true → record_fits known.program.types known.program.variables target.record_type items ≡ true → Working known s.heap a.places s.masters (λ rooms holds. Goes (gives_record known.program.types known.program.variables (λ u. assignment_frees known.implicit u target.record_type) target items holds) (RunsOn known (Does fs ∷ k) rooms) (Raised (λ e. stmt_raises (effects_of known.implicit known.program) (is_same e) (assigns_record target items)) (ways known k rooms))) → Fine known s.heap s.masters (copy_next named target items (running (Does fs ∷ k) a rest s))
-  copy_begins target [] fs k spares lies fits w = tt
-  copy_begins target (null_item ∷ is) fs k spares lies fits w = tt
-  copy_begins target (item_of_path path ∷ is) fs k spares lies fits w = tt
-  copy_begins target (item_of_value e ∷ is) fs k spares lies fits w = tt
-  copy_begins target (item_of_record source ∷ i ∷ is) fs k spares lies fits w = tt
-  copy_begins target (item_of_record source ∷ []) fs k spares lies fits w =
+  pub copy_begins : AdjustsNoOwners known.program.types → (target : RecordPathForm) (items : List ItemForm) (fs : StmtsForm) (k : Control) → Spares known (λ u. assignment_frees known.implicit u target.record_type) → is_record_path known.program.types known.program.variables target ≡ true → record_fits known.program.types known.program.variables target.record_type items ≡ true → Working known s.heap a.places s.masters (λ rooms holds. Goes (gives_record known.program.types known.program.variables no_tracks (λ u. assignment_frees known.implicit u target.record_type) target items holds) (RunsOn known (Does fs ∷ k) rooms) (Raised (λ e. stmt_raises (effects_of known.implicit known.program) (is_same e) (assigns_record target items)) (ways known k rooms))) → Fine known s.heap s.masters (copy_next named target items (running (Does fs ∷ k) a rest s))
+  copy_begins adjusts target [] fs k spares lies fits w = tt
+  copy_begins adjusts target (null_item ∷ is) fs k spares lies fits w = tt
+  copy_begins adjusts target (item_of_path path ∷ is) fs k spares lies fits w = tt
+  copy_begins adjusts target (item_of_value e ∷ is) fs k spares lies fits w = tt
+  copy_begins adjusts target (item_of_record source ∷ i ∷ is) fs k spares lies fits w = tt
+  copy_begins adjusts target (item_of_record source ∷ []) fs k spares lies fits w =
       let program = known.program in
       let path = target.object in
       let items = item_of_record source ∷ [] in
-      let owning = is_owning_record program.types target.record_type in
-      let copied = is_owning_record program.types source.record_type in
+      let owning = gathers_owners program.types target.record_type items in
+      let copied = leaves_owners program.types source.record_type in
       let may = record_path_raises target || items_raise items in
       let among : Exception → Bool = λ e. stmt_raises (effects_of known.implicit known.program) (is_same e) (assigns_record target items) in
       let out = ways known k w.rooms in
@@ -163,7 +166,7 @@ module _ (known : Known) (a : Activation Value) (rest : List (Activation Value))
       let copies = uses_in_copy program.types program.variables frees items in
       let reach = passes_it (record_passes program.types program.variables frees target) path in
       let flow = ends_with may w.holds w.holds in
-      let passes = using_paths (reach ∷ (needed ++ copies)) w.holds flow in
+      let passes = using_paths no_tracks (reach ∷ (needed ++ copies)) w.holds flow in
       let g = goes_map passes (λ h. next (without_freed program.variables frees h)) (λ h. Raised among out (without_freed program.variables frees h)) more (Raised among out)
       (λ h m. (without_freed program.variables frees h, without_freed_good program.variables frees h, (m, (spares, freed_none program.variables frees h))))
       (before_lost program.variables frees (Raised among out) (raised_before among out))
@@ -173,7 +176,7 @@ module _ (known : Known) (a : Activation Value) (rest : List (Activation Value))
       let found = first_kept w.holds reach (needed ++ copies) u.0 in
       let reached = (passed_safe (record_passes program.types program.variables frees target) (hold_at w.holds path.root) path.spot found.0).1 in
       let plain = first_kept w.holds (copies_to owning path.spot) (uses_in_items program.types path.spot None [] items) (kept_apart w.holds needed copies found.1).0 in
-      let second = first_kept w.holds (copies_to copied path.spot) (reaches_it source.object ∷ []) plain.1 in
+      let second = first_kept w.holds (copies_to copied path.spot) (shares_it source ∷ reaches_it source.object ∷ []) plain.1 in
       let kept = (first_kept w.holds (reaches_it source.object) [] second.1).0 in
       let there = record_there program.types program.variables target lies in
       ready_on known (Refers target ∷ Refers source ∷ Assigns target.record_type ∷ Does fs ∷ k) a rest s a.operands
@@ -187,7 +190,7 @@ module _ (known : Known) (a : Activation Value) (rest : List (Activation Value))
             (
               there.kinds,
               there.components,
-              target_there w target v there.kinds there.components (copied_plain owning path.spot plain.0) (found_there w target v lies reached by),
+              target_there w target v there.kinds there.components (gathered_plain program.types adjusts path.spot w.holds target.record_type items (copied_plain owning path.spot plain.0) plain.1) (found_there w target v lies reached by),
               source_there w source u (found_there w source u (source_lies program.types program.variables target.record_type source fits) kept by'),
               may_copy program.types program.variables target.record_type items fits,
             ),

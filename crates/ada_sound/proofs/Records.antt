@@ -21,7 +21,8 @@ use Rattle.ada_program.specs.WellFormed.{access_of, held_kind, kind_among, reach
 use Rattle.ada_flow.specs.declared.rule.Hold.{Hold}
 use Rattle.ada_flow.specs.declared.rule.Hold.TheVariants as hold
 use Rattle.ada_flow.specs.declared.rule.Region.TheVariants.{Whole}
-use Rattle.ada_flow.specs.Flow.{Holds, without_freed, Gone, is_among, variable_access, is_owning, owns_at_first, declared_at, copies_to, uses_in_items, using_paths, ends_with}
+use Rattle.ada_flow.specs.Flow.{Holds, without_freed, Gone, is_among, variable_access, is_owning, gathers_at_first, declared_at, copies_to, uses_in_items, using_paths, ends_with}
+use Rattle.ada_flow.specs.Tracking.{no_tracks}
 use Rattle.ada_meaning.specs.declared.state.Id.{Id}
 use Rattle.ada_meaning.specs.declared.state.Value.{Value}
 use Rattle.ada_meaning.specs.declared.state.Value.TheVariants.{Null, Names}
@@ -60,8 +61,10 @@ use Rattle.ada_flow.specs.Flow.{left_finalized}
 use Rattle.ada_sound.proofs.LeftFinalized.{finalized_losing, freed_apart, freed_none}
 use Rattle.ada_sound.proofs.Undone.{beginning_undone}
 use Rattle.ada_sound.proofs.Followings.{first_kept}
+use Rattle.ada_sound.proofs.Gathered.{gathered_first}
 use Rattle.ada_sound.proofs.Copied.{items_keep, copied_plain}
 use Rattle.ada_sound.proofs.Defaults.{Reaches}
+use Rattle.ada_sound.specs.Untracked.{AdjustsNoOwners}
 
 -- What a component holds at first names nothing.
 first_blank : (kind : ComponentKind) (o : Id) → initial_value named kind ≡ Names o → ⊥
@@ -318,19 +321,19 @@ module _ (known : Known) (a : Activation Value) (rest : List (Activation Value))
         unaliased = λ y u of freed b. freed_none variables frees owned y u of freed b;
       }
 
-  by_items : (items : List ItemForm) (holds : Holds) (rooms : Rooms) → is_record_object t (variable_kind known.program.variables x) ≡ true → RunsOn known (Elaborates (declares_record x t (Some items) ∷ ds) fs hs ∷ k) rooms holds → Giving known items (Elaborates ds fs hs ∷ k) rooms holds × Recording known x t (Elaborates ds fs hs ∷ k) rooms holds
-  by_items items holds [] is e = absurd e
-  by_items items holds (gone ∷ rooms) is e =
+  by_items : AdjustsNoOwners known.program.types → (items : List ItemForm) (holds : Holds) (rooms : Rooms) → is_record_object t (variable_kind known.program.variables x) ≡ true → RunsOn known (Elaborates (declares_record x t (Some items) ∷ ds) fs hs ∷ k) rooms holds → Giving known items (Elaborates ds fs hs ∷ k) rooms holds × Recording known x t (Elaborates ds fs hs ∷ k) rooms holds
+  by_items adjusts items holds [] is e = absurd e
+  by_items adjusts items holds (gone ∷ rooms) is e =
       let program = known.program in
       let o = Outside known gone (ways known k rooms) in
       let spot = declared_at program.variables x in
-      let owning = owns_at_first program.types t in
+      let owning = gathers_at_first program.types t items in
       let used = uses_in_items program.types spot None [] items in
       let more = Elaborating known ds (Doing known fs (Handles hs ∷ Closes ∷ k) (Handled known hs (Closes ∷ k) o)) o in
       let among : Exception → Bool = λ e'. declaration_raises known.implicit (is_same e') (declares_record x t (Some items)) in
       let after = slice_set holds x (hold.Own Whole) in
       let may = items_raise items || false in
-      let flow = using_paths (copies_to owning spot ∷ used) holds (ends_with may holds after) in
+      let flow = using_paths no_tracks (copies_to owning spot ∷ used) holds (ends_with may holds after) in
       let g = loses_to program.variables (λ u. initial_frees known.implicit u t (Some items)) flow more (Raised among o) (raised_before among o) e.1.0 in
       let u = using_goes (copies_to owning spot ∷ used) holds (ends_with may holds after) (To more) (Raised among o) g in
       let n = ends_goes may holds after (To more) (Raised among o) u.1 in
@@ -341,15 +344,15 @@ module _ (known : Known) (a : Activation Value) (rest : List (Activation Value))
           keeps = items_keep program.types spot None holds [] items kept.1;
           raises = λ raises. (let either = or_left (items_raise items) false raises in n.1 either ConstraintError either);
         },
-        (copied_plain owning spot kept.0, is, e.0.0, (n.0.0, n.0.1, (e.0.1, n.0.2))),
+        (gathered_first program.types adjusts spot holds t items (copied_plain owning spot kept.0) kept.1, is, e.0.0, (n.0.0, n.0.1, (e.0.1, n.0.2))),
       )
 
-  pub record_fine : (initial : Option (List ItemForm)) (u : Value) → slice_get a.places x ≡ Some u → is_record_object t (variable_kind known.program.variables x) ≡ true → Working known s.heap a.places s.masters (RunsOn known (Elaborates (declares_record x t initial ∷ ds) fs hs ∷ k)) → Fine known s.heap s.masters (record_next named types x t initial (running (Elaborates ds fs hs ∷ k) a rest s))
-  record_fine None u there is w =
+  pub record_fine : AdjustsNoOwners known.program.types → (initial : Option (List ItemForm)) (u : Value) → slice_get a.places x ≡ Some u → is_record_object t (variable_kind known.program.variables x) ≡ true → Working known s.heap a.places s.masters (RunsOn known (Elaborates (declares_record x t initial ∷ ds) fs hs ∷ k)) → Fine known s.heap s.masters (record_next named types x t initial (running (Elaborates ds fs hs ∷ k) a rest s))
+  record_fine adjusts None u there is w =
       made_fine known rest s types x t a (Elaborates ds fs hs ∷ k) (initial_values named (reached_of types t)) u is there
       (λ holding kind. initials_in_hand (outers known) s.heap a.places holding kind (reached_of types t)) Creation (at_work w (by_default w.holds w.rooms is w.rest))
-  record_fine (Some items) u there is w =
-      ready_on known (Fills items ∷ DeclaresRecord x t ∷ Elaborates ds fs hs ∷ k) a rest s a.operands (at_work w (by_items items w.holds w.rooms is w.rest))
+  record_fine adjusts (Some items) u there is w =
+      ready_on known (Fills items ∷ DeclaresRecord x t ∷ Elaborates ds fs hs ∷ k) a rest s a.operands (at_work w (by_items adjusts items w.holds w.rooms is w.rest))
 
 -- A record object comes to be with the items of its initial value.
 pub recorded_fine : (known : Known) (k : Control) (a : Activation Value) (rest : List (Activation Value)) (s : State) (types : List TypeDefinition) → Reaches known types → (x t : ℕ) (kinds : List OperandKind) → typed.Fits known.program (cells_of s.heap) kinds (DeclaresRecord x t ∷ k) → AreComputed known.program.types (cells_of s.heap) kinds a.operands → AreHeld known.program.types (cells_of s.heap) known.program.variables a.places → Working known s.heap a.places s.masters (Recording known x t k) → Stepped known s.heap Quiet (made named types x t Copy (reverse (take (words_of types t) a.operands)) (running k (record a { operands = drop (words_of types t) a.operands }) rest s))

@@ -16,7 +16,8 @@ use Rattle.ada_program.specs.ProgramForm.{TypeForm, VariableForm}
 use Rattle.ada_program.specs.WellFormed.{is_access, access_of, variable_kind, selected_kind, selectors_kind, path_kind, path_access, is_this, is_freed_by}
 use Rattle.ada_flow.specs.declared.rule.Hold.{Hold}
 use Rattle.ada_flow.specs.declared.rule.Hold.TheVariants as hold
-use Rattle.ada_flow.specs.Flow.{Holds, hold_at, Breach, lost_by, unless_broken, ends_with, behind_end, passes_type, passes_own, passes_reached, formal_reached, way_reached, freed_behind, released_behind, frees_path}
+use Rattle.ada_flow.specs.Flow.{Holds, hold_at, Breach, lost_by, unless_broken, ends_with, behind_end, passes_type, passes_own, passes_reached, formal_reached, way_reached, freed_behind, released_behind, frees_seen}
+use Rattle.ada_flow.specs.Tracking.{no_tracks}
 use Rattle.ada_meaning.specs.declared.state.Id.{Id}
 use Rattle.ada_meaning.specs.declared.state.Value.{Value}
 use Rattle.ada_meaning.specs.declared.state.Value.TheVariants.{Null, Names, Scalar, Part}
@@ -53,7 +54,7 @@ front_last c [] = refl
 front_last c (d ∷ ds) = ap (λ (es : List ℕ). c ∷ es) (front_last d ds)
 
 -- What flow says of a component that is freed: its path follows nothing lost, and the way to it is safe.
-released_goes : (types : List TypeForm) (variables : List VariableForm) (implicit : Implicit) (path : PathForm) (holds : Holds) (access : Option ℕ) (more raised : Holds → Type 0) → Goes (released_behind types variables implicit path holds access) more raised → (freed_behind (way_reached types variables implicit path (hold_at holds path.root) access) (hold_at holds path.root) path.spot ≡ None) × more (behind_end variables access holds) × (path_raises path ≡ true → raised (behind_end variables access holds))
+released_goes : (types : List TypeForm) (variables : List VariableForm) (implicit : Implicit) (path : PathForm) (holds : Holds) (access : Option ℕ) (more raised : Holds → Type 0) → Goes (released_behind types variables no_tracks implicit path holds access) more raised → (freed_behind (way_reached types variables implicit path (hold_at holds path.root) access) (hold_at holds path.root) path.spot ≡ None) × more (behind_end variables access holds) × (path_raises path ≡ true → raised (behind_end variables access holds))
 released_goes types variables implicit path holds access more raised g = go (freed_behind passes (hold_at holds path.root) path.spot) refl g
   where
     passes : Bool
@@ -119,7 +120,7 @@ passes_root types outer heap kind v b c cs to (Some t) leads spares passes = by 
 
 module _ (known : Known) (a : Activation Value) (rest : List (Activation Value)) (s : State) where
   -- A Free of a component begins: its object is found first.
-  pub free_begins : (c : ℕ) (cs : List ℕ) (access : ℕ) (path : PathForm) (fs : StmtsForm) (k : Control) (among : Exception → Bool) → (path_raises path ≡ true → among ConstraintError ≡ true) → is_freed_by known.program.types access (path_access known.program.types known.program.variables path) ≡ true → is_this access (path_access known.program.types known.program.variables path) ≡ true → Spares known (λ t. is_this t (path_access known.program.types known.program.variables path)) → path.selectors ≡ c ∷ cs → Working known s.heap a.places s.masters (λ rooms holds. Goes (frees_path known.program.types known.program.variables known.implicit (c ∷ cs) path holds) (To (RunsOn known (Does fs ∷ k) rooms)) (Raised among (ways known k rooms))) → Fine known s.heap s.masters (path_next named (before_last (inside (place_at a.places path.root) c) cs) (begun a.places path) (running (FreesIn access (last_of (inside (place_at a.places path.root) c) cs) ∷ Does fs ∷ k) a rest s))
+  pub free_begins : (c : ℕ) (cs : List ℕ) (access : ℕ) (path : PathForm) (fs : StmtsForm) (k : Control) (among : Exception → Bool) → (path_raises path ≡ true → among ConstraintError ≡ true) → is_freed_by known.program.types access (path_access known.program.types known.program.variables path) ≡ true → is_this access (path_access known.program.types known.program.variables path) ≡ true → Spares known (λ t. is_this t (path_access known.program.types known.program.variables path)) → path.selectors ≡ c ∷ cs → Working known s.heap a.places s.masters (λ rooms holds. Goes (frees_seen known.program.types known.program.variables no_tracks false known.implicit (c ∷ cs) path holds) (To (RunsOn known (Does fs ∷ k) rooms)) (Raised among (ways known k rooms))) → Fine known s.heap s.masters (path_next named (before_last (inside (place_at a.places path.root) c) cs) (begun a.places path) (running (FreesIn access (last_of (inside (place_at a.places path.root) c) cs) ∷ Does fs ∷ k) a rest s))
   free_begins c cs access path fs k among may freed by_own spares is w =
       let types = known.program.types in
       let variables = known.program.variables in

@@ -16,7 +16,8 @@ use Rattle.ada_flow.specs.declared.rule.Hold.{Hold}
 use Rattle.ada_flow.specs.declared.rule.Region.TheVariants.{Whole}
 use Rattle.ada_flow.specs.declared.rule.Hold.TheVariants.{Null, Own, Alias, Lost, Kept}
 use Rattle.ada_flow.specs.declared.rule.Rule.TheVariants.{LoopState, FormalNotOwned}
-use Rattle.ada_flow.specs.Flow.{Holds, hold_at, variable_access, join, join_option, Outcome, faults, goes, also_raises, then_flow, raising_if, ends_with, Use, uses_in, uses_in_right, uses_in_target, Breach, broken_among, unless_broken, using_paths, computed, left_by_move, without_value, without_values, moved_by_right, right_hold, evaluation_raises, gives, gives_path, without_alias, without_aliases, without_freed, without_freed_option, loses, initializes, finalizes, uses_in_start, uses_in_assignment, left_by_call, uses_in_actuals, behind_end, freed, released, way_reached, freed_behind, frees_path, gets_path, either_of, are_as_good, opened_hold, opened, opened_target, opened_by, opened_by_all, opened_by_branches, opened_by_handlers, ends_turn, left_with, is_left, condition_flow, loop_flow, Gone, gone_with, declared_at, uses_in_initial, without_types, without_variables, if_own, left, left_option, leaves_block, left_finalized, handled, Around, in_loop, in_block, exit_of, exit_flow, declaration_flow, declarations_flow, bounds_flow, counting_start, begins_pair, stmt_flow, stmts_flow, branches_flow, handlers_flow, all_touched, touched, touched_hold, touched_by_all, variable_of, opened_by_actuals, handed_back, left_unkept, unless_kept, first_kept, others_kept, Keeping, all_give_back, formal_hold, first_holds, kept_at}
+use Rattle.ada_flow.specs.Flow.{Holds, hold_at, variable_access, join, join_option, Outcome, faults, goes, also_raises, then_flow, raising_if, ends_with, Use, uses_in, uses_in_right, uses_in_target, Breach, broken_among, unless_broken, using_paths, computed, left_by_move, without_value, without_values, moved_by_right, right_hold, evaluation_raises, gives, gives_seen, without_alias, without_aliases, without_freed, without_freed_option, loses, initializes, finalizes, uses_in_start, uses_in_assignment, left_by_call, uses_in_actuals, behind_end, freed, released, way_reached, freed_behind, frees_seen, gets_path, either_of, are_as_good, opened_hold, opened, opened_target, opened_by, opened_by_all, opened_by_branches, opened_by_handlers, ends_turn, left_with, is_left, condition_flow, loop_flow, Gone, gone_with, declared_at, uses_in_initial, without_types, without_variables, if_own, left, left_option, leaves_block, left_finalized, handled, Around, in_loop, in_block, exit_of, exit_flow, declaration_flow, declarations_flow, bounds_flow, counting_start, begins_pair, stmt_flow, stmts_flow, branches_flow, handlers_flow, all_touched, touched, touched_hold, touched_by_all, variable_of, opened_by_actuals, handed_back, left_unkept, unless_kept, first_kept, others_kept, Keeping, all_give_back, formal_hold, first_holds, kept_at}
+use Rattle.ada_flow.specs.Tracking.{no_tracks}
 use Rattle.ada_typed.proofs.Bodies.{SeenFits}
 use Rattle.ada_sound.proofs.Assigned.{root_or_none}
 use Rattle.ada_sound.specs.Agreement.{Place, Turning, Comes, here, behind, in_branches, in_body, in_count, in_enclosed, ComesBy, in_others, in_this, in_next, ComesTo, to_this, to_next, ComesInside, in_statements, in_handlers, IsFlowAt}
@@ -24,6 +25,7 @@ use Rattle.ada_sound.proofs.Values.{read_same, read_other, same_or_not}
 use Rattle.ada_program.specs.declared.program.FormalMode.{FormalMode}
 use Rattle.ada_program.specs.declared.program.FormalMode.TheVariants.{In, InOut}
 use Rattle.ada_typed.proofs.Actuals.{given_kind}
+use Rattle.ada_sound.specs.Untracked.{untracked}
 
 -- What is lost stays lost where ways meet.
 join_lost : (a b : Holds) (x : ℕ) → hold_at a x ≡ Lost → hold_at b x ≡ Lost → hold_at (join a b) x ≡ Lost
@@ -95,7 +97,7 @@ first_lost (m ∷ ms) (v ∷ vs) zero none = formal_lost m v.kind none
 first_lost (m ∷ ms) (v ∷ vs) (suc x) none = first_lost ms vs x none
 
 -- What is assigned to an Integer or a Boolean is one.
-right_lost : (borrows : Bool) (types : List TypeForm) (variables : List VariableForm) (kind : Option VariableKind) (right : RightForm) (holds : Holds) → right_fits types variables kind right ≡ true → access_of kind ≡ None → right_hold borrows right holds ≡ Lost
+right_lost : (borrows : Bool) (types : List TypeForm) (variables : List VariableForm) (kind : Option VariableKind) (right : RightForm) (holds : Holds) → right_fits types variables kind right ≡ true → access_of kind ≡ None → right_hold no_tracks borrows right holds ≡ Lost
 right_lost borrows types variables kind (computes e) holds fits none = refl
 right_lost borrows types variables None right holds fits none = absurd (cc fits)
 right_lost borrows types variables (Some variable.Integer) right holds fits none = absurd (cc fits)
@@ -176,8 +178,8 @@ module _ (types : List TypeForm) (variables : List VariableForm) (texts exceptio
   unless_keeps None more k = k
   unless_keeps (Some breach) more k = tt
 
-  using_keeps : (uses : List Use) (holds : Holds) (more : Outcome) → Keeps more → Keeps (using_paths uses holds more)
-  using_keeps uses holds more k = unless_keeps (broken_among holds uses) more k
+  using_keeps : (uses : List Use) (holds : Holds) (more : Outcome) → Keeps more → Keeps (using_paths no_tracks uses holds more)
+  using_keeps uses holds more k = unless_keeps (broken_among no_tracks holds uses) more k
 
   either_keeps : (a b : Outcome) → Keeps a → Keeps b → Keeps (either_of a b)
   either_keeps (faults spot rule) b k m = tt
@@ -204,30 +206,30 @@ module _ (types : List TypeForm) (variables : List VariableForm) (texts exceptio
   finalizes_keeps implicit None o k = k
   finalizes_keeps implicit (Some t) o k = loses_keeps (implicit.end_frees t) o k
 
-  computed_keeps : (e : ExpressionForm) (holds : Holds) → Scalars holds → Keeps (computed e holds)
+  computed_keeps : (e : ExpressionForm) (holds : Holds) → Scalars holds → Keeps (computed no_tracks e holds)
   computed_keeps e holds s = using_keeps (uses_in e) holds (ends_with (expression_raises e) holds holds) (ends_keep (expression_raises e) holds holds s s)
 
-  condition_keeps : (condition : Option ExpressionForm) (holds : Holds) → Scalars holds → Keeps (condition_flow condition holds)
+  condition_keeps : (condition : Option ExpressionForm) (holds : Holds) → Scalars holds → Keeps (condition_flow no_tracks condition holds)
   condition_keeps None holds s = (s, tt)
   condition_keeps (Some e) holds s = computed_keeps e holds s
 
   -- What is assigned.
-  gives_keeps : (spot : Spot) (cleared : Bool) (x : ℕ) (right : RightForm) (holds : Holds) → right_fits types variables (variable_kind variables x) right ≡ true → Scalars holds → Keeps (gives types variables spot cleared x right holds)
+  gives_keeps : (spot : Spot) (cleared : Bool) (x : ℕ) (right : RightForm) (holds : Holds) → right_fits types variables (variable_kind variables x) right ≡ true → Scalars holds → Keeps (gives types variables no_tracks spot cleared x right holds)
   gives_keeps spot cleared x right holds fits s =
       let borrows = is_borrower variables x in
-      let after = slice_set (without_values (moved_by_right borrows right) holds) x (right_hold borrows right holds) in
+      let after = slice_set (without_values (moved_by_right no_tracks borrows right) holds) x (right_hold no_tracks borrows right holds) in
       using_keeps (uses_in_right types spot borrows cleared None right) holds (ends_with (evaluation_raises right) holds after)
       (ends_keep (evaluation_raises right) holds after s
-      (set_keeps (without_values (moved_by_right borrows right) holds) x (right_hold borrows right holds)
-      (right_lost borrows types variables (variable_kind variables x) right holds fits) (without_keeps (moved_by_right borrows right) holds s)))
+      (set_keeps (without_values (moved_by_right no_tracks borrows right) holds) x (right_hold no_tracks borrows right holds)
+      (right_lost borrows types variables (variable_kind variables x) right holds fits) (without_keeps (moved_by_right no_tracks borrows right) holds s)))
 
-  path_keeps : (cleared : Bool) (cs : List ℕ) (path : PathForm) (right : RightForm) (holds : Holds) → right_fits types variables (selectors_kind types (root_kind path.of_record (variable_kind variables path.root)) cs) right ≡ true → Scalars holds → Keeps (gives_path types variables cleared cs path right holds)
+  path_keeps : (cleared : Bool) (cs : List ℕ) (path : PathForm) (right : RightForm) (holds : Holds) → right_fits types variables (selectors_kind types (root_kind path.of_record (variable_kind variables path.root)) cs) right ≡ true → Scalars holds → Keeps (gives_seen types variables no_tracks false cleared cs path right holds)
   path_keeps cleared [] path right holds fits s =
       gives_keeps path.spot cleared path.root right holds
       (elim (root_or_none path.of_record (variable_kind variables path.root)) [ inl same ↦ rw same at fits | inr none ↦ absurd (let never : right_fits types variables None right ≡ true = rw none at fits in cc never) ]) s
   path_keeps cleared (c ∷ cs) path right holds fits s =
-      using_keeps (uses_in_target path ++ uses_in_right types path.spot false cleared (Some path) right) holds (ends_with (path_raises path || evaluation_raises right) holds (without_values (moved_by_right false right) holds))
-      (ends_keep (path_raises path || evaluation_raises right) holds (without_values (moved_by_right false right) holds) s (without_keeps (moved_by_right false right) holds s))
+      using_keeps (uses_in_target path ++ uses_in_right types path.spot false cleared (Some path) right) holds (ends_with (path_raises path || evaluation_raises right) holds (without_values (moved_by_right no_tracks false right) holds))
+      (ends_keep (path_raises path || evaluation_raises right) holds (without_values (moved_by_right no_tracks false right) holds) s (without_keeps (moved_by_right no_tracks false right) holds s))
 
   behind_end_keeps : (access : Option ℕ) (holds : Holds) → Scalars holds → Scalars (behind_end variables access holds)
   behind_end_keeps None holds s = s
@@ -245,7 +247,7 @@ module _ (types : List TypeForm) (variables : List VariableForm) (texts exceptio
   released_keeps x spot holds (Alias r) some s = tt
   released_keeps x spot holds Lost some s = tt
 
-  frees_keeps : (implicit : Implicit) (cs : List ℕ) (access : ℕ) (path : PathForm) (holds : Holds) → is_freed_by types access (value_access (selectors_kind types (root_kind path.of_record (variable_kind variables path.root)) cs)) ≡ true → Scalars holds → Keeps (frees_path types variables implicit cs path holds)
+  frees_keeps : (implicit : Implicit) (cs : List ℕ) (access : ℕ) (path : PathForm) (holds : Holds) → is_freed_by types access (value_access (selectors_kind types (root_kind path.of_record (variable_kind variables path.root)) cs)) ≡ true → Scalars holds → Keeps (frees_seen types variables no_tracks false implicit cs path holds)
   frees_keeps implicit [] access path holds fits s =
       released_keeps path.root path.spot holds (hold_at holds path.root) (λ n. let freed : is_freed_by types access None ≡ true = rw (none_value path.of_record (variable_kind variables path.root) n) at fits in cc freed) s
   frees_keeps implicit (c ∷ cs) access path holds fits s =
@@ -254,7 +256,7 @@ module _ (types : List TypeForm) (variables : List VariableForm) (texts exceptio
       unless_keeps (freed_behind (way_reached types variables implicit path (hold_at holds path.root) own) (hold_at holds path.root) path.spot) (ends_with (path_raises path) after after)
       (ends_keep (path_raises path) after after (behind_end_keeps own holds s) (behind_end_keeps own holds s))
 
-  gets_keeps : (cs : List ℕ) (path : PathForm) (holds : Holds) → Scalars holds → Keeps (gets_path cs path holds)
+  gets_keeps : (cs : List ℕ) (path : PathForm) (holds : Holds) → Scalars holds → Keeps (gets_path no_tracks cs path holds)
   gets_keeps [] path holds s = (set_keeps holds path.root Lost (λ n. refl) s, s)
   gets_keeps (c ∷ cs) path holds s = using_keeps (uses_in_target path) holds (ends_with true holds holds) (ends_keep true holds holds s s)
 
@@ -270,16 +272,16 @@ module _ (types : List TypeForm) (variables : List VariableForm) (texts exceptio
   touches_keep [] holds s = s
   touches_keep (y ∷ ys) holds s = touches_keep ys (touched y holds) (set_keeps holds y (touched_hold (hold_at holds y)) (λ n. rw (s y n) refl) s)
 
-  parts_keep : (ds : List DeclarationForm) (holds : Holds) → Scalars holds → Scalars (touched_by_all variables ds holds)
+  parts_keep : (ds : List DeclarationForm) (holds : Holds) → Scalars holds → Scalars (touched_by_all variables no_tracks ds holds)
   parts_keep [] holds s = s
   parts_keep (creates_pool pool ∷ ds) holds s = parts_keep ds holds s
   parts_keep (collects access ∷ ds) holds s = parts_keep ds holds s
   parts_keep (declares y right ∷ ds) holds s =
-      let moved = moved_by_right (is_borrower variables y) right in
+      let moved = moved_by_right no_tracks (is_borrower variables y) right in
       parts_keep ds (all_touched moved holds) (touches_keep moved holds s)
   parts_keep (declares_record y object initial ∷ ds) holds s = parts_keep ds holds s
 
-  handing_keeps : (actuals : List ActualForm) (holds : Holds) → Scalars holds → Scalars (opened_by_actuals variables actuals holds)
+  handing_keeps : (actuals : List ActualForm) (holds : Holds) → Scalars holds → Scalars (opened_by_actuals variables no_tracks actuals holds)
   handing_keeps [] holds s = s
   handing_keeps (in_value e ∷ rest) holds s = handing_keeps rest holds s
   handing_keeps (in_null ∷ rest) holds s = handing_keeps rest holds s
@@ -291,10 +293,10 @@ module _ (types : List TypeForm) (variables : List VariableForm) (texts exceptio
   handing_keeps (in_out_access path ∷ rest) holds s = handing_keeps rest (opened variables path.root holds) (opened_keeps path.root holds s)
 
   mutual
-    opens : (f : StmtForm) (holds : Holds) → Scalars holds → Scalars (opened_by variables f holds)
+    opens : (f : StmtForm) (holds : Holds) → Scalars holds → Scalars (opened_by variables no_tracks f holds)
     opens skips holds s = s
     opens (assigns target right) holds s =
-        let moved = moved_by_right (names_borrower variables target) right in
+        let moved = moved_by_right no_tracks (names_borrower variables target) right in
         target_keeps target.selectors target.root (all_touched moved holds) (touches_keep moved holds s)
     opens (assigns_record target items) holds s = s
     opens (frees access path) holds s = touches_keep (variable_of path.selectors path.root) holds s
@@ -309,23 +311,23 @@ module _ (types : List TypeForm) (variables : List VariableForm) (texts exceptio
     opens (returns spot) holds s = s
     opens (raises e) holds s = s
     opens (encloses ds fs hs) holds s =
-        let inside = touched_by_all variables ds holds in
-        opens_handlers hs (opened_by_all variables fs inside) (opens_all fs inside (parts_keep ds holds s))
+        let inside = touched_by_all variables no_tracks ds holds in
+        opens_handlers hs (opened_by_all variables no_tracks fs inside) (opens_all fs inside (parts_keep ds holds s))
 
-    opens_all : (fs : StmtsForm) (holds : Holds) → Scalars holds → Scalars (opened_by_all variables fs holds)
+    opens_all : (fs : StmtsForm) (holds : Holds) → Scalars holds → Scalars (opened_by_all variables no_tracks fs holds)
     opens_all no_stmts holds s = s
-    opens_all (a_stmt f fs) holds s = opens_all fs (opened_by variables f holds) (opens f holds s)
+    opens_all (a_stmt f fs) holds s = opens_all fs (opened_by variables no_tracks f holds) (opens f holds s)
 
-    opens_branches : (branches : BranchesForm) (holds : Holds) → Scalars holds → Scalars (opened_by_branches variables branches holds)
+    opens_branches : (branches : BranchesForm) (holds : Holds) → Scalars holds → Scalars (opened_by_branches variables no_tracks branches holds)
     opens_branches (otherwise fs) holds s = opens_all fs holds s
-    opens_branches (a_branch e fs branches) holds s = opens_branches branches (opened_by_all variables fs holds) (opens_all fs holds s)
+    opens_branches (a_branch e fs branches) holds s = opens_branches branches (opened_by_all variables no_tracks fs holds) (opens_all fs holds s)
 
-    opens_handlers : (hs : HandlersForm) (holds : Holds) → Scalars holds → Scalars (opened_by_handlers variables hs holds)
+    opens_handlers : (hs : HandlersForm) (holds : Holds) → Scalars holds → Scalars (opened_by_handlers variables no_tracks hs holds)
     opens_handlers no_handlers holds s = s
-    opens_handlers (a_handler choices fs hs) holds s = opens_handlers hs (opened_by_all variables fs holds) (opens_all fs holds s)
+    opens_handlers (a_handler choices fs hs) holds s = opens_handlers hs (opened_by_all variables no_tracks fs holds) (opens_all fs holds s)
 
-  counting_keeps : (x : ℕ) (fs : StmtsForm) (holds : Holds) → Scalars holds → Scalars (counting_start variables x fs holds)
-  counting_keeps x fs holds s = set_keeps (opened_by_all variables fs holds) x Lost (λ n. refl) (opens_all fs holds s)
+  counting_keeps : (x : ℕ) (fs : StmtsForm) (holds : Holds) → Scalars holds → Scalars (counting_start variables no_tracks x fs holds)
+  counting_keeps x fs holds s = set_keeps (opened_by_all variables no_tracks fs holds) x Lost (λ n. refl) (opens_all fs holds s)
 
   returning_keeps : (b : Bool) (spot : Spot) → Keeps (if b then goes None None else faults spot FormalNotOwned)
   returning_keeps true spot = (tt, tt)
@@ -348,22 +350,22 @@ module _ (types : List TypeForm) (variables : List VariableForm) (texts exceptio
   behind_keeps b start (faults spot rule) s k = tt
   behind_keeps b start (goes normal raising) s k = (some_keeps b start s, k.1)
 
-  loop_keeps : (condition : Option ExpressionForm) (b : Bool) (spot : Spot) (turn : Option Holds → Holds → Outcome) (start : Holds) → Scalars start → ((holds : Holds) → Scalars holds → Keeps (turn (Some start) holds)) → Keeps (loop_flow condition b spot turn start)
+  loop_keeps : (condition : Option ExpressionForm) (b : Bool) (spot : Spot) (turn : Option Holds → Holds → Outcome) (start : Holds) → Scalars start → ((holds : Holds) → Scalars holds → Keeps (turn (Some start) holds)) → Keeps (loop_flow no_tracks condition b spot turn start)
   loop_keeps condition b spot turn start s t =
       behind_keeps b start _ s
-      (then_keeps (condition_flow condition start) (λ hs. ends_turn start spot (turn (Some start) hs)) (condition_keeps condition start s)
+      (then_keeps (condition_flow no_tracks condition start) (λ hs. ends_turn start spot (turn (Some start) hs)) (condition_keeps condition start s)
       (λ holds k. turn_keeps start spot (turn (Some start) holds) (t holds k)))
 
-  exit_keeps : (implicit : Implicit) (start : Option Holds) (inside : Gone) (condition : Option ExpressionForm) (spot : Spot) (holds : Holds) → Scalars holds → Keeps (exit_flow variables implicit start inside condition spot holds)
+  exit_keeps : (implicit : Implicit) (start : Option Holds) (inside : Gone) (condition : Option ExpressionForm) (spot : Spot) (holds : Holds) → Scalars holds → Keeps (exit_flow variables no_tracks implicit start inside condition spot holds)
   exit_keeps implicit start inside condition spot holds s = go start (once condition)
     where
-      once : (e : Option ExpressionForm) → Keeps (exit_of e holds)
+      once : (e : Option ExpressionForm) → Keeps (exit_of no_tracks e holds)
       once None = (tt, tt)
       once (Some e) = computed_keeps e holds s
 
-      go : (start : Option Holds) → Keeps (exit_of condition holds) → Keeps (exit_flow variables implicit start inside condition spot holds)
+      go : (start : Option Holds) → Keeps (exit_of no_tracks condition holds) → Keeps (exit_flow variables no_tracks implicit start inside condition spot holds)
       go None k = k
-      go (Some start) k = worse_keeps (are_as_good (left_finalized variables implicit inside holds) start) spot (exit_of condition holds) k
+      go (Some start) k = worse_keeps (are_as_good (left_finalized variables implicit inside holds) start) spot (exit_of no_tracks condition holds) k
 
   left_keeps : (gone : Gone) (way : Option Holds) → OnWay way → OnWay (left_option variables gone way)
   left_keeps gone None k = tt
@@ -378,29 +380,29 @@ module _ (types : List TypeForm) (variables : List VariableForm) (texts exceptio
   handled_keeps b handlers (goes normal None) k h = (k.0, tt)
   handled_keeps b handlers (goes normal (Some raising)) k h = either_keeps (goes normal (raising_if b raising)) (handlers raising) (k.0, if_keeps b raising k.1) (h raising k.1)
 
-  declarations_keep : (implicit : Implicit) (ds : List DeclarationForm) (holds : Holds) → list_all (initial_fits types variables) ds ≡ true → Scalars holds → Keeps (declarations_flow types variables implicit ds holds)
+  declarations_keep : (implicit : Implicit) (ds : List DeclarationForm) (holds : Holds) → list_all (initial_fits types variables) ds ≡ true → Scalars holds → Keeps (declarations_flow types variables no_tracks implicit ds holds)
   declarations_keep implicit [] holds fits s = (s, tt)
   declarations_keep implicit (d ∷ ds) holds fits s =
       let parts = and_parts _ _ fits in
-      then_keeps (declaration_flow types variables implicit d holds) (declarations_flow types variables implicit ds) (one d parts.0) (λ hs k. declarations_keep implicit ds hs parts.1 k)
+      then_keeps (declaration_flow types variables no_tracks implicit d holds) (declarations_flow types variables no_tracks implicit ds) (one d parts.0) (λ hs k. declarations_keep implicit ds hs parts.1 k)
     where
-      one : (d : DeclarationForm) → initial_fits types variables d ≡ true → Keeps (declaration_flow types variables implicit d holds)
+      one : (d : DeclarationForm) → initial_fits types variables d ≡ true → Keeps (declaration_flow types variables no_tracks implicit d holds)
       one (creates_pool pool) e = (s, tt)
       one (collects access) e = (s, tt)
       one (declares x right) e =
           let spot = declared_at variables x in
-          initializes_keeps implicit right (gives types variables spot false x right holds) (gives_keeps spot false x right holds (and_parts _ _ (and_parts _ _ e).0).1 s)
+          initializes_keeps implicit right (gives types variables no_tracks spot false x right holds) (gives_keeps spot false x right holds (and_parts _ _ (and_parts _ _ e).0).1 s)
       one (declares_record x t initial) e =
           let after = slice_set holds x (Own Whole) in
           let is = (and_parts _ _ e).0 in
           let may = initial_raises initial || initial_starts implicit (λ f. true) t initial in
           let uses = uses_in_initial types (declared_at variables x) t initial in
-          loses_keeps (λ u. initial_frees implicit u t initial) (using_paths uses holds (ends_with may holds after))
+          loses_keeps (λ u. initial_frees implicit u t initial) (using_paths no_tracks uses holds (ends_with may holds after))
           (using_keeps uses holds (ends_with may holds after)
           (ends_keep may holds after s (set_keeps holds x (Own Whole) (λ none. absurd (record_some (variable_kind variables x) t is none)) s)))
 
-  bounds_keep : (low high : ExpressionForm) (holds : Holds) → Scalars holds → Keeps (bounds_flow low high holds)
-  bounds_keep low high holds s = then_keeps (computed low holds) (computed high) (computed_keeps low holds s) (λ hs k. computed_keeps high hs k)
+  bounds_keep : (low high : ExpressionForm) (holds : Holds) → Scalars holds → Keeps (bounds_flow no_tracks low high holds)
+  bounds_keep low high holds s = then_keeps (computed no_tracks low holds) (computed no_tracks high) (computed_keeps low holds s) (λ hs k. computed_keeps high hs k)
 
   -- Behind a call what was lost is lost.
   -- A variable that is handed over is of an access type.
@@ -450,34 +452,34 @@ module _ (types : List TypeForm) (variables : List VariableForm) (texts exceptio
 
   -- Statements.
   mutual
-    stmt_keeps : (around : Around) (inside cleared : Bool) (f : StmtForm) (holds : Holds) → statement_fits types variables texts exceptions callable inside f ≡ true → Scalars holds → Keeps (stmt_flow types variables around cleared f holds)
+    stmt_keeps : (around : Around) (inside cleared : Bool) (f : StmtForm) (holds : Holds) → statement_fits types variables texts exceptions callable inside f ≡ true → Scalars holds → Keeps (stmt_flow types variables (untracked around) cleared f holds)
     stmt_keeps around inside cleared skips holds fits s = (s, tt)
     stmt_keeps around inside cleared (assigns target right) holds fits s =
         let implicit = around.effects.implicit in
-        let o = gives_path types variables cleared target.selectors target right holds in
-        using_keeps (uses_in_start types variables implicit target right) holds (initializes variables implicit right o)
+        let o = gives_seen types variables no_tracks false cleared target.selectors target right holds in
+        using_keeps (uses_in_start types variables no_tracks implicit target right) holds (initializes variables implicit right o)
         (initializes_keeps implicit right o (path_keeps cleared target.selectors target right holds (and_parts _ _ fits).0 s))
     stmt_keeps around inside cleared (assigns_record target items) holds fits s =
         let some = record_path_raises target || items_raise items in
         let may : ℕ → Bool = λ t. assignment_frees around.effects.implicit t target.record_type in
         let uses = uses_in_assignment types variables may target items in
-        loses_keeps may (using_paths uses holds (ends_with some holds holds)) (using_keeps uses holds (ends_with some holds holds) (ends_keep some holds holds s s))
+        loses_keeps may (using_paths no_tracks uses holds (ends_with some holds holds)) (using_keeps uses holds (ends_with some holds holds) (ends_keep some holds holds s s))
     stmt_keeps around inside cleared (frees access path) holds fits s =
         let implicit = around.effects.implicit in
-        finalizes_keeps implicit (path_access types variables path) (frees_path types variables implicit path.selectors path holds)
+        finalizes_keeps implicit (path_access types variables path) (frees_seen types variables no_tracks false implicit path.selectors path holds)
         (frees_keeps implicit path.selectors access path holds (and_parts _ _ fits).0 s)
     stmt_keeps around inside cleared (gets target) holds fits s = gets_keeps target.selectors target holds s
     stmt_keeps around inside cleared (writes e) holds fits s = computed_keeps e holds s
     stmt_keeps around inside cleared (writes_text text) holds fits s = (s, tt)
     stmt_keeps around inside cleared (chooses branches) holds fits s = branches_keep around inside branches holds fits s
     stmt_keeps around inside cleared (repeats condition fs end_spot) holds fits s =
-        loop_keeps condition (is_left condition fs) end_spot (λ start hs. stmts_flow types variables (in_loop start around) fs hs) (opened_by_all variables fs holds) (opens_all fs holds s)
-        (λ hs k. stmts_keep (in_loop (Some (opened_by_all variables fs holds)) around) true fs hs (and_parts _ _ fits).1 k)
+        loop_keeps condition (is_left condition fs) end_spot (λ start hs. stmts_flow types variables (in_loop start (untracked around)) fs hs) (opened_by_all variables no_tracks fs holds) (opens_all fs holds s)
+        (λ hs k. stmts_keep (in_loop (Some (opened_by_all variables no_tracks fs holds)) around) true fs hs (and_parts _ _ fits).1 k)
     stmt_keeps around inside cleared (counts x low high fs end_spot) holds fits s =
-        then_keeps (bounds_flow low high holds) _ (bounds_keep low high holds s)
+        then_keeps (bounds_flow no_tracks low high holds) _ (bounds_keep low high holds s)
         (λ hs k.
-        loop_keeps None true end_spot (λ start gs. stmts_flow types variables (in_loop start around) fs gs) (counting_start variables x fs hs) (counting_keeps x fs hs k)
-        (λ gs m. stmts_keep (in_loop (Some (counting_start variables x fs hs)) around) true fs gs (and_parts _ _ fits).1 m))
+        loop_keeps None true end_spot (λ start gs. stmts_flow types variables (in_loop start (untracked around)) fs gs) (counting_start variables no_tracks x fs hs) (counting_keeps x fs hs k)
+        (λ gs m. stmts_keep (in_loop (Some (counting_start variables no_tracks x fs hs)) around) true fs gs (and_parts _ _ fits).1 m))
     stmt_keeps around inside cleared (exits condition spot) holds fits s = exit_keeps around.effects.implicit around.start around.inside condition spot holds s
     stmt_keeps around inside cleared (calls procedure actuals) holds fits s =
         let effect = slice_get around.effects.calls procedure in
@@ -496,33 +498,33 @@ module _ (types : List TypeForm) (variables : List VariableForm) (texts exceptio
         let gone = gone_with ds in
         block_keeps gone _
         (loses_keeps (endings_free implicit gone.types) _
-        (then_keeps (declarations_flow types variables implicit ds holds) _ (declarations_keep implicit ds holds (and_parts _ _ more.0).1 s)
+        (then_keeps (declarations_flow types variables no_tracks implicit ds holds) _ (declarations_keep implicit ds holds (and_parts _ _ more.0).1 s)
         (λ at k.
-        handled_keeps (passes around.effects fs hs) (handlers_flow types variables (in_block gone around) hs) (stmts_flow types variables (in_block gone around) fs at)
+        handled_keeps (passes around.effects fs hs) (handlers_flow types variables (in_block gone (untracked around)) hs) (stmts_flow types variables (in_block gone (untracked around)) fs at)
         (stmts_keep (in_block gone around) inside fs at more.1 k)
         (λ gs m. handlers_keep (in_block gone around) inside hs gs parts.1 m))))
 
-    stmts_keep : (around : Around) (inside : Bool) (fs : StmtsForm) (holds : Holds) → stmts_fit types variables texts exceptions callable inside fs ≡ true → Scalars holds → Keeps (stmts_flow types variables around fs holds)
+    stmts_keep : (around : Around) (inside : Bool) (fs : StmtsForm) (holds : Holds) → stmts_fit types variables texts exceptions callable inside fs ≡ true → Scalars holds → Keeps (stmts_flow types variables (untracked around) fs holds)
     stmts_keep around inside no_stmts holds fits s = (s, tt)
     stmts_keep around inside (a_stmt f fs) holds fits s =
         let parts = and_parts _ _ fits in
-        then_keeps (stmt_flow types variables around (begins_pair f fs) f holds) (stmts_flow types variables around fs)
+        then_keeps (stmt_flow types variables (untracked around) (begins_pair f fs) f holds) (stmts_flow types variables (untracked around) fs)
         (stmt_keeps around inside (begins_pair f fs) f holds parts.0 s) (λ hs k. stmts_keep around inside fs hs parts.1 k)
 
-    branches_keep : (around : Around) (inside : Bool) (branches : BranchesForm) (holds : Holds) → branches_fit types variables texts exceptions callable inside branches ≡ true → Scalars holds → Keeps (branches_flow types variables around branches holds)
+    branches_keep : (around : Around) (inside : Bool) (branches : BranchesForm) (holds : Holds) → branches_fit types variables texts exceptions callable inside branches ≡ true → Scalars holds → Keeps (branches_flow types variables (untracked around) branches holds)
     branches_keep around inside (otherwise fs) holds fits s = stmts_keep around inside fs holds fits s
     branches_keep around inside (a_branch e fs branches) holds fits s =
         let parts = and_parts _ _ fits in
-        then_keeps (computed e holds) _ (computed_keeps e holds s)
+        then_keeps (computed no_tracks e holds) _ (computed_keeps e holds s)
         (λ hs k.
-        either_keeps (stmts_flow types variables around fs hs) (branches_flow types variables around branches hs)
+        either_keeps (stmts_flow types variables (untracked around) fs hs) (branches_flow types variables (untracked around) branches hs)
         (stmts_keep around inside fs hs (and_parts _ _ parts.0).1 k) (branches_keep around inside branches hs parts.1 k))
 
-    handlers_keep : (around : Around) (inside : Bool) (hs : HandlersForm) (holds : Holds) → handlers_fit types variables texts exceptions callable inside hs ≡ true → Scalars holds → Keeps (handlers_flow types variables around hs holds)
+    handlers_keep : (around : Around) (inside : Bool) (hs : HandlersForm) (holds : Holds) → handlers_fit types variables texts exceptions callable inside hs ≡ true → Scalars holds → Keeps (handlers_flow types variables (untracked around) hs holds)
     handlers_keep around inside no_handlers holds fits s = (tt, tt)
     handlers_keep around inside (a_handler choices fs hs) holds fits s =
         let parts = and_parts _ _ fits in
-        either_keeps (stmts_flow types variables around fs holds) (handlers_flow types variables around hs holds)
+        either_keeps (stmts_flow types variables (untracked around) fs holds) (handlers_flow types variables (untracked around) hs holds)
         (stmts_keep around inside fs holds (and_parts _ _ parts.0).1 s) (handlers_keep around inside hs holds parts.1 s)
 
   -- What holds behind a form that comes to its end.
@@ -542,7 +544,7 @@ module _ (types : List TypeForm) (variables : List VariableForm) (texts exceptio
     comes_keep inside fits s (in_branches more) = branches_comes inside (and_parts _ _ fits).0 s more
     comes_keep inside fits s (in_body {raising = raising} {condition = condition} {body = body} {holds = holds} mid is more) =
         let parts = and_parts _ _ (and_parts _ _ fits).0 in
-        comes_keep true parts.1 (normal_of _ mid raising is (condition_keeps condition (opened_by_all variables body holds) (opens_all body holds s))) more
+        comes_keep true parts.1 (normal_of _ mid raising is (condition_keeps condition (opened_by_all variables no_tracks body holds) (opens_all body holds s))) more
     comes_keep inside fits s (in_count {raising = raising} {x = x} {low = low} {high = high} {body = body} {holds = holds} mid is more) =
         let parts = and_parts _ _ (and_parts _ _ fits).0 in
         comes_keep true parts.1 (counting_keeps x body mid (normal_of _ mid raising is (bounds_keep low high holds s))) more

@@ -9,6 +9,7 @@ use Rattle.ada_program.specs.Typed.{components_of, reached_of}
 use Rattle.ada_program.specs.WellFormed.{IsWellFormed, record_components, reached_components}
 use Rattle.ada_typed.proofs.Bodies.{seen_fits, sees}
 use Rattle.ada_typed.proofs.Objects.{record_no_access}
+use Rattle.ada_sound.specs.Untracked.{AdjustsNoOwners}
 use Rattle.ada_sound.proofs.Callers.{Suspension, known_in, rest_of}
 use Rattle.ada_sound.proofs.CallStatements.{MayCall}
 use Rattle.ada_sound.proofs.Defaults.{reached_same, Reaches}
@@ -29,10 +30,11 @@ reaches_in program procedure gs =
     )
 
 -- What a body sees is there, and in it flow calls Integers and Booleans lost.
-pub may_call : (program : Program) (procedure : Option ℕ) (gs : List Suspension) → IsWellFormed (program_form program) → MayCall (known_in program procedure gs) (body_forms program)
-may_call program procedure gs well = record {
+pub may_call : (program : Program) (procedure : Option ℕ) (gs : List Suspension) → IsWellFormed (program_form program) → AdjustsNoOwners (program_form program).types → MayCall (known_in program procedure gs) (body_forms program)
+may_call program procedure gs well none = record {
   among = sees (program_form program) procedure;
   lost = λ place at reached. scalars_lost program procedure (rest_of gs) reached.0 place at (seen_fits (program_form program) well procedure) reached.1;
+  adjusts = subst AdjustsNoOwners (sym (same_types procedure (program_form program))) none;
   records = λ x t is. (
       let p = seen_in procedure (program_form program) in
       record_no_access p.types p.variables x t.0 (seen_fits (program_form program) well procedure).variables_fit (rw is (eq-eqb t.0 t.0 refl))

@@ -12,6 +12,7 @@ use Rattle.ada_program.specs.Freed.{FreesItsOwn}
 use Rattle.ada_effects.specs.Effects.{effects_of}
 use Rattle.ada_flow.specs.declared.rule.Hold.TheVariants as hold
 use Rattle.ada_flow.specs.Flow.{hold_at, keeping_of, body_flow, first_holds, gone_with, have_exit, handlers_have_exit, ObeysRules}
+use Rattle.ada_flow.specs.Tracking.{no_tracks}
 use Rattle.ada_meaning.specs.Step.{blanks}
 use Rattle.ada_meaning.specs.Named.{State, named}
 use Rattle.ada_meaning.specs.Run.{Event, Run, here, first_state}
@@ -23,6 +24,8 @@ use Rattle.ada_typed.proofs.Control as typed
 use Rattle.ada_typed.proofs.Runs.{first_typed}
 use Rattle.ada_scopes.proofs.Runs.{Scoped, first_nested}
 use Rattle.ada_sound.proofs.Fits.{first_fit}
+use Rattle.ada_sound.specs.Untracked.{AdjustsNoOwners}
+use Rattle.ada_sound.proofs.Untracked.{adjusts_no_owners}
 use Rattle.ada_sound.proofs.Bodies.{IsBody, IsFine, obeys_in}
 use Rattle.ada_sound.proofs.BodyRuns.{body_runs, none_suspended}
 use Rattle.ada_sound.proofs.Exits.{no_exits, no_exit_handlers}
@@ -46,6 +49,10 @@ pub record Ordinary (program : Program) (s : State) : Type 0 where
   pub calm : IsCalm (behind_call s.control)
   pub settled : under_in (callers_of program suspensions) ≡ []
 
+-- A program obeys the rules, and no Adjust is of a type that declares components of access types.
+abbrev pub Obeys : Program → Type 0
+Obeys program = AdjustsNoOwners (program_form program).types × ObeysRules program
+
 -- What every state of a run keeps: that invariant, or the body of an operation runs, one that touches no storage or a Finalize that does; values are of
 -- their kinds, and collections nest.
 pub record Sound (program : Program) (s : State) : Type 0 where
@@ -53,17 +60,17 @@ pub record Sound (program : Program) (s : State) : Type 0 where
   pub well : IsWellFormed (program_form program)
   pub in_use : operations_are_in_use (program_form program) ≡ true
   pub frees_own : FreesItsOwn (program_form program)
-  pub obeys : ObeysRules program
+  pub obeys : Obeys program
   pub goes : Ordinary program s ⊎ (Operates program s ⊎ Touching program s)
   pub typed : typed.Typed (program_form program) s
   pub nested : Scoped (program_form program) s
 
 -- Each body of a program breaks no rule, and no exit leads out of it.
-pub body_obeys : (program : Program) (procedure : Option ℕ) → IsBody (program_form program) procedure → ObeysRules program → IsFine (body_flow (seen_in procedure (program_form program)).types (effects_of (implicit_of (program_form program)) (seen_in procedure (program_form program))) (keeping_of (implicit_of (program_form program)) (seen_in procedure (program_form program))) (main_body (seen_in procedure (program_form program))))
+pub body_obeys : (program : Program) (procedure : Option ℕ) → IsBody (program_form program) procedure → Obeys program → IsFine (body_flow (seen_in procedure (program_form program)).types (effects_of (implicit_of (program_form program)) (seen_in procedure (program_form program))) (keeping_of (implicit_of (program_form program)) (seen_in procedure (program_form program))) no_tracks (main_body (seen_in procedure (program_form program))))
 body_obeys program procedure is obeys =
     let own = seen_in procedure (program_form program) in
     let implicit = implicit_of (program_form program) in
-    subst (λ (types : List TypeForm). IsFine (body_flow types (effects_of implicit own) (keeping_of implicit own) (main_body own))) (sym (same_types procedure (program_form program))) (obeys_in implicit (program_form program) procedure is obeys)
+    subst (λ (types : List TypeForm). IsFine (body_flow types (effects_of implicit own) (keeping_of implicit own) no_tracks (main_body own))) (sym (same_types procedure (program_form program))) (obeys_in implicit (program_form program) procedure obeys.0 is obeys.1)
 
 pub none_out : (program : Program) (procedure : Option ℕ) → IsWellFormed (program_form program) → have_exit (seen_in procedure (program_form program)).statements ≡ false
 none_out program procedure well =
@@ -82,7 +89,7 @@ lost_first (v ∷ vs) zero = refl
 lost_first (v ∷ vs) (suc x) = lost_first vs x
 
 -- The first state.
-ready_first : (program : Program) (input : List ℤ) → IsWellFormed (program_form program) → ObeysRules program → Ready (known_in program None []) (first_state program input)
+ready_first : (program : Program) (input : List ℤ) → IsWellFormed (program_form program) → Obeys program → Ready (known_in program None []) (first_state program input)
 ready_first program input well obeys =
     let p = program_form program in (
       tt,
@@ -97,15 +104,15 @@ ready_first program input well obeys =
     )
 
 pub sound_first : (program : Program) (input : List ℤ) → IsWellFormed (program_form program) → operations_are_in_use (program_form program) ≡ true → CollectionsNest (program_form program) → FreesItsOwn (program_form program) → ObeysRules program → Sound program (first_state program input)
-sound_first program input well uses nest own obeys = record {
+sound_first program input well uses nest own obeys = let none = adjusts_no_owners (program_form program) well uses in record {
   reached = (input, [], here);
   well = well;
   in_use = uses;
   frees_own = own;
-  obeys = obeys;
+  obeys = (none, obeys);
   goes = inl (record {
     suspensions = [];
-    ready = ready_first program input well obeys;
+    ready = ready_first program input well (none, obeys);
     stands = record { body = tt; behind = refl; bodies = tt; standing = record { suspended = tt; waiting = tt; low = tt } };
     calm = tt;
     settled = refl;

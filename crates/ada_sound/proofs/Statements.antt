@@ -14,7 +14,8 @@ use Rattle.ada_program.specs.Freed.{statement_frees_own, statements_free_own}
 use Rattle.ada_program.specs.Typed.{pool_named}
 use Rattle.ada_program.specs.ProgramForm.{BodyForm}
 use Rattle.ada_effects.specs.Effects.{effects_of, stmt_raises, expression_raises, path_raises, condition_raises, right_raises, right_starts, ending_frees}
-use Rattle.ada_flow.specs.Flow.{Holds, uses_in_target, uses_in_start, initializes, ends_with, bounds_flow, gives, gives_path, gets_path, frees_path, leaves_path, clears, begins_pair, exit_of, declared_at, collected, gone_with, computed}
+use Rattle.ada_flow.specs.Flow.{Holds, uses_in_target, uses_in_start, initializes, ends_with, bounds_flow, gives, gives_seen, gets_path, frees_seen, leaves_path, clears, begins_pair, exit_of, declared_at, collected, gone_with, computed}
+use Rattle.ada_flow.specs.Tracking.{no_tracks}
 use Rattle.ada_meaning.specs.declared.state.Value.{Value}
 use Rattle.ada_meaning.specs.declared.state.Mode.TheVariants.{Raising, Exiting, Returning}
 use Rattle.ada_meaning.specs.Frame.{Elaborates, Does, Decides, Repeats, Turns, Ranges, Counts, Exits, Handles, Closes, Evaluates, Computes, Stores, Declares, Writes}
@@ -44,6 +45,7 @@ use Rattle.ada_sound.proofs.Targets.{component_begins, get_begins, half_begins}
 use Rattle.ada_sound.proofs.Frees.{free_fine}
 use Rattle.ada_sound.proofs.Releases.{free_begins}
 use Rattle.ada_sound.proofs.CallStatements.{MayCall, call_begins}
+use Rattle.ada_sound.specs.Untracked.{AdjustsNoOwners}
 
 -- Which exceptions a Free may raise, and which Get may.
 abbrev free_among : PathForm → Exception → Bool
@@ -115,7 +117,7 @@ module _ (known : Known) where
   declares_more heap places x right ds fs hs k holds [] e = absurd e
   declares_more heap places x right ds fs hs k holds (gone ∷ rooms) e =
       let o = Outside known gone (ways known k rooms) in
-      let flow = gives known.program.types known.program.variables (declared_at known.program.variables x) false x right holds in
+      let flow = gives known.program.types known.program.variables no_tracks (declared_at known.program.variables x) false x right holds in
       let among = assignment_among known right in (
         tt,
         false,
@@ -149,7 +151,7 @@ module _ (known : Known) where
     declares_ready (computes e) x k w = w
 
     -- Declarations.
-    module _ (fs : StmtsForm) (hs : HandlersForm) (k : Control) where
+    module _ (adjusts : AdjustsNoOwners known.program.types) (fs : StmtsForm) (hs : HandlersForm) (k : Control) where
       declaration_fine : (types : List TypeDefinition) (d : DeclarationForm) (ds : List DeclarationForm) → AreHeld known.program.types (cells_of s.heap) known.program.variables a.places → initial_fits known.program.types known.program.variables d ≡ true → Working known s.heap a.places s.masters (RunsOn known (Elaborates (d ∷ ds) fs hs ∷ k)) → Fine known s.heap s.masters (declaration_next named types d (running (Elaborates ds fs hs ∷ k) a rest s))
       declaration_fine types (creates_pool p) ds held fits w =
           stays known Quiet _ (
@@ -178,7 +180,7 @@ module _ (known : Known) where
       declaration_fine types (declares_record x t initial) ds held fits w =
           let is = (and_parts (is_record_object t (variable_kind known.program.variables x)) (record_initial_fits known.program.types known.program.variables x (object_named known.program.types (Some t)) initial) fits).0 in
           let place = has_place known.program.types (cells_of s.heap) known.program.variables a.places x t held is in
-          record_fine known a rest s types x t ds fs hs k initial place.0 place.1 is w
+          record_fine known a rest s types x t ds fs hs k adjusts initial place.0 place.1 is w
       declaration_fine types (declares x right) ds held fits w =
           ready_on known (Evaluates right ∷ Declares x ∷ Elaborates ds fs hs ∷ k) a rest s a.operands
           (inl (declares_ready right x (Elaborates ds fs hs ∷ k) (at_work w (declares_more s.heap a.places x right ds fs hs k w.holds w.rooms w.rest))))
@@ -188,7 +190,7 @@ module _ (known : Known) where
       declarations_fine types (d ∷ ds) held fits w = declaration_fine types d ds held (and_parts _ _ fits).0 w
 
     -- Paths that are targets, or are freed.
-    assign_fine : (cs : List ℕ) (target : PathForm) (right : RightForm) (fs : StmtsForm) (k : Control) → target.selectors ≡ cs → (target.of_record ≡ true → is_object known.program.variables target.root ≡ true) → Working known s.heap a.places s.masters (λ rooms holds. Goes (gives_path known.program.types known.program.variables (begins_pair (assigns target right) fs) cs target right holds) (RunsAfter known right (Does fs ∷ k) rooms) (Raised (component_among known (path_raises target) right) (ways known k rooms))) → Fine known s.heap s.masters (assign_next named cs target.root right (running (Does fs ∷ k) a rest s))
+    assign_fine : (cs : List ℕ) (target : PathForm) (right : RightForm) (fs : StmtsForm) (k : Control) → target.selectors ≡ cs → (target.of_record ≡ true → is_object known.program.variables target.root ≡ true) → Working known s.heap a.places s.masters (λ rooms holds. Goes (gives_seen known.program.types known.program.variables no_tracks false (begins_pair (assigns target right) fs) cs target right holds) (RunsAfter known right (Does fs ∷ k) rooms) (Raised (component_among known (path_raises target) right) (ways known k rooms))) → Fine known s.heap s.masters (assign_next named cs target.root right (running (Does fs ∷ k) a rest s))
     assign_fine [] target right fs k is whole w =
         let out = ways known k w.rooms in
         let cleared = begins_pair (assigns target right) fs in
@@ -198,7 +200,7 @@ module _ (known : Known) where
           cleared,
           (
             target.spot,
-            goes_map (gives known.program.types known.program.variables target.spot cleared target.root right w.holds) (RunsAfter known right (Does fs ∷ k) w.rooms) (Raised among out) (RunsAfter known right (Does fs ∷ k) w.rooms) (Raised (assignment_among known right) out)
+            goes_map (gives known.program.types known.program.variables no_tracks target.spot cleared target.root right w.holds) (RunsAfter known right (Does fs ∷ k) w.rooms) (Raised among out) (RunsAfter known right (Does fs ∷ k) w.rooms) (Raised (assignment_among known right) out)
                 (λ h m. m) (λ h r. raised_less among (assignment_among known right) out (λ e may. component_more (is_same e ConstraintError && path_raises target) (right_raises (is_same e) right) (right_starts known.implicit (is_same e) right) may) h r) w.rest,
           ),
           pairs_variable target right fs k is,
@@ -207,7 +209,7 @@ module _ (known : Known) where
         let cleared = begins_pair (assigns target right) fs in
         component_begins known a rest s cleared c cs target right fs k is whole (at_work w (w.rest, pairs_component c cs target right fs k is))
 
-    frees_fine : (defined : List TypeDefinition) (cs : List ℕ) (access : ℕ) (path : PathForm) (fs : StmtsForm) (k : Control) → HaveHomes known.program.types (outers known).under s.heap s.masters → is_freed_by known.program.types access (path_access known.program.types known.program.variables path) ≡ true → is_this access (path_access known.program.types known.program.variables path) ≡ true → Spares known (λ t. is_this t (path_access known.program.types known.program.variables path)) → path.selectors ≡ cs → Working known s.heap a.places s.masters (λ rooms holds. Goes (frees_path known.program.types known.program.variables known.implicit cs path holds) (To (RunsOn known (Does fs ∷ k) rooms)) (Raised (free_among path) (ways known k rooms))) → Fine known s.heap s.masters (frees_next named defined cs access path.root (running (Does fs ∷ k) a rest s))
+    frees_fine : (defined : List TypeDefinition) (cs : List ℕ) (access : ℕ) (path : PathForm) (fs : StmtsForm) (k : Control) → HaveHomes known.program.types (outers known).under s.heap s.masters → is_freed_by known.program.types access (path_access known.program.types known.program.variables path) ≡ true → is_this access (path_access known.program.types known.program.variables path) ≡ true → Spares known (λ t. is_this t (path_access known.program.types known.program.variables path)) → path.selectors ≡ cs → Working known s.heap a.places s.masters (λ rooms holds. Goes (frees_seen known.program.types known.program.variables no_tracks false known.implicit cs path holds) (To (RunsOn known (Does fs ∷ k) rooms)) (Raised (free_among path) (ways known k rooms))) → Fine known s.heap s.masters (frees_next named defined cs access path.root (running (Does fs ∷ k) a rest s))
     frees_fine defined [] access path fs k homes freed by_own spares is w =
         let own = freed_at known.program.types known.program.variables access path freed in
         let at : path_access known.program.types known.program.variables path ≡ Some access = this_is access (path_access known.program.types known.program.variables path) by_own in
@@ -215,7 +217,7 @@ module _ (known : Known) where
         free_fine known a rest s defined access path.root (value_root known.program.types known.program.variables path own.0 is own.1) path.spot fs k (λ rooms. Raised (free_among path) (ways known k rooms)) homes own.0 one (sym (ap (λ (cs : List ℕ). access_of (selectors_kind known.program.types (variable_kind known.program.variables path.root) cs)) is) ∙ own.2) own.3 (spares own.0 (ap (is_this own.0) own.1 ∙ eq-eqb own.0 own.0 refl)) w
     frees_fine defined (c ∷ cs) access path fs k homes freed by_own spares is w = free_begins known a rest s c cs access path fs k (free_among path) (λ may. may) freed by_own spares is w
 
-    gets_fine : (cs : List ℕ) (target : PathForm) (input : List ℤ) (fs : StmtsForm) (k : Control) → target.selectors ≡ cs → (target.of_record ≡ true → is_object known.program.variables target.root ≡ true) → Working known s.heap a.places s.masters (λ rooms holds. Goes (gets_path cs target holds) (RunsOn known (Does fs ∷ k) rooms) (Raised (get_among target) (ways known k rooms))) → Fine known s.heap s.masters (gets_next named cs target.root input (running (Does fs ∷ k) a rest s))
+    gets_fine : (cs : List ℕ) (target : PathForm) (input : List ℤ) (fs : StmtsForm) (k : Control) → target.selectors ≡ cs → (target.of_record ≡ true → is_object known.program.variables target.root ≡ true) → Working known s.heap a.places s.masters (λ rooms holds. Goes (gets_path no_tracks cs target holds) (RunsOn known (Does fs ∷ k) rooms) (Raised (get_among target) (ways known k rooms))) → Fine known s.heap s.masters (gets_next named cs target.root input (running (Does fs ∷ k) a rest s))
     gets_fine (c ∷ cs) target input fs k is whole w =
         let u = using_goes (uses_in_target target) w.holds (ends_with true w.holds w.holds) (RunsOn known (Does fs ∷ k) w.rooms) (Raised (get_among target) (ways known k w.rooms)) w.rest in
         get_begins known a rest s c cs target fs k is whole (at_work w (u.0, (λ may. u.1.1 ConstraintError may), (λ may. u.1.1 EndError refl), u.1.0))
@@ -291,19 +293,19 @@ module _ (known : Known) where
     exited_fine (Some true) k w = jumps known k a rest s Exiting (at_work w w.rest.1)
     exited_fine (Some false) k w = runs_on known k a rest s (at_work w w.rest.0) Quiet tt
 
-    exit_fine : (condition : Option ExpressionForm) (k : Control) → Working known s.heap a.places s.masters (λ rooms holds. Goes (exit_of condition holds) (RunsOn known k rooms) (Raised (λ e. is_same e ConstraintError && condition_raises condition) (ways known k rooms)) × (ways known k rooms).exited holds) → Fine known s.heap s.masters (exit_next named condition (running k a rest s))
+    exit_fine : (condition : Option ExpressionForm) (k : Control) → Working known s.heap a.places s.masters (λ rooms holds. Goes (exit_of no_tracks condition holds) (RunsOn known k rooms) (Raised (λ e. is_same e ConstraintError && condition_raises condition) (ways known k rooms)) × (ways known k rooms).exited holds) → Fine known s.heap s.masters (exit_next named condition (running k a rest s))
     exit_fine None k w = jumps known k a rest s Exiting (at_work w w.rest.1)
     exit_fine (Some e) k w =
         let g = computed_goes e w.holds (RunsOn known k w.rooms) (Raised (λ x. is_same x ConstraintError && condition_raises (Some e)) (ways known k w.rooms)) w.rest.0 in
         ready_on known (Computes e ∷ Exits ∷ k) a rest s a.operands (at_work w (g.0, (λ may. g.2 may ConstraintError may), (g.1, w.rest.1)))
 
     -- The bounds of a `for` loop are computed first.
-    bounds_fine : (x : ℕ) (low high : ExpressionForm) (body fs : StmtsForm) (k : Control) (rooms : Rooms) (holds : Holds) → Goes (bounds_flow low high holds) (λ h. Counting known x body (Does fs ∷ k) (ways known (Does fs ∷ k) rooms) h) (Raised (λ e. is_same e ConstraintError && (expression_raises low || expression_raises high)) (ways known k rooms)) → Computing known s.heap a.places a.operands low (Computes high ∷ Ranges x body ∷ Does fs ∷ k) rooms holds
+    bounds_fine : (x : ℕ) (low high : ExpressionForm) (body fs : StmtsForm) (k : Control) (rooms : Rooms) (holds : Holds) → Goes (bounds_flow no_tracks low high holds) (λ h. Counting known x body (Does fs ∷ k) (ways known (Does fs ∷ k) rooms) h) (Raised (λ e. is_same e ConstraintError && (expression_raises low || expression_raises high)) (ways known k rooms)) → Computing known s.heap a.places a.operands low (Computes high ∷ Ranges x body ∷ Does fs ∷ k) rooms holds
     bounds_fine x low high body fs k rooms holds g =
         let among : Exception → Bool = λ e. is_same e ConstraintError && (expression_raises low || expression_raises high) in
         let w = ways known k rooms in
         let more : Holds → Type 0 = λ h. Counting known x body (Does fs ∷ k) (ways known (Does fs ∷ k) rooms) h in
-        let first = computed_goes low holds (λ h. Goes (computed high h) more (Raised among w)) (Raised among w) (then_goes (computed low holds) (computed high) more (Raised among w) (raised_before among w) g) in
+        let first = computed_goes low holds (λ h. Goes (computed no_tracks high h) more (Raised among w)) (Raised among w) (then_goes (computed no_tracks low holds) (computed no_tracks high) more (Raised among w) (raised_before among w) g) in
         let second = computed_goes high holds more (Raised among w) first.1 in
         (first.0, (λ may. first.2 may ConstraintError (or_left (expression_raises low) (expression_raises high) may)), (second.0, (λ may. second.2 may ConstraintError (or_right (expression_raises low) (expression_raises high) may)), (λ v. second.1)))
 
@@ -316,8 +318,8 @@ module _ (known : Known) where
         let leads = right_leads types variables (path_kind types variables target) right (and_parts (right_fits types variables (path_kind types variables target) right) (lends_to variables (names_borrower variables target) right) fits).0 in
         let out = ways known k w.rooms in
         let among : Exception → Bool = λ e. stmt_raises (effects_of known.implicit known.program) (is_same e) (assigns target right) in
-        let flow = gives_path types variables (begins_pair (assigns target right) fs) target.selectors target right w.holds in
-        let used = using_goes (uses_in_start types variables known.implicit target right) w.holds (initializes variables known.implicit right flow) (RunsOn known (Does fs ∷ k) w.rooms) (Raised among out) w.rest.1 in
+        let flow = gives_seen types variables no_tracks false (begins_pair (assigns target right) fs) target.selectors target right w.holds in
+        let used = using_goes (uses_in_start types variables no_tracks known.implicit target right) w.holds (initializes variables known.implicit right flow) (RunsOn known (Does fs ∷ k) w.rooms) (Raised among out) w.rest.1 in
         let goes_on = initializes_after known right flow (Does fs ∷ k) w.rooms (Raised among out) (raised_before among out) used.1 in
         assign_fine target.selectors target right fs k refl (root_object types variables target leads.0 leads.1)
         (at_work w goes_on)
@@ -328,14 +330,14 @@ module _ (known : Known) where
         two = and_parts (is_record_path known.program.types known.program.variables target) (record_fits known.program.types known.program.variables target.record_type items) fits
 
         assigned_fine : (parts : Bool) → Fine known s.heap s.masters (record_assign_next named parts target items (running (Does fs ∷ k) a rest s))
-        assigned_fine true = copy_begins known a rest s target items fs k w.rest.4 two.0 two.1 (at_work w w.rest.1)
-        assigned_fine false = record_begins known a rest s target items fs k (record_there known.program.types known.program.variables target two.0) (at_work w w.rest.1)
+        assigned_fine true = copy_begins known a rest s calling.adjusts target items fs k w.rest.4 two.0 two.1 (at_work w w.rest.1)
+        assigned_fine false = record_begins known a rest s calling.adjusts target items fs k (record_there known.program.types known.program.variables target two.0) (at_work w w.rest.1)
     stmt_fine defined bodies calling inside here (frees access path) fs k homes fits own w =
         let types = known.program.types in
         let variables = known.program.variables in
         let freed = path_access types variables path in
         let out = ways known k w.rooms in
-        let goes_on = finalizes_to variables known.implicit freed (frees_path types variables known.implicit path.selectors path w.holds) (RunsOn known (Does fs ∷ k) w.rooms) (Raised (free_among path) out) (raised_before (free_among path) out) w.rest.1 in
+        let goes_on = finalizes_to variables known.implicit freed (frees_seen types variables no_tracks false known.implicit path.selectors path w.holds) (RunsOn known (Does fs ∷ k) w.rooms) (Raised (free_among path) out) (raised_before (free_among path) out) w.rest.1 in
         frees_fine defined path.selectors access path fs k homes (and_parts _ _ fits).0 own (λ t i. w.rest.4 t (or_left (is_this t freed) (ending_frees known.implicit t freed) i)) refl (at_work w goes_on)
     stmt_fine defined bodies calling inside here (gets target) fs k homes fits own w = (
         let types = known.program.types in

@@ -166,7 +166,7 @@ module _ (known : Known) where
         assigns_fine known a rest s types reaches k u (v ∷ below) computed.0 r
 
     frame_fine : (f : Frame Value) → crosses Running (f ∷ k) ≡ false → RunsTyped known s.heap (f ∷ k) a.places a.operands → StateTyped known.program (outers known).under s.heap s.masters → FinalizesBy known.program.types types bodies f (running k a rest s) → ((mode : Mode) (behind : Control) → f ∷ k ≡ Leaves mode ∷ behind → HeldIn s.heap s.masters × NamedBelow (outers known) s.heap s.masters × AreInOrder known.program.types (innermost s.masters)) → ReadyBy known f k s.heap a.places a.operands s.masters → Fine known s.heap s.masters (frame_next named types bodies f (running k a rest s))
-    frame_fine (Elaborates ds fs hs) inner t kept well low r = declarations_fine known a rest s fs hs k types ds t.3 t.1.2 r
+    frame_fine (Elaborates ds fs hs) inner t kept well low r = declarations_fine known a rest s calling.adjusts fs hs k types ds t.3 t.1.2 r
     frame_fine (Does fs) inner t kept well low r = stmts_fine known a rest s types bodies calling t.1.1 fs k (homes_in kept well) t.1.2.0 (t.1.2.1 kept.own) r
     frame_fine (Decides fs branches) inner t kept well low r = decided_fine known (record a { operands = older a.operands }) rest s fs branches (named.reads_boolean (first_or Null a.operands)) k r
     frame_fine (Repeats condition body) inner t kept well low r = repeats_fine known a rest s condition body k r
@@ -195,7 +195,7 @@ module _ (known : Known) where
     frame_fine (AppliesAlone operator) inner t kept well low r =
         let operand = first_or Null a.operands in
         outcome_fine known k a rest s (older a.operands) (at_work r r.rest.1) (unary_raises operator) (named.unary operator operand) (unary_only operator operand) r.rest.0
-    frame_fine (Fills items) inner t kept well low r = items_fine known k a rest s items t.1.0 t.1.1 r
+    frame_fine (Fills items) inner t kept well low r = items_fine known k a rest s calling.adjusts items t.1.0 t.1.1 r
     frame_fine (Copies first u) inner t kept well low r = copies_fine known types reaches k a rest s first u (first_or Null a.operands) (older a.operands) r
     frame_fine (Creates access count) inner t kept well low r = creates_fine known k a rest s types access count (words_of types access) t.0 t.1 t.2 r
     frame_fine (Stores x) inner t kept well low r = stores_fine known k a rest s kept.plain x (first_or Null a.operands) (older a.operands) r

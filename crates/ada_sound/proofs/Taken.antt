@@ -16,6 +16,7 @@ use Rattle.ada_effects.specs.Effects.{follows_value, path_raises}
 use Rattle.ada_flow.specs.declared.rule.Hold.{Hold}
 use Rattle.ada_flow.specs.declared.rule.Hold.TheVariants as hold
 use Rattle.ada_flow.specs.Flow.{Holds, hold_at, variable_access, uses_in_target, moves_it, left_by_move, gives_component, moved_behind, moved_by, taken_by, lost_by, without_values, variable_of, value_hold, borrows_it, borrowed_hold, ends_with, gives, same_selectors, touched_hold}
+use Rattle.ada_flow.specs.Tracking.{no_tracks}
 use Rattle.ada_meaning.specs.declared.state.Id.{Id}
 use Rattle.ada_meaning.specs.declared.state.Value.{Value}
 use Rattle.ada_meaning.specs.declared.state.Value.TheVariants.{Null, Names}
@@ -95,7 +96,7 @@ module _ {types : List TypeForm} {variables : List VariableForm} {outer : Outsid
   borrow_by x hold.Lost none other is same kept = absurd (cc kept)
 
 -- What flow says where a path is moved to a variable, or into a component.
-pub value_gives : (types : List TypeForm) (variables : List VariableForm) (here : Spot) (cleared : Bool) (x : ℕ) (whole : Bool) (root : ℕ) (cs : List ℕ) (spot : Spot) (holds : Holds) (more raised : Holds → Type 0) → is_borrower variables x ≡ false → Goes (gives types variables here cleared x (value_of (at_path whole root cs spot)) holds) more raised → (moved_behind cleared cs (hold_at holds root) spot ≡ None) × more (slice_set (without_values (variable_of cs root) holds) x (value_hold cs (hold_at holds root))) × (follows_value whole cs ≡ true → raised holds)
+pub value_gives : (types : List TypeForm) (variables : List VariableForm) (here : Spot) (cleared : Bool) (x : ℕ) (whole : Bool) (root : ℕ) (cs : List ℕ) (spot : Spot) (holds : Holds) (more raised : Holds → Type 0) → is_borrower variables x ≡ false → Goes (gives types variables no_tracks here cleared x (value_of (at_path whole root cs spot)) holds) more raised → (moved_behind cleared cs (hold_at holds root) spot ≡ None) × more (slice_set (without_values (variable_of cs root) holds) x (value_hold cs (hold_at holds root))) × (follows_value whole cs ≡ true → raised holds)
 value_gives types variables here cleared x whole root cs spot holds more raised owned g =
     let after = slice_set (without_values (variable_of cs root) holds) x (value_hold cs (hold_at holds root)) in
     let u = using_goes (moves_it cleared (at_path whole root cs spot) ∷ []) holds (ends_with (follows_value whole cs) holds after) more raised (rw owned at g) in
@@ -103,14 +104,14 @@ value_gives types variables here cleared x whole root cs spot holds more raised 
     ((first_kept holds (moves_it cleared (at_path whole root cs spot)) [] u.0).0, e.0, e.1)
 
 -- What flow says where a path's value is lent to a borrower.
-pub borrow_gives : (types : List TypeForm) (variables : List VariableForm) (here : Spot) (cleared : Bool) (x : ℕ) (whole : Bool) (root : ℕ) (cs : List ℕ) (spot : Spot) (holds : Holds) (more raised : Holds → Type 0) → is_borrower variables x ≡ true → Goes (gives types variables here cleared x (value_of (at_path whole root cs spot)) holds) more raised → (lost_by (hold_at holds root) spot ≡ None) × more (slice_set holds x (borrowed_hold (hold_at holds root))) × (follows_value whole cs ≡ true → raised holds)
+pub borrow_gives : (types : List TypeForm) (variables : List VariableForm) (here : Spot) (cleared : Bool) (x : ℕ) (whole : Bool) (root : ℕ) (cs : List ℕ) (spot : Spot) (holds : Holds) (more raised : Holds → Type 0) → is_borrower variables x ≡ true → Goes (gives types variables no_tracks here cleared x (value_of (at_path whole root cs spot)) holds) more raised → (lost_by (hold_at holds root) spot ≡ None) × more (slice_set holds x (borrowed_hold (hold_at holds root))) × (follows_value whole cs ≡ true → raised holds)
 borrow_gives types variables here cleared x whole root cs spot holds more raised lent g =
     let after = slice_set holds x (borrowed_hold (hold_at holds root)) in
     let u = using_goes (borrows_it (at_path whole root cs spot) ∷ []) holds (ends_with (follows_value whole cs) holds after) more raised (rw lent at g) in
     let e = ends_goes (follows_value whole cs) holds after more raised u.1 in
     ((first_kept holds (borrows_it (at_path whole root cs spot)) [] u.0).0, e.0, e.1)
 
-pub value_fills : (types : List TypeForm) (cleared : Bool) (target : PathForm) (whole : Bool) (root : ℕ) (cs : List ℕ) (spot : Spot) (holds : Holds) (more raised : Holds → Type 0) → Goes (gives_component types cleared target (value_of (at_path whole root cs spot)) holds) more raised → (moved_behind cleared cs (hold_at holds root) spot ≡ None) × more (without_values (variable_of cs root) holds) × (follows_value whole cs ≡ true → raised holds)
+pub value_fills : (types : List TypeForm) (cleared : Bool) (target : PathForm) (whole : Bool) (root : ℕ) (cs : List ℕ) (spot : Spot) (holds : Holds) (more raised : Holds → Type 0) → Goes (gives_component types no_tracks cleared target (value_of (at_path whole root cs spot)) holds) more raised → (moved_behind cleared cs (hold_at holds root) spot ≡ None) × more (without_values (variable_of cs root) holds) × (follows_value whole cs ≡ true → raised holds)
 value_fills types cleared target whole root cs spot holds more raised g =
     let after = without_values (variable_of cs root) holds in
     let may = path_raises target || follows_value whole cs in
@@ -168,7 +169,7 @@ pub walk_on : (heap : List Object) (o : Id) (object : Object) (c : ℕ) (cs : Li
 walk_on heap o object c cs v found exists at = rw (found, exists, at) refl
 
 -- Where a component is moved, or lent, its path begins at a value that is not lost, and Constraint_Error is known where the path may raise it.
-kept_by : (types : List TypeForm) (variables : List VariableForm) (here : Spot) (cleared : Bool) (x : ℕ) (whole : Bool) (root c : ℕ) (cs : List ℕ) (spot : Spot) (holds : Holds) (more raised : Holds → Type 0) → Goes (gives types variables here cleared x (value_of (at_path whole root (c ∷ cs) spot)) holds) more raised → (lost_by (hold_at holds root) spot ≡ None) × (follows_value whole (c ∷ cs) ≡ true → raised holds)
+kept_by : (types : List TypeForm) (variables : List VariableForm) (here : Spot) (cleared : Bool) (x : ℕ) (whole : Bool) (root c : ℕ) (cs : List ℕ) (spot : Spot) (holds : Holds) (more raised : Holds → Type 0) → Goes (gives types variables no_tracks here cleared x (value_of (at_path whole root (c ∷ cs) spot)) holds) more raised → (lost_by (hold_at holds root) spot ≡ None) × (follows_value whole (c ∷ cs) ≡ true → raised holds)
 kept_by types variables here cleared x whole root c cs spot holds more raised g = go (is_borrower variables x) refl
   where
     go : (b : Bool) → is_borrower variables x ≡ b → (lost_by (hold_at holds root) spot ≡ None) × (follows_value whole (c ∷ cs) ≡ true → raised holds)
@@ -204,7 +205,7 @@ moved_some h spot kept lost = cc (rw lost at kept)
 lent_some : (h : Hold) (spot : Spot) → lost_by h spot ≡ None → h ≢ hold.Lost
 lent_some h spot kept lost = cc (rw lost at kept)
 
-some_by : (types : List TypeForm) (variables : List VariableForm) (here : Spot) (cleared : Bool) (x : ℕ) (whole : Bool) (root : ℕ) (spot : Spot) (holds : Holds) (more raised : Holds → Type 0) → Goes (gives types variables here cleared x (value_of (at_path whole root [] spot)) holds) more raised → hold_at holds root ≢ hold.Lost
+some_by : (types : List TypeForm) (variables : List VariableForm) (here : Spot) (cleared : Bool) (x : ℕ) (whole : Bool) (root : ℕ) (spot : Spot) (holds : Holds) (more raised : Holds → Type 0) → Goes (gives types variables no_tracks here cleared x (value_of (at_path whole root [] spot)) holds) more raised → hold_at holds root ≢ hold.Lost
 some_by types variables here cleared x whole root spot holds more raised g = go (is_borrower variables x) refl
   where
     go : (b : Bool) → is_borrower variables x ≡ b → hold_at holds root ≢ hold.Lost

@@ -10,7 +10,8 @@ use Rattle.ada_program.specs.Form.{PathForm, RightForm, nothing, value_of, alloc
 use Rattle.ada_program.specs.ProgramForm.{TypeForm, VariableForm, BodyForm}
 use Rattle.ada_program.specs.Handling.{is_same}
 use Rattle.ada_effects.specs.Effects.{effects_of, path_raises, right_raises, right_starts, stmt_raises}
-use Rattle.ada_flow.specs.Flow.{Holds, reads_it, gives_component, gives_path, uses_in_target, uses_in_right, evaluation_raises, ends_with, without_values, moved_by_right}
+use Rattle.ada_flow.specs.Flow.{Holds, reads_it, gives_component, gives_seen, uses_in_target, uses_in_right, evaluation_raises, ends_with, without_values, moved_by_right}
+use Rattle.ada_flow.specs.Tracking.{no_tracks}
 use Rattle.ada_meaning.specs.declared.state.Id.{Id}
 use Rattle.ada_meaning.specs.declared.state.Value.{Value}
 use Rattle.ada_meaning.specs.declared.state.Value.TheVariants.{Null, Names, Scalar, Part}
@@ -63,9 +64,9 @@ blank_works {heap = heap} o object c v found none w = record {
 
 -- What flow says of a component that is a target: its path uses nothing that is lost, variables that are moved are lost where it comes to its end, and
 -- it may raise an exception.
-target_goes : (types : List TypeForm) (cleared : Bool) (path : PathForm) (right : RightForm) (holds : Holds) (more raised : Holds → Type 0) → Goes (gives_component types cleared path right holds) more raised → (NoneBroken holds (uses_in_target path)) × more (without_values (moved_by_right false right) holds) × (path_raises path ≡ true → raised holds)
+target_goes : (types : List TypeForm) (cleared : Bool) (path : PathForm) (right : RightForm) (holds : Holds) (more raised : Holds → Type 0) → Goes (gives_component types no_tracks cleared path right holds) more raised → (NoneBroken holds (uses_in_target path)) × more (without_values (moved_by_right no_tracks false right) holds) × (path_raises path ≡ true → raised holds)
 target_goes types cleared path right holds more raised g =
-    let after = without_values (moved_by_right false right) holds in
+    let after = without_values (moved_by_right no_tracks false right) holds in
     let may = path_raises path || evaluation_raises right in
     let uses = uses_in_right types path.spot false cleared (Some path) right in
     let u = using_goes (uses_in_target path ++ uses) holds (ends_with may holds after) more raised g in
@@ -73,7 +74,7 @@ target_goes types cleared path right holds more raised g =
     ((kept_apart holds (uses_in_target path) uses u.0).0, n.0, (λ raises. n.1 (or_left (path_raises path) (evaluation_raises right) raises)))
 
 -- Null leaves all that is known as it is.
-cleared_goes : (types : List TypeForm) (variables : List VariableForm) (cs : List ℕ) (d : ℕ) (ds : List ℕ) (path : PathForm) (holds : Holds) (more raised : Holds → Type 0) → cs ≡ d ∷ ds → Goes (gives_path types variables false cs path nothing holds) more raised → more holds
+cleared_goes : (types : List TypeForm) (variables : List VariableForm) (cs : List ℕ) (d : ℕ) (ds : List ℕ) (path : PathForm) (holds : Holds) (more raised : Holds → Type 0) → cs ≡ d ∷ ds → Goes (gives_seen types variables no_tracks false false cs path nothing holds) more raised → more holds
 cleared_goes types variables [] d ds path holds more raised is g = absurd (cc is)
 cleared_goes types variables (c ∷ cs) d ds path holds more raised is g = (target_goes types false path nothing holds more raised g).1
 
@@ -89,7 +90,7 @@ module _ (known : Known) (a : Activation Value) (rest : List (Activation Value))
       (λ object. object_there target.root target.spot (rw is at (first_kept w.holds (reads_it target) [] kept).0) (whole object) w.fit) (rw is at may)
 
   -- An assignment to a component begins: its object is found first.
-  pub component_begins : (cleared : Bool) (c : ℕ) (cs : List ℕ) (target : PathForm) (right : RightForm) (fs : StmtsForm) (k : Control) → target.selectors ≡ c ∷ cs → (target.of_record ≡ true → is_object known.program.variables target.root ≡ true) → Working known s.heap a.places s.masters (λ rooms holds. Goes (gives_component known.program.types cleared target right holds) (RunsAfter known right (Does fs ∷ k) rooms) (Raised (component_among known (path_raises target) right) (ways known k rooms)) × Pairs cleared right (λ taken. IsOne taken.selectors) (Does fs ∷ k)) → Fine known s.heap s.masters (path_next named (before_last (inside (place_at a.places target.root) c) cs) (begun a.places target) (running (Targets (last_of (inside (place_at a.places target.root) c) cs) right ∷ Does fs ∷ k) a rest s))
+  pub component_begins : (cleared : Bool) (c : ℕ) (cs : List ℕ) (target : PathForm) (right : RightForm) (fs : StmtsForm) (k : Control) → target.selectors ≡ c ∷ cs → (target.of_record ≡ true → is_object known.program.variables target.root ≡ true) → Working known s.heap a.places s.masters (λ rooms holds. Goes (gives_component known.program.types no_tracks cleared target right holds) (RunsAfter known right (Does fs ∷ k) rooms) (Raised (component_among known (path_raises target) right) (ways known k rooms)) × Pairs cleared right (λ taken. IsOne taken.selectors) (Does fs ∷ k)) → Fine known s.heap s.masters (path_next named (before_last (inside (place_at a.places target.root) c) cs) (begun a.places target) (running (Targets (last_of (inside (place_at a.places target.root) c) cs) right ∷ Does fs ∷ k) a rest s))
   component_begins cleared c cs target right fs k is whole w =
       let g = target_goes known.program.types cleared target right w.holds (RunsAfter known right (Does fs ∷ k) w.rooms) (Raised (component_among known (path_raises target) right) (ways known k w.rooms)) w.rest.0 in
       finds_fine known a rest s a.operands (Targets (last_of (inside (place_at a.places target.root) c) cs) right ∷ Does fs ∷ k) (before_last (inside (place_at a.places target.root) c) cs) (begun a.places target)

@@ -18,7 +18,8 @@ use Rattle.ada_quiet.specs.Frugal.{is_frugal_body, frugal_procedures}
 use Rattle.ada_quiet.specs.InUse.{may_be_frugal}
 use Rattle.ada_flow.specs.declared.rule.Hold.TheVariants as hold
 use Rattle.ada_flow.specs.declared.rule.Region.TheVariants.{Whole}
-use Rattle.ada_flow.specs.Flow.{formal_hold, Holds, ObeysRules, body_keeps, first_holds, gone_with, hold_at, keeping_of, variable_access}
+use Rattle.ada_flow.specs.Flow.{formal_hold, Holds, body_keeps, first_holds, gone_with, hold_at, keeping_of, variable_access}
+use Rattle.ada_flow.specs.Tracking.{no_tracks}
 use Rattle.ada_meaning.specs.declared.state.Id.{Id}
 use Rattle.ada_meaning.specs.declared.state.Place.{Place}
 use Rattle.ada_meaning.specs.declared.state.Value.{Value}
@@ -46,7 +47,7 @@ use Rattle.ada_sound.proofs.Invariant.{Control, CoveredIn, Known, RunsOn, Spares
 use Rattle.ada_sound.proofs.Operating.{IsCalm, WaitsFor, behind_operation, lets_out}
 use Rattle.ada_sound.proofs.Orderings.{as_good}
 use Rattle.ada_sound.proofs.Returns.{same_types}
-use Rattle.ada_sound.proofs.Starts.{body_obeys, lost_first, none_out, none_on}
+use Rattle.ada_sound.proofs.Starts.{Obeys, body_obeys, lost_first, none_out, none_on}
 use Rattle.ada_sound.proofs.Stored.{stored_entered, IsUnder}
 use Rattle.ada_sound.proofs.Waiting.{stands_kept}
 use Rattle.ada_program.specs.declared.program.Exception.{Exception}
@@ -89,7 +90,7 @@ referred_split [] others o t is = inr is
 referred_split (r ∷ first) others o t (inl same) = inl (inl same)
 referred_split (r ∷ first) others o t (inr is) = elim (referred_split first others o t is) [ inl one ↦ inl (inr one) | inr other ↦ inr other ]
 
-module _ (program : Program) (well : IsWellFormed (program_form program)) (obeys : ObeysRules program) (number : ℕ) (b : BodyForm) (there : slice_get (body_forms program) number ≡ Some b) (may : may_be_frugal (program_form program) ≡ true) (frugal : is_frugal_body (frugal_procedures (program_form program)) b ≡ true) (lone : IsAlone b) (a : Activation Value) (rest : List (Activation Value)) (gs : List Suspension) (s : State) (k : Control) (o : Id) (x : Object) (heap : List Object) (found : object_at heap o ≡ Some x) (exists : is_there x.stage ≡ true) (place : Place)
+module _ (program : Program) (well : IsWellFormed (program_form program)) (obeys : Obeys program) (number : ℕ) (b : BodyForm) (there : slice_get (body_forms program) number ≡ Some b) (may : may_be_frugal (program_form program) ≡ true) (frugal : is_frugal_body (frugal_procedures (program_form program)) b ≡ true) (lone : IsAlone b) (a : Activation Value) (rest : List (Activation Value)) (gs : List Suspension) (s : State) (k : Control) (o : Id) (x : Object) (heap : List Object) (found : object_at heap o ≡ Some x) (exists : is_there x.stage ≡ true) (place : Place)
     (within : IsWithin (program_form program).types (variable_kind b.variables 0) x.cell.access place.component) (treatment : Treatment) (at : Enters (known_in program a.procedure gs) treatment o x k heap a.places a.operands s.masters) (behind : Control) where
   abbrev p : ProgramForm
   p = program_form program
@@ -101,7 +102,7 @@ module _ (program : Program) (well : IsWellFormed (program_form program)) (obeys
   own = seen_in (Some number) p
 
   abbrev waiting : Suspension
-  waiting = resting a.procedure a.places treatment o x.cell.access at.also place behind s.masters (body_keeps own.types (effects_of (implicit_of p) own) (keeping_of (implicit_of p) own) (main_body own)) at.rooms at.holds
+  waiting = resting a.procedure a.places treatment o x.cell.access at.also place behind s.masters (body_keeps own.types (effects_of (implicit_of p) own) (keeping_of (implicit_of p) own) no_tracks (main_body own)) at.rooms at.holds
 
   abbrev body : Known
   body = known_in program (Some number) (waiting ∷ gs)

@@ -215,7 +215,7 @@ module _ (program : Program) (s : State) (f : Touching program s) where
         let running = running_procedure s in
         let known = known_in program running (waiting_for program s f) in
         stays_next (next program.types.items (body_forms program) s) same
-        (inside.fine known program.types.items (reaches_in program running (waiting_for program s f)) (body_forms program) (may_call program running (waiting_for program s f) sound.well) s
+        (inside.fine known program.types.items (reaches_in program running (waiting_for program s f)) (body_forms program) (may_call program running (waiting_for program s f) sound.well sound.obeys.0) s
         none sound.typed.inside (own_bodies p sound.frees_own running) (collect_two p s sound.nested)
         (touching_stands program sound.well s sound.reached f known.program.types (same_types running p)) none_is_under
         (λ left behind runs at. (

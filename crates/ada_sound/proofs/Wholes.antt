@@ -15,7 +15,8 @@ use Rattle.ada_program.specs.Handling.{is_same}
 use Rattle.ada_program.specs.Typed.{count_of, width_of}
 use Rattle.ada_program.specs.WellFormed.{record_components, reached_components, is_alike, begins_with, has_record_at}
 use Rattle.ada_effects.specs.Effects.{effects_of, record_path_raises, items_raise, stmt_raises, assignment_frees}
-use Rattle.ada_flow.specs.Flow.{Holds, hold_at, is_owning, is_owning_record, passes_it, copies_to, uses_in_items, uses_in_record, uses_in_copy, record_passes, gives_record, using_paths, ends_with}
+use Rattle.ada_flow.specs.Flow.{Holds, hold_at, is_owning, is_owning_record, passes_it, copies_to, uses_in_items, uses_in_record, uses_in_copy, record_passes, gives_record, using_paths, ends_with, gathers_owners}
+use Rattle.ada_flow.specs.Tracking.{no_tracks}
 use Rattle.ada_meaning.specs.declared.state.Id.{Id}
 use Rattle.ada_meaning.specs.declared.state.Value.{Value}
 use Rattle.ada_meaning.specs.declared.state.Value.TheVariants.{Null, Names, Scalar, Part}
@@ -45,11 +46,13 @@ use Rattle.ada_sound.proofs.Handings.{passed_safe}
 use Rattle.ada_sound.proofs.Raising.{or_left, or_right}
 use Rattle.ada_sound.proofs.Roots.{root_object, object_there, record_raises, selected_raises}
 use Rattle.ada_sound.proofs.Assigned.{kind_names}
+use Rattle.ada_sound.proofs.Gathered.{gathered_plain}
 use Rattle.ada_sound.proofs.Copied.{items_keep, copied_plain, RecordThere}
 use Rattle.ada_sound.proofs.Defaults.{Reaches}
 use Rattle.ada_sound.proofs.Records.{NameNothing, plain_names_nothing}
 use Rattle.ada_sound.proofs.Targets.{followed}
 use Rattle.ada_sound.proofs.Walks.{finds_fine}
+use Rattle.ada_sound.specs.Untracked.{AdjustsNoOwners}
 
 -- What typing says of a record in an object: the object has its components, from one on.
 begins_some : (found : Option (List ComponentKind)) (first : ℕ) (kinds : List ComponentKind) → has_record_at found first (Some kinds) ≡ true → (components : List ComponentKind) × (found ≡ Some components) × (begins_with (drop first components) kinds ≡ true)
@@ -204,13 +207,13 @@ module _ (known : Known) (types : List TypeDefinition) (reaches : Reaches known 
   store_record_fine (Part object_id base) first count kinds fits computed w = absurd w.rest.0
 
 -- A record is assigned to: its object is found first.
-pub record_begins : (known : Known) (a : Activation Value) (rest : List (Activation Value)) (s : State) (target : RecordPathForm) (items : List ItemForm) (fs : StmtsForm) (k : Control) → RecordThere known.program.types known.program.variables target → Working known s.heap a.places s.masters (λ rooms holds. Goes (gives_record known.program.types known.program.variables (λ u. assignment_frees known.implicit u target.record_type) target items holds) (RunsOn known (Does fs ∷ k) rooms) (Raised (λ e. stmt_raises (effects_of known.implicit known.program) (is_same e) (assigns_record target items)) (ways known k rooms))) → Fine known s.heap s.masters (record_holder_next named target (λ place. TargetsRecord place.component target.record_type items) (running (Does fs ∷ k) a rest s))
-record_begins known a rest s target items fs k there w =
+pub record_begins : (known : Known) (a : Activation Value) (rest : List (Activation Value)) (s : State) → AdjustsNoOwners known.program.types → (target : RecordPathForm) (items : List ItemForm) (fs : StmtsForm) (k : Control) → RecordThere known.program.types known.program.variables target → Working known s.heap a.places s.masters (λ rooms holds. Goes (gives_record known.program.types known.program.variables no_tracks (λ u. assignment_frees known.implicit u target.record_type) target items holds) (RunsOn known (Does fs ∷ k) rooms) (Raised (λ e. stmt_raises (effects_of known.implicit known.program) (is_same e) (assigns_record target items)) (ways known k rooms))) → Fine known s.heap s.masters (record_holder_next named target (λ place. TargetsRecord place.component target.record_type items) (running (Does fs ∷ k) a rest s))
+record_begins known a rest s adjusts target items fs k there w =
     let program = known.program in
     let path = target.object in
     let v = begun a.places path in
     let place = place_in named (place_at a.places path.root) path.selectors target in
-    let owning = is_owning_record program.types target.record_type in
+    let owning = gathers_owners program.types target.record_type items in
     let used = uses_in_items program.types path.spot None [] items in
     let may = record_path_raises target || items_raise items in
     let among : Exception → Bool = λ e. stmt_raises (effects_of known.implicit known.program) (is_same e) (assigns_record target items) in
@@ -221,7 +224,7 @@ record_begins known a rest s target items fs k there w =
     let copies = uses_in_copy program.types program.variables frees items in
     let reach = passes_it (record_passes program.types program.variables frees target) path in
     let flow = ends_with may w.holds w.holds in
-    let g = loses_to program.variables frees (using_paths (reach ∷ (needed ++ copies)) w.holds flow) (RunsOn known (Does fs ∷ k) w.rooms) (Raised among out) (raised_before among out) w.rest in
+    let g = loses_to program.variables frees (using_paths no_tracks (reach ∷ (needed ++ copies)) w.holds flow) (RunsOn known (Does fs ∷ k) w.rooms) (Raised among out) (raised_before among out) w.rest in
     let u = using_goes (reach ∷ (needed ++ copies)) w.holds flow more (Raised among out) g in
     let n = ends_goes may w.holds w.holds more (Raised among out) u.1 in
     let found = first_kept w.holds reach (needed ++ copies) u.0 in
@@ -234,7 +237,7 @@ record_begins known a rest s target items fs k there w =
           (λ whole. object_there path.root path.spot reached.1 (root_object program.types program.variables path there.to there.leads whole) w.fit)
           (λ raises. (let either = or_left (record_path_raises target) (items_raise items) raises in n.1 either ConstraintError either))),
       (
-        copied_plain owning path.spot copied.0,
+        gathered_plain program.types adjusts path.spot w.holds target.record_type items (copied_plain owning path.spot copied.0) copied.1,
         record {
           spot = path.spot;
           earlier = [];

@@ -13,6 +13,7 @@ use Rattle.ada_program.specs.WellFormed.{access_of, variable_kind, reached_compo
 use Rattle.ada_flow.specs.declared.rule.Hold.{Hold}
 use Rattle.ada_flow.specs.declared.rule.Hold.TheVariants as hold
 use Rattle.ada_flow.specs.Flow.{Holds, goes, hold_at, variable_access, declarations_flow, computed, bounds_flow, condition_flow, opened_by_all, counting_start, gone_with, Around, body_around, keeping_of, in_loop, in_block, begins_pair, stmt_flow, stmts_flow, first_holds}
+use Rattle.ada_flow.specs.Tracking.{no_tracks}
 use Rattle.ada_deeds.specs.Implicit.{implicit_of}
 use Rattle.ada_effects.specs.Effects.{Implicit, effects_of}
 use Rattle.ada_quiet.specs.Quiet.{is_plain_body}
@@ -32,6 +33,7 @@ use Rattle.ada_owners.specs.Places as owners
 use Rattle.ada_owners.specs.Places.{value_at}
 use Rattle.ada_owners.specs.Reliance.{Owns}
 use Rattle.ada_owners.specs.Walks.{walk}
+use Rattle.ada_sound.specs.Untracked.{untracked}
 
 -- An open collection of the object's own access type is its home, or its own item, where it is a record object (7.6.1).
 abbrev pub IsAtHome : List Master → Object → Type 0
@@ -89,21 +91,21 @@ mutual
   pub data Comes (types : List TypeForm) (variables : List VariableForm) : Around → (outer : Place) → StmtsForm → Holds → List Turning → Place → Holds → Type 0 where
     here : {around : Around} {outer : Place} {fs : StmtsForm} {holds : Holds} → Comes types variables around outer fs holds [] (frame.Does fs ∷ outer) holds
     behind : {around : Around} {raising : Option Holds} {outer place : Place} {f : StmtForm} {fs : StmtsForm} {holds at : Holds} {way : List Turning}
-        (mid : Holds) → stmt_flow types variables around (begins_pair f fs) f holds ≡ goes (Some mid) raising → Comes types variables around outer fs mid way place at
+        (mid : Holds) → stmt_flow types variables (untracked around) (begins_pair f fs) f holds ≡ goes (Some mid) raising → Comes types variables around outer fs mid way place at
         → Comes types variables around outer (a_stmt f fs) holds (past ∷ way) place at
     in_branches : {around : Around} {outer place : Place} {branches : BranchesForm} {fs : StmtsForm} {holds at : Holds} {way : List Turning}
         → ComesBy types variables around (frame.Does fs ∷ outer) branches holds way place at
         → Comes types variables around outer (a_stmt (chooses branches) fs) holds (into ∷ way) place at
     in_body : {around : Around} {raising : Option Holds} {outer place : Place}
         {condition : Option ExpressionForm} {body fs : StmtsForm} {end_spot : Spot} {holds at : Holds} {way : List Turning}
-        (mid : Holds) → condition_flow condition (opened_by_all variables body holds) ≡ goes (Some mid) raising
-        → Comes types variables (in_loop (Some (opened_by_all variables body holds)) around) (frame.Repeats condition body ∷ frame.Does fs ∷ outer) body mid way place at
+        (mid : Holds) → condition_flow no_tracks condition (opened_by_all variables no_tracks body holds) ≡ goes (Some mid) raising
+        → Comes types variables (in_loop (Some (opened_by_all variables no_tracks body holds)) around) (frame.Repeats condition body ∷ frame.Does fs ∷ outer) body mid way place at
         → Comes types variables around outer (a_stmt (repeats condition body end_spot) fs) holds (into ∷ way) place at
     in_count : {around : Around} {raising : Option Holds} {outer place : Place}
         {x : ℕ} {low high : ExpressionForm} {body fs : StmtsForm} {end_spot : Spot} {holds at : Holds} {next last : ℤ} {way : List Turning}
-        (mid : Holds) → bounds_flow low high holds ≡ goes (Some mid) raising
-        → Comes types variables (in_loop (Some (counting_start variables x body mid)) around) (frame.Counts x next last body ∷ frame.Does fs ∷ outer)
-        body (counting_start variables x body mid) way place at
+        (mid : Holds) → bounds_flow no_tracks low high holds ≡ goes (Some mid) raising
+        → Comes types variables (in_loop (Some (counting_start variables no_tracks x body mid)) around) (frame.Counts x next last body ∷ frame.Does fs ∷ outer)
+        body (counting_start variables no_tracks x body mid) way place at
         → Comes types variables around outer (a_stmt (counts x low high body end_spot) fs) holds (counting next last ∷ way) place at
     in_enclosed : {around : Around} {outer place : Place}
         {ds : List DeclarationForm} {body fs : StmtsForm} {hs : HandlersForm} {holds at : Holds} {way : List Turning}
@@ -116,11 +118,11 @@ mutual
         → Comes types variables around outer fs holds way place at → ComesBy types variables around outer (otherwise fs) holds (into ∷ way) place at
     in_this : {around : Around} {raising : Option Holds} {outer place : Place}
         {e : ExpressionForm} {fs : StmtsForm} {branches : BranchesForm} {holds at : Holds} {way : List Turning}
-        (mid : Holds) → computed e holds ≡ goes (Some mid) raising → Comes types variables around outer fs mid way place at
+        (mid : Holds) → computed no_tracks e holds ≡ goes (Some mid) raising → Comes types variables around outer fs mid way place at
         → ComesBy types variables around outer (a_branch e fs branches) holds (into ∷ way) place at
     in_next : {around : Around} {raising : Option Holds} {outer place : Place}
         {e : ExpressionForm} {fs : StmtsForm} {branches : BranchesForm} {holds at : Holds} {way : List Turning}
-        (mid : Holds) → computed e holds ≡ goes (Some mid) raising → ComesBy types variables around outer branches mid way place at
+        (mid : Holds) → computed no_tracks e holds ≡ goes (Some mid) raising → ComesBy types variables around outer branches mid way place at
         → ComesBy types variables around outer (a_branch e fs branches) holds (past ∷ way) place at
 
   -- Flow comes to a place from handlers on, which begin with these holds (11.4).
@@ -135,13 +137,13 @@ mutual
       : Around → (outer : Place) → List DeclarationForm → StmtsForm → HandlersForm → Holds → List Turning → Place → Holds → Type 0 where
     in_statements : {around : Around} {raising : Option Holds} {outer place : Place}
         {ds : List DeclarationForm} {body : StmtsForm} {hs : HandlersForm} {holds at : Holds} {way : List Turning}
-        (mid : Holds) → declarations_flow types variables around.effects.implicit ds holds ≡ goes (Some mid) raising
+        (mid : Holds) → declarations_flow types variables no_tracks around.effects.implicit ds holds ≡ goes (Some mid) raising
         → Comes types variables around (frame.Handles hs ∷ frame.Closes ∷ outer) body mid way place at
         → ComesInside types variables around outer ds body hs holds (into ∷ way) place at
     in_handlers : {around : Around} {raising normal : Option Holds} {outer place : Place}
         {ds : List DeclarationForm} {body : StmtsForm} {hs : HandlersForm} {holds at : Holds} {way : List Turning}
-        (mid raised : Holds) → declarations_flow types variables around.effects.implicit ds holds ≡ goes (Some mid) raising
-        → stmts_flow types variables around body mid ≡ goes normal (Some raised)
+        (mid raised : Holds) → declarations_flow types variables no_tracks around.effects.implicit ds holds ≡ goes (Some mid) raising
+        → stmts_flow types variables (untracked around) body mid ≡ goes normal (Some raised)
         → ComesTo types variables around (frame.Closes ∷ outer) hs raised way place at
         → ComesInside types variables around outer ds body hs holds (past ∷ way) place at
 
@@ -167,7 +169,7 @@ IsBehind (Some number) rest = (actuals : List ActualForm) × (references : List 
 -- The holds that flow gives at a place, on this way from the declarations of a program's main body, where this is known of implicit calls.
 abbrev pub IsFlowIn : Implicit → (p : ProgramForm) (rest : Place) (way : List Turning) (place : Place) (holds : Holds) → Type 0
 IsFlowIn implicit p rest way place holds =
-    ComesInside p.types p.variables (body_around (effects_of implicit p) (keeping_of implicit p) (main_body p)) rest p.declarations p.statements p.handlers
+    ComesInside p.types p.variables (body_around (effects_of implicit p) (keeping_of implicit p) no_tracks (main_body p)) rest p.declarations p.statements p.handlers
     (first_holds p.formals p.variables) way place holds
 
 -- So it is from the declarations of a procedure's body, or the main one, on.

@@ -13,6 +13,7 @@ use Rattle.ada_program.specs.Freed.{FreesItsOwn}
 use Rattle.ada_deeds.specs.Implicit.{implicit_of}
 use Rattle.ada_effects.specs.Effects.{Implicit, effects_of}
 use Rattle.ada_flow.specs.Flow.{Holds, goes, faults, Around, body_around, keeping_of, declarations_flow, stmts_flow, handlers_flow, first_holds, program_flow, types_of, variables_of, ObeysRules}
+use Rattle.ada_flow.specs.Tracking.{no_tracks}
 use Rattle.ada_meaning.specs.declared.state.Id.{Id}
 use Rattle.ada_meaning.specs.declared.event.Halt.{Halt}
 use Rattle.ada_meaning.specs.declared.event.Halt.TheVariants.{Finished, Erroneous}
@@ -177,14 +178,14 @@ implicit_in program = implicit_of (program_form program)
 -- Where the statements of the main procedure stand.
 abbrev pub main_around : Program → Around
 main_around program =
-    body_around (effects_of (implicit_in program) (program_form program)) (keeping_of (implicit_in program) (program_form program)) (main_body (program_form program))
+    body_around (effects_of (implicit_in program) (program_form program)) (keeping_of (implicit_in program) (program_form program)) no_tracks (main_body (program_form program))
 
 -- Flow knows this of the variables where the statements of the main procedure begin, and again where they come to their end; and handlers
 -- that began with it would keep the rules.
 abbrev pub IsFineAtEnds : Holds → Program → Type 0
 IsFineAtEnds holds program =
     (before within normal raising : Option Holds)
-    × (declarations_flow (types_of program) (variables_of program) (implicit_in program) (declaration_forms program) (first_holds [] (variables_of program)) ≡ goes (Some holds) before)
+    × (declarations_flow (types_of program) (variables_of program) no_tracks (implicit_in program) (declaration_forms program) (first_holds [] (variables_of program)) ≡ goes (Some holds) before)
     × (stmts_flow (types_of program) (variables_of program) (main_around program) (stmt_forms program) holds ≡ goes (Some holds) within)
     × (handlers_flow (types_of program) (variables_of program) (main_around program) (handler_forms program) holds ≡ goes normal raising)
 

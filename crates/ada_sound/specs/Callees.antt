@@ -29,16 +29,17 @@ use Rattle.ada_meaning.specs.Calls.{EndsBody}
 use Rattle.ada_owners.specs.Reliance.{Owns}
 use Rattle.ada_sound.specs.Always.{InEveryRun, implicit_in}
 use Rattle.ada_sound.specs.Agreement.{IsOwner, running_procedure}
+use Rattle.ada_sound.specs.Untracked.{untracked}
 
 -- A call comes to its end with these holds.
 abbrev pub CallEnds : List TypeForm → List VariableForm → Around → (procedure : ℕ) → (actuals : List ActualForm) → (holds after : Holds) → Type 0
 CallEnds types variables around procedure actuals holds after =
-    (cleared : Bool) × (raising : Option Holds) × (stmt_flow types variables around cleared (calls procedure actuals) holds ≡ goes (Some after) raising)
+    (cleared : Bool) × (raising : Option Holds) × (stmt_flow types variables (untracked around) cleared (calls procedure actuals) holds ≡ goes (Some after) raising)
 
 -- A call raises an exception with these holds.
 abbrev pub CallRaises : List TypeForm → List VariableForm → Around → (procedure : ℕ) → (actuals : List ActualForm) → (holds raised : Holds) → Type 0
 CallRaises types variables around procedure actuals holds raised =
-    (cleared : Bool) × (normal : Option Holds) × (stmt_flow types variables around cleared (calls procedure actuals) holds ≡ goes normal (Some raised))
+    (cleared : Bool) × (normal : Option Holds) × (stmt_flow types variables (untracked around) cleared (calls procedure actuals) holds ≡ goes normal (Some raised))
 
 -- Behind a call no variable of an access type of which the procedure may free an object holds an alias (13.11.2): what it named may be gone.
 abbrev pub CallLeavesNoAlias : Type 0
@@ -89,7 +90,7 @@ abbrev pub OnlyOwnersAreHandedOver : Type 0
 OnlyOwnersAreHandedOver =
     (types : List TypeForm) (variables : List VariableForm) (around : Around) (cleared : Bool) (procedure x : ℕ) (actuals : List ActualForm) (holds : Holds)
     (normal raising : Option Holds)
-    → stmt_flow types variables around cleared (calls procedure actuals) holds ≡ goes normal raising → IsHandedOver x actuals → IsOwner (hold_at holds x)
+    → stmt_flow types variables (untracked around) cleared (calls procedure actuals) holds ≡ goes normal raising → IsHandedOver x actuals → IsOwner (hold_at holds x)
 
 -- Behind the call it owns what comes back.
 abbrev pub CallHandsBack : Type 0
@@ -215,7 +216,7 @@ abbrev pub CallsSpareWhatTheyPass : Type 0
 CallsSpareWhatTheyPass =
     (types : List TypeForm) (variables : List VariableForm) (around : Around) (cleared : Bool) (procedure : ℕ) (actuals : List ActualForm) (holds : Holds)
     (normal raising : Option Holds)
-    → stmt_flow types variables around cleared (calls procedure actuals) holds ≡ goes normal raising
+    → stmt_flow types variables (untracked around) cleared (calls procedure actuals) holds ≡ goes normal raising
     → ArePassedSafely types variables (call_frees (slice_get around.effects.calls procedure)) actuals
 
 -- Nothing is handed over that another owns.
@@ -228,7 +229,7 @@ abbrev pub LostIsNoActual : Type 0
 LostIsNoActual =
     (types : List TypeForm) (variables : List VariableForm) (around : Around) (cleared : Bool) (procedure x : ℕ) (actuals : List ActualForm) (holds : Holds)
     → list_any (value_relies_on x) actuals ≡ true → hold_at holds x ≡ Lost
-    → (spot : Spot) × (rule : Rule) × (stmt_flow types variables around cleared (calls procedure actuals) holds ≡ faults spot rule)
+    → (spot : Spot) × (rule : Rule) × (stmt_flow types variables (untracked around) cleared (calls procedure actuals) holds ≡ faults spot rule)
     × (AreGivenApart actuals → HandsNoAlias actuals holds
     → ArePassedSafely types variables (call_frees (slice_get around.effects.calls procedure)) actuals → rule ≡ LostValue)
 
@@ -238,7 +239,7 @@ abbrev pub NoneIsGivenTwice : Type 0
 NoneIsGivenTwice =
     (types : List TypeForm) (variables : List VariableForm) (around : Around) (cleared : Bool) (procedure : ℕ) (actuals : List ActualForm) (holds : Holds)
     (normal raising : Option Holds)
-    → stmt_flow types variables around cleared (calls procedure actuals) holds ≡ goes normal raising → AreGivenApart actuals
+    → stmt_flow types variables (untracked around) cleared (calls procedure actuals) holds ≡ goes normal raising → AreGivenApart actuals
 
 -- What is known of the calls of a procedure of a program (6.4).
 abbrev pub effect_at : Program → (procedure : ℕ) → Option Effect

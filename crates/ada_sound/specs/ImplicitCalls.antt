@@ -18,10 +18,12 @@ use Rattle.ada_flow.specs.declared.rule.Region.{Region}
 use Rattle.ada_flow.specs.declared.rule.Region.TheVariants.{Whole}
 use Rattle.ada_flow.specs.declared.rule.Rule.TheVariants.{UnsafePath}
 use Rattle.ada_flow.specs.Flow.{Holds, Outcome, faults, goes, hold_at, variable_access, nothing_gone, Around, stmt_flow, declaration_flow, first_holds}
+use Rattle.ada_flow.specs.Tracking.{no_tracks}
 use Rattle.ada_flow.specs.Parts.{HasPart}
 use Rattle.ada_sound.specs.Callees.{IsFollowed, FollowsTo}
 use Rattle.ada_sound.specs.Examples.{example_spot, example_path}
 use Rattle.ada_sound.specs.RecordExamples.{object_path}
+use Rattle.ada_sound.specs.Untracked.{untracked}
 
 -- No variable of an access type holds an alias (3.10).
 abbrev pub HaveNoAlias : List VariableForm → (access : ℕ) → Holds → Type 0
@@ -38,7 +40,7 @@ abbrev pub FinalizedFreeLeavesNoAlias : Type 0
 FinalizedFreeLeavesNoAlias =
     (types : List TypeForm) (variables : List VariableForm) (around : Around) (cleared : Bool) (access u t : ℕ) (path : PathForm) (holds : Holds)
     → path_access types variables path ≡ Some u → around.effects.implicit.end_frees u t ≡ true
-    → LeavesNoAlias variables t (stmt_flow types variables around cleared (frees access path) holds)
+    → LeavesNoAlias variables t (stmt_flow types variables (untracked around) cleared (frees access path) holds)
 
 -- What a declaration creates may free objects of an access type where it ends (7.6.1): a record object, or the objects of a collection.
 abbrev pub MayFreeAtEnd : Implicit → DeclarationForm → (access : ℕ) → Type 0
@@ -53,21 +55,21 @@ EndedBlockLeavesNoAlias =
     (types : List TypeForm) (variables : List VariableForm) (around : Around) (cleared : Bool) (i t : ℕ) (d : DeclarationForm)
     (ds : List DeclarationForm) (fs : StmtsForm) (hs : HandlersForm) (holds : Holds)
     → slice_get ds i ≡ Some d → MayFreeAtEnd around.effects.implicit d t
-    → LeavesNoAlias variables t (stmt_flow types variables around cleared (encloses ds fs hs) holds)
+    → LeavesNoAlias variables t (stmt_flow types variables (untracked around) cleared (encloses ds fs hs) holds)
 
 -- R : T; or R : T := ..; (3.3.1), a record object, which is initialized, or adjusted: so it is for each access type of which that may free objects.
 abbrev pub DeclaredRecordLeavesNoAlias : Type 0
 DeclaredRecordLeavesNoAlias =
     (types : List TypeForm) (variables : List VariableForm) (implicit : Implicit) (x object t : ℕ) (initial : Option (List ItemForm)) (holds : Holds)
     → initial_frees implicit t object initial ≡ true
-    → LeavesNoAlias variables t (declaration_flow types variables implicit (declares_record x object initial) holds)
+    → LeavesNoAlias variables t (declaration_flow types variables no_tracks implicit (declares_record x object initial) holds)
 
 -- X : T := new T'; (4.8), whose new object is initialized: so it is for each access type of which that may free objects.
 abbrev pub DeclaredObjectLeavesNoAlias : Type 0
 DeclaredObjectLeavesNoAlias =
     (types : List TypeForm) (variables : List VariableForm) (implicit : Implicit) (x access t : ℕ) (holds : Holds)
     → implicit.start_frees access t ≡ true
-    → LeavesNoAlias variables t (declaration_flow types variables implicit (declares x (allocates_default access)) holds)
+    → LeavesNoAlias variables t (declaration_flow types variables no_tracks implicit (declares x (allocates_default access)) holds)
 
 -- At an exit (5.7) that the rules let through, which leaves blocks inside its loop: what the loop's start calls an alias of an access type of which the ends of
 -- these blocks may free objects holds null there, and names none.
@@ -76,7 +78,7 @@ ExitsLeaveNoAlias =
     (types : List TypeForm) (variables : List VariableForm) (around : Around) (cleared : Bool) (t : ℕ) (condition : Option ExpressionForm) (spot : Spot)
     (start holds : Holds) (normal raising : Option Holds)
     → around.start ≡ Some start → endings_free around.effects.implicit around.inside.types t ≡ true
-    → stmt_flow types variables around cleared (exits condition spot) holds ≡ goes normal raising
+    → stmt_flow types variables (untracked around) cleared (exits condition spot) holds ≡ goes normal raising
     → (x : ℕ) → variable_access variables x ≡ Some t → (r : Region) → hold_at start x ≡ Alias r → hold_at holds x ≡ Null
 
 -- P.C := new T; (4.8): the path to the component follows no value of an access type of which the initialization may free objects. A variable as a target
@@ -85,7 +87,7 @@ abbrev pub StartsSpareTheTarget : Type 0
 StartsSpareTheTarget =
     (types : List TypeForm) (variables : List VariableForm) (around : Around) (cleared : Bool) (access t : ℕ) (target : PathForm) (holds : Holds)
     (normal raising : Option Holds)
-    → stmt_flow types variables around cleared (assigns target (allocates_default access)) holds ≡ goes normal raising
+    → stmt_flow types variables (untracked around) cleared (assigns target (allocates_default access)) holds ≡ goes normal raising
     → around.effects.implicit.start_frees access t ≡ true → IsFollowed types (variable_kind variables target.root) target.selectors t → ⊥
 
 -- R := ..; (5.2), a record as a whole: so it is of the path to the target, for each access type of which the finalization and the adjustment may free objects.
@@ -93,7 +95,7 @@ abbrev pub AssignmentsSpareTheTarget : Type 0
 AssignmentsSpareTheTarget =
     (types : List TypeForm) (variables : List VariableForm) (around : Around) (cleared : Bool) (t : ℕ) (target : RecordPathForm) (items : List ItemForm)
     (holds : Holds) (normal raising : Option Holds)
-    → stmt_flow types variables around cleared (assigns_record target items) holds ≡ goes normal raising
+    → stmt_flow types variables (untracked around) cleared (assigns_record target items) holds ≡ goes normal raising
     → assignment_frees around.effects.implicit t target.record_type ≡ true → FollowsTo types variables target t → ⊥
 
 -- R := Q; (5.2): so it is of the path to the record that is copied.
@@ -101,7 +103,7 @@ abbrev pub AssignmentsSpareTheSource : Type 0
 AssignmentsSpareTheSource =
     (types : List TypeForm) (variables : List VariableForm) (around : Around) (cleared : Bool) (t : ℕ) (target source : RecordPathForm)
     (holds : Holds) (normal raising : Option Holds)
-    → stmt_flow types variables around cleared (assigns_record target (item_of_record source ∷ [])) holds ≡ goes normal raising
+    → stmt_flow types variables (untracked around) cleared (assigns_record target (item_of_record source ∷ [])) holds ≡ goes normal raising
     → assignment_frees around.effects.implicit t target.record_type ≡ true → FollowsTo types variables source t → ⊥
 
 -- Free (P.C) (13.11.2): the path to the component follows no value of an access type of which the finalization of the component's object may free or follow
@@ -110,7 +112,7 @@ abbrev pub FreesSpareTheWay : Type 0
 FreesSpareTheWay =
     (types : List TypeForm) (variables : List VariableForm) (around : Around) (cleared : Bool) (access u t : ℕ) (path : PathForm) (holds : Holds)
     (normal raising : Option Holds)
-    → stmt_flow types variables around cleared (frees access path) holds ≡ goes normal raising
+    → stmt_flow types variables (untracked around) cleared (frees access path) holds ≡ goes normal raising
     → path_access types variables path ≡ Some u → around.effects.implicit.end_reaches u t ≡ true
     → IsFollowed types (variable_kind variables path.root) path.selectors t → ⊥
 
@@ -127,7 +129,7 @@ abbrev pub FreesSpareTheFormal : Type 0
 FreesSpareTheFormal =
     (types : List TypeForm) (variables : List VariableForm) (around : Around) (cleared : Bool) (access u t r whole : ℕ) (path : PathForm) (holds : Holds)
     (normal raising : Option Holds)
-    → stmt_flow types variables around cleared (frees access path) holds ≡ goes normal raising
+    → stmt_flow types variables (untracked around) cleared (frees access path) holds ≡ goes normal raising
     → path_access types variables path ≡ Some u → LiesInFormal types variables path holds r → is_record types r ≡ true
     → around.effects.implicit.end_reaches u t ≡ true → designated_type types t ≡ Some whole → HasPart types r whole → ⊥
 
@@ -141,7 +143,7 @@ SafeFreesAreLetThrough =
     → ((t : ℕ) → around.effects.implicit.end_reaches u t ≡ true → IsFollowed types (variable_kind variables path.root) path.selectors t → ⊥)
     → ((r t whole : ℕ) → LiesInFormal types variables path holds r → is_record types r ≡ true → around.effects.implicit.end_reaches u t ≡ true
     → designated_type types t ≡ Some whole → HasPart types r whole → ⊥)
-    → (normal raising : Option Holds) × (stmt_flow types variables around cleared (frees access path) holds ≡ goes normal raising)
+    → (normal raising : Option Holds) × (stmt_flow types variables (untracked around) cleared (frees access path) holds ≡ goes normal raising)
 
 -- Where a body begins, its formal parameters that are records, and no other of its variables, are known as another's (6.2).
 abbrev pub FormalsAreAnothers : Type 0
@@ -155,7 +157,7 @@ abbrev pub DeclaredRecordsAreTheirOwn : Type 0
 DeclaredRecordsAreTheirOwn =
     (types : List TypeForm) (variables : List VariableForm) (implicit : Implicit) (x object : ℕ) (initial : Option (List ItemForm)) (holds after : Holds)
     (raising : Option Holds)
-    → x < length holds → x < length variables → declaration_flow types variables implicit (declares_record x object initial) holds ≡ goes (Some after) raising
+    → x < length holds → x < length variables → declaration_flow types variables no_tracks implicit (declares_record x object initial) holds ≡ goes (Some after) raising
     → hold_at after x ≡ Own Whole
 
 -- Examples.
@@ -179,6 +181,7 @@ abbrev pub around_implicit : Implicit → Around
 around_implicit implicit = record {
   effects = record { calls = []; implicit = implicit };
   kept = [];
+  tracks = no_tracks;
   owed = [];
   start = None;
   inside = nothing_gone;

@@ -1,5 +1,7 @@
 -- The laws, in the order in which they are read.
 
+-- bodies that track no components
+pub mod Untracked
 -- what flow says of a variable, what the variable then holds, and what components hold
 pub mod Agreement
 -- what holds in every run

@@ -14,28 +14,30 @@ use Rattle.ada_program.specs.ProgramForm.{TypeForm, VariableForm}
 use Rattle.ada_program.specs.WellFormed.{access_of, record_components, reached_components, variable_kind, selectors_kind, path_access, is_borrower, names_borrower, lends_to}
 use Rattle.ada_effects.specs.Effects.{assignment_frees, Implicit}
 use Rattle.ada_flow.specs.Flow.{Holds, faults, goes, hold_at, variable_access, is_freed, Around, begins_pair, stmt_flow, stmts_flow, declaration_flow}
+use Rattle.ada_flow.specs.Tracking.{no_tracks}
 use Rattle.ada_owners.specs.Reliance.{Owns}
 use Rattle.ada_sound.specs.Agreement.{IsOwner}
+use Rattle.ada_sound.specs.Untracked.{untracked, AdjustsNoOwners}
 
 -- A statement, the first of a take pair or not, breaks no rule from these holds.
 abbrev pub IsLetThrough : List TypeForm → List VariableForm → StmtForm → Holds → Type 0
 IsLetThrough types variables f holds =
-    (around : Around) × (cleared : Bool) × (normal raising : Option Holds) × (stmt_flow types variables around cleared f holds ≡ goes normal raising)
+    (around : Around) × (cleared : Bool) × (normal raising : Option Holds) × (stmt_flow types variables (untracked around) cleared f holds ≡ goes normal raising)
 
 -- It comes to its end with these.
 abbrev pub EndsWith : List TypeForm → List VariableForm → StmtForm → (holds after : Holds) → Type 0
 EndsWith types variables f holds after =
-    (around : Around) × (cleared : Bool) × (raising : Option Holds) × (stmt_flow types variables around cleared f holds ≡ goes (Some after) raising)
+    (around : Around) × (cleared : Bool) × (raising : Option Holds) × (stmt_flow types variables (untracked around) cleared f holds ≡ goes (Some after) raising)
 
 -- It raises an exception with these.
 abbrev pub RaisesWith : List TypeForm → List VariableForm → StmtForm → (holds raised : Holds) → Type 0
 RaisesWith types variables f holds raised =
-    (around : Around) × (cleared : Bool) × (normal : Option Holds) × (stmt_flow types variables around cleared f holds ≡ goes normal (Some raised))
+    (around : Around) × (cleared : Bool) × (normal : Option Holds) × (stmt_flow types variables (untracked around) cleared f holds ≡ goes normal (Some raised))
 
 -- Statements break no rule from these holds.
 abbrev pub AreLetThrough : List TypeForm → List VariableForm → StmtsForm → Holds → Type 0
 AreLetThrough types variables fs holds =
-    (around : Around) × (normal raising : Option Holds) × (stmts_flow types variables around fs holds ≡ goes normal raising)
+    (around : Around) × (normal raising : Option Holds) × (stmts_flow types variables (untracked around) fs holds ≡ goes normal raising)
 
 -- A variable owns nothing.
 abbrev pub OwnsNothing : Holds → ℕ → Type 0
@@ -99,7 +101,7 @@ FreedLiesOffItsWay =
 abbrev pub LostIsNotFreedBehind : Type 0
 LostIsNotFreedBehind =
     (types : List TypeForm) (variables : List VariableForm) (around : Around) (cleared : Bool) (access : ℕ) (path : PathForm) (holds : Holds)
-    → hold_at holds path.root ≡ Lost → stmt_flow types variables around cleared (frees access path) holds ≡ faults path.spot LostValue
+    → hold_at holds path.root ≡ Lost → stmt_flow types variables (untracked around) cleared (frees access path) holds ≡ faults path.spot LostValue
 
 -- P := Y (5.2), where P is no borrower.
 abbrev pub OnlyOwnersAreMoved : Type 0
@@ -147,7 +149,7 @@ abbrev pub DefaultsMoveNothing : Type 0
 DefaultsMoveNothing =
     (types : List TypeForm) (variables : List VariableForm) (around : Around) (cleared : Bool) (target : PathForm) (access : ℕ) (holds after : Holds)
     (raising : Option Holds)
-    → stmt_flow types variables around cleared (assigns target (allocates_default access)) holds ≡ goes (Some after) raising
+    → stmt_flow types variables (untracked around) cleared (assigns target (allocates_default access)) holds ≡ goes (Some after) raising
     → (x : ℕ) (v : VariableForm) → slice_get variables x ≡ Some v → IsElsewhere target x
     → Stays variables (around.effects.implicit.start_frees access) holds after x
 
@@ -156,7 +158,7 @@ abbrev pub DefaultsStayWhereRaised : Type 0
 DefaultsStayWhereRaised =
     (types : List TypeForm) (variables : List VariableForm) (around : Around) (cleared : Bool) (target : PathForm) (access : ℕ) (holds raised : Holds)
     (normal : Option Holds)
-    → stmt_flow types variables around cleared (assigns target (allocates_default access)) holds ≡ goes normal (Some raised)
+    → stmt_flow types variables (untracked around) cleared (assigns target (allocates_default access)) holds ≡ goes normal (Some raised)
     → (x : ℕ) (v : VariableForm) → slice_get variables x ≡ Some v → Stays variables (around.effects.implicit.start_frees access) holds raised x
 
 -- The statement behind `T := P.C;` is `P.C := null;`; T is another variable than the one that P begins with, or a component, and then P is
@@ -200,14 +202,14 @@ abbrev pub LostIsNotBorrowed : Type 0
 LostIsNotBorrowed =
     (types : List TypeForm) (variables : List VariableForm) (around : Around) (cleared : Bool) (target path : PathForm) (holds : Holds)
     → names_borrower variables target ≡ true → hold_at holds path.root ≡ Lost
-    → stmt_flow types variables around cleared (assigns target (value_of path)) holds ≡ faults path.spot LostValue
+    → stmt_flow types variables (untracked around) cleared (assigns target (value_of path)) holds ≡ faults path.spot LostValue
 
 -- B : access T := P; (3.3.1, 3.10): a declaration that suits a borrower moves nothing, so each other variable holds what it did.
 abbrev pub DeclaredBorrowersMoveNothing : Type 0
 DeclaredBorrowersMoveNothing =
     (types : List TypeForm) (variables : List VariableForm) (implicit : Implicit) (b : ℕ) (right : RightForm) (holds after : Holds) (raising : Option Holds)
     → is_borrower variables b ≡ true
-    → lends_to variables true right ≡ true → declaration_flow types variables implicit (declares b right) holds ≡ goes (Some after) raising
+    → lends_to variables true right ≡ true → declaration_flow types variables no_tracks implicit (declares b right) holds ≡ goes (Some after) raising
     → (x : ℕ) → x ≢ b → hold_at after x ≡ hold_at holds x
 
 -- Behind it the borrower owns nothing.
@@ -215,7 +217,7 @@ abbrev pub DeclaredBorrowersOwnNothing : Type 0
 DeclaredBorrowersOwnNothing =
     (types : List TypeForm) (variables : List VariableForm) (implicit : Implicit) (b : ℕ) (right : RightForm) (holds after : Holds) (raising : Option Holds)
     → is_borrower variables b ≡ true
-    → lends_to variables true right ≡ true → declaration_flow types variables implicit (declares b right) holds ≡ goes (Some after) raising → OwnsNothing after b
+    → lends_to variables true right ≡ true → declaration_flow types variables no_tracks implicit (declares b right) holds ≡ goes (Some after) raising → OwnsNothing after b
 
 -- None of these components, if there are any, is of an access type (3.10): each holds an Integer or a Boolean.
 abbrev pub HasNoAccess : Option (List ComponentKind) → Type 0
@@ -225,28 +227,28 @@ HasNoAccess found =
 -- R := ..; (5.2), a record as a whole: no elementary component of its type is of an access type.
 abbrev pub AssignedRecordsArePlain : Type 0
 AssignedRecordsArePlain =
-    (types : List TypeForm) (variables : List VariableForm) (target : RecordPathForm) (items : List ItemForm) (holds : Holds)
+    (types : List TypeForm) → AdjustsNoOwners types → (variables : List VariableForm) (target : RecordPathForm) (items : List ItemForm) (holds : Holds)
     → IsLetThrough types variables (assigns_record target items) holds → HasNoAccess (record_components types target.record_type)
 
 -- Nor is one of a record that is copied as an item of what is assigned (4.3.1).
 abbrev pub AssignedItemsArePlain : Type 0
 AssignedItemsArePlain =
-    (types : List TypeForm) (variables : List VariableForm) (target : RecordPathForm) (i : ℕ) (items : List ItemForm) (p : RecordPathForm) (holds : Holds)
+    (types : List TypeForm) → AdjustsNoOwners types → (variables : List VariableForm) (target : RecordPathForm) (i : ℕ) (items : List ItemForm) (p : RecordPathForm) (holds : Holds)
     → slice_get items i ≡ Some (item_of_record p)
     → IsLetThrough types variables (assigns_record target items) holds → HasNoAccess (record_components types p.record_type)
 
 -- P := new T'(.., R, ..) (4.8): nor is one of a record that is copied into a new object.
 abbrev pub CopiedItemsArePlain : Type 0
 CopiedItemsArePlain =
-    (types : List TypeForm) (variables : List VariableForm) (target : PathForm) (access i : ℕ) (items : List ItemForm) (p : RecordPathForm) (holds : Holds)
+    (types : List TypeForm) → AdjustsNoOwners types → (variables : List VariableForm) (target : PathForm) (access i : ℕ) (items : List ItemForm) (p : RecordPathForm) (holds : Holds)
     → slice_get items i ≡ Some (item_of_record p)
     → IsLetThrough types variables (assigns target (allocates access items)) holds → HasNoAccess (record_components types p.record_type)
 
 -- R : T := ..; (3.3.1): nor is one of a record object with an initial value.
 abbrev pub DeclaredRecordsArePlain : Type 0
 DeclaredRecordsArePlain =
-    (types : List TypeForm) (variables : List VariableForm) (implicit : Implicit) (x object_type : ℕ) (items : List ItemForm) (holds : Holds) (normal raising : Option Holds)
-    → declaration_flow types variables implicit (declares_record x object_type (Some items)) holds ≡ goes normal raising
+    (types : List TypeForm) → AdjustsNoOwners types → (variables : List VariableForm) (implicit : Implicit) (x object_type : ℕ) (items : List ItemForm) (holds : Holds) (normal raising : Option Holds)
+    → declaration_flow types variables no_tracks implicit (declares_record x object_type (Some items)) holds ≡ goes normal raising
     → HasNoAccess (reached_components types object_type)
 
 -- An assignment of a record moves nothing: where it comes to its end, each variable holds what it did; but the finalization and the adjustment of the record
@@ -255,7 +257,7 @@ abbrev pub CopiesMoveNothing : Type 0
 CopiesMoveNothing =
     (types : List TypeForm) (variables : List VariableForm) (around : Around) (cleared : Bool) (target : RecordPathForm) (items : List ItemForm)
     (holds after : Holds) (raising : Option Holds)
-    → stmt_flow types variables around cleared (assigns_record target items) holds ≡ goes (Some after) raising
+    → stmt_flow types variables (untracked around) cleared (assigns_record target items) holds ≡ goes (Some after) raising
     → (x : ℕ) (v : VariableForm) → slice_get variables x ≡ Some v
     → Stays variables (λ t. assignment_frees around.effects.implicit t target.record_type) holds after x
 
@@ -264,6 +266,6 @@ abbrev pub CopiesStayWhereRaised : Type 0
 CopiesStayWhereRaised =
     (types : List TypeForm) (variables : List VariableForm) (around : Around) (cleared : Bool) (target : RecordPathForm) (items : List ItemForm)
     (holds raised : Holds) (normal : Option Holds)
-    → stmt_flow types variables around cleared (assigns_record target items) holds ≡ goes normal (Some raised)
+    → stmt_flow types variables (untracked around) cleared (assigns_record target items) holds ≡ goes normal (Some raised)
     → (x : ℕ) (v : VariableForm) → slice_get variables x ≡ Some v
     → Stays variables (λ t. assignment_frees around.effects.implicit t target.record_type) holds raised x

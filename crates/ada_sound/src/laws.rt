@@ -1,4 +1,5 @@
-//! The laws of storage. Each is a function that does nothing, and whose contract is the theorem.
+//! The laws of storage. Each is a function that does nothing, and whose contract is the theorem. Those of statements speak of
+//! bodies that track no components (`untracked`), as all do where operations are in use.
 
 ghost use Rattle.ada_flow.specs.Parts.{DepthsAreEnough};
 ghost use Rattle.ada_program.specs.declared.program.Program.{Program};
@@ -162,10 +163,11 @@ pub fn only_pairs_take()
     ensures is_one { owners.PairsAreTakePairs }
 {}
 
-/// The rules let a record be assigned or declared by its value, or be copied as an item of an aggregate, only where
-/// none of its elementary components is of an access type, at any depth (3.3.1, 4.3.1, 4.8, 5.2). So an assignment of a
-/// record moves nothing: each variable holds what it did, also where it raises an exception, but that an alias is lost of
-/// an access type of which the operations that finalize and adjust the record may free an object (7.6).
+/// Where no type that declares components of access types has an Adjust of its own (7.6), the rules let a record be
+/// assigned or declared by its value, or be copied as an item of an aggregate, only where none of its elementary
+/// components is of an access type, at any depth (3.3.1, 4.3.1, 4.8, 5.2). So an assignment of a record moves nothing:
+/// each variable holds what it did, also where it raises an exception, but that an alias is lost of an access type of
+/// which the operations that finalize and adjust the record may free an object (7.6).
 pub fn records_are_copied_plain()
     ensures assigned { owners.AssignedRecordsArePlain }
     ensures assigned_items { owners.AssignedItemsArePlain }
