@@ -2,8 +2,6 @@
 pub mod Firsts
 -- the first place of a body that is not in use
 pub mod Unused
--- the first place of a body that overrides Adjust of a type with a component of an access type
-pub mod Untracked
 -- operations that are quiet are in use
 pub mod InUse
 -- quiet bodies are frugal

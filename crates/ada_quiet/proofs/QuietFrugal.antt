@@ -4,26 +4,18 @@ use Rattle.std.proofs.Common.{◌≡◌, refl}
 use Rattle.std.specs.Prelude.{Bool, true, not, ◌&&◌, List, [], ◌∷◌, drop}
 use Rattle.std.specs.List.{list_all}
 use Rattle.ada_effects.specs.Effects.{no_calls, body_raises}
-use Rattle.ada_program.specs.Form.{RightForm, nothing, value_of, allocates, allocates_default, computes, StmtForm, skips, assigns, assigns_record, frees, gets, writes, writes_text, chooses, repeats, counts, exits, calls, returns, raises, encloses, StmtsForm, no_stmts, a_stmt, BranchesForm, otherwise, a_branch, HandlersForm, no_handlers, a_handler, DeclarationForm, creates_pool, collects, declares, declares_record}
+use Rattle.ada_program.specs.Form.{StmtForm, skips, assigns, assigns_record, frees, gets, writes, writes_text, chooses, repeats, counts, exits, calls, returns, raises, encloses, StmtsForm, no_stmts, a_stmt, BranchesForm, otherwise, a_branch, HandlersForm, no_handlers, a_handler, DeclarationForm, creates_pool, collects, declares, declares_record}
 use Rattle.ada_program.specs.ProgramForm.{TypeForm, VariableForm, BodyForm}
 use Rattle.ada_program.specs.WellFormed.{variable_kind}
-use Rattle.ada_quiet.specs.Frugal.{is_there_already, is_frugal_declaration, are_frugal_declarations, is_frugal_stmt, are_frugal, are_frugal_branches, are_frugal_handlers, is_frugal_body}
-use Rattle.ada_quiet.specs.Quiet.{is_elementary, holds_elementary, is_quiet_expression, is_quiet_condition, is_quiet_right, is_quiet_declaration, are_quiet_declarations, is_quiet_stmt, are_quiet, are_quiet_branches, are_quiet_handlers, is_plain_body, is_quiet_body}
+use Rattle.ada_quiet.specs.Frugal.{is_frugal_declaration, are_frugal_declarations, is_frugal_stmt, are_frugal, are_frugal_branches, are_frugal_handlers, is_frugal_body}
+use Rattle.ada_quiet.specs.Quiet.{is_elementary, holds_elementary, is_quiet_expression, is_quiet_condition, is_quiet_declaration, are_quiet_declarations, is_quiet_stmt, are_quiet, are_quiet_branches, are_quiet_handlers, is_plain_body, is_quiet_body}
 use Rattle.ada_quiet.proofs.InUse.{first_of_both, second_of_both, others}
 
 module _ (frugal : List Bool) (types : List TypeForm) (variables : List VariableForm) where
-  right_there : (right : RightForm) → is_quiet_right types variables right ≡ true → is_there_already right ≡ true
-  right_there nothing quiet = refl
-  right_there (value_of path) quiet = refl
-  right_there (allocates access items) quiet = absurd (cc quiet)
-  right_there (allocates_default access) quiet = absurd (cc quiet)
-  right_there (computes e) quiet = refl
-
   declaration_frugal : (d : DeclarationForm) → is_quiet_declaration types variables d ≡ true → is_frugal_declaration d ≡ true
   declaration_frugal (creates_pool p) quiet = absurd (cc quiet)
   declaration_frugal (collects access) quiet = absurd (cc quiet)
-  declaration_frugal (declares x right) quiet =
-      right_there right (second_of_both (holds_elementary (variable_kind variables x)) (is_quiet_right types variables right) quiet)
+  declaration_frugal (declares x right) quiet = refl
   declaration_frugal (declares_record x t initial) quiet = absurd (cc quiet)
 
   declarations_frugal : (ds : List DeclarationForm) → are_quiet_declarations types variables ds ≡ true → are_frugal_declarations ds ≡ true

@@ -9,7 +9,7 @@ use Rattle.ada_program.specs.declared.program.Finalization.{Finalization}
 use Rattle.ada_program.specs.declared.program.ProcedureNo.{ProcedureNo}
 use Rattle.ada_program.specs.ProgramForm.{BodyForm, ProgramForm}
 use Rattle.ada_program.specs.WellFormed.{finalization_of}
-use Rattle.ada_quiet.specs.Quiet.{is_plain_body, is_quiet_body, is_plain_operation, is_quiet_operation, has_access, operation_body, adjust_body}
+use Rattle.ada_quiet.specs.Quiet.{is_plain_body, is_quiet_body, is_plain_operation, is_quiet_operation, has_access, operation_body}
 use Rattle.ada_quiet.specs.Frugal.{is_frugal_operation, own_effects, is_silent_body, is_silent_operation}
 use Rattle.ada_quiet.specs.InUse.{may_be_frugal}
 
@@ -48,10 +48,6 @@ IsUnused p procedure b = (Initializes p procedure × (initializes_in_use p proce
 abbrev pub HasUnused : ProgramForm → (spot : Spot) → Type 0
 HasUnused p spot = (procedure : ProcedureNo) × (b : BodyForm) × (slice_get p.bodies procedure.0 ≡ Some b) × IsUnused p procedure b × (b.start_spot ≡ spot)
 
--- A body overrides Adjust of such a type, and begins here.
-abbrev pub HasUntracked : ProgramForm → (spot : Spot) → Type 0
-HasUntracked p spot = (procedure : ProcedureNo) × AdjustsAccess p procedure × ((b : BodyForm) × (slice_get p.bodies procedure.0 ≡ Some b) × (b.start_spot ≡ spot))
-
 -- A place stands before another one in the text: by line, then by column.
 abbrev pub stands_before : Spot → Spot → Bool
 stands_before a b = nat_lt a.line b.line || ((a.line == b.line) && nat_lt a.column b.column)
@@ -64,10 +60,6 @@ IsFirst places (Some spot) = places spot × ((other : Spot) → places other →
 -- Where the first body in the text begins that is not in use, or that there is none.
 abbrev pub IsFirstUnused : ProgramForm → Option Spot → Type 0
 IsFirstUnused p = IsFirst (HasUnused p)
-
--- Where the first one begins that overrides such an Adjust, or that there is none.
-abbrev pub IsFirstUntracked : ProgramForm → Option Spot → Type 0
-IsFirstUntracked p = IsFirst (HasUntracked p)
 
 -- What the code finds on its way.
 
@@ -96,7 +88,3 @@ unused_in p frugal leaves None = None
 unused_in p frugal leaves (Some f) = first_of (start_unless (initializes p frugal f.operations.initialize) (operation_body p f.operations.initialize))
     (first_of (start_unless (is_quiet_operation p f.operations.adjust && not leaves) (operation_body p f.operations.adjust))
     (start_unless (finalizes p frugal f.operations.finalize) (operation_body p f.operations.finalize)))
-
--- Where the body begins that overrides Adjust of a type with a component of an access type, if there is such a body.
-abbrev pub untracked_in : ProgramForm → (leaves : Bool) → Option Finalization → Option Spot
-untracked_in p leaves o = if leaves then option_map (λ b. b.start_spot) (adjust_body p o) else None

@@ -1,26 +1,18 @@
 -- Bodies of Initialize and Finalize that touch storage, and of procedures that they call (7.6, 4.8, 6.4, 13.11.2): they allocate, move, follow and free, and declare
--- variables alone.
+-- variables alone, which may be given what they allocate.
 
 use Rattle.std.specs.Prelude.{Bool, true, false, not, ◌&&◌, List, [], ◌∷◌, ◌++◌, Option, Some, None}
 use Rattle.std.specs.List.{list_all, slice_get, slice_index_or}
-use Rattle.ada_program.specs.Form.{RightForm, nothing, value_of, allocates, allocates_default, computes, StmtForm, skips, assigns, assigns_record, frees, gets, writes, writes_text, chooses, repeats, counts, exits, calls, returns, raises, encloses, StmtsForm, no_stmts, a_stmt, BranchesForm, otherwise, a_branch, HandlersForm, no_handlers, a_handler, DeclarationForm, creates_pool, collects, declares, declares_record}
+use Rattle.ada_program.specs.Form.{StmtForm, skips, assigns, assigns_record, frees, gets, writes, writes_text, chooses, repeats, counts, exits, calls, returns, raises, encloses, StmtsForm, no_stmts, a_stmt, BranchesForm, otherwise, a_branch, HandlersForm, no_handlers, a_handler, DeclarationForm, creates_pool, collects, declares, declares_record}
 use Rattle.ada_program.specs.declared.program.ProcedureNo.{ProcedureNo}
 use Rattle.ada_program.specs.ProgramForm.{BodyForm, ProgramForm}
 use Rattle.ada_effects.specs.Effects.{Effects, no_implicit, effects_of, body_raises}
 
--- What a variable is given at first is there already (3.3.1): it is no allocator.
-abbrev pub is_there_already : RightForm → Bool
-is_there_already nothing = true
-is_there_already (value_of path) = true
-is_there_already (allocates access items) = false
-is_there_already (allocates_default access) = false
-is_there_already (computes e) = true
-
--- A declaration is that of a variable, which is given what is there (3.3.1).
+-- A declaration is that of a variable, whatever it is given at first (3.3.1): no record object, no collection and no pool is created.
 abbrev pub is_frugal_declaration : DeclarationForm → Bool
 is_frugal_declaration (creates_pool p) = false
 is_frugal_declaration (collects access) = false
-is_frugal_declaration (declares x right) = is_there_already right
+is_frugal_declaration (declares x right) = true
 is_frugal_declaration (declares_record x t initial) = false
 
 -- So is each of these.

@@ -5,7 +5,7 @@
 ghost use Rattle.std.specs.Prelude.{◌≡◌, ◌↔◌, None, true, IfOk};
 ghost use Rattle.ada_program.specs.ProgramForm.{program_form};
 ghost use Rattle.ada_quiet.specs.First as rules;
-ghost use Rattle.ada_quiet.specs.First.{IsFirstUntracked, IsFirstUnused};
+ghost use Rattle.ada_quiet.specs.First.{IsFirstUnused};
 ghost use Rattle.ada_quiet.specs.InUse.{operations_are_in_use};
 ghost use Rattle.ada_quiet.specs.Known.{IsKnown};
 ghost use Rattle.ada_quiet.specs.Quiet as quiet;
@@ -118,31 +118,4 @@ pub fn first_unused(alloc: Global, program: &Program) -> Result<Option<Spot>, Al
         first = first_of(first, found);
     }
     Ok(first)
-}
-
-/// Where the body begins that overrides Adjust of a type with a component of an access type, declared in it directly.
-fn untracked_in(program: &Program, leaves: bool, finalization: Option<Finalization>) -> Option<Spot>
-    ensures { result ≡ rules.untracked_in (program_form program.now) leaves finalization }
-{
-    if !leaves {
-        return None;
-    }
-    let number = finalization?.operations.adjust?;
-    let procedure = program.procedures.get(number.0)?;
-    Some(procedure.start)
-}
-
-/// Where the first body in the text begins that overrides Adjust of a type with a component of an access type, declared in it
-/// directly (3.10, 7.6): what such a body does to that component is followed by no rule. Linear in the types and their components.
-#[tactic(auto, using(std::proofs::lemmas::Grind::common_steps, crate::proofs::Untracked::untracked_steps))]
-pub fn first_untracked(program: &Program) -> Option<Spot>
-    ensures { IsFirstUntracked (program_form program.now) result }
-{
-    let mut first = None;
-    'types: for number in 0..program.types.len() {
-        let leaves = has_access(&program.types, number);
-        let found = untracked_in(program, leaves, finalization_of(&program.types, number));
-        first = first_of(first, found);
-    }
-    first
 }

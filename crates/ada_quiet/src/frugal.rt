@@ -1,45 +1,19 @@
 //! Declarations, statements and bodies, where they are frugal: they allocate, move, follow and free (7.6, 4.8, 13.11.2), call procedures
-//! with frugal bodies alone (6.4), and declare no more than variables, which are given what is there.
+//! with frugal bodies alone (6.4), and declare no more than variables.
 
 ghost use Rattle.std.specs.Prelude.{◌≡◌, ◌&&◌, false, map, slice_index_or};
-ghost use Rattle.ada_program.specs.Form.{StmtsForm, branches_form, declaration_form, handlers_form, initial_form, right_form, stmt_form, stmts_form};
+ghost use Rattle.ada_program.specs.Form.{StmtsForm, branches_form, declaration_form, handlers_form, stmt_form, stmts_form};
 ghost use Rattle.ada_program.specs.ProgramForm.{body_form};
 ghost use Rattle.ada_quiet.specs.Frugal as rules;
 
-use ada_program::program::{Branch, Declaration, Handler, Procedure, Right};
+use ada_program::program::{Branch, Declaration, Handler, Procedure};
 use ada_program::{ProcedureNo, Stmt};
 
-/// Whether what a variable is given at first is there already (3.3.1): it is no allocator.
-fn is_there_already(right: &Right) -> bool
-    ensures { result ≡ rules.is_there_already (right_form right.now) }
-{
-    match right {
-        Right::Null | Right::Path(_) | Right::Value(_) => true,
-        Right::Allocator { .. } | Right::Default(_) => false,
-    }
-}
-
-/// Whether an initial value is, where one is written.
-fn is_initial_there(initial: &Option<Right>) -> bool
-    ensures { result ≡ rules.is_there_already (initial_form initial.now) }
-{
-    match initial {
-        None => true,
-        Some(right) => is_there_already(right),
-    }
-}
-
-/// Whether a declaration is that of a variable, which is given what is there (3.3.1).
+/// Whether a declaration is that of a variable, whatever it is given at first (3.3.1).
 fn is_frugal_declaration(declaration: &Declaration) -> bool
     ensures { result ≡ rules.is_frugal_declaration (declaration_form declaration.now) }
 {
-    match declaration {
-        Declaration::Variable {
-            variable: _,
-            initial,
-        } => is_initial_there(initial),
-        _ => false,
-    }
+    matches!(declaration, Declaration::Variable { .. })
 }
 
 /// Whether each of these is.
@@ -151,9 +125,8 @@ fn are_frugal_handlers(frugal: &[bool], handlers: &[Handler]) -> bool
     true
 }
 
-/// Whether a body is frugal: it allocates in its statements, moves, follows and frees; it calls procedures with frugal bodies alone,
-/// assigns no record as a whole, and declares variables alone, which are given what is there. An exception may come out of it. Linear
-/// in the body.
+/// Whether a body is frugal: it allocates, moves, follows and frees; it calls procedures with frugal bodies alone, assigns no record as
+/// a whole, and declares variables alone. An exception may come out of it. Linear in the body.
 pub(crate) fn is_frugal_body(frugal: &[bool], procedure: &Procedure) -> bool
     ensures { result ≡ rules.is_frugal_body frugal.now (body_form procedure.now) }
 {

@@ -1,7 +1,7 @@
 //! Plain and quiet operations: those procedures that override Initialize, Adjust or Finalize of a controlled type (7.6), read and write
 //! Integers and Booleans alone, and call nothing, are plain; and quiet, where they let no exception out. An Initialize or a Finalize
 //! is frugal that allocates, moves, follows and frees, and calls procedures with frugal bodies, but assigns no record as a whole, and
-//! declares variables alone, which are given what is there. An exception may come out of a frugal Initialize; a Finalize is to be
+//! declares variables alone, whatever they are given at first. An exception may come out of a frugal Initialize; a Finalize is to be
 //! silent too: none comes out. What procedures may raise, and which are frugal, is found once for all, in the order in which they
 //! call each other.
 //!
@@ -12,11 +12,8 @@
 //! is left, an exception comes out of the initialization of its object (7.6.1), or another record is assigned to it (7.6), and nowhere
 //! else. A program with another body is refused (F23): an Adjust that touches storage, an Initialize or a Finalize that touches
 //! storage in another program, operations that call procedures that are not frugal, and an Adjust or a Finalize that lets an exception
-//! out, are not in use yet, since no theorem covers them so far; and an Adjust that leaves such a component as it is would have two
-//! records name one object.
-//!
-//! `first_untracked` finds the first one that overrides such an Adjust, quiet or not: flow does not follow what it does to that
-//! component, so the checker asks for it before flow, and for the others behind.
+//! out, are not in use yet, since no theorem covers them so far. Nor is an Adjust of a type with such a component: flow follows what it
+//! does to that (`ada_flow`), but no theorem covers it so far.
 #![tactic(auto)]
 
 mod bodies;
@@ -29,5 +26,5 @@ mod statements;
 mod uses;
 mod values;
 
-pub use crate::first::{first_untracked, first_unused};
+pub use crate::first::first_unused;
 pub use crate::operations::operations_are_quiet;

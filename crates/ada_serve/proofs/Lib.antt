@@ -4,7 +4,7 @@ pub mod Reading
 pub mod Writing
 -- the runner's run, step by step
 pub mod Steps
--- operations that are in use create nothing in their declarations
+-- operations that are in use create nothing with controlled parts in their declarations
 pub mod Plain
 -- the number that a word gives
 pub mod Numbers

@@ -1,7 +1,8 @@
--- Operations that are in use create no objects in their declarations (7.6).
+-- Operations that are in use create nothing with controlled parts in their declarations (7.6): a frugal one may allocate there, but no access type designates what
+-- has some.
 
-use Rattle.std.proofs.Common.{◌≡◌, ℕ, Bool, true, false, not, ◌&&◌, ◌||◌, if◌then◌else◌, List, [], ◌∷◌, map, Option, Some, None, refl}
-use Rattle.std.specs.Prelude.{find, drop}
+use Rattle.std.proofs.Common.{◌≡◌, ℕ, Bool, true, false, not, ◌&&◌, ◌||◌, if◌then◌else◌, List, [], ◌∷◌, map, Option, Some, None, refl, sym, ap, ◌∙◌}
+use Rattle.std.specs.Prelude.{find, drop, is_some}
 use Rattle.std.specs.List.{list_all, slice_get, slice_index_or}
 use Rattle.ada_program.specs.declared.program.Finalization.{Finalization}
 use Rattle.ada_program.specs.declared.program.Operations.{Operations}
@@ -9,16 +10,22 @@ use Rattle.ada_program.specs.declared.program.ProcedureNo.{ProcedureNo}
 use Rattle.ada_program.specs.declared.program.Program.{Program}
 use Rattle.ada_program.specs.declared.program.TypeDefinition.{TypeDefinition}
 use Rattle.ada_program.specs.declared.program.TypeDefinition.TheVariants as definition
-use Rattle.ada_program.specs.Controlled.{number_by, is_number, operations_in, operations_by}
+use Rattle.ada_program.specs.declared.program.VariableKind.{VariableKind}
+use Rattle.ada_program.specs.Controlled.{number_by, number_reached, is_number, operations_in, operations_by}
 use Rattle.ada_program.specs.Form.{RightForm, nothing, value_of, allocates, allocates_default, computes, DeclarationForm, creates_pool, collects, declares, declares_record}
 use Rattle.ada_program.specs.ProgramForm.{TypeForm, type_form, VariableForm, BodyForm, body_forms, ProgramForm, program_form}
-use Rattle.ada_program.specs.WellFormed.{finalization_in, variable_kind}
+use Rattle.ada_program.specs.WellFormed.{finalization_in, is_access, variable_kind, variable_fits, right_fits, initial_fits, body_fits, Profile, IsWellFormed}
 use Rattle.ada_meaning.specs.Pace.{right_creates, declaration_creates, declarations_create, body_creates, operation_creates, OperationsDeclareNoParts}
 use Rattle.ada_quiet.specs.Quiet.{is_elementary, holds_elementary, is_quiet_right, is_quiet_declaration, are_quiet_declarations, are_quiet, are_quiet_handlers, is_plain_body, is_plain_procedure, is_plain_operation, is_quiet_operation, adjusts_access}
 use Rattle.ada_quiet.specs.InUse.{may_be_frugal, uses_initialize, uses_finalize, uses_operations, operations_are_in_use}
-use Rattle.ada_quiet.specs.Frugal.{is_there_already, is_frugal_declaration, are_frugal_declarations, are_frugal, are_frugal_handlers, is_frugal_body, frugal_procedures, is_frugal_operation, is_silent_operation}
+use Rattle.ada_quiet.specs.Frugal.{is_frugal_declaration, are_frugal_declarations, are_frugal, are_frugal_handlers, is_frugal_body, frugal_procedures, is_frugal_operation, is_silent_operation}
 use Rattle.ada_quiet.proofs.InUse.{plain_operation}
 use Rattle.ada_quiet.proofs.FrugalAt.{frugal_at}
+use Rattle.ada_deeds.proofs.Naming.{KindFits, allocates_access, default_access, variable_fits_kind}
+use Rattle.ada_typed.proofs.Bodies.{body_at}
+use Rattle.ada_typed.proofs.Parts.{known_number}
+use Rattle.ada_sound.proofs.FrugalFrees.{bare_number}
+use Rattle.ada_sound.proofs.FrugalUseParts.{no_access_to_parts}
 
 -- Both tests are passed where their conjunction is.
 left_of : (a b : Bool) → (a && b) ≡ true → a ≡ true
@@ -72,89 +79,21 @@ operation_plain : (p : ProgramForm) (types : List TypeDefinition) (o : Option Pr
 operation_plain p types None plain = refl
 operation_plain p types (Some procedure) plain = procedure_plain p.types types (slice_get p.bodies procedure.0) plain
 
--- A frugal declaration creates nothing but its variable either: what it is given at first is no allocator.
-right_there : (types : List TypeDefinition) (right : RightForm) → is_there_already right ≡ true → right_creates types right ≡ false
-right_there types nothing there = refl
-right_there types (value_of path) there = refl
-right_there types (allocates access items) there = absurd (cc there)
-right_there types (allocates_default access) there = absurd (cc there)
-right_there types (computes e) there = refl
-
-declaration_frugal : (types : List TypeDefinition) (d : DeclarationForm) → is_frugal_declaration d ≡ true → declaration_creates types d ≡ false
-declaration_frugal types (creates_pool pool) frugal = refl
-declaration_frugal types (collects access) frugal = refl
-declaration_frugal types (declares x right) frugal = right_there types right frugal
-declaration_frugal types (declares_record x object initial) frugal = absurd (cc frugal)
-
-declarations_frugal : (types : List TypeDefinition) (ds : List DeclarationForm) → are_frugal_declarations ds ≡ true → declarations_create types ds ≡ false
-declarations_frugal types [] frugal = refl
-declarations_frugal types (d ∷ ds) frugal =
-    let here = is_frugal_declaration d in
-    let later = are_frugal_declarations ds in
-    rw (declaration_frugal types d (left_of here later frugal)) (declarations_frugal types ds (right_of here later frugal))
-
--- So do those of a frugal body.
-body_frugal : (known : List Bool) (types : List TypeDefinition) (b : BodyForm) → is_frugal_body known b ≡ true → declarations_create types b.declarations ≡ false
-body_frugal known types b frugal =
-    let declarations = are_frugal_declarations b.declarations in
-    let statements = are_frugal known b.statements in
-    let handlers = are_frugal_handlers known b.handlers in
-    declarations_frugal types b.declarations (left_of declarations statements (left_of (declarations && statements) handlers frugal))
-
-procedure_frugal : (p : ProgramForm) (types : List TypeDefinition) (n : ℕ) (found : Option BodyForm) → slice_index_or (frugal_procedures p) n false ≡ true
-    → slice_get p.bodies n ≡ found → body_creates types found ≡ false
-procedure_frugal p types n None frugal at = refl
-procedure_frugal p types n (Some b) frugal at = body_frugal (frugal_procedures p) types b (frugal_at p n b frugal at)
-
-operation_frugal : (p : ProgramForm) (types : List TypeDefinition) (o : Option ProcedureNo) → is_frugal_operation p o ≡ true → operation_creates types p.bodies o ≡ false
-operation_frugal p types None frugal = refl
-operation_frugal p types (Some procedure) frugal = procedure_frugal p types procedure.0 (slice_get p.bodies procedure.0) frugal refl
-
--- So it is with an operation that passes a test by which it creates nothing, or another one by which it is frugal.
+-- So it is with an operation that passes one of two tests, by each of which it creates nothing.
 operation_either : (p : ProgramForm) (types : List TypeDefinition) (o : Option ProcedureNo) (passes frugal : Bool)
-    → (passes ≡ true → operation_creates types p.bodies o ≡ false) → (frugal ≡ true → is_frugal_operation p o ≡ true) → (passes || frugal) ≡ true
+    → (passes ≡ true → operation_creates types p.bodies o ≡ false) → (frugal ≡ true → operation_creates types p.bodies o ≡ false) → (passes || frugal) ≡ true
     → operation_creates types p.bodies o ≡ false
 operation_either p types o true frugal tested other used = tested refl
-operation_either p types o false frugal tested other used = operation_frugal p types o (other used)
-
--- So it is with an Initialize and a Finalize that are in use.
-initialize_used : (p : ProgramForm) (types : List TypeDefinition) (o : Option ProcedureNo) → uses_initialize p o ≡ true → operation_creates types p.bodies o ≡ false
-initialize_used p types o used =
-    operation_either p types o (is_plain_operation p o) (may_be_frugal p && is_frugal_operation p o) (operation_plain p types o)
-    (right_of (may_be_frugal p) (is_frugal_operation p o)) used
-
-finalize_used : (p : ProgramForm) (types : List TypeDefinition) (o : Option ProcedureNo) → uses_finalize p o ≡ true → operation_creates types p.bodies o ≡ false
-finalize_used p types o used =
-    let frugal = may_be_frugal p && is_frugal_operation p o in
-    operation_either p types o (is_quiet_operation p o) (frugal && is_silent_operation p o) (λ quiet. operation_plain p types o (plain_operation p o quiet))
-    (λ both. right_of (may_be_frugal p) (is_frugal_operation p o) (left_of frugal (is_silent_operation p o) both)) used
+operation_either p types o false frugal tested other used = other used
 
 -- None of these operations declares an object with controlled parts.
 abbrev DeclareNone : List TypeDefinition → List BodyForm → Operations → Type 0
 DeclareNone types bodies o =
     (operation_creates types bodies o.initialize ≡ false) × (operation_creates types bodies o.adjust ≡ false) × (operation_creates types bodies o.finalize ≡ false)
 
-none_in : (p : ProgramForm) (types : List TypeDefinition) (f : Option Finalization) → uses_operations p f ≡ true → DeclareNone types p.bodies (operations_in f)
-none_in p types None used = (refl, refl, refl)
-none_in p types (Some f) used =
-    let initialize = uses_initialize p f.operations.initialize in
-    let adjust = is_quiet_operation p f.operations.adjust in
-    let finalize = uses_finalize p f.operations.finalize in
-    let both = left_of (initialize && adjust) finalize used in (
-      initialize_used p types f.operations.initialize (left_of initialize adjust both),
-      operation_plain p types f.operations.adjust (plain_operation p f.operations.adjust (right_of initialize adjust both)),
-      finalize_used p types f.operations.finalize (right_of (initialize && adjust) finalize used),
-    )
-
 -- Whether the operations of a type are in use, and no Adjust leaves a component of an access type as it is.
 abbrev is_used_type : ProgramForm → TypeForm → Bool
 is_used_type p t = uses_operations p (finalization_in (Some t)) && not (adjusts_access p t)
-
-none_by : (p : ProgramForm) (types : List TypeDefinition) (t : TypeDefinition) → uses_operations p (finalization_in (Some (type_form t))) ≡ true
-    → DeclareNone types p.bodies (operations_by (Some t))
-none_by p types (definition.Record name parts components finalization) used = none_in p types finalization used
-none_by p types (definition.Access name designated pool) used = (refl, refl, refl)
-none_by p types (definition.Object record_type) used = (refl, refl, refl)
 
 -- So it is with the first of some types that is found.
 found_here : (types : List TypeDefinition) (bodies : List BodyForm) (passes : Bool) (t : TypeDefinition) (found : Option TypeDefinition)
@@ -163,16 +102,107 @@ found_here : (types : List TypeDefinition) (bodies : List BodyForm) (passes : Bo
 found_here types bodies true t found here later = here
 found_here types bodies false t found here later = later
 
-none_found : (p : ProgramForm) (types : List TypeDefinition) (test : TypeDefinition → Bool) (ts : List TypeDefinition) → list_all (is_used_type p) (map type_form ts) ≡ true
-    → DeclareNone types p.bodies (operations_by (find test ts))
-none_found p types test [] used = (refl, refl, refl)
-none_found p types test (t ∷ ts) used =
+module _ (program : Program) (well : IsWellFormed (program_form program)) where
+  abbrev p : ProgramForm
+  p = program_form program
+
+  abbrev tds : List TypeDefinition
+  tds = program.types.items
+
+  -- Where operations may be frugal, no access type designates what has controlled parts: so no allocator creates any (4.8).
+  module _ (may : may_be_frugal p ≡ true) where
+    reaches_none : (access : ℕ) → is_access p.types access ≡ true → is_some (number_reached tds access) ≡ false
+    reaches_none access is =
+        ap (λ (o : Option ℕ). is_some o) (sym (known_number tds p.types access refl) ∙ bare_number p.types (no_access_to_parts p may) access is)
+
+    module _ (variables : List VariableForm) (variables_fit : list_all (variable_fits p.types) variables ≡ true) where
+      right_plain : (kind : Option VariableKind) (right : RightForm) → KindFits p.types kind → right_fits p.types variables kind right ≡ true → right_creates tds right ≡ false
+      right_plain kind nothing held fits = refl
+      right_plain kind (value_of path) held fits = refl
+      right_plain kind (allocates access items) held fits =
+          reaches_none access (allocates_access p.types well.types_fit variables variables_fit kind access items held fits)
+      right_plain kind (allocates_default access) held fits = reaches_none access (default_access p.types well.types_fit variables variables_fit kind access held fits)
+      right_plain kind (computes e) held fits = refl
+
+      -- So a frugal declaration creates nothing that has some (3.3.1).
+      declaration_frugal : (d : DeclarationForm) → is_frugal_declaration d ≡ true → initial_fits p.types variables d ≡ true → declaration_creates tds d ≡ false
+      declaration_frugal (creates_pool pool) frugal fits = refl
+      declaration_frugal (collects access) frugal fits = refl
+      declaration_frugal (declares x right) frugal fits =
+          right_plain (variable_kind variables x) right (variable_fits_kind p.types well.types_fit variables variables_fit x) (right_of _ _ (left_of _ _ fits))
+      declaration_frugal (declares_record x object initial) frugal fits = absurd (cc frugal)
+
+      declarations_frugal : (ds : List DeclarationForm) → are_frugal_declarations ds ≡ true → list_all (initial_fits p.types variables) ds ≡ true → declarations_create tds ds ≡ false
+      declarations_frugal [] frugal fits = refl
+      declarations_frugal (d ∷ ds) frugal fits =
+          let here = is_frugal_declaration d in
+          let later = are_frugal_declarations ds in
+          rw (declaration_frugal d (left_of here later frugal) (left_of _ _ fits)) (declarations_frugal ds (right_of here later frugal) (right_of _ _ fits))
+
+    -- Nor does one of a frugal body.
+    body_frugal : (known : List Bool) (b : BodyForm) (callable : List Profile) → is_frugal_body known b ≡ true → body_fits p.types p.texts p.exceptions callable b ≡ true
+        → declarations_create tds b.declarations ≡ false
+    body_frugal known b callable frugal fits =
+        let declarations = are_frugal_declarations b.declarations in
+        let statements = are_frugal known b.statements in
+        let handlers = are_frugal_handlers known b.handlers in
+        let declared = left_of _ _ (left_of _ _ fits) in
+        declarations_frugal b.variables (left_of _ _ (left_of _ _ declared)) b.declarations
+        (left_of declarations statements (left_of (declarations && statements) handlers frugal))
+        (right_of _ _ (right_of _ _ declared))
+
+    procedure_frugal : (n : ℕ) (found : Option BodyForm) → slice_index_or (frugal_procedures p) n false ≡ true → slice_get p.bodies n ≡ found → body_creates tds found ≡ false
+    procedure_frugal n None frugal at = refl
+    procedure_frugal n (Some b) frugal at =
+        body_frugal (frugal_procedures p) b _ (frugal_at p n b frugal at) (body_at p.types p.texts p.exceptions [] p.bodies n b well.bodies_fit at)
+
+    operation_frugal : (o : Option ProcedureNo) → is_frugal_operation p o ≡ true → operation_creates tds p.bodies o ≡ false
+    operation_frugal None frugal = refl
+    operation_frugal (Some procedure) frugal = procedure_frugal procedure.0 (slice_get p.bodies procedure.0) frugal refl
+
+  -- So it is with an operation that is frugal, where it may be.
+  frugal_used : (o : Option ProcedureNo) → (may_be_frugal p && is_frugal_operation p o) ≡ true → operation_creates tds p.bodies o ≡ false
+  frugal_used o both = operation_frugal (left_of (may_be_frugal p) (is_frugal_operation p o) both) o (right_of (may_be_frugal p) (is_frugal_operation p o) both)
+
+  -- So it is with an Initialize and a Finalize that are in use.
+  initialize_used : (o : Option ProcedureNo) → uses_initialize p o ≡ true → operation_creates tds p.bodies o ≡ false
+  initialize_used o used =
+      operation_either p tds o (is_plain_operation p o) (may_be_frugal p && is_frugal_operation p o) (operation_plain p tds o) (frugal_used o) used
+
+  finalize_used : (o : Option ProcedureNo) → uses_finalize p o ≡ true → operation_creates tds p.bodies o ≡ false
+  finalize_used o used =
+      let frugal = may_be_frugal p && is_frugal_operation p o in
+      operation_either p tds o (is_quiet_operation p o) (frugal && is_silent_operation p o) (λ quiet. operation_plain p tds o (plain_operation p o quiet))
+      (λ both. frugal_used o (left_of frugal (is_silent_operation p o) both)) used
+
+  none_in : (f : Option Finalization) → uses_operations p f ≡ true → DeclareNone tds p.bodies (operations_in f)
+  none_in None used = (refl, refl, refl)
+  none_in (Some f) used =
+      let initialize = uses_initialize p f.operations.initialize in
+      let adjust = is_quiet_operation p f.operations.adjust in
+      let finalize = uses_finalize p f.operations.finalize in
+      let both = left_of (initialize && adjust) finalize used in (
+        initialize_used f.operations.initialize (left_of initialize adjust both),
+        operation_plain p tds f.operations.adjust (plain_operation p f.operations.adjust (right_of initialize adjust both)),
+        finalize_used f.operations.finalize (right_of (initialize && adjust) finalize used),
+      )
+
+  none_by : (t : TypeDefinition) → uses_operations p (finalization_in (Some (type_form t))) ≡ true → DeclareNone tds p.bodies (operations_by (Some t))
+  none_by (definition.Record name parts components finalization) used = none_in finalization used
+  none_by (definition.Access name designated pool) used = (refl, refl, refl)
+  none_by (definition.Object record_type) used = (refl, refl, refl)
+
+none_found : (program : Program) → IsWellFormed (program_form program) → (test : TypeDefinition → Bool) (ts : List TypeDefinition)
+    → list_all (is_used_type (program_form program)) (map type_form ts) ≡ true → DeclareNone program.types.items (program_form program).bodies (operations_by (find test ts))
+none_found program well test [] used = (refl, refl, refl)
+none_found program well test (t ∷ ts) used =
+    let p = program_form program in
     let here = is_used_type p (type_form t) in
     let later = list_all (is_used_type p) (map type_form ts) in
     let own = left_of (uses_operations p (finalization_in (Some (type_form t)))) (not (adjusts_access p (type_form t))) (left_of here later used) in
-    found_here types p.bodies (test t) t (find test ts) (none_by p types t own) (none_found p types test ts (right_of here later used))
+    found_here program.types.items p.bodies (test t) t (find test ts) (none_by program well t own) (none_found program well test ts (right_of here later used))
 
--- Where the operations of a program are in use, none creates controlled parts in its declarations.
-pub used_declare_none : (program : Program) → operations_are_in_use (program_form program) ≡ true → OperationsDeclareNoParts program.types.items (body_forms program)
-used_declare_none program used n =
-    none_found (program_form program) program.types.items (λ t. is_number n (number_by (Some t))) program.types.items used
+-- Where the operations of a well-formed program are in use, none creates controlled parts in its declarations.
+pub used_declare_none : (program : Program) → IsWellFormed (program_form program) → operations_are_in_use (program_form program) ≡ true
+    → OperationsDeclareNoParts program.types.items (body_forms program)
+used_declare_none program well used n = none_found program well (λ t. is_number n (number_by (Some t))) program.types.items used

@@ -20,7 +20,7 @@ use Rattle.ada_operations.specs.declared.fault.OperationFault.TheVariants as ope
 use Rattle.ada_operations.specs.declared.rule.OperationRule.{OperationRule}
 use Rattle.ada_operations.specs.declared.rule.OperationRule.TheVariants.{FinalizeOrder, MayPropagate, FinalizeAllocates}
 use Rattle.ada_operations.specs.Operations.{HasFault, IsFirstFault as IsFirstOf, rule_number}
-use Rattle.ada_quiet.specs.First.{HasUnused, HasUntracked, IsFirst as IsFirstPlace}
+use Rattle.ada_quiet.specs.First.{HasUnused, IsFirst as IsFirstPlace}
 use Rattle.ada_resolve.specs.declared.fault.NameFault.{NameFault}
 use Rattle.ada_resolve.specs.declared.fault.NameFault.TheVariants as names
 use Rattle.ada_resolve.specs.declared.fault.NameRule.{NameRule}
@@ -254,13 +254,11 @@ no_first tokens text tree syntax source (verdict.Names f) b p a = no_early token
 no_first tokens text tree syntax source (verdict.Operations (operations.Broken spot rule)) b p a =
     no_broken (program_form b.0) (program_form p) spot rule (one_program tokens tree source b.0 p b.1 a.0) b.2 a.1.0
 no_first tokens text tree syntax source (verdict.Operations operations.NoMemory) b p a = refl
-no_first tokens text tree syntax source (verdict.Unused (unused.Adjust spot)) b p a =
-    no_place HasUntracked (program_form b.0) (program_form p) spot (one_program tokens tree source b.0 p b.1 a.0) b.2.1 a.1.1
 no_first tokens text tree syntax source (verdict.Unused (unused.Operation spot)) b p a =
-    no_place HasUnused (program_form b.0) (program_form p) spot (one_program tokens tree source b.0 p b.1 a.0) b.2.1.2 a.1.3
+    no_place HasUnused (program_form b.0) (program_form p) spot (one_program tokens tree source b.0 p b.1 a.0) b.2.1.1 a.1.2
 no_first tokens text tree syntax source (verdict.Unused unused.NoMemory) b p a = refl
 no_first tokens text tree syntax source (verdict.Flow (flow.Broken spot rule)) b p a =
-    obeys_none p spot rule (same_judgement p b.0 (one_program tokens tree source p b.0 a.0 b.1) ∙ b.2.2) a.1.2
+    obeys_none p spot rule (same_judgement p b.0 (one_program tokens tree source p b.0 a.0 b.1) ∙ b.2.1) a.1.1
 no_first tokens text tree syntax source (verdict.Flow flow.NoMemory) b p a = refl
 
 -- One first fault: what each phase's fault says of the later phases.
@@ -308,26 +306,16 @@ late_one tokens tree source (verdict.Operations (operations.Broken spot rule)) (
     no_broken (program_form a.0) (program_form b.0) spot rule (one_program tokens tree source a.0 b.0 a.1 b.1) a.2 b.2.0
 late_one tokens tree source (verdict.Unused f) (verdict.Operations (operations.Broken spot rule)) x y a b n m =
     no_broken (program_form b.0) (program_form a.0) spot rule (one_program tokens tree source b.0 a.0 b.1 a.1) b.2 a.2.0
-late_one tokens tree source (verdict.Unused (unused.Adjust spot)) (verdict.Unused (unused.Adjust other)) x y a b n m =
-    one_place HasUntracked (program_form a.0) (program_form b.0) spot other (one_program tokens tree source a.0 b.0 a.1 b.1) a.2.1 b.2.1 rules.NOT_IN_PROFILE.now
-late_one tokens tree source (verdict.Unused (unused.Adjust spot)) (verdict.Unused (unused.Operation other)) x y a b n m =
-    no_place HasUntracked (program_form a.0) (program_form b.0) spot (one_program tokens tree source a.0 b.0 a.1 b.1) a.2.1 b.2.1.0
-late_one tokens tree source (verdict.Unused (unused.Operation spot)) (verdict.Unused (unused.Adjust other)) x y a b n m =
-    no_place HasUntracked (program_form b.0) (program_form a.0) other (one_program tokens tree source b.0 a.0 b.1 a.1) b.2.1 a.2.1.0
 late_one tokens tree source (verdict.Unused (unused.Operation spot)) (verdict.Unused (unused.Operation other)) x y a b n m =
-    one_place HasUnused (program_form a.0) (program_form b.0) spot other (one_program tokens tree source a.0 b.0 a.1 b.1) a.2.1.2 b.2.1.2 rules.NOT_IN_PROFILE.now
-late_one tokens tree source (verdict.Unused (unused.Adjust spot)) (verdict.Flow g) x y a b n m =
-    no_place HasUntracked (program_form a.0) (program_form b.0) spot (one_program tokens tree source a.0 b.0 a.1 b.1) a.2.1 b.2.1
+    one_place HasUnused (program_form a.0) (program_form b.0) spot other (one_program tokens tree source a.0 b.0 a.1 b.1) a.2.1.1 b.2.1.1 rules.NOT_IN_PROFILE.now
 late_one tokens tree source (verdict.Unused (unused.Operation spot)) (verdict.Flow (flow.Broken other rule)) x y a b n m =
-    obeys_none a.0 other rule (same_judgement a.0 b.0 (one_program tokens tree source a.0 b.0 a.1 b.1) ∙ b.2.2) a.2.1.1
+    obeys_none a.0 other rule (same_judgement a.0 b.0 (one_program tokens tree source a.0 b.0 a.1 b.1) ∙ b.2.1) a.2.1.0
 late_one tokens tree source (verdict.Flow f) (verdict.Operations (operations.Broken spot rule)) x y a b n m =
     no_broken (program_form b.0) (program_form a.0) spot rule (one_program tokens tree source b.0 a.0 b.1 a.1) b.2 a.2.0
-late_one tokens tree source (verdict.Flow f) (verdict.Unused (unused.Adjust spot)) x y a b n m =
-    no_place HasUntracked (program_form b.0) (program_form a.0) spot (one_program tokens tree source b.0 a.0 b.1 a.1) b.2.1 a.2.1
 late_one tokens tree source (verdict.Flow (flow.Broken other rule)) (verdict.Unused (unused.Operation spot)) x y a b n m =
-    obeys_none b.0 other rule (same_judgement b.0 a.0 (one_program tokens tree source b.0 a.0 b.1 a.1) ∙ a.2.2) b.2.1.1
+    obeys_none b.0 other rule (same_judgement b.0 a.0 (one_program tokens tree source b.0 a.0 b.1 a.1) ∙ a.2.1) b.2.1.0
 late_one tokens tree source (verdict.Flow (flow.Broken spot rule)) (verdict.Flow (flow.Broken other another)) x y a b n m =
-    breach_one spot other rule another (sym a.2.2 ∙ same_judgement a.0 b.0 (one_program tokens tree source a.0 b.0 a.1 b.1) ∙ b.2.2)
+    breach_one spot other rule another (sym a.2.1 ∙ same_judgement a.0 b.0 (one_program tokens tree source a.0 b.0 a.1 b.1) ∙ b.2.1)
 late_one tokens tree source v (verdict.Operations operations.NoMemory) x y a b n m = absurd (m refl)
 late_one tokens tree source (verdict.Operations operations.NoMemory) w x y a b n m = absurd (n refl)
 late_one tokens tree source v (verdict.Unused unused.NoMemory) x y a b n m = absurd (m refl)

@@ -1,5 +1,5 @@
--- The program of a source, and its first fault. The phases are text, syntax, names, the rules on operations of controlled types, which of these flow
--- follows, flow, and which operations are in use.
+-- The program of a source, and its first fault. The phases are text, syntax, names, the rules on operations of controlled types, flow, and which operations are
+-- in use.
 
 use Rattle.std.specs.Prelude.{◌≡◌, ◌≢◌, ℕ, List, Some, None}
 use Rattle.ada_text.specs.Token.{Lexeme}
@@ -11,7 +11,7 @@ use Rattle.ada_program.specs.ProgramForm.{program_form}
 use Rattle.ada_operations.specs.declared.fault.OperationFault.{OperationFault}
 use Rattle.ada_operations.specs.declared.fault.OperationFault.TheVariants as operations
 use Rattle.ada_operations.specs.Operations.{IsFirstFault as IsFirstOf}
-use Rattle.ada_quiet.specs.First.{IsFirstUnused as IsFirstNotInUse, IsFirstUntracked}
+use Rattle.ada_quiet.specs.First.{IsFirstUnused as IsFirstNotInUse}
 use Rattle.ada_resolve.specs.Resolution.{Resolves}
 use Rattle.ada_resolve.specs.View.{Faults}
 use Rattle.ada_flow.specs.Flow.{ObeysRules}
@@ -38,19 +38,15 @@ pub record IsProgramOf (source : List ℕ) (program : Program) : Type 0 where
 abbrev pub OperationsObey : Program → Type 0
 OperationsObey program = IsFirstOf (program_form program) None
 
--- None overrides Adjust of a type with a component of an access type (3.10, 7.6): what it does to such a component flow does not follow.
-abbrev pub AdjustsNoAccess : Program → Type 0
-AdjustsNoAccess program = IsFirstUntracked (program_form program) None
-
--- Each operation is in use: Initialize is plain or, where it may be, frugal, Adjust is quiet, and Finalize is quiet or, where it may be, frugal
--- and silent.
+-- Each operation is in use: Initialize is plain or, where it may be, frugal, Adjust is quiet and of a type that declares no component of an access type, and
+-- Finalize is quiet or, where it may be, frugal and silent.
 abbrev pub OperationsAreInUse : Program → Type 0
 OperationsAreInUse program = IsFirstNotInUse (program_form program) None
 
--- Nothing is wrong with a program, by the phases behind names: its operations obey their rules, flow follows them, it obeys the rules of flow, where what
--- operations may do that are called implicitly counts, and its operations are in use.
+-- Nothing is wrong with a program, by the phases behind names: its operations obey their rules, it obeys the rules of flow, where what operations may
+-- do that are called implicitly counts, and its operations are in use.
 abbrev pub HasNoFault : Program → Type 0
-HasNoFault program = OperationsObey program × AdjustsNoAccess program × ObeysRules program × OperationsAreInUse program
+HasNoFault program = OperationsObey program × ObeysRules program × OperationsAreInUse program
 
 -- The program is that of the source, and nothing is wrong with it.
 abbrev pub IsAccepted : List ℕ → Program → Type 0
@@ -61,12 +57,10 @@ abbrev pub IsFirstBroken : Program → OperationFault → Type 0
 IsFirstBroken program (operations.Broken spot rule) = IsFirstOf (program_form program) (Some (spot, rule))
 IsFirstBroken program operations.NoMemory = Unit {0}
 
--- The first operation that is not in use: one that flow does not follow, or, where the rules of flow are obeyed, one that is not plain, quiet or frugal as it
--- must be.
+-- The first operation that is not in use, where the rules of flow are obeyed.
 abbrev pub IsFirstUnused : Program → UnusedFault → Type 0
-IsFirstUnused program (unused.Adjust spot) = IsFirstUntracked (program_form program) (Some spot)
-IsFirstUnused program (unused.Operation spot) = AdjustsNoAccess program × ObeysRules program × IsFirstNotInUse (program_form program) (Some spot)
-IsFirstUnused program unused.NoMemory = AdjustsNoAccess program × ObeysRules program
+IsFirstUnused program (unused.Operation spot) = ObeysRules program × IsFirstNotInUse (program_form program) (Some spot)
+IsFirstUnused program unused.NoMemory = ObeysRules program
 
 -- The first fault of a program, behind names: that of the first phase that has one.
 abbrev pub IsFirstIn : Program → Verdict → Type 0
@@ -75,7 +69,7 @@ IsFirstIn program (verdict.Syntax fault) = ⊥
 IsFirstIn program (verdict.Names fault) = ⊥
 IsFirstIn program (verdict.Operations fault) = IsFirstBroken program fault
 IsFirstIn program (verdict.Unused fault) = OperationsObey program × IsFirstUnused program fault
-IsFirstIn program (verdict.Flow fault) = OperationsObey program × AdjustsNoAccess program × IsFirstFlowFault program fault
+IsFirstIn program (verdict.Flow fault) = OperationsObey program × IsFirstFlowFault program fault
 
 -- The first fault of a source: that of the first phase that has one, of what that phase begins with. Want of memory is no fault of a source.
 abbrev pub IsFirst : List ℕ → Verdict → Type 0

@@ -72,7 +72,6 @@ operation_told operations.NoMemory = None
 
 -- An operation that is not in use.
 abbrev pub unused_told : UnusedFault → Option Told
-unused_told (unused.Adjust spot) = told spot rules.NOT_IN_PROFILE.now
 unused_told (unused.Operation spot) = told spot rules.NOT_IN_PROFILE.now
 unused_told unused.NoMemory = None
 

@@ -13,7 +13,7 @@ ghost use Rattle.ada_program.specs.WellFormed.{IsWellFormed};
 ghost use Rattle.ada_quiet.specs.InUse.{operations_are_in_use};
 ghost use Rattle.ada_sound.specs.Always.{IsChecked};
 ghost use Rattle.ada_tree.specs.StatementView.{unit_of};
-ghost use Rattle.ada_verdict.specs.First.{AdjustsNoAccess, HasNoFault, IsAccepted, IsFirst, IsFirstIn, IsFirstUnused, IsProgramOf, IsSourceOf, OperationsAreInUse, RefusesRightly};
+ghost use Rattle.ada_verdict.specs.First.{HasNoFault, IsAccepted, IsFirst, IsFirstIn, IsFirstUnused, IsProgramOf, IsSourceOf, OperationsAreInUse, RefusesRightly};
 
 use crate::fault::{UnusedFault, Verdict};
 use crate::laws::accepted_sources_have_no_fault;
@@ -22,7 +22,7 @@ use ada_flow::{FlowFault, flow};
 use ada_operations::operations;
 use ada_parser::parse;
 use ada_program::Program;
-use ada_quiet::{first_untracked, first_unused};
+use ada_quiet::first_unused;
 use ada_resolve::resolve;
 use ada_sound::laws::rules_imply_safety;
 use ada_tree::unit::Unit;
@@ -68,7 +68,7 @@ impl Accepted {
 
 /// Checks a source: it is accepted exactly where it is a program that obeys the rules, out of memory aside, and then
 /// the program is safe; else this is its first fault. The phases are text, syntax, names, the rules on operations of controlled
-/// types, which of these flow follows, flow, and which operations are in use; a fault is that of the first phase that has one.
+/// types, flow, and which operations are in use; a fault is that of the first phase that has one.
 ///
 /// # Errors
 /// The first fault, or want of memory.
@@ -98,8 +98,8 @@ fn checked(alloc: Global, source: &[u8]) -> Result<Accepted, Verdict>
     Ok(Accepted { program })
 }
 
-/// The phases behind names, one after another: operations obey the rules on what they may do, flow follows them, the flow of
-/// values obeys its rules, where what they may do counts, and each operation is in use.
+/// The phases behind names, one after another: operations obey the rules on what they may do, the flow of values obeys its rules,
+/// where what they may do counts, and each operation is in use.
 ///
 /// # Errors
 /// The first fault, or want of memory.
@@ -110,24 +110,9 @@ fn judge(alloc: Global, program: &Program) -> Result<(), Verdict>
     ensures refused { IfErr result (λ verdict. IsFirstIn program.now verdict) }
 {
     let implicit = operations(alloc, program)?;
-    follow_all(program)?;
     obey(alloc, program, &implicit)?;
     use_all(alloc, program)?;
     Ok(())
-}
-
-/// Flow follows each operation: none overrides Adjust of a type with a component of an access type.
-///
-/// # Errors
-/// The first one that does.
-fn follow_all(program: &Program) -> Result<(), UnusedFault>
-    ensures followed { IfOk result (λ _. AdjustsNoAccess program.now) }
-    ensures refused { IfErr result (λ fault. IsFirstUnused program.now fault) }
-{
-    match first_untracked(program) {
-        Some(spot) => Err(UnusedFault::Adjust(spot)),
-        None => Ok(()),
-    }
 }
 
 /// The flow of values obeys its rules, where this is known of the operations that are called implicitly.
@@ -142,14 +127,13 @@ fn obey(alloc: Global, program: &Program, implicit: &Implicit) -> Result<(), Flo
     flow(alloc, program, implicit)
 }
 
-/// Each operation is in use: Initialize is plain or, where it may be, frugal, Adjust is quiet, and Finalize is quiet or, where it may
-/// be, frugal and silent.
+/// Each operation is in use: Initialize is plain or, where it may be, frugal, Adjust is quiet and of a type that declares no component
+/// of an access type, and Finalize is quiet or, where it may be, frugal and silent.
 ///
 /// # Errors
 /// The first one that is not, or want of memory.
 fn use_all(alloc: Global, program: &Program) -> Result<(), UnusedFault>
-    requires followed { AdjustsNoAccess program.now }
-    requires obeys { ObeysRules program.now }
+    requires { ObeysRules program.now }
     ensures used { IfOk result (λ _. OperationsAreInUse program.now) }
     ensures in_use { IfOk result (λ _. operations_are_in_use (program_form program.now) ≡ true) }
     ensures refused { IfErr result (λ fault. IsFirstUnused program.now fault) }

@@ -88,9 +88,7 @@ fn unused_refusal(fault: &UnusedFault) -> Option<Refusal>
     ensures { shown_if result ≡ printed.unused_told fault.now }
 {
     match fault {
-        UnusedFault::Adjust(spot) | UnusedFault::Operation(spot) => {
-            refused(*spot, rules::NOT_IN_PROFILE)
-        }
+        UnusedFault::Operation(spot) => { refused(*spot, rules::NOT_IN_PROFILE) }
         UnusedFault::NoMemory => None,
     }
 }

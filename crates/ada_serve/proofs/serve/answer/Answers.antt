@@ -21,5 +21,5 @@ pub run-requires : goal.run-requires
 run-requires g c = record {
   operations =
       subst (λ (p : Program). OperationsDeclareNoParts p.types.items (body_forms p)) (sym c.program-program.ensures.program)
-      (used_declare_none c.args.accepted.now c.program-program.ensures.in_use);
+      (used_declare_none c.args.accepted.now c.program-program.ensures.formed c.program-program.ensures.in_use);
 }

@@ -15,7 +15,7 @@ invariant_of-result c = record {
   in_use = c.in_ok-judge.ensures.in_use;
   nests = c.in_ok-program.ensures.nests;
   frees_own = c.in_ok-program.ensures.frees_own;
-  obeys = c.in_ok-judge.ensures.fine.2;
+  obeys = c.in_ok-judge.ensures.fine.1;
 }
 
 pub returns-clause-sound : goal.returns-clause-sound
@@ -24,5 +24,5 @@ returns-clause-sound c = record {
   in_use = c.in_ok-judge.ensures.in_use;
   nests = c.in_ok-program.ensures.nests;
   frees_own = c.in_ok-program.ensures.frees_own;
-  obeys = c.in_ok-judge.ensures.fine.2;
+  obeys = c.in_ok-judge.ensures.fine.1;
 }
