@@ -1,0 +1,120 @@
+-- The body of an Adjust assigns a tracked component of its formal parameter to a variable.
+
+use Rattle.std.proofs.Common.{ℕ, zero, suc, true, false, List, [], ◌∷◌, Option, Some, None, refl, subst, arith}
+use Rattle.std.specs.List.{slice_get}
+use Rattle.ada_program.specs.Form.{PathForm, value_of, nothing, assigns, no_stmts, a_stmt}
+use Rattle.ada_program.specs.ProgramForm.{nowhere}
+use Rattle.ada_meaning.specs.declared.state.Id.{Id}
+use Rattle.ada_meaning.specs.declared.state.Mode.TheVariants.{Running}
+use Rattle.ada_meaning.specs.declared.state.Stage.TheVariants.{Existing}
+use Rattle.ada_meaning.specs.declared.state.Value.{Value}
+use Rattle.ada_meaning.specs.declared.state.Value.TheVariants.{Null, Names, Part}
+use Rattle.ada_meaning.specs.Frame as frame
+use Rattle.ada_meaning.specs.Step.{computed, places}
+use Rattle.ada_meaning.specs.Named.{Object, State, next}
+use Rattle.ada_tracked.specs.Frames.{View}
+use Rattle.ada_tracked.specs.Seen.{AreOther, seen_state, plainly, behind, IsWatched}
+use Rattle.ada_tracked.specs.Seen as waiting
+use Rattle.ada_tracked.specs.Example.{ReadsTracked, AssignsTracked, PremisesAreMet}
+
+-- An object with these components.
+abbrev an_object : List Value → Object
+an_object vs = record {
+  cell = record { access = 0; number = 1; home = record { item = 0; pool = Some 0; subpool = None }; values = vs; parts = [] };
+  stage = Existing;
+  listed = true;
+  out = true;
+}
+
+-- The object of the formal parameter, and the one that its component names.
+abbrev adjusted : Id
+adjusted = record { 0 = 0 }
+
+abbrev shared : Value
+shared = Names (record { 0 = 1 })
+
+-- The first component of the object is tracked.
+abbrev view : View
+view = record { tracks = record { first = 2; components = 0 ∷ [] }; object = adjusted; base = 0 }
+
+-- It is read next, and goes to a variable.
+abbrev before : State
+before = record {
+  activations = record { procedure = Some 0; places = Part adjusted (record { component = 0; part = 0 }) ∷ Null ∷ []; operands = [] } ∷ [];
+  masters = [];
+  control =
+      frame.Evaluates (value_of (record { root = 0; of_record = false; selectors = 0 ∷ []; spot = nowhere })) ∷ frame.Stores 1 ∷ frame.Does no_stmts
+      ∷ frame.Returns [] [] ∷ [];
+  mode = Running;
+  input = [];
+  next = 0;
+  allocated = 2;
+  born = 0;
+  heap = an_object (shared ∷ []) ∷ an_object [] ∷ [];
+}
+
+abbrev after : State
+after = computed shared (record before { control = frame.Stores 1 ∷ frame.Does no_stmts ∷ frame.Returns [] [] ∷ [] })
+
+-- None of these components leads to the object.
+abbrev AreOtherIn : Option Object → Type 0
+AreOtherIn None = Unit {0}
+AreOtherIn (Some x) = AreOther adjusted x.cell.values
+
+other_in : (p : ℕ) → AreOtherIn (slice_get before.heap p)
+other_in zero = (refl, tt)
+other_in (suc zero) = tt
+other_in (suc (suc p)) = tt
+
+watched : IsWatched view (places before) before.heap
+watched = record {
+  object = an_object (shared ∷ []);
+  at_object = refl;
+  existing = refl;
+  below = (omega arith, tt);
+  apart = (tt, tt);
+  no_references = (refl, tt);
+  variables = ((refl, refl), (refl, tt));
+  count = refl;
+  components = λ p x is. subst AreOtherIn is (other_in p);
+}
+
+reads_tracked : ReadsTracked [] [] view before (seen_state view before) after (seen_state view after)
+unfolding next
+reads_tracked = record {
+  before = record { seen = plainly tt refl; watched = watched; simple = (omega arith, tt) };
+  behind = record { seen = plainly (refl, tt) refl; watched = watched; simple = ((omega arith, omega arith), tt) };
+  holds = (shared, refl, λ none. absurd (cc));
+  follows = refl;
+  reads = refl;
+}
+
+-- It becomes null.
+abbrev path : PathForm
+path = record { root = 0; of_record = false; selectors = 0 ∷ []; spot = nowhere }
+
+abbrev assigning : State
+assigning = record before { control = frame.Does (a_stmt (assigns path nothing) no_stmts) ∷ frame.Returns [] [] ∷ [] }
+
+abbrev found : State
+found = computed (Names adjusted) (record before { control = frame.Targets 0 nothing ∷ frame.Does no_stmts ∷ frame.Returns [] [] ∷ [] })
+
+abbrev followed : State
+followed = record before { control = frame.Evaluates nothing ∷ frame.StoresIn (Names adjusted) 0 ∷ frame.Does no_stmts ∷ frame.Returns [] [] ∷ [] }
+
+assigns_tracked : AssignsTracked [] [] view assigning (seen_state view assigning) found followed (seen_state view followed)
+unfolding next
+assigns_tracked = record {
+  before = record { seen = plainly tt refl; watched = watched; simple = ((omega arith, tt), tt) };
+  on_the_way = record { seen = behind (waiting.assigning nothing) 0 2 nowhere no_stmts (frame.Returns [] [] ∷ []) [] refl refl refl tt refl refl; watched = watched; simple = (tt, tt) };
+  behind = record { seen = plainly tt refl; watched = watched; simple = (tt, tt) };
+  finds = refl;
+  follows = refl;
+  begins = refl;
+}
+
+pub premises_are_met : PremisesAreMet
+premises_are_met = (
+  ([], [], view, before, seen_state view before, after, seen_state view after, reads_tracked),
+  ([], [], view, assigning, seen_state view assigning, found, followed, seen_state view followed, assigns_tracked),
+)

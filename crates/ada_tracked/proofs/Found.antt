@@ -1,0 +1,152 @@
+-- Where a path leads: the object to which it goes, and what lies there.
+
+use Rattle.std.proofs.Common.{◌≡◌, ℕ, ◌<◌, false, List, [], ◌∷◌, ◌++◌, length, Option, Some, None, refl, sym, ap, ◌∙◌, subst}
+use Rattle.std.specs.List.{slice_get, slice_index_or}
+use Rattle.ada_program.specs.declared.program.TypeDefinition.{TypeDefinition}
+use Rattle.ada_program.specs.declared.program.Exception.TheVariants.{ConstraintError}
+use Rattle.ada_program.specs.ProgramForm.{BodyForm}
+use Rattle.ada_meaning.specs.declared.state.Id.{Id}
+use Rattle.ada_meaning.specs.declared.state.Mode.TheVariants.{Running}
+use Rattle.ada_meaning.specs.declared.state.Stage.{Stage}
+use Rattle.ada_meaning.specs.declared.state.Stage.TheVariants.{Building, Existing, Gone}
+use Rattle.ada_meaning.specs.declared.state.Value.{Value}
+use Rattle.ada_meaning.specs.declared.state.Value.TheVariants.{Null, Names, Scalar, Part}
+use Rattle.ada_meaning.specs.Event.{Event, Followed, Quiet}
+use Rattle.ada_meaning.specs.Frame.{Frame}
+use Rattle.ada_meaning.specs.State.{Activation}
+use Rattle.ada_meaning.specs.Heap.{Cell, Found, on_null, on_gone, on_other, finds}
+use Rattle.ada_meaning.specs.Step.{moves, at, raised, computed, operands, reading, component_next, follow_next, path_next, selected, before_last, last_of}
+use Rattle.ada_meaning.specs.Named.{Object, State, Next, named, object_at, existing, look, whole, inside, next}
+use Rattle.ada_meaning.specs.Named as named_heap
+use Rattle.ada_tracked.specs.Frames.{View, watched, number_of, blanked, tracked_values, standing}
+use Rattle.ada_tracked.specs.Seen.{IsOther, AreOther, refers, AreNoReferences, seen_state, plainly, following, IsWatched}
+use Rattle.ada_tracked.specs.Law.{Matches, same, followed, IsSilent, Goes, both, alone, Shown}
+use Rattle.ada_tracked.specs.Law as law
+use Rattle.ada_tracked.proofs.Lists.{other_got, untracked_read, tracked_below, tracked_read, tracked_no_reference, read_within}
+use Rattle.ada_tracked.proofs.Heaps.{other_names, values_there, look_apart, look_there, look_blanked}
+
+-- A state in which a body runs.
+abbrev pub running : Activation Value → List (Activation Value) → State → State
+running a rest s = record s { activations = a ∷ rest; mode = Running }
+
+-- What lies in an object that is found.
+found_by : (o : Id) (found : Option Object) (cell : Cell Value) → ((x : Object) → found ≡ Some x → AreOther o x.cell.values) → named_heap.seen found ≡ finds cell → AreOther o cell.values
+found_by o None cell each is = absurd (cc)
+found_by o (Some x) cell each is = by_stage x.stage is
+  where
+    by_stage : (stage : Stage) → existing x stage ≡ finds cell → AreOther o cell.values
+    by_stage Building e = let one : x.cell ≡ cell = cc in subst (λ (c : Cell Value). AreOther o c.values) one (each x refl)
+    by_stage Existing e = let one : x.cell ≡ cell = cc in subst (λ (c : Cell Value). AreOther o c.values) one (each x refl)
+    by_stage Gone e = absurd (cc)
+
+pub found_other : (o : Id) (h : List Object) (v : Value) (cell : Cell Value) → ((p : ℕ) (x : Object) → slice_get h p ≡ Some x → AreOther o x.cell.values) → look h v ≡ finds cell → AreOther o cell.values
+found_other o h Null cell each is = absurd (cc)
+found_other o h (Names p) cell each is = found_by o (slice_get h p.0) cell (each p.0) is
+found_other o h (Scalar v) cell each is = absurd (cc)
+found_other o h (Part p place) cell each is = absurd (cc)
+
+pub whole_self : (v : Value) → refers v ≡ false → whole v ≡ v
+whole_self Null e = refl
+whole_self (Names o) e = refl
+whole_self (Scalar v) e = refl
+whole_self (Part o place) e = absurd (cc)
+
+pub inside_self : (v : Value) (c : ℕ) → refers v ≡ false → inside v c ≡ c
+inside_self Null c e = refl
+inside_self (Names o) c e = refl
+inside_self (Scalar v) c e = refl
+inside_self (Part o place) c e = absurd (cc)
+
+pub selected_self : (v : Value) (cs : List ℕ) → refers v ≡ false → selected named v cs ≡ cs
+selected_self v [] e = refl
+selected_self v (c ∷ cs) e = ap (λ (d : ℕ). d ∷ cs) (inside_self v c e)
+
+-- What a path names, by what its variable holds.
+abbrev pub named_by : List ℕ → Value → State → Next
+named_by cs v s = path_next named (selected named v cs) (whole v) s
+
+-- The object in which the last component of a path lies, by what its variable holds.
+abbrev pub holder_by : (c : ℕ) → List ℕ → Value → (ℕ → Frame Value) → State → Next
+holder_by c cs v frame_of s =
+    path_next named (before_last (inside v c) cs) (whole v) (at (frame_of (last_of (inside v c) cs) ∷ s.control) s)
+
+module _ (types : List TypeDefinition) (bodies : List BodyForm) (w : View) where
+  -- A state that stands for another one, but for what is left to do and the operands, and does this next.
+  abbrev pub Stays : (s t : State) → Next → Type 0
+  Stays s t n = (k : List (Frame Value)) × (vs : List Value) × (t ≡ standing w s k vs) × (next types bodies t ≡ n)
+
+  -- Both take a step with the same event.
+  pub plain : (t : State) (e : Event Value) (after : State) → AreOther w.object (operands after) → Shown types bodies w t (moves e after) (moves e (seen_state w after))
+  plain t e after others = both e (seen_state w after) refl (same refl) (plainly others refl)
+
+  -- An object is looked for that is another one.
+  reading_shown : (t : State) (e : Event Value) (cs : List ℕ) (u : Value) (a : Activation Value) (rest : List (Activation Value)) (s : State) → IsOther w.object u → AreOther w.object a.operands → Shown types bodies w t (moves e (reading named cs u (running a rest s))) (moves e (reading named cs u (seen_state w (running a rest s))))
+  reading_shown t e [] u a rest s other others = plain t e (computed u (running a rest s)) (other, others)
+  reading_shown t e (c ∷ cs) u a rest s other others = plain t e (reading named (c ∷ cs) u (running a rest s)) (other, others)
+
+  component_shown : (t : State) (v : Value) (cs : List ℕ) (found : Option Value) (a : Activation Value) (rest : List (Activation Value)) (s : State) → ((u : Value) → found ≡ Some u → IsOther w.object u) → AreOther w.object a.operands → Shown types bodies w t (component_next named v cs found (running a rest s)) (component_next named v cs found (seen_state w (running a rest s)))
+  component_shown t v cs None a rest s other others = refl
+  component_shown t v cs (Some u) a rest s other others = reading_shown t (Followed v) cs u a rest s (other u refl) others
+
+  follow_shown : (t : State) (v : Value) (c : ℕ) (cs : List ℕ) (found : Found (Cell Value)) (a : Activation Value) (rest : List (Activation Value)) (s : State) → ((cell : Cell Value) → found ≡ finds cell → AreOther w.object cell.values) → AreOther w.object a.operands → Shown types bodies w t (follow_next named v c cs found (running a rest s)) (follow_next named v c cs found (seen_state w (running a rest s)))
+  follow_shown t v c cs on_null a rest s each others = plain t Quiet (raised ConstraintError (running a rest s)) tt
+  follow_shown t v c cs on_gone a rest s each others = refl
+  follow_shown t v c cs on_other a rest s each others = refl
+  follow_shown t v c cs (finds cell) a rest s each others =
+      component_shown t v cs (slice_get cell.values c) a rest s (λ u. other_got w.object cell.values c u (each cell refl)) others
+
+  pub path_shown : (t : State) (cs : List ℕ) (v : Value) (a : Activation Value) (rest : List (Activation Value)) (s : State) → IsWatched w a.places s.heap → IsOther w.object v → AreOther w.object a.operands → Shown types bodies w t (path_next named cs v (running a rest s)) (path_next named cs v (seen_state w (running a rest s)))
+  path_shown t [] v a rest s p other others = plain t Quiet (computed v (running a rest s)) (other, others)
+  path_shown t (c ∷ cs) v a rest s p other others =
+      subst (λ (found : Found (Cell Value)). Shown types bodies w t (follow_next named v c cs (look s.heap v) (running a rest s)) (follow_next named v c cs found (seen_state w (running a rest s))))
+      (sym (look_apart w s.heap p.object p.at_object v (other_names w.object v other)))
+      (follow_shown t v c cs (look s.heap v) a rest s (λ cell. found_other w.object s.heap v cell p.components) others)
+
+  -- The object itself, from a component that is not tracked.
+  pub untracked_path : (t : State) (b : ℕ) (cs : List ℕ) (a : Activation Value) (rest : List (Activation Value)) (s : State) → IsWatched w a.places s.heap → number_of w b ≡ None → AreOther w.object a.operands → Shown types bodies w t (path_next named (b ∷ cs) (Names w.object) (running a rest s)) (path_next named (b ∷ cs) (Names w.object) (seen_state w (running a rest s)))
+  untracked_path t b cs a rest s p none others =
+      subst (λ (found : Found (Cell Value)). Shown types bodies w t (follow_next named (Names w.object) b cs found (running a rest s)) (follow_next named (Names w.object) b cs (look (blanked w s.heap) (Names w.object)) (seen_state w (running a rest s))))
+      (sym (look_there w s.heap p.object p.at_object p.existing))
+      (subst (λ (found : Found (Cell Value)). Shown types bodies w t (component_next named (Names w.object) cs (slice_get p.object.cell.values b) (running a rest s)) (follow_next named (Names w.object) b cs found (seen_state w (running a rest s))))
+      (sym (look_blanked w s.heap p.object p.at_object p.existing))
+      (subst (λ (found : Option Value). Shown types bodies w t (component_next named (Names w.object) cs (slice_get p.object.cell.values b) (running a rest s)) (component_next named (Names w.object) cs found (seen_state w (running a rest s))))
+      (sym (untracked_read (watched w) w.tracks.first b p.object.cell.values none))
+      (component_shown t (Names w.object) cs (slice_get p.object.cell.values b) a rest s
+      (λ u. other_got w.object p.object.cell.values b u (p.components w.object.0 p.object p.at_object)) others)))
+
+  -- What a component of the object holds.
+  abbrev pub value_at : (h : List Object) (places : List Value) → IsWatched w places h → ℕ → Value
+  value_at h places p b = slice_index_or p.object.cell.values b Null
+
+  pub value_other : (h : List Object) (places : List Value) (p : IsWatched w places h) (b i : ℕ) → number_of w b ≡ Some i → IsOther w.object (value_at h places p b)
+  value_other h places p b i is =
+      other_got w.object p.object.cell.values b (value_at h places p b) (p.components w.object.0 p.object p.at_object)
+      (read_within p.object.cell.values b Null (tracked_below (watched w) w.tracks.first b i (length p.object.cell.values) is p.below))
+
+  pub value_plain : (h : List Object) (places : List Value) (p : IsWatched w places h) (b i : ℕ) → number_of w b ≡ Some i → refers (value_at h places p b) ≡ false
+  value_plain h places p b i is =
+      tracked_no_reference (watched w) w.tracks.first b i p.object.cell.values is
+      (subst (λ (vs : List Value). AreNoReferences vs) (values_there w h p.object p.at_object) p.no_references)
+
+  pub value_held : (h : List Object) (places : List Value) (p : IsWatched w places h) (b i : ℕ) → number_of w b ≡ Some i → slice_index_or (places ++ tracked_values w h) i Null ≡ value_at h places p b
+  value_held h places p b i is =
+      ap (λ (vs : List Value). slice_index_or (places ++ vs) i Null) (values_there w h p.object p.at_object)
+      ∙ tracked_read (watched w) w.tracks.first b i places p.object.cell.values p.count is
+
+  -- A tracked component is read.
+  tracked_reading : (t : State) (cs : List ℕ) (u : Value) (a : Activation Value) (rest : List (Activation Value)) (s : State) → IsOther w.object u → AreOther w.object a.operands → Stays (running a rest s) t (path_next named cs u (seen_state w (running a rest s))) → Shown types bodies w t (moves (Followed (Names w.object)) (reading named cs u (running a rest s))) (path_next named cs u (seen_state w (running a rest s)))
+  unfolding next
+  tracked_reading t [] u a rest s other others stays =
+      both Quiet (computed u (seen_state w (running a rest s))) refl (followed refl refl) (plainly (other, others) refl)
+  tracked_reading t (c ∷ cs) u a rest s other others stays =
+      alone (law.followed refl) (following c cs s.control refl refl (other, others) stays.0 stays.1 stays.2 stays.3)
+
+  pub tracked_path : (t : State) (b i : ℕ) (cs : List ℕ) (a : Activation Value) (rest : List (Activation Value)) (s : State) (p : IsWatched w a.places s.heap) → number_of w b ≡ Some i → AreOther w.object a.operands → Stays (running a rest s) t (path_next named cs (value_at s.heap a.places p b) (seen_state w (running a rest s))) → Shown types bodies w t (path_next named (b ∷ cs) (Names w.object) (running a rest s)) (path_next named cs (value_at s.heap a.places p b) (seen_state w (running a rest s)))
+  tracked_path t b i cs a rest s p is others stays =
+      let u = value_at s.heap a.places p b in
+      let lt : b < length p.object.cell.values = tracked_below (watched w) w.tracks.first b i (length p.object.cell.values) is p.below in
+      subst (λ (found : Found (Cell Value)). Shown types bodies w t (follow_next named (Names w.object) b cs found (running a rest s)) (path_next named cs u (seen_state w (running a rest s))))
+      (sym (look_there w s.heap p.object p.at_object p.existing))
+      (subst (λ (found : Option Value). Shown types bodies w t (component_next named (Names w.object) cs found (running a rest s)) (path_next named cs u (seen_state w (running a rest s))))
+      (sym (read_within p.object.cell.values b Null lt))
+      (tracked_reading t cs u a rest s (value_other s.heap a.places p b i is) others stays))

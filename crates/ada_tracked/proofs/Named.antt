@@ -1,0 +1,151 @@
+-- What paths name, and where the object is found in which the last component of a path lies.
+
+use Rattle.std.proofs.Common.{◌≡◌, ℕ, ◌+◌, ◌<◌, List, [], ◌∷◌, length, false, Some, None, refl, sym, ap, ◌∙◌, subst}
+use Rattle.std.specs.List.{slice_index_or}
+use Rattle.ada_program.specs.declared.program.TypeDefinition.{TypeDefinition}
+use Rattle.ada_program.specs.Form.{PathForm, StmtsForm, a_stmt}
+use Rattle.ada_program.specs.ProgramForm.{BodyForm}
+use Rattle.ada_meaning.specs.declared.state.Value.{Value}
+use Rattle.ada_meaning.specs.declared.state.Value.TheVariants.{Null, Names}
+use Rattle.ada_meaning.specs.Event.{Quiet}
+use Rattle.ada_meaning.specs.Frame.{Frame}
+use Rattle.ada_meaning.specs.Frame as frame
+use Rattle.ada_meaning.specs.State.{Activation}
+use Rattle.ada_meaning.specs.Step.{at, computed, held, path_next, selected, named_next, before_last, last_of, assign_next, gets_next, frees_next}
+use Rattle.ada_meaning.specs.Named.{State, Next, named, whole, inside, next}
+use Rattle.ada_flow.specs.Tracking.{seen}
+use Rattle.ada_tracked.specs.Forms.{seen_right, seen_stmts}
+use Rattle.ada_tracked.specs.Frames.{View, number_of, seen_control, tracked_values, standing}
+use Rattle.ada_tracked.specs.Simple.{PathIsSimple}
+use Rattle.ada_tracked.specs.Seen.{IsOther, AreOther, seen_state, Waiting, assigning, getting, freeing, waiting_frame, waiting_statement, elsewhere, behind, IsWatched}
+use Rattle.ada_tracked.specs.Law.{same, quiet, both, alone, Shown}
+use Rattle.ada_tracked.proofs.Lists.{read_front}
+use Rattle.ada_tracked.proofs.Paths.{Begins, apart, untracked, tracked, begins, within, formal, variable, whole_other}
+use Rattle.ada_tracked.proofs.Found.{running, whole_self, inside_self, selected_self, named_by, holder_by, Stays, path_shown, untracked_path, value_at, value_plain, value_held, tracked_path}
+
+-- What waits, as it is judged.
+abbrev pub seen_waiting : View → Waiting → Waiting
+seen_waiting w (assigning right) = assigning (seen_right w.tracks right)
+seen_waiting w getting = getting
+seen_waiting w (freeing access) = freeing access
+
+-- The statement at a path begins.
+abbrev pub start_next : List TypeDefinition → Waiting → List ℕ → ℕ → State → Next
+start_next types (assigning right) cs x s = assign_next named cs x right s
+start_next types getting cs x s = gets_next named cs x s.input s
+start_next types (freeing access) cs x s = frees_next named types cs access x s
+
+pub start_holder : (types : List TypeDefinition) (waiting : Waiting) (c : ℕ) (cs : List ℕ) (x : ℕ) (s : State) → start_next types waiting (c ∷ cs) x s ≡ holder_by c cs (held named s x) (waiting_frame waiting) s
+start_holder types (assigning right) c cs x s = refl
+start_holder types getting c cs x s = refl
+start_holder types (freeing access) c cs x s = refl
+
+waiting_control : (w : View) (waiting : Waiting) (c : ℕ) (k : List (Frame Value)) → seen_control w (waiting_frame waiting c ∷ k) ≡ waiting_frame (seen_waiting w waiting) c ∷ seen_control w k
+waiting_control w (assigning right) c k = refl
+waiting_control w getting c k = refl
+waiting_control w (freeing access) c k = refl
+
+module _ (types : List TypeDefinition) (bodies : List BodyForm) (w : View) where
+  -- A path from another variable.
+  pub named_other : (t : State) (path : PathForm) (a : Activation Value) (rest : List (Activation Value)) (s : State) → PathIsSimple w.tracks.first path → (0 < path.root) → IsWatched w a.places s.heap → AreOther w.object a.operands → Shown types bodies w t (named_next named path.selectors path.root (running a rest s)) (named_next named path.selectors path.root (seen_state w (running a rest s)))
+  named_other t path a rest s simple lt p others =
+      let v = slice_index_or a.places path.root Null in
+      let in_places : path.root < length a.places = subst (λ (n : ℕ). path.root < n) (sym p.count) (within w.tracks.first path.root path.selectors simple) in
+      subst (λ (u : Value). Shown types bodies w t (named_by path.selectors v (running a rest s)) (named_by path.selectors u (seen_state w (running a rest s))))
+      (sym (read_front a.places (tracked_values w s.heap) path.root Null in_places))
+      (path_shown types bodies w t (selected named v path.selectors) (whole v) a rest s p (whole_other w.object v (variable w a.places path.root p.variables lt)) others)
+
+  -- One from the formal parameter, to a component that is not tracked.
+  named_formal : (t : State) (c : ℕ) (cs : List ℕ) (a : Activation Value) (rest : List (Activation Value)) (s : State) → (0 < w.tracks.first) → number_of w (w.base + c) ≡ None → IsWatched w a.places s.heap → AreOther w.object a.operands → Shown types bodies w t (named_next named (c ∷ cs) 0 (running a rest s)) (named_next named (c ∷ cs) 0 (seen_state w (running a rest s)))
+  named_formal t c cs a rest s lt none p others =
+      let f = formal w a.places p.variables in
+      let in_places : 0 < length a.places = subst (λ (n : ℕ). 0 < n) (sym p.count) lt in
+      subst (λ (u : Value). Shown types bodies w t (named_by (c ∷ cs) (slice_index_or a.places 0 Null) (running a rest s)) (named_by (c ∷ cs) u (seen_state w (running a rest s))))
+      (sym (read_front a.places (tracked_values w s.heap) 0 Null in_places))
+      (subst (λ (u : Value). Shown types bodies w t (named_by (c ∷ cs) u (running a rest s)) (named_by (c ∷ cs) u (seen_state w (running a rest s))))
+      (sym f.1.0)
+      (subst (λ (b : ℕ). Shown types bodies w t (path_next named ((b + c) ∷ cs) (Names w.object) (running a rest s)) (path_next named ((b + c) ∷ cs) (Names w.object) (seen_state w (running a rest s))))
+      (sym f.1.1)
+      (untracked_path types bodies w t (w.base + c) cs a rest s p none others)))
+
+  -- One to a tracked component.
+  named_tracked : (t : State) (c : ℕ) (cs : List ℕ) (x : ℕ) (a : Activation Value) (rest : List (Activation Value)) (s : State) → number_of w (w.base + c) ≡ Some x → IsWatched w a.places s.heap → AreOther w.object a.operands → Stays types bodies w (running a rest s) t (named_next named cs x (seen_state w (running a rest s))) → Shown types bodies w t (named_next named (c ∷ cs) 0 (running a rest s)) (named_next named cs x (seen_state w (running a rest s)))
+  named_tracked t c cs x a rest s is p others stays =
+      let f = formal w a.places p.variables in
+      let u = value_at types bodies w s.heap a.places p (w.base + c) in
+      let plain = value_plain types bodies w s.heap a.places p (w.base + c) x is in
+      let goes : named_next named cs x (seen_state w (running a rest s)) ≡ path_next named cs u (seen_state w (running a rest s)) =
+      ap (λ (v : Value). named_by cs v (seen_state w (running a rest s))) (value_held types bodies w s.heap a.places p (w.base + c) x is)
+      ∙ ap (λ (ds : List ℕ). path_next named ds (whole u) (seen_state w (running a rest s))) (selected_self u cs plain)
+      ∙ ap (λ (v : Value). path_next named cs v (seen_state w (running a rest s))) (whole_self u plain) in
+      subst (λ (n : Next). Shown types bodies w t (named_next named (c ∷ cs) 0 (running a rest s)) n) (sym goes)
+      (subst (λ (v : Value). Shown types bodies w t (named_by (c ∷ cs) v (running a rest s)) (path_next named cs u (seen_state w (running a rest s))))
+      (sym f.1.0)
+      (subst (λ (b : ℕ). Shown types bodies w t (path_next named ((b + c) ∷ cs) (Names w.object) (running a rest s)) (path_next named cs u (seen_state w (running a rest s))))
+      (sym f.1.1)
+      (tracked_path types bodies w t (w.base + c) x cs a rest s p is others (stays.0, stays.1, stays.2, stays.3 ∙ goes))))
+
+  -- What a path names, however it begins.
+  by_begins : (t : State) (path : PathForm) (a : Activation Value) (rest : List (Activation Value)) (s : State) → PathIsSimple w.tracks.first path → IsWatched w a.places s.heap → AreOther w.object a.operands → Stays types bodies w (running a rest s) t (named_next named (seen w.tracks path).selectors (seen w.tracks path).root (seen_state w (running a rest s))) → Begins w path → Shown types bodies w t (named_next named path.selectors path.root (running a rest s)) (named_next named (seen w.tracks path).selectors (seen w.tracks path).root (seen_state w (running a rest s)))
+  by_begins t path a rest s simple p others stays (apart lt kept) =
+      subst (λ (q : PathForm). Shown types bodies w t (named_next named path.selectors path.root (running a rest s)) (named_next named q.selectors q.root (seen_state w (running a rest s))))
+      (sym kept) (named_other t path a rest s simple lt p others)
+  by_begins t path a rest s simple p others stays (untracked c cs root is none kept) =
+      let lt : 0 < w.tracks.first = subst (λ (x : ℕ). x < w.tracks.first) root (within w.tracks.first path.root path.selectors simple) in
+      subst (λ (q : PathForm). Shown types bodies w t (named_next named path.selectors path.root (running a rest s)) (named_next named q.selectors q.root (seen_state w (running a rest s))))
+      (sym kept)
+      (subst (λ (ds : List ℕ). Shown types bodies w t (named_next named ds path.root (running a rest s)) (named_next named ds path.root (seen_state w (running a rest s))))
+      (sym is)
+      (subst (λ (x : ℕ). Shown types bodies w t (named_next named (c ∷ cs) x (running a rest s)) (named_next named (c ∷ cs) x (seen_state w (running a rest s))))
+      (sym root) (named_formal t c cs a rest s lt none p others)))
+  by_begins t path a rest s simple p others stays (tracked c cs x root is number moved) =
+      let goes : named_next named (seen w.tracks path).selectors (seen w.tracks path).root (seen_state w (running a rest s)) ≡ named_next named cs x (seen_state w (running a rest s)) =
+      ap (λ (q : PathForm). named_next named q.selectors q.root (seen_state w (running a rest s))) moved in
+      subst (λ (n : Next). Shown types bodies w t (named_next named path.selectors path.root (running a rest s)) n) (sym goes)
+      (subst (λ (ds : List ℕ). Shown types bodies w t (named_next named ds path.root (running a rest s)) (named_next named cs x (seen_state w (running a rest s))))
+      (sym is)
+      (subst (λ (y : ℕ). Shown types bodies w t (named_next named (c ∷ cs) y (running a rest s)) (named_next named cs x (seen_state w (running a rest s))))
+      (sym root) (named_tracked t c cs x a rest s number p others (stays.0, stays.1, stays.2, stays.3 ∙ goes))))
+
+  pub named_shown : (t : State) (path : PathForm) (a : Activation Value) (rest : List (Activation Value)) (s : State) → PathIsSimple w.tracks.first path → IsWatched w a.places s.heap → AreOther w.object a.operands → Stays types bodies w (running a rest s) t (named_next named (seen w.tracks path).selectors (seen w.tracks path).root (seen_state w (running a rest s))) → Shown types bodies w t (named_next named path.selectors path.root (running a rest s)) (named_next named (seen w.tracks path).selectors (seen w.tracks path).root (seen_state w (running a rest s)))
+  named_shown t path a rest s simple p others stays = by_begins t path a rest s simple p others stays (begins w path simple)
+
+  -- The object in which the last component of a path lies, where that begins with what another variable holds.
+  pub holder_other : (t : State) (waiting : Waiting) (c : ℕ) (cs : List ℕ) (v : Value) (a : Activation Value) (rest : List (Activation Value)) (s : State) → IsOther w.object v → IsWatched w a.places s.heap → AreOther w.object a.operands → Shown types bodies w t (holder_by c cs v (waiting_frame waiting) (running a rest s)) (holder_by c cs v (waiting_frame (seen_waiting w waiting)) (seen_state w (running a rest s)))
+  holder_other t waiting c cs v a rest s other p others =
+      let n = last_of (inside v c) cs in
+      subst (λ (k : List (Frame Value)). Shown types bodies w t (holder_by c cs v (waiting_frame waiting) (running a rest s)) (path_next named (before_last (inside v c) cs) (whole v) (at k (seen_state w (running a rest s)))))
+      (waiting_control w waiting n s.control)
+      (path_shown types bodies w t (before_last (inside v c) cs) (whole v) a rest (at (waiting_frame waiting n ∷ s.control) s) p (whole_other w.object v other) others)
+
+  -- In the object itself, at a component that is not tracked, or behind one.
+  pub holder_formal : (t : State) (waiting : Waiting) (b : ℕ) (cs : List ℕ) (a : Activation Value) (rest : List (Activation Value)) (s : State) → number_of w b ≡ None → IsWatched w a.places s.heap → AreOther w.object a.operands → Shown types bodies w t (path_next named (before_last b cs) (Names w.object) (at (waiting_frame waiting (last_of b cs) ∷ s.control) (running a rest s))) (path_next named (before_last b cs) (Names w.object) (at (waiting_frame (seen_waiting w waiting) (last_of b cs) ∷ seen_control w s.control) (seen_state w (running a rest s))))
+  holder_formal t waiting b [] a rest s none p others =
+      both Quiet (computed (Names w.object) (at (waiting_frame (seen_waiting w waiting) b ∷ seen_control w s.control) (seen_state w (running a rest s)))) refl (same refl)
+      (elsewhere waiting b s.control a.operands refl refl refl others none
+      (ap (λ (k : List (Frame Value)). computed (Names w.object) (at k (seen_state w (running a rest s)))) (sym (waiting_control w waiting b s.control))))
+  holder_formal t waiting b (d ∷ ds) a rest s none p others =
+      subst (λ (k : List (Frame Value)). Shown types bodies w t (path_next named (b ∷ before_last d ds) (Names w.object) (at (waiting_frame waiting (last_of d ds) ∷ s.control) (running a rest s))) (path_next named (b ∷ before_last d ds) (Names w.object) (at k (seen_state w (running a rest s)))))
+      (waiting_control w waiting (last_of d ds) s.control)
+      (untracked_path types bodies w t b (before_last d ds) a rest (at (waiting_frame waiting (last_of d ds) ∷ s.control) s) p none others)
+
+  -- Behind a tracked one, or at it.
+  pub holder_tracked : (t : State) (waiting : Waiting) (b : ℕ) (cs : List ℕ) (x : ℕ) (path : PathForm) (fs : StmtsForm) (k : List (Frame Value)) (a : Activation Value) (rest : List (Activation Value)) (s : State) → s.control ≡ frame.Does fs ∷ k → seen w.tracks path ≡ record { root = x; of_record = false; selectors = cs; spot = path.spot } → number_of w b ≡ Some x → IsWatched w a.places s.heap → AreOther w.object a.operands → t ≡ standing w (running a rest s) (frame.Does (a_stmt (waiting_statement w.tracks waiting (seen w.tracks path)) (seen_stmts w.tracks fs)) ∷ seen_control w k) a.operands → next types bodies t ≡ start_next types (seen_waiting w waiting) cs x (seen_state w (running a rest s)) → Shown types bodies w t (path_next named (before_last b cs) (Names w.object) (at (waiting_frame waiting (last_of b cs) ∷ s.control) (running a rest s))) (start_next types (seen_waiting w waiting) cs x (seen_state w (running a rest s)))
+  holder_tracked t waiting b [] x path fs k a rest s does moved is p others stands goes_on =
+      alone (quiet refl)
+      (behind waiting b x path.spot fs k a.operands refl (ap (λ (l : List (Frame Value)). waiting_frame waiting b ∷ l) does) refl others is
+      (stands ∙ ap (λ (q : PathForm). standing w (running a rest s) (frame.Does (a_stmt (waiting_statement w.tracks waiting q) (seen_stmts w.tracks fs)) ∷ seen_control w k) a.operands) moved))
+  holder_tracked t waiting b (d ∷ ds) x path fs k a rest s does moved is p others stands goes_on =
+      let u = value_at types bodies w s.heap a.places p b in
+      let plain = value_plain types bodies w s.heap a.places p b x is in
+      let f = waiting_frame (seen_waiting w waiting) in
+      let z = seen_state w (running a rest s) in
+      let goes : start_next types (seen_waiting w waiting) (d ∷ ds) x z ≡ path_next named (before_last d ds) u (at (seen_control w (waiting_frame waiting (last_of d ds) ∷ s.control)) z) =
+      start_holder types (seen_waiting w waiting) d ds x z
+      ∙ ap (λ (v : Value). holder_by d ds v f z) (value_held types bodies w s.heap a.places p b x is)
+      ∙ ap (λ (v : Value). path_next named (before_last (inside u d) ds) v (at (f (last_of (inside u d) ds) ∷ seen_control w s.control) z)) (whole_self u plain)
+      ∙ ap (λ (n : ℕ). path_next named (before_last n ds) u (at (f (last_of n ds) ∷ seen_control w s.control) z)) (inside_self u d plain)
+      ∙ ap (λ (l : List (Frame Value)). path_next named (before_last d ds) u (at l z)) (sym (waiting_control w waiting (last_of d ds) s.control)) in
+      subst (λ (n : Next). Shown types bodies w t (path_next named (b ∷ before_last d ds) (Names w.object) (at (waiting_frame waiting (last_of d ds) ∷ s.control) (running a rest s))) n) (sym goes)
+      (tracked_path types bodies w t b x (before_last d ds) a rest (at (waiting_frame waiting (last_of d ds) ∷ s.control) s) p is others
+      (frame.Does (a_stmt (waiting_statement w.tracks waiting (seen w.tracks path)) (seen_stmts w.tracks fs)) ∷ seen_control w k, a.operands, stands, goes_on ∙ goes))

@@ -1,0 +1,45 @@
+-- The premises are met.
+
+use Rattle.std.specs.Prelude.{◌≡◌, List, [], ◌∷◌}
+use Rattle.ada_program.specs.declared.program.TypeDefinition.{TypeDefinition}
+use Rattle.ada_program.specs.ProgramForm.{BodyForm}
+use Rattle.ada_meaning.specs.declared.state.Value.{Value}
+use Rattle.ada_meaning.specs.declared.state.Value.TheVariants.{Null, Names}
+use Rattle.ada_meaning.specs.Event.{Followed, Quiet}
+use Rattle.ada_meaning.specs.Step.{moves, places}
+use Rattle.ada_meaning.specs.Named.{State, next}
+use Rattle.ada_tracked.specs.Frames.{View, tracked_values}
+use Rattle.ada_tracked.specs.Seen.{Seen, IsWatched}
+use Rattle.ada_tracked.specs.Law.{NextIsSimple}
+
+-- What the law takes of a state and of the one that stands for it.
+pub record IsMet (types : List TypeDefinition) (bodies : List BodyForm) (w : View) (s t : State) : Type 0 where
+  pub seen : Seen types bodies w s t
+  pub watched : IsWatched w (places s) s.heap
+  pub simple : NextIsSimple w s.control s.masters
+
+-- A body reads from a tracked component: the real run follows its object, and the other one reads the variable, which holds the name of another object;
+-- behind the step the premises are met again.
+pub record ReadsTracked (types : List TypeDefinition) (bodies : List BodyForm) (w : View) (s t after stands : State) : Type 0 where
+  pub before : IsMet types bodies w s t
+  pub behind : IsMet types bodies w after stands
+  pub holds : (v : Value) × (tracked_values w s.heap ≡ v ∷ []) × (v ≡ Null → ⊥)
+  pub follows : next types bodies s ≡ moves (Followed (Names w.object)) after
+  pub reads : next types bodies t ≡ moves Quiet stands
+
+-- A body assigns to a tracked component: the real run finds the object alone, and then follows it as the other one begins to assign to the variable.
+pub record AssignsTracked (types : List TypeDefinition) (bodies : List BodyForm) (w : View) (s t between after stands : State) : Type 0 where
+  pub before : IsMet types bodies w s t
+  pub on_the_way : IsMet types bodies w between t
+  pub behind : IsMet types bodies w after stands
+  pub finds : next types bodies s ≡ moves Quiet between
+  pub follows : next types bodies between ≡ moves (Followed (Names w.object)) after
+  pub begins : next types bodies t ≡ moves Quiet stands
+
+-- So it is somewhere.
+abbrev pub PremisesAreMet : Type 0
+PremisesAreMet =
+    ((types : List TypeDefinition) × (bodies : List BodyForm) × (w : View) × (s : State) × (t : State) × (after : State) × (stands : State)
+    × ReadsTracked types bodies w s t after stands)
+    × ((types : List TypeDefinition) × (bodies : List BodyForm) × (w : View) × (s : State) × (t : State) × (between : State) × (after : State) × (stands : State)
+    × AssignsTracked types bodies w s t between after stands)

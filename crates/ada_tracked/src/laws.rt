@@ -1,0 +1,24 @@
+//! The laws of tracked components. Each is a function that does nothing, and whose contract is the theorem.
+
+ghost use Rattle.ada_tracked.specs.Example.{PremisesAreMet};
+ghost use Rattle.ada_tracked.specs.Law.{TrackedComponentsRunAsVariables};
+ghost use Rattle.ada_tracked.specs.Staying.{SimpleBodiesStaySimple};
+
+/// While the body of an operation runs whose formal parameter has tracked components (7.6), the state in which each of them is a
+/// variable, and in whose heap they hold null, takes the same steps: the same is asked of storage and told to it, the same is
+/// shown but that the object of the formal parameter is followed, and the run ends as it does.
+pub fn tracked_components_run_as_variables()
+    ensures { TrackedComponentsRunAsVariables }
+{}
+
+/// What is left to do of a body is of the forms of which that law speaks, up to the end of its call, and each step leaves it so;
+/// only what is done to the controlled parts of an object (7.6) may come before it then.
+pub fn simple_bodies_stay_simple()
+    ensures { SimpleBodiesStaySimple }
+{}
+
+/// The premises are met: a body reads a tracked component of its formal parameter that names another object, or assigns to it,
+/// and meets them again behind that step.
+pub fn premises_are_met()
+    ensures { PremisesAreMet }
+{}
