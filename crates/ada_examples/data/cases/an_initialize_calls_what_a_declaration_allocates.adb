@@ -17,5 +17,5 @@ procedure Main is
    end Initialize;
    H : Holder;
 begin
-   Ada.Text_IO.Put_Line ("never");
+   Ada.Text_IO.Put_Line (Integer'Image (H.Held.Value));
 end Main;

@@ -10,14 +10,13 @@ procedure Main is
       New_One : Link := new Cell;
    begin
       Object.Held := New_One;
-   exception
-      when others => null;
    end Initialize;
    overriding procedure Finalize (Object : in out Holder) is
    begin
       Free (Object.Held);
+      Ada.Text_IO.Put_Line ("freed");
    end Finalize;
    H : Holder;
 begin
-   Ada.Text_IO.Put_Line ("never");
+   Ada.Text_IO.Put_Line (Integer'Image (H.Held.Value));
 end Main;

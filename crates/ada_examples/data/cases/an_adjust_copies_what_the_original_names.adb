@@ -1,0 +1,26 @@
+with Ada.Finalization;
+procedure Main is
+   type Cell is record
+      Value : Integer := 0;
+   end record;
+   type Ref is access Cell;
+   type Box is new Ada.Finalization.Controlled with record
+      Item : Ref;
+   end record;
+   overriding procedure Adjust (Object : in out Box);
+   procedure Adjust (Object : in out Box) is
+   begin
+      if Object.Item /= null then
+         Object.Item := new Cell'(Value => Object.Item.Value);
+      else
+         Object.Item := null;
+      end if;
+   exception
+      when others =>
+         Object.Item := null;
+   end Adjust;
+   A : Box;
+   B : Box;
+begin
+   B := A;
+end Main;
