@@ -1190,9 +1190,9 @@ handled passes handlers (faults spot rule) = faults spot rule
 handled passes handlers (goes normal None) = goes normal None
 handled passes handlers (goes normal (Some raising)) = either_of (goes normal (raising_if passes raising)) (handlers raising)
 
--- Where a statement stands: what is known of the calls of procedures, and what they keep; what its body tracks; which variables of its body are formal
--- parameters, and which are tracked components, that own something or null at each normal end of it; the start of the innermost loop around the statement, if there is one; and what goes with the blocks
--- between that loop and the statement, and with the body and all blocks around the statement.
+-- Where a statement stands: what is known of the calls of procedures, and what they keep; what its body tracks; which of its formal parameters and tracked
+-- components own something or are null at each normal end of it; the start of the innermost loop around the statement, if there is one; and what goes with
+-- the blocks between that loop and the statement, and with the body and all blocks around the statement.
 pub record Around : Type 0 where
   pub effects : Effects
   pub kept : List Keeping

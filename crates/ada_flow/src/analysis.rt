@@ -42,7 +42,8 @@ fn give(
 ) -> Result<(), FlowFault>
     ensures { Leads result known.new.holds.items raised.old raised.new
         (initializes (variables_in around.now) (implicit_around around.now) (right_form value.now)
-        (gives_value (types_in around.now) (tracks_around around.now) spot borrows cleared (target_of target.entry) place.0 (right_form value.now) known.old.holds.items)) }
+        (gives_value (types_in around.now) (tracks_around around.now) spot borrows cleared (target_of target.entry) place.0
+        (right_form value.now) known.old.holds.items)) }
 {
     let tracks = around.setting.tracks;
     use_right(
@@ -137,7 +138,8 @@ fn use_start(
     target: &Path,
     value: &Right,
 ) -> Result<(), Breach>
-    ensures { let uses = uses_in_start (types_in around.now) (variables_in around.now) (tracks_around around.now) (implicit_around around.now) (path_form target.now) (right_form value.now) in
+    ensures { let uses = uses_in_start (types_in around.now) (variables_in around.now) (tracks_around around.now)
+        (implicit_around around.now) (path_form target.now) (right_form value.now) in
         Follows result (broken_among (tracks_around around.now) holds.now uses) }
 {
     match value {
@@ -227,7 +229,8 @@ fn declaration(
     declaration: &Declaration,
 ) -> Result<(), FlowFault>
     ensures { Leads result known.new.holds.items raised.old raised.new
-        (declaration_flow (types_in around.now) (variables_in around.now) (tracks_around around.now) (implicit_around around.now) (declaration_form declaration.now) known.old.holds.items) }
+        (declaration_flow (types_in around.now) (variables_in around.now) (tracks_around around.now) (implicit_around around.now)
+        (declaration_form declaration.now) known.old.holds.items) }
 {
     match declaration {
         Declaration::Pool(_) | Declaration::Collection(_) => Ok(()),

@@ -94,7 +94,10 @@ fn body(
     requires { AreRows (map type_form types.now) (implicit_in effects.implicit.now) reached.now.rows.items }
     ensures { let whole = body_in formals.now variables.now declarations.now statements.now handlers.now end in
         Exactly keeping_in breach_of result
-        (kept_judgement (judged_flow (map type_form types.now) (map variable_form judged.now) (effects_in effects.entry) (keepings_in kept.now) (tracks_in tracks.entry) whole) formals.now) }
+        (kept_judgement
+        (judged_flow (map type_form types.now) (map variable_form judged.now) (effects_in effects.entry) (keepings_in kept.now)
+        (tracks_in tracks.entry) whole)
+        formals.now) }
 {
     let owed = owed_at_ends(alloc, tracks, formals, variables)?;
     let gone = Gone::with(alloc, declarations)?;
@@ -148,10 +151,12 @@ fn body_fault(
 ) -> Result<(Option<Breach>, Keeping), FlowFault>
     requires { AreRows (map type_form types.now) (implicit_in effects.implicit.now) reached.now.rows.items }
     ensures found { let whole = body_in formals.now variables.now declarations.now statements.now handlers.now end in
-        let flow = judged_flow (map type_form types.now) (map variable_form judged.now) (effects_in effects.entry) (keepings_in kept.now) (tracks_in tracks.entry) whole in
+        let flow = judged_flow (map type_form types.now) (map variable_form judged.now) (effects_in effects.entry)
+        (keepings_in kept.now) (tracks_in tracks.entry) whole in
         MatchResult result (λ told. broken told.0 ≡ fault_in flow) (λ fault. breach_of fault ≡ None) }
     ensures keeps { let whole = body_in formals.now variables.now declarations.now statements.now handlers.now end in
-        let flow = judged_flow (map type_form types.now) (map variable_form judged.now) (effects_in effects.entry) (keepings_in kept.now) (tracks_in tracks.entry) whole in
+        let flow = judged_flow (map type_form types.now) (map variable_form judged.now) (effects_in effects.entry)
+        (keepings_in kept.now) (tracks_in tracks.entry) whole in
         IfOk result (λ told. keeping_in told.1 ≡ kept_by flow formals.now) }
 {
     match body(

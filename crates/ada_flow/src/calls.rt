@@ -171,7 +171,8 @@ pub(crate) fn call(
     ensures { let effect = slice_get (effects_in around.now).calls procedure.0 in
         let kept = rules.kept_at (around_of around.now).kept procedure.0 in
         Leads result known.new.holds.items raised.old raised.new
-        (rules.called (types_in around.now) (variables_in around.now) (tracks_around around.now) effect kept (map actual_form actuals.now) known.old.holds.items) }
+        (rules.called (types_in around.now) (variables_in around.now) (tracks_around around.now) effect kept
+        (map actual_form actuals.now) known.old.holds.items) }
 {
     let setting = around.setting;
     let freed = freed_by(around, procedure);

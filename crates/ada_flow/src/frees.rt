@@ -270,7 +270,8 @@ fn release_component(
     ensures { let freed = path_form path.now in
         Leads result known.new.holds.items raised.old raised.new
         (rules.finalizes (variables_in around.now) (implicit_around around.now) access
-        (rules.released_behind (types_in around.now) (variables_in around.now) (tracks_around around.now) (implicit_around around.now) freed known.old.holds.items access)) }
+        (rules.released_behind (types_in around.now) (variables_in around.now) (tracks_around around.now)
+        (implicit_around around.now) freed known.old.holds.items access)) }
 {
     let hold = hold_of(known.holds(), path.root);
     let is_unsafe = way_reached(around, path, hold, access);
@@ -294,7 +295,8 @@ fn release_tracked(
 ) -> Result<(), Breach>
     ensures { let freed = path_form path.now in
         Tells result known.new.holds.items
-        (rules.released_tracked (types_in around.now) (variables_in around.now) (tracks_around around.now) (implicit_around around.now) freed known.old.holds.items access) }
+        (rules.released_tracked (types_in around.now) (variables_in around.now) (tracks_around around.now)
+        (implicit_around around.now) freed known.old.holds.items access) }
 {
     let is_reached = formal_reached(around, path, hold_of(known.holds(), path.root), access);
     let hold = hold_seen(around.setting.tracks, known.holds(), path);

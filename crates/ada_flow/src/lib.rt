@@ -17,10 +17,11 @@
 //! that reaches an access type whose objects are of the parameter's record type, or have a part of it at any depth
 //! (S6), at each normal end of a body its formal parameters of mode `in out` of access types own what they give back,
 //! or are null (S7), and no record is copied with a component of an access type, unless a controlled type with an
-//! Adjust of its own declares that component, nor does an aggregate with one stand outside an allocator (S11). Of the rules that one simple statement breaks the leftmost is told, and where an actual
-//! parameter breaks more than one at its spot, S1 comes before S2 and S3, and these before S6. Behind a block its
-//! variables are lost, and so are those of the access types whose collections it created, and a handler begins with
-//! what is known wherever its statements may raise an exception (11.4).
+//! Adjust of its own declares that component, nor does an aggregate with one stand outside an allocator (S11). Of the
+//! rules that one simple statement breaks the leftmost is told, and where an actual parameter breaks more than one at
+//! its spot, S1 comes before S2 and S3, and these before S6. Behind a block its variables are lost, and so are those of
+//! the access types whose collections it created, and a handler begins with what is known wherever its statements may
+//! raise an exception (11.4).
 //!
 //! A borrower (3.10) holds null or an alias, or is lost: the value of a path is lent to it, and stays where it is. By
 //! S2 nothing is moved out of an alias, and it frees nothing. Where an owner is moved its aliases stay, since the
@@ -60,12 +61,12 @@
 //! number of its items besides for each name in the paths that they move, since no path is moved twice; a record that
 //! is copied, or that gets a value as a whole, costs the number of its components besides, and of those that are
 //! declared in it, once for each record around them, among which one of an access type is looked for; a path in an
-//! Adjust costs the number of the components that its type declares; a branch, a loop, an exit and a handler cost the number of variables besides, since each
-//! way begins with a copy of what is known and ends where it is joined or compared; and so does a `return` from a body
-//! with formal parameters of mode `in out` of access types, which looks at each of these. A `Free` costs the number of
-//! variables besides where one may hold an alias: it goes over what is known of each, and looks up the access type of
-//! an alias alone. Where none does, as in each body without borrowers and without formal parameters of access types
-//! and records, it costs no more than its size. A block, an exit from blocks and such a `return` mark the access types
+//! Adjust costs the number of the components that its type declares; a branch, a loop, an exit and a handler cost the
+//! number of variables besides, since each way begins with a copy of what is known and ends where it is joined or
+//! compared; and so does a `return` from a body with formal parameters of mode `in out` of access types, which looks
+//! at each of these. A `Free` costs the number of variables besides where one may hold an alias: it goes over what is
+//! known of each, and looks up the access type of an alias alone. Where none does, as in each body without borrowers
+//! and without formal parameters of access types and records, it costs no more than its size. A block, an exit from blocks and such a `return` mark the access types
 //! of the blocks that are left by their numbers, and then go over the variables once, and over those that the blocks
 //! declare: that costs the number of types besides. A block costs what goes with the blocks around it and with the
 //! body. A call costs the size of what is known of it, and for each of its actual parameters that is no expression the

@@ -202,7 +202,8 @@ pub(crate) fn create_record(
 ) -> Result<(), FlowFault>
     ensures { let creation = declares_record variable.0 object.0 (initial_items initial.now) in
         Leads result known.new.holds.items raised.old raised.new
-        (rules.declaration_flow (types_in around.now) (variables_in around.now) (tracks_around around.now) (implicit_around around.now) creation known.old.holds.items) }
+        (rules.declaration_flow (types_in around.now) (variables_in around.now) (tracks_around around.now)
+        (implicit_around around.now) creation known.old.holds.items) }
 {
     let spot = around.declared_at(variable);
     use_initial(
