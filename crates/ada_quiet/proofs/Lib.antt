@@ -6,5 +6,7 @@ pub mod Unused
 pub mod InUse
 -- quiet bodies are frugal
 pub mod QuietFrugal
+-- quiet bodies are simple
+pub mod QuietSimple
 -- procedures that are frugal have frugal bodies
 pub mod FrugalAt

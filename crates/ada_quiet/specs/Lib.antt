@@ -4,8 +4,14 @@
 pub mod Quiet
 -- bodies of Initialize and Finalize that touch storage: frugal ones
 pub mod Frugal
+-- bodies of an Adjust that touch storage: simple ones
+pub mod Simple
+-- procedures that override an Adjust which tracks stand apart
+pub mod Apart
 -- what is in use
 pub mod InUse
+-- where an Adjust may track components
+pub mod Tracking
 -- what is known of all bodies, as the code holds it
 pub mod Known
 -- the first one in the text that is not in use

@@ -14,17 +14,26 @@
 //! storage in another program, operations that call procedures that are not frugal, and an Adjust or a Finalize that lets an exception
 //! out, are not in use yet, since no theorem covers them so far. Nor is an Adjust of a type with such a component: flow follows what it
 //! does to that (`ada_flow`), but no theorem covers it so far.
+//!
+//! Whether an Adjust may track components of its formal parameter is answered by `may_track` for a program, and by `is_simple_body` for
+//! the body that is to do it: that allocates, moves, follows and frees, calls nothing, copies no record, and declares variables alone.
+//! Nothing uses them yet.
 #![tactic(auto)]
 
+mod apart;
 mod bodies;
 mod first;
 mod frugal;
 mod known;
 pub mod laws;
 mod operations;
+mod simple;
 mod statements;
+mod tracking;
 mod uses;
 mod values;
 
 pub use crate::first::first_unused;
 pub use crate::operations::operations_are_quiet;
+pub use crate::simple::is_simple_body;
+pub use crate::tracking::may_track;

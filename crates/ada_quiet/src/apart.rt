@@ -1,0 +1,324 @@
+//! Where the procedures that override an Adjust which tracks components stand apart (7.6): no body calls them (6.4), and they override
+//! no other operation; and no allocator copies a record (4.8), which no Adjust would see to.
+
+ghost use Rattle.std.specs.Prelude.{◌≡◌, ◌&&◌, ◌||◌, ◌==◌, ℕ, Some, IfOk, OnOk, map};
+ghost use Rattle.std.specs.List.{list_all, list_any};
+ghost use Rattle.ada_program.specs.Form.{StmtsForm, branches_form, declaration_form, handlers_form, stmt_form, stmts_form};
+ghost use Rattle.ada_program.specs.Kept.{types_in};
+ghost use Rattle.ada_program.specs.ProgramForm.{body_form, main_body, part_form, program_form, type_form};
+ghost use Rattle.ada_program.specs.WellFormed.{finalization_in};
+ghost use Rattle.ada_quiet.specs.Apart as rules;
+ghost use Rattle.ada_quiet.specs.Known.{is_marked};
+ghost use Rattle.ada_quiet.specs.Quiet.{has_access, is_of_access};
+
+use crate::simple::{is_simple_initial, is_simple_right};
+use ada_program::program::{
+    Branch, ComponentKind, Declaration, Finalization, Handler, Part, PartKind, Procedure,
+    TypeDefinition,
+};
+use ada_program::{ProcedureNo, Program, Stmt};
+use std::alloc::{AllocError, Global};
+
+/// Whether one of these declared components is of an access type (3.8, 3.10).
+fn declare_access(parts: &[Part]) -> bool
+    ensures { result ≡ list_any (λ c. is_of_access c.kind) (map part_form parts.now) }
+{
+    'parts: for part in parts {
+        if matches!(part.kind, PartKind::Elementary(ComponentKind::Access(_))) {
+            return true;
+        }
+    }
+    false
+}
+
+/// What overrides Adjust of a type that has operations, if something does.
+fn adjust_of(finalization: Option<Finalization>) -> Option<ProcedureNo>
+    ensures { (n : ℕ) → rules.is_this_one n result ≡ rules.is_adjust_of n finalization }
+{
+    finalization?.operations.adjust
+}
+
+/// What tracks among the operations of a type, if one does.
+fn tracker_in(definition: &TypeDefinition) -> Option<ProcedureNo>
+    ensures { (n : ℕ) → rules.is_this_one n result
+        ≡ (has_access (Some (type_form definition.now)) && rules.is_adjust_of n (finalization_in (Some (type_form definition.now)))) }
+{
+    let TypeDefinition::Record {
+        name: _,
+        parts,
+        components: _,
+        finalization,
+    } = definition
+    else {
+        return None;
+    };
+    if !declare_access(parts) {
+        return None;
+    }
+    adjust_of(*finalization)
+}
+
+/// A procedure is marked. The marks grow as far as it.
+fn mark(marks: &mut Vec<bool>, procedure: ProcedureNo) -> Result<(), AllocError>
+    ensures { OnOk result ((n : ℕ) → is_marked marks.new.items n ≡ (is_marked marks.old.items n || procedure.0 == n)) }
+{
+    match marks.get_mut(procedure.0) {
+        Some(is_marked) => *is_marked = true,
+        None => {
+            marks.resize(procedure.0, false)?;
+            marks.push(true)?;
+        }
+    }
+    Ok(())
+}
+
+/// What tracks among the operations of a type is marked, if one does.
+fn mark_tracker(marks: &mut Vec<bool>, definition: &TypeDefinition) -> Result<(), AllocError>
+    ensures { OnOk result ((n : ℕ) → is_marked marks.new.items n ≡ (is_marked marks.old.items n
+        || (has_access (Some (type_form definition.now)) && rules.is_adjust_of n (finalization_in (Some (type_form definition.now)))))) }
+{
+    if let Some(procedure) = tracker_in(definition) {
+        mark(marks, procedure)?;
+    }
+    Ok(())
+}
+
+/// Of each procedure, by its number, whether it tracks. Linear in the types, their components, and the procedures.
+///
+/// # Errors
+/// `AllocError` where memory was refused.
+fn trackers(alloc: Global, program: &Program) -> Result<Vec<bool>, AllocError>
+    ensures { IfOk result (λ marks. (n : ℕ) → is_marked marks.items n ≡ rules.is_tracker (program_form program.now) n) }
+{
+    let mut marks = Vec::new(alloc);
+    'types: for definition in &program.types {
+        mark_tracker(&mut marks, definition)?;
+    }
+    Ok(marks)
+}
+
+/// Whether a procedure is marked.
+fn tracks(marks: &[bool], procedure: ProcedureNo) -> bool
+    ensures { result ≡ is_marked marks.now procedure.0 }
+{
+    match marks.get(procedure.0) {
+        Some(is_marked) => *is_marked,
+        None => false,
+    }
+}
+
+/// Whether what a declaration gives to a variable at first, if it gives something, copies no record in an allocator (3.3.1, 4.8).
+fn declares_apart(declaration: &Declaration) -> bool
+    ensures { result ≡ rules.declares_apart (declaration_form declaration.now) }
+{
+    match declaration {
+        Declaration::Variable {
+            variable: _,
+            initial,
+        } => is_simple_initial(initial),
+        Declaration::Pool(_) | Declaration::Collection(_) | Declaration::Record { .. } => true,
+    }
+}
+
+/// Whether that is so with each of these declarations.
+fn declare_apart(declarations: &[Declaration]) -> bool
+    ensures { result ≡ rules.declare_apart (map declaration_form declarations.now) }
+{
+    'declarations: for declaration in declarations {
+        if !declares_apart(declaration) {
+            return false;
+        }
+    }
+    true
+}
+
+/// Whether a statement calls no procedure that is marked (6.4), and copies no record in an allocator (4.8).
+#[cycle(statements)]
+#[tactic(auto, using(std::proofs::lemmas::Grind::common_steps, ada_program::specs::Form::statement_rules))]
+fn calls_apart(marks: &[bool], statement: &Stmt) -> bool
+    ensures { result ≡ rules.calls_apart (is_marked marks.now) (stmt_form statement.now) }
+{
+    match statement {
+        Stmt::Null
+        | Stmt::AssignRecord { .. }
+        | Stmt::Free { .. }
+        | Stmt::Get(_)
+        | Stmt::PutImage(_)
+        | Stmt::PutText(_)
+        | Stmt::Exit { .. }
+        | Stmt::Return(_)
+        | Stmt::Raise(_) => true,
+        Stmt::Assign { target: _, value } => is_simple_right(value),
+        Stmt::Call {
+            procedure,
+            actuals: _,
+        } => !tracks(marks, *procedure),
+        Stmt::If {
+            branches,
+            otherwise,
+        } => branches_call_apart(marks, branches) && all_call_apart(marks, otherwise),
+        Stmt::Loop {
+            condition: _,
+            statements,
+            end: _,
+        } => all_call_apart(marks, statements),
+        Stmt::For {
+            parameter: _,
+            first: _,
+            last: _,
+            statements,
+            end: _,
+        } => all_call_apart(marks, statements),
+        Stmt::Block {
+            declarations,
+            statements,
+            handlers,
+        } => declare_apart(declarations)
+            && all_call_apart(marks, statements)
+            && handlers_call_apart(marks, handlers),
+    }
+}
+
+/// Whether that is so with statements.
+#[cycle(statements)]
+fn all_call_apart(marks: &[bool], statements: &[Stmt]) -> bool
+    ensures { result ≡ rules.all_call_apart (is_marked marks.now) (stmts_form statements.now) }
+{
+    'statements: for statement in statements {
+        if !calls_apart(marks, statement) {
+            return false;
+        }
+    }
+    true
+}
+
+/// Whether that is so with branches (5.3).
+#[cycle(statements)]
+fn branches_call_apart(marks: &[bool], branches: &[Branch]) -> bool
+    ensures { (others : StmtsForm) → rules.branches_call_apart (is_marked marks.now) (branches_form branches.now others)
+        ≡ (result && rules.all_call_apart (is_marked marks.now) others) }
+{
+    'branches: for branch in branches {
+        if !all_call_apart(marks, &branch.statements) {
+            return false;
+        }
+    }
+    true
+}
+
+/// Whether that is so with handlers (11.2).
+#[cycle(statements)]
+fn handlers_call_apart(marks: &[bool], handlers: &[Handler]) -> bool
+    ensures { result ≡ rules.handlers_call_apart (is_marked marks.now) (handlers_form handlers.now) }
+{
+    'handlers: for handler in handlers {
+        if !all_call_apart(marks, &handler.statements) {
+            return false;
+        }
+    }
+    true
+}
+
+/// Whether that is so with the bodies of these procedures. Linear in the bodies.
+fn bodies_call_apart(marks: &[bool], procedures: &[Procedure]) -> bool
+    ensures { result ≡ list_all (rules.body_calls_apart (is_marked marks.now)) (map body_form procedures.now) }
+{
+    'procedures: for procedure in procedures {
+        if !declare_apart(&procedure.declarations) {
+            return false;
+        }
+        if !all_call_apart(marks, &procedure.statements) {
+            return false;
+        }
+        if !handlers_call_apart(marks, &procedure.handlers) {
+            return false;
+        }
+    }
+    true
+}
+
+/// Whether that is so with the main procedure's body. Linear in the body.
+fn main_calls_apart(marks: &[bool], program: &Program) -> bool
+    ensures { result ≡ rules.body_calls_apart (is_marked marks.now) (main_body (program_form program.now)) }
+{
+    declare_apart(&program.declarations)
+        && all_call_apart(marks, &program.statements)
+        && handlers_call_apart(marks, &program.handlers)
+}
+
+/// Whether what overrides an operation is not marked, if one is overridden.
+fn overrides_apart(marks: &[bool], operation: Option<ProcedureNo>) -> bool
+    ensures { result ≡ rules.overrides_apart (is_marked marks.now) operation }
+{
+    match operation {
+        None => true,
+        Some(procedure) => !tracks(marks, procedure),
+    }
+}
+
+/// Whether none of a type's operations is marked but its Adjust, and that only where the type declares a component of an access type.
+fn operations_apart(marks: &[bool], owns: bool, finalization: Option<Finalization>) -> bool
+    ensures { result ≡ rules.operations_apart (is_marked marks.now) owns finalization }
+{
+    let Some(finalization) = finalization else {
+        return true;
+    };
+    let operations = finalization.operations;
+    overrides_apart(marks, operations.initialize)
+        && (owns || overrides_apart(marks, operations.adjust))
+        && overrides_apart(marks, operations.finalize)
+}
+
+/// Whether that is so with a type.
+fn is_apart(marks: &[bool], definition: &TypeDefinition) -> bool
+    ensures { result ≡ rules.operations_apart (is_marked marks.now)
+        (has_access (Some (type_form definition.now))) (finalization_in (Some (type_form definition.now))) }
+{
+    match definition {
+        TypeDefinition::Record {
+            name: _,
+            parts,
+            components: _,
+            finalization,
+        } => operations_apart(marks, declare_access(parts), *finalization),
+        TypeDefinition::Access { .. } | TypeDefinition::Object { .. } => true,
+    }
+}
+
+/// Whether that is so with each of these types. Linear in the types and their components.
+fn are_apart(marks: &[bool], types: &[TypeDefinition]) -> bool
+    ensures { result ≡ list_all (λ t. rules.operations_apart (is_marked marks.now) (has_access (Some t)) (finalization_in (Some t)))
+        (types_in types.now) }
+{
+    'types: for definition in types {
+        if !is_apart(marks, definition) {
+            return false;
+        }
+    }
+    true
+}
+
+/// Whether what is marked stands apart in a program: no body calls it, and it overrides nothing but Adjust of types that declare such a
+/// component; and no allocator copies a record.
+fn marked_stand_apart(marks: &[bool], program: &Program) -> bool
+    ensures { let p = program_form program.now in
+        let tracks = is_marked marks.now in
+        result ≡ (rules.body_calls_apart tracks (main_body p) && list_all (rules.body_calls_apart tracks) p.bodies
+        && list_all (λ t. rules.operations_apart tracks (has_access (Some t)) (finalization_in (Some t))) p.types) }
+{
+    main_calls_apart(marks, program)
+        && bodies_call_apart(marks, &program.procedures)
+        && are_apart(marks, &program.types)
+}
+
+/// Whether what tracks stands apart in a program: no body calls it, and it overrides nothing else; and no allocator copies a record.
+/// Linear in the types, their components, and all bodies.
+///
+/// # Errors
+/// `AllocError` where memory was refused.
+pub(crate) fn trackers_stand_apart(alloc: Global, program: &Program) -> Result<bool, AllocError>
+    ensures { IfOk result (λ answer. answer ≡ rules.trackers_stand_apart (program_form program.now)) }
+{
+    let marks = trackers(alloc, program)?;
+    Ok(marked_stand_apart(&marks, program))
+}

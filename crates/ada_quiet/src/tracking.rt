@@ -1,0 +1,142 @@
+//! Where an Adjust may track the components of access types of its formal parameter (7.6): the copy of a record is alone, the
+//! elementary components of each record type stand in the order of its declared components, and what tracks stands apart.
+
+ghost use Rattle.std.specs.Prelude.{◌≡◌, ◌||◌, ◌==◌, map, IfOk};
+ghost use Rattle.std.specs.List.{list_all, list_any};
+ghost use Rattle.std.specs.Option.{option_copied};
+ghost use Rattle.ada_program.specs.Kept.{types_in};
+ghost use Rattle.ada_program.specs.ProgramForm.{part_form, program_form, type_form};
+ghost use Rattle.ada_program.specs.WellFormed as fits;
+ghost use Rattle.ada_quiet.specs.Tracking as rules;
+
+use crate::apart::trackers_stand_apart;
+use crate::uses::may_be_frugal;
+use ada_program::Program;
+use ada_program::lookup::record_components;
+use ada_program::program::{ComponentKind, Finalization, Part, PartKind, TypeDefinition};
+use std::alloc::{AllocError, Global};
+
+/// How many components there are, if they are those of something.
+fn count_found(components: Option<&[ComponentKind]>) -> usize
+    ensures { result ≡ rules.count_found (option_copied components.entry) }
+{
+    match components {
+        None => 0,
+        Some(components) => components.len(),
+    }
+}
+
+/// How many elementary components a declared component has (3.8): one, or as many as its record type; the parent part has none (7.6).
+fn size_of_part(types: &[TypeDefinition], kind: PartKind) -> usize
+    ensures { result ≡ rules.size_of_part (types_in types.now) kind }
+{
+    match kind {
+        PartKind::Elementary(_) => 1,
+        PartKind::Record(number) => count_found(record_components(types, number.0)),
+        PartKind::Parent => 0,
+    }
+}
+
+/// Whether the elementary components of a declared component begin at a number. The parent part has none, wherever it stands.
+fn stands_at(part: &Part, from: usize) -> bool
+    ensures { result ≡ (fits.is_parent part.now.kind || (part.now.first.0 == from)) }
+{
+    matches!(part.kind, PartKind::Parent) || part.first.0 == from
+}
+
+/// Whether the elementary components of declared components stand one behind another, up to their count (3.8).
+fn stand_in_a_row(types: &[TypeDefinition], parts: &[Part], count: usize) -> bool
+    ensures { result ≡ rules.stand_in_a_row (types_in types.now) 0 (map part_form parts.now) count }
+{
+    let mut from: usize = 0;
+    'parts: for part in parts {
+        if !stands_at(part, from) {
+            return false;
+        }
+        match from.checked_add(size_of_part(types, part.kind)) {
+            Some(next) => from = next,
+            None => return false,
+        }
+    }
+    from == count
+}
+
+/// Whether a record has at most one controlled part, at any depth and itself included, which is adjusted where it is copied (7.6).
+fn adjusts_at_most_one(finalization: Option<Finalization>) -> bool
+    ensures { result ≡ rules.adjusts_at_most_one finalization }
+{
+    match finalization {
+        None => true,
+        Some(finalization) => finalization.parts == 1,
+    }
+}
+
+/// Whether one of these is the parent part.
+fn have_parent(parts: &[Part]) -> bool
+    ensures { result ≡ list_any (λ c. fits.is_parent c.kind) (map part_form parts.now) }
+{
+    'parts: for part in parts {
+        if matches!(part.kind, PartKind::Parent) {
+            return true;
+        }
+    }
+    false
+}
+
+/// Whether a type overrides no Adjust, or is controlled itself (7.6).
+fn adjusts_itself(parts: &[Part], finalization: Option<Finalization>) -> bool
+    ensures { result ≡ rules.adjusts_itself (map part_form parts.now) finalization }
+{
+    match finalization {
+        None => true,
+        Some(finalization) => finalization.operations.adjust.is_none() || have_parent(parts),
+    }
+}
+
+/// Whether, where a record of a type is copied, its elementary components are those of its declared components, and at most one part
+/// is adjusted, the record itself where its type overrides Adjust.
+fn is_copied_alone(types: &[TypeDefinition], definition: &TypeDefinition) -> bool
+    ensures { result ≡ rules.is_copied_alone (types_in types.now) (type_form definition.now) }
+{
+    match definition {
+        TypeDefinition::Record {
+            name: _,
+            parts,
+            components,
+            finalization,
+        } => {
+            stand_in_a_row(types, parts, components.len())
+                && adjusts_at_most_one(*finalization)
+                && adjusts_itself(parts, *finalization)
+        }
+        TypeDefinition::Access { .. } | TypeDefinition::Object { .. } => true,
+    }
+}
+
+/// Whether that is so with each of these types.
+fn are_copied_alone(types: &[TypeDefinition]) -> bool
+    ensures { result ≡ list_all (rules.is_copied_alone (types_in types.now)) (types_in types.now) }
+{
+    'types: for definition in types {
+        if !is_copied_alone(types, definition) {
+            return false;
+        }
+    }
+    true
+}
+
+/// Where an Adjust may track the components of access types of its formal parameter (7.6): in a program in which operations may be frugal,
+/// each record is copied alone, procedures that track are called by no body and override nothing but Adjust of types that declare such
+/// a component, and no allocator copies a record (4.8). Linear in the types, their components, and all bodies.
+///
+/// # Errors
+/// `AllocError` where memory was refused.
+pub fn may_track(alloc: Global, program: &Program) -> Result<bool, AllocError>
+    ensures { IfOk result (λ answer. answer ≡ rules.may_track (program_form program.now)) }
+{
+    Ok(
+        may_be_frugal(program)
+            && are_copied_alone(&program.types)
+            && trackers_stand_apart(alloc, program)?,
+    )
+}
