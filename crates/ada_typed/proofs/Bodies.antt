@@ -7,7 +7,13 @@ use Rattle.ada_program.specs.Freed.{statements_free_own, handlers_free_own, body
 use Rattle.ada_program.specs.ProgramForm.{TypeForm, BodyForm, ProgramForm, seen_by, seen_at, seen_in}
 use Rattle.ada_program.specs.WellFormed.{IsWellFormed, type_fits, variable_fits, collections_first, collection_fits, initial_fits, declarations_fit, stmts_fit, handlers_fit, Profile, profile_of, callable_in, created_in, creates_from, body_fits, bodies_fit}
 use Rattle.ada_typed.proofs.Operators.{and_left, and_right}
+use Rattle.ada_typed.proofs.OfKinds.{initial_is_of_kind, statements_are_of_kind, handlers_are_of_kind, initials_weaker, statements_weaker, handlers_weaker}
 use Rattle.ada_typed.proofs.Control.{OwnBody}
+
+-- The types and the variables of a program fit, as a body sees it: what a step inside the body needs.
+pub record TablesFit (own : ProgramForm) : Type 0 where
+  pub types_fit : list_all (type_fits own.types) own.types ≡ true
+  pub variables_fit : list_all (variable_fits own.types) own.variables ≡ true
 
 -- What holds of a well-formed program as one of its bodies sees it (6.3).
 pub record SeenFits (own : ProgramForm) : Type 0 where
@@ -18,6 +24,20 @@ pub record SeenFits (own : ProgramForm) : Type 0 where
   pub initials_fit : list_all (initial_fits own.types own.variables) own.declarations ≡ true
   pub statements_fit : stmts_fit own.types own.variables own.texts own.exceptions (callable_in own) false own.statements ≡ true
   pub handlers_fit : handlers_fit own.types own.variables own.texts own.exceptions (callable_in own) false own.handlers ≡ true
+
+-- So its tables fit.
+pub tables_in : (own : ProgramForm) → SeenFits own → TablesFit own
+tables_in own fit = record { types_fit = fit.types_fit; variables_fit = fit.variables_fit }
+
+-- What its body begins with is of the kinds that are wanted.
+pub initials_begin : (own : ProgramForm) → SeenFits own → list_all (initial_is_of_kind own.types own.variables) own.declarations ≡ true
+initials_begin own fit = initials_weaker own.types own.variables own.declarations fit.initials_fit
+
+pub statements_begin : (own : ProgramForm) → SeenFits own → statements_are_of_kind own.types own.variables own.texts own.exceptions (callable_in own) false own.statements ≡ true
+statements_begin own fit = statements_weaker own.types own.variables own.texts own.exceptions (callable_in own) false own.statements fit.statements_fit
+
+pub handlers_begin : (own : ProgramForm) → SeenFits own → handlers_are_of_kind own.types own.variables own.texts own.exceptions (callable_in own) false own.handlers ≡ true
+handlers_begin own fit = handlers_weaker own.types own.variables own.texts own.exceptions (callable_in own) false own.handlers fit.handlers_fit
 
 -- The procedures that a body may call are among these, by their numbers.
 abbrev pub Sees : List BodyForm → ProgramForm → Type 0
@@ -61,7 +81,7 @@ seen_body p well number b is =
       handlers_fit = and_right (variables && creates && declared && statements) handled whole;
     }
 
-main_fits : (p : ProgramForm) → IsWellFormed p → SeenFits p
+pub main_fits : (p : ProgramForm) → IsWellFormed p → SeenFits p
 main_fits p well = record {
   types_fit = well.types_fit;
   variables_fit = well.variables_fit;

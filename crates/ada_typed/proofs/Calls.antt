@@ -43,7 +43,7 @@ use Rattle.ada_typed.proofs.Control.{AtReturn, kinds_at, kinds_in, operand_kinds
 use Rattle.ada_typed.proofs.Later.{waiting_later}
 use Rattle.ada_typed.proofs.Treating.{treating_fits, treating_deep}
 use Rattle.ada_typed.proofs.Evaluations.{EndsInside, ComesTo, Fine, cell_at, own_access, ready_at}
-use Rattle.ada_typed.proofs.Bodies.{SeenFits, seen_fits, sees, types_seen, seen_as}
+use Rattle.ada_typed.proofs.Bodies.{SeenFits, tables_in, initials_begin, statements_begin, handlers_begin, seen_fits, sees, types_seen, seen_as}
 use Rattle.ada_typed.proofs.Actuals.{AreGiven, AreFirst, given, held_given, formals_held, GiveBack, gives_back, held_back, stored_held, computed_before, depth_storing, storing_fits}
 use Rattle.ada_typed.proofs.Overriding.{is_plain, nothing_overridden, begins_alone, ends_alone}
 use Rattle.ada_typed.proofs.Overridings.{OperationFor, beginning_for, ending_for}
@@ -197,7 +197,7 @@ module _ (p : ProgramForm) (well : IsWellFormed p) (placed : PartsAreRecords p.t
       let after = operating named number b reference behind (record s { activations = a ∷ suspended }) in
       let inside : TypedIn (seen_by number b p) after =
       running [] (record { filled = filled; active = (held, tt); runs = runs; deep = omega (arith, deep) })
-      (refl, false, body.initials_fit, (body.statements_fit, λ whole. whole.0), (body.handlers_fit, λ whole. whole.1), tt, refl) in
+      (refl, false, initials_begin (seen_by number b p) body, (statements_begin (seen_by number b p) body, λ whole. whole.0), (handlers_begin (seen_by number b p) body, λ whole. whole.1), tt, refl) in
       record {
         inside = subst (λ (own : ProgramForm). TypedIn own after) (sym same) inside;
         waiting = (for_operation (record { no_actuals = refl; no_references = refl; kinds = kinds; held = active.0; computed = active.1; awaits = awaits }), waiting);
@@ -356,7 +356,7 @@ module _ (p : ProgramForm) (well : IsWellFormed p) (placed : PartsAreRecords p.t
       let after = begun named number b actuals operands (record s { activations = a ∷ suspended }) in
       let inside : TypedIn (seen_by number b p) after =
       running [] (record { filled = same_filled p a.procedure cells ready.filled; active = (held, tt); runs = ready.runs; deep = omega (arith, ready.deep) })
-      (refl, false, body.initials_fit, (body.statements_fit, λ whole. whole.0), (body.handlers_fit, λ whole. whole.1), tt, refl) in
+      (refl, false, initials_begin (seen_by number b p) body, (statements_begin (seen_by number b p) body, λ whole. whole.0), (handlers_begin (seen_by number b p) body, λ whole. whole.1), tt, refl) in
       record {
         inside = subst (λ (own : ProgramForm). TypedIn own after) (sym same) inside;
         waiting = (for_call (record { no_operands = refl; held = ready.active.0; suits = suits; referred = referred; fits = fits.3 }), waiting);
@@ -422,7 +422,7 @@ module _ (p : ProgramForm) (well : IsWellFormed p) (placed : PartsAreRecords p.t
   frame_comes types shown f s kinds ready deep fits waiting =
       let own = procedure_of s.activations in
       inside_comes p s (frame_next named types p.bodies f s) waiting
-      (frame_fine (seen_now p s) (seen_fits p well own) p.bodies (sees p own) types (shown ∙ sym (types_seen p own)) f refl refl s kinds ready deep fits)
+      (frame_fine (seen_now p s) (tables_in (seen_now p s) (seen_fits p well own)) p.bodies (sees p own) types (shown ∙ sym (types_seen p own)) f refl refl s kinds ready deep fits)
       (step_keeps types p.bodies f s (λ treats. absurd (cc)) refl)
 
   running_comes : (types : List TypeDefinition) → map type_form types ≡ p.types → (k : List (Frame Value)) (s : State) (kinds : List OperandKind) → s.control ≡ k → Ready (seen_now p s) kinds s → Fits (seen_now p s) (cells_of s.heap) kinds k → Waiting p (cells_of s.heap) (procedure_of s.activations) k (older s.activations) → ComesTo (Ends p) (Typed p) (running_next named types p.bodies k s)

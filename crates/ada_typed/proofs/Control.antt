@@ -12,7 +12,7 @@ use Rattle.ada_program.specs.declared.program.VariableKind.TheVariants as variab
 use Rattle.ada_program.specs.Form.{ActualForm, in_value, in_null, in_access, in_record, in_out_path, in_out_access, in_out_component, in_out_record, StmtForm, StmtsForm, BranchesForm, HandlersForm}
 use Rattle.ada_program.specs.ProgramForm.{TypeForm, BodyForm, ProgramForm, seen_in}
 use Rattle.ada_program.specs.Freed.{statement_frees_own, statements_free_own, branches_free_own, handlers_free_own}
-use Rattle.ada_program.specs.WellFormed.{is_access, reached_components, record_components, held_kind, variable_kind, selected_kind, selectors_kind, path_kind, is_this, object_in, is_record_path, object_named, stands_alone, unary_type, binary_type, type_of, chain_type, has_record_at, items_fit, kind_takes, initial_fits, condition_fits, has_statement, statement_fits, stmts_fit, branches_fit, handlers_fit, actuals_fit, formal_kinds, callable_in, overrides_none}
+use Rattle.ada_program.specs.WellFormed.{is_access, reached_components, record_components, held_kind, variable_kind, selected_kind, selectors_kind, path_kind, is_this, object_in, is_record_path, object_named, stands_alone, unary_type, binary_type, type_of, chain_type, has_record_at, items_fit, kind_takes, condition_fits, has_statement, actuals_fit, formal_kinds, callable_in, overrides_none}
 use Rattle.ada_parts.specs.Part.{Part as PartOf}
 use Rattle.ada_parts.specs.Task.{Task, performs}
 use Rattle.ada_meaning.specs.declared.event.Birth.{Birth}
@@ -28,6 +28,7 @@ use Rattle.ada_meaning.specs.State.{Activation}
 use Rattle.ada_meaning.specs.Step.{procedure_of, in_front, older}
 use Rattle.ada_typed.proofs.Parts.{shown_shapes, parts_known, Within}
 use Rattle.ada_typed.proofs.Lying.{Lying, undoing}
+use Rattle.ada_typed.proofs.OfKinds.{initial_is_of_kind, statement_is_of_kind, statements_are_of_kind, branches_are_of_kind, handlers_are_of_kind}
 use Rattle.ada_typed.proofs.Values.{OperandKind, of_kind, refers_to, lies_in, is_record_kind, RefersTo, AreFilled, AreHeld, AreComputed, IsActive, kind_of}
 
 -- The kinds of operands, newest first, once values for these components have been computed in order.
@@ -129,22 +130,22 @@ OwnBody p = (statements_free_own p.types p.variables p.statements ≡ true) × (
 -- A statement of a body fits, and frees by the instance for what it frees, where the body does.
 abbrev pub FitStmt : ProgramForm → (inside : Bool) → StmtForm → Type 0
 FitStmt p inside f =
-    (statement_fits p.types p.variables p.texts p.exceptions (callable_in p) inside f ≡ true) × (OwnBody p → statement_frees_own p.types p.variables f ≡ true)
+    (statement_is_of_kind p.types p.variables p.texts p.exceptions (callable_in p) inside f ≡ true) × (OwnBody p → statement_frees_own p.types p.variables f ≡ true)
 
 -- Statements of a body fit, and free by the instances for what they free, where the body does.
 abbrev pub FitStmts : ProgramForm → (inside : Bool) → StmtsForm → Type 0
 FitStmts p inside fs =
-    (stmts_fit p.types p.variables p.texts p.exceptions (callable_in p) inside fs ≡ true) × (OwnBody p → statements_free_own p.types p.variables fs ≡ true)
+    (statements_are_of_kind p.types p.variables p.texts p.exceptions (callable_in p) inside fs ≡ true) × (OwnBody p → statements_free_own p.types p.variables fs ≡ true)
 
 -- So do those of branches.
 abbrev pub FitBranches : ProgramForm → (inside : Bool) → BranchesForm → Type 0
 FitBranches p inside branches =
-    (branches_fit p.types p.variables p.texts p.exceptions (callable_in p) inside branches ≡ true) × (OwnBody p → branches_free_own p.types p.variables branches ≡ true)
+    (branches_are_of_kind p.types p.variables p.texts p.exceptions (callable_in p) inside branches ≡ true) × (OwnBody p → branches_free_own p.types p.variables branches ≡ true)
 
 -- So do those of handlers.
 abbrev pub FitHandlers : ProgramForm → (inside : Bool) → HandlersForm → Type 0
 FitHandlers p inside hs =
-    (handlers_fit p.types p.variables p.texts p.exceptions (callable_in p) inside hs ≡ true) × (OwnBody p → handlers_free_own p.types p.variables hs ≡ true)
+    (handlers_are_of_kind p.types p.variables p.texts p.exceptions (callable_in p) inside hs ≡ true) × (OwnBody p → handlers_free_own p.types p.variables hs ≡ true)
 
 -- The handlers that an exception comes to at a frame (11.4).
 abbrev pub handlers_in : Frame Value → Option HandlersForm
@@ -178,7 +179,7 @@ abbrev mutual
   -- Operands of these kinds are there; what is left of the running body fits them. Where statements begin, no operand is there. No call of an operation ends.
   pub Fits : ProgramForm → Cells → List OperandKind → List (Frame Value) → Type 0
   Fits p cells kinds [] = Unit {0}
-  Fits p cells kinds (frame.Elaborates ds fs hs ∷ k) = (kinds ≡ []) × (inside : Bool) × (list_all (initial_fits p.types p.variables) ds ≡ true) × FitStmts p inside fs × FitHandlers p inside hs × WhereInside inside (Lands p cells k) × Fits p cells [] k
+  Fits p cells kinds (frame.Elaborates ds fs hs ∷ k) = (kinds ≡ []) × (inside : Bool) × (list_all (initial_is_of_kind p.types p.variables) ds ≡ true) × FitStmts p inside fs × FitHandlers p inside hs × WhereInside inside (Lands p cells k) × Fits p cells [] k
   Fits p cells kinds (frame.Does fs ∷ k) = (kinds ≡ []) × (inside : Bool) × FitStmts p inside fs × WhereInside inside (Lands p cells k) × Fits p cells [] k
   Fits p cells kinds (frame.Decides fs branches ∷ k) = (kinds ≡ of_kind variable.Boolean ∷ []) × (inside : Bool) × FitStmts p inside fs × FitBranches p inside branches × WhereInside inside (Lands p cells k) × Fits p cells [] k
   Fits p cells kinds (frame.Repeats condition fs ∷ k) = (kinds ≡ []) × (condition_fits p.types p.variables condition ≡ true) × (has_statement fs ≡ true) × FitStmts p true fs × Fits p cells [] k

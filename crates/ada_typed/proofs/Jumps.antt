@@ -7,7 +7,7 @@ use Rattle.ada_program.specs.Form.{StmtsForm, no_stmts, a_stmt, HandlersForm, no
 use Rattle.ada_program.specs.Handling.{some_takes, handler_of}
 use Rattle.ada_program.specs.ProgramForm.{ProgramForm}
 use Rattle.ada_program.specs.Freed.{statements_free_own, handlers_free_own}
-use Rattle.ada_program.specs.WellFormed.{has_statement, choice_fits, stmts_fit, handlers_fit, callable_in}
+use Rattle.ada_program.specs.WellFormed.{has_statement, choice_fits, callable_in}
 use Rattle.ada_meaning.specs.declared.state.Value.{Value}
 use Rattle.ada_meaning.specs.declared.state.Mode.{Mode}
 use Rattle.ada_meaning.specs.declared.state.Mode.TheVariants.{Running, Raising, Exiting, Returning}
@@ -16,6 +16,7 @@ use Rattle.ada_meaning.specs.Frame.{Frame, is_master, is_loop, is_return, Landin
 use Rattle.ada_meaning.specs.Frame as frame
 use Rattle.ada_meaning.specs.Step.{landed, pass_next, end_of}
 use Rattle.ada_meaning.specs.Named.{State, named}
+use Rattle.ada_typed.proofs.OfKinds.{statements_are_of_kind, handlers_are_of_kind}
 use Rattle.ada_typed.proofs.Evaluations.{EndsInside, Fine}
 use Rattle.ada_typed.proofs.Operators.{and_left, and_right}
 use Rattle.ada_typed.proofs.Control.{FitStmts, FitHandlers, AtReturn, AtLoop, handlers_in, AtHandlers, is_operation, NoOperation, FitsBehind, Fits, Lands, Catches, depth, Jumps, Goes, running, on_jump, catches, catches_behind}
@@ -226,8 +227,8 @@ module _ (p : ProgramForm) where
   handler_able inside (a_handler choices gs hs) e fs own is =
       let chosen = list_all (choice_fits p.exceptions) choices in
       let some = has_statement gs in
-      let inner = stmts_fit p.types p.variables p.texts p.exceptions (callable_in p) inside gs in
-      let others = handlers_fit p.types p.variables p.texts p.exceptions (callable_in p) inside hs in
+      let inner = statements_are_of_kind p.types p.variables p.texts p.exceptions (callable_in p) inside gs in
+      let others = handlers_are_of_kind p.types p.variables p.texts p.exceptions (callable_in p) inside hs in
       let former = and_left (chosen && some && inner) others own.0 in
       let by_own = statements_free_own p.types p.variables gs in
       let later = handlers_free_own p.types p.variables hs in

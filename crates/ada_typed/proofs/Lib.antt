@@ -12,6 +12,8 @@ pub mod Operators
 pub mod Overriding
 -- what overrides an operation
 pub mod Overridings
+-- statements whose values are of the kinds that they want
+pub mod OfKinds
 -- what is left to do fits what is there
 pub mod Control
 -- walks into declared components

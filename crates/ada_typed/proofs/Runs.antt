@@ -16,7 +16,7 @@ use Rattle.ada_typed.proofs.Parts.{parts_counted}
 use Rattle.ada_typed.proofs.Values.{OperandKind, AreFilled, IsActive, active_placed, active_held, held_blank, filled_at, parts_at}
 use Rattle.ada_typed.proofs.Control.{Typed, TypedIn, running, on_jump, operated, out_of_operation}
 use Rattle.ada_typed.proofs.Evaluations.{ComesTo, cell_at}
-use Rattle.ada_typed.proofs.Bodies.{types_seen}
+use Rattle.ada_typed.proofs.Bodies.{types_seen, main_fits, initials_begin, statements_begin, handlers_begin}
 use Rattle.ada_typed.proofs.Inner.{parts_are_records}
 use Rattle.ada_typed.proofs.Calls.{Ends, same_filled, next_fine}
 
@@ -24,8 +24,15 @@ use Rattle.ada_typed.proofs.Calls.{Ends, same_filled, next_fine}
 pub first_typed : (program : Program) (input : List ℤ) → IsWellFormed (program_form program) → Typed (program_form program) (first_state program input)
 first_typed program input well = record {
   inside =
-      running [] (record { filled = tt; active = (held_blank (map type_form program.types.items) [] (map variable_form program.variables.items), tt); runs = refl; deep = omega arith })
-      (refl, false, well.initials_fit, (well.statements_fit, λ whole. whole.0), (well.handlers_fit, λ whole. whole.1), tt, tt);
+      running [] (record { filled = tt; active = (held_blank (map type_form program.types.items) [] (map variable_form program.variables.items), tt); runs = refl; deep = omega arith }) (
+        refl,
+        false,
+        initials_begin (program_form program) (main_fits (program_form program) well),
+        (statements_begin (program_form program) (main_fits (program_form program) well), λ whole. whole.0),
+        (handlers_begin (program_form program) (main_fits (program_form program) well), λ whole. whole.1),
+        tt,
+        tt,
+      );
   waiting = refl;
 }
 

@@ -14,7 +14,7 @@ use Rattle.ada_program.specs.Form.{ExpressionForm, ItemForm, RightForm, StmtForm
 use Rattle.ada_program.specs.ProgramForm.{VariableForm, BodyForm, ProgramForm, type_form}
 use Rattle.ada_program.specs.Typed.{reached_of, words_of, pool_named}
 use Rattle.ada_program.specs.Freed.{statement_frees_own, statements_free_own, branches_free_own, handlers_free_own}
-use Rattle.ada_program.specs.WellFormed.{is_this, stands_alone, reached_components, is_access, is_object_type, value_access, root_kind, selectors_kind, variable_kind, path_access, scalar_of, is_type, type_of, kind_takes, right_fits, names_borrower, lends_to, is_borrower, item_before, is_record_path, is_record_object, record_fits, object_fits, object_named, record_initial_fits, path_kind, is_freed_by, collections_first, collection_fits, initial_fits, declarations_fit, has_type, condition_fits, has_statement, statement_fits, stmts_fit, branches_fit, handlers_fit, names_before, formal_kinds, callable_in}
+use Rattle.ada_program.specs.WellFormed.{is_this, stands_alone, reached_components, is_access, is_object_type, value_access, root_kind, selectors_kind, variable_kind, path_access, scalar_of, is_type, type_of, kind_takes, right_fits, names_borrower, lends_to, is_borrower, is_record_path, is_record_object, record_fits, object_named, path_kind, is_freed_by, collections_first, collection_fits, has_type, condition_fits, has_statement, formal_kinds, callable_in}
 use Rattle.ada_values.specs.declared.value.Value.TheVariants as scalar
 use Rattle.ada_parts.specs.declared.tasks.Direction.TheVariants.{PartsFirst}
 use Rattle.ada_meaning.specs.declared.event.Birth.{Birth}
@@ -32,6 +32,7 @@ use Rattle.ada_meaning.specs.Named.{an_integer, State, named, new_object, look, 
 use Rattle.ada_typed.proofs.Evaluations.{Fine, named_newest, newest_operand, initials_have, reached_shown, words_shown, width_shown, ready_kinds, ready_at, ready_pop, ready_older, newest_of, held_of, put_in, ready_owning, jumped, raises, ready_made, fits_more, holder_fine, record_holder_fine, path_fine, null_test_fine, expression_fine, links_fine, outcome_fine, items_fine, new_fine, right_fine}
 use Rattle.ada_typed.proofs.Values.{OperandKind, of_kind, refers_to, lies_in, kind_of, root_same}
 use Rattle.ada_typed.proofs.Objects.{kind_there, object_reached, own_object, record_no_access}
+use Rattle.ada_typed.proofs.OfKinds.{record_initial_is_of_kind, initial_is_of_kind, declarations_are_of_kind, statement_is_of_kind, statements_are_of_kind, branches_are_of_kind, handlers_are_of_kind}
 use Rattle.ada_typed.proofs.Operators.{and_left, and_right, typed, unary_gives, binary_gives}
 use Rattle.ada_typed.proofs.Targets.{target_fine, store_fine, receive_fine, opens_fine}
 use Rattle.ada_typed.proofs.Treating.{all_within, treating_fits}
@@ -39,12 +40,12 @@ use Rattle.ada_typed.proofs.Assigning.{object_filled, record_assign_fine, assign
 use Rattle.ada_typed.proofs.Wholes.{newest_have, ready_without, copies_fine, refers_fine, record_target_fine, store_record_fine}
 use Rattle.ada_typed.proofs.Leavings.{end_fine, back_fine, resumes_fine, leave_fine}
 use Rattle.ada_typed.proofs.Frees.{free_fine, free_in_fine}
-use Rattle.ada_typed.proofs.Bodies.{SeenFits, Sees}
+use Rattle.ada_typed.proofs.Bodies.{TablesFit, Sees}
 use Rattle.ada_typed.proofs.Actuals.{profile_found, depth_computing, computing_fits}
 use Rattle.ada_typed.proofs.Kept.{crosses, is_treatment}
 use Rattle.ada_typed.proofs.Control.{onto, OwnBody, FitStmt, FitStmts, FitBranches, WhereInside, Fits, Lands, depth, Ready, TypedIn, running, on_jump, catches}
 
-module _ (p : ProgramForm) (fit : SeenFits p) (bodies : List BodyForm) (sees : Sees bodies p) where
+module _ (p : ProgramForm) (fit : TablesFit p) (bodies : List BodyForm) (sees : Sees bodies p) where
   -- Statements (5.1).
   right_kind : (o : Option VariableKind) (vs : List VariableForm) (right : RightForm) → right_fits p.types vs o right ≡ true → (kind : VariableKind) × (o ≡ Some kind) × (kind_takes p.types vs kind right ≡ true)
   right_kind None vs right h = absurd (cc)
@@ -90,8 +91,8 @@ module _ (p : ProgramForm) (fit : SeenFits p) (bodies : List BodyForm) (sees : S
   branches_fine (otherwise fs) inside s ready is lands fits = running [] (ready_at p [] s (frame.Does fs ∷ s.control) ready ready.deep) (refl, inside, is, lands, fits)
   branches_fine (a_branch e fs branches) inside s ready is lands fits =
       let own = has_type p.types p.variables Boolean e in
-      let inner = stmts_fit p.types p.variables p.texts p.exceptions (callable_in p) inside fs in
-      let others = branches_fit p.types p.variables p.texts p.exceptions (callable_in p) inside branches in
+      let inner = statements_are_of_kind p.types p.variables p.texts p.exceptions (callable_in p) inside fs in
+      let others = branches_are_of_kind p.types p.variables p.texts p.exceptions (callable_in p) inside branches in
       let former = and_left (own && inner) others is.0 in
       let by_own = statements_free_own p.types p.variables fs in
       let later = branches_free_own p.types p.variables branches in
@@ -217,7 +218,7 @@ module _ (p : ProgramForm) (fit : SeenFits p) (bodies : List BodyForm) (sees : S
   stmt_fine types shown (chooses branches) inside s ready is lands fits = branches_fine branches inside s ready is lands fits
   stmt_fine types shown (repeats condition fs end_spot) inside s ready is lands fits =
       let own = condition_fits p.types p.variables condition in
-      let inner = stmts_fit p.types p.variables p.texts p.exceptions (callable_in p) true fs in
+      let inner = statements_are_of_kind p.types p.variables p.texts p.exceptions (callable_in p) true fs in
       let former = and_left (own && has_statement fs) inner is.0 in
       running [] (ready_at p [] s (frame.Repeats condition fs ∷ s.control) ready ready.deep)
       (refl, and_left own (has_statement fs) former, and_right own (has_statement fs) former, (and_right (own && has_statement fs) inner is.0, is.1), fits)
@@ -227,7 +228,7 @@ module _ (p : ProgramForm) (fit : SeenFits p) (bodies : List BodyForm) (sees : S
       let first = has_type p.types p.variables Integer low in
       let last = has_type p.types p.variables Integer high in
       let some = has_statement fs in
-      let inner = stmts_fit p.types p.variables p.texts p.exceptions (callable_in p) true fs in
+      let inner = statements_are_of_kind p.types p.variables p.texts p.exceptions (callable_in p) true fs in
       let four = and_left (kind && first && last && some) inner is.0 in
       let three = and_left (kind && first && last) some four in
       let two = and_left (kind && first) last three in
@@ -256,13 +257,13 @@ module _ (p : ProgramForm) (fit : SeenFits p) (bodies : List BodyForm) (sees : S
   stmt_fine types shown (returns spot) inside s ready is lands fits = on_jump Returning (jumped p [] Returning s ready) (catches p (cells_of s.heap) s.control [] fits)
   stmt_fine types shown (raises_it e) inside s ready is lands fits = raises p [] [] e s ready fits
   stmt_fine types shown (encloses ds fs hs) inside s ready is lands fits =
-      let own = declarations_fit p.types p.variables ds in
-      let inner = stmts_fit p.types p.variables p.texts p.exceptions (callable_in p) inside fs in
-      let handled = handlers_fit p.types p.variables p.texts p.exceptions (callable_in p) inside hs in
+      let own = declarations_are_of_kind p.types p.variables ds in
+      let inner = statements_are_of_kind p.types p.variables p.texts p.exceptions (callable_in p) inside fs in
+      let handled = handlers_are_of_kind p.types p.variables p.texts p.exceptions (callable_in p) inside hs in
       let former = and_left (own && inner) handled is.0 in
       let by_own = statements_free_own p.types p.variables fs in
       let later = handlers_free_own p.types p.variables hs in
-      let initials = and_right (collections_first ds && list_all (collection_fits p.types) ds) (list_all (initial_fits p.types p.variables) ds) (and_left own inner former) in
+      let initials = and_right (collections_first ds && list_all (collection_fits p.types) ds) (list_all (initial_is_of_kind p.types p.variables) ds) (and_left own inner former) in
       running [] (record { filled = ready.filled; active = ready.active; runs = ready.runs; deep = omega (arith, ready.deep) }) (
         refl,
         inside,
@@ -276,8 +277,8 @@ module _ (p : ProgramForm) (fit : SeenFits p) (bodies : List BodyForm) (sees : S
   stmts_fine : (types : List TypeDefinition) → map type_form types ≡ p.types → (fs : StmtsForm) (inside : Bool) (s : State) → Ready p [] s → FitStmts p inside fs → WhereInside inside (Lands p (cells_of s.heap) s.control) → Fits p (cells_of s.heap) [] s.control → Fine p (stmts_next named types bodies fs s)
   stmts_fine types shown no_stmts inside s ready is lands fits = running [] ready fits
   stmts_fine types shown (a_stmt f fs) inside s ready is lands fits =
-      let own = statement_fits p.types p.variables p.texts p.exceptions (callable_in p) inside f in
-      let others = stmts_fit p.types p.variables p.texts p.exceptions (callable_in p) inside fs in
+      let own = statement_is_of_kind p.types p.variables p.texts p.exceptions (callable_in p) inside f in
+      let others = statements_are_of_kind p.types p.variables p.texts p.exceptions (callable_in p) inside fs in
       let by_own = statement_frees_own p.types p.variables f in
       let later = statements_free_own p.types p.variables fs in
       stmt_fine types shown f inside (at (frame.Does fs ∷ s.control) s) (ready_at p [] s (frame.Does fs ∷ s.control) ready ready.deep)
@@ -301,9 +302,9 @@ module _ (p : ProgramForm) (fit : SeenFits p) (bodies : List BodyForm) (sees : S
       (t, (cell, named_newest p s.heap cell, refl), all_within types p.types t PartsFirst shown, (tt, tt)) (fits_more p kinds s.control s.heap cell fits))
 
   -- What holds of a record object where it is declared.
-  record_fine : (types : List TypeDefinition) → map type_form types ≡ p.types → (x t : ℕ) (initial : Option (List ItemForm)) (s : State) → Ready p [] s → initial_fits p.types p.variables (declares_record x t initial) ≡ true → Fits p (cells_of s.heap) [] s.control → Fine p (record_next named types x t initial s)
+  record_fine : (types : List TypeDefinition) → map type_form types ≡ p.types → (x t : ℕ) (initial : Option (List ItemForm)) (s : State) → Ready p [] s → initial_is_of_kind p.types p.variables (declares_record x t initial) ≡ true → Fits p (cells_of s.heap) [] s.control → Fine p (record_next named types x t initial s)
   record_fine types shown x t None s ready is fits =
-      let named_so = and_left (is_record_object t (variable_kind p.variables x)) (record_initial_fits p.types p.variables x (object_named p.types (Some t)) None) is in
+      let named_so = and_left (is_record_object t (variable_kind p.variables x)) (record_initial_is_of_kind p.types p.variables (object_named p.types (Some t)) None) is in
       let own = own_object t (variable_kind p.variables x) named_so in
       let known : is_object_type p.types own.0.0 ≡ true = kind_there p.types p.variables x (variable.Record own.0) fit.variables_fit own.1 in
       let there = object_reached p.types own.0.0 fit.types_fit known in
@@ -311,12 +312,11 @@ module _ (p : ProgramForm) (fit : SeenFits p) (bodies : List BodyForm) (sees : S
       let have = initials_have p.types (cells_of s.heap) (reached_of types t) there.0 (reached_shown types t there.0 shown reached) in
       made_fine types shown x t Creation own.0 there.0 (initial_values named (reached_of types t)) [] s have ready own.1 own.2 reached (record_no_access p.types p.variables x t fit.variables_fit named_so) fits
   record_fine types shown x t (Some items) s ready is fits =
-      let fitting = object_fits p.types p.variables (object_named p.types (Some t)) items in
-      let initial = record_initial_fits p.types p.variables x (object_named p.types (Some t)) (Some items) in
+      let initial = record_initial_is_of_kind p.types p.variables (object_named p.types (Some t)) (Some items) in
       let named_so = and_left (is_record_object t (variable_kind p.variables x)) initial is in
       let own = own_object t (variable_kind p.variables x) named_so in
       let later = and_right (is_record_object t (variable_kind p.variables x)) initial is in
-      let found = object_filled p (object_named p.types (Some t)) items (and_right (list_all (item_before x) items) fitting later) in
+      let found = object_filled p (object_named p.types (Some t)) items later in
       let never : is_access p.types t ≡ false = record_no_access p.types p.variables x t fit.variables_fit named_so in
       running [] (ready_at p [] s (frame.Fills items ∷ frame.DeclaresRecord x t ∷ s.control) ready ready.deep)
       (found.0, found.2, ([], own.0, found.0, refl, own.1, own.2, found.1, never, fits))
@@ -327,25 +327,23 @@ module _ (p : ProgramForm) (fit : SeenFits p) (bodies : List BodyForm) (sees : S
       (refl, fits.1, fits.3, fits.5, (refl, fits.1, fits.4, fits.5, fits.6))
   declarations_fine types shown (creates_pool pool ∷ ds) fs hs s ready deep fits =
       running [] (ready_owning p [] (at (frame.Elaborates ds fs hs ∷ s.control) s) (storage_pool pool (pools_in s.masters + 1)) (ready_at p [] s (frame.Elaborates ds fs hs ∷ s.control) ready deep))
-      (refl, fits.1, and_right (initial_fits p.types p.variables (creates_pool pool)) (list_all (initial_fits p.types p.variables) ds) fits.2, fits.3, fits.4, fits.5, fits.6)
+      (refl, fits.1, and_right (initial_is_of_kind p.types p.variables (creates_pool pool)) (list_all (initial_is_of_kind p.types p.variables) ds) fits.2, fits.3, fits.4, fits.5, fits.6)
   declarations_fine types shown (collects access ∷ ds) fs hs s ready deep fits =
       running [] (ready_owning p [] (at (frame.Elaborates ds fs hs ∷ s.control) s) (collection access (pool_for (pool_named types access) s.masters)) (ready_at p [] s (frame.Elaborates ds fs hs ∷ s.control) ready deep))
-      (refl, fits.1, and_right (initial_fits p.types p.variables (collects access)) (list_all (initial_fits p.types p.variables) ds) fits.2, fits.3, fits.4, fits.5, fits.6)
+      (refl, fits.1, and_right (initial_is_of_kind p.types p.variables (collects access)) (list_all (initial_is_of_kind p.types p.variables) ds) fits.2, fits.3, fits.4, fits.5, fits.6)
   declarations_fine types shown (declares_record x t initial ∷ ds) fs hs s ready deep fits =
-      let fitting = initial_fits p.types p.variables (declares_record x t initial) in
-      let later = list_all (initial_fits p.types p.variables) ds in
+      let fitting = initial_is_of_kind p.types p.variables (declares_record x t initial) in
+      let later = list_all (initial_is_of_kind p.types p.variables) ds in
       let inner = frame.Elaborates ds fs hs ∷ s.control in
       record_fine types shown x t initial (at inner s) (ready_at p [] s inner ready deep) (and_left fitting later fits.2)
       (refl, fits.1, and_right fitting later fits.2, fits.3, fits.4, fits.5, fits.6)
   declarations_fine types shown (declares x right ∷ ds) fs hs s ready deep fits =
-      let early = names_before x right in
       let fitting = right_fits p.types p.variables (variable_kind p.variables x) right in
       let lending = lends_to p.variables (is_borrower p.variables x) right in
-      let later = list_all (initial_fits p.types p.variables) ds in
-      let former = and_left (early && fitting) lending (and_left (early && fitting && lending) later fits.2) in
-      let own = right_kind (variable_kind p.variables x) p.variables right (and_right early fitting former) in
+      let later = list_all (initial_is_of_kind p.types p.variables) ds in
+      let own = right_kind (variable_kind p.variables x) p.variables right (and_left fitting lending (and_left (fitting && lending) later fits.2)) in
       running [] (ready_at p [] s (frame.Evaluates right ∷ frame.Declares x ∷ frame.Elaborates ds fs hs ∷ s.control) ready deep)
-      (own.0, own.2, ([], own.0, refl, own.1, (refl, fits.1, and_right (early && fitting && lending) later fits.2, fits.3, fits.4, fits.5, fits.6)))
+      (own.0, own.2, ([], own.0, refl, own.1, (refl, fits.1, and_right (fitting && lending) later fits.2, fits.3, fits.4, fits.5, fits.6)))
 
   -- Each frame that is taken off, where no call begins or ends, and no object is treated.
   pub frame_fine : (types : List TypeDefinition) → map type_form types ≡ p.types → (f : Frame Value) → crosses f ≡ false → is_treatment f ≡ false → (s : State) (kinds : List OperandKind) → Ready p kinds s → depth (f ∷ s.control) ≤ length s.masters → Fits p (cells_of s.heap) kinds (f ∷ s.control) → Fine p (frame_next named types bodies f s)
