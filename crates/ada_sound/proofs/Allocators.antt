@@ -1,6 +1,6 @@
 -- Allocators: their items are evaluated one by one, and then the new object comes to be.
 
-use Rattle.std.proofs.Common.{◌≡◌, ℕ, Bool, true, false, ◌&&◌, List, [], ◌∷◌, length, take, drop, reverse, refl, sym, ◌∙◌, inr}
+use Rattle.std.proofs.Common.{◌≡◌, ℕ, Bool, true, false, ◌&&◌, List, [], ◌∷◌, length, take, drop, reverse, refl, sym, ◌∙◌, inr, inl, ◌⊎◌}
 use Rattle.std.specs.Prelude.{Option, Some, None}
 use Rattle.std.specs.List.{slice_set}
 use Rattle.ada_text.specs.declared.spot.Spot.{Spot}
@@ -16,7 +16,7 @@ use Rattle.ada_effects.specs.Effects.{items_raise, item_raises}
 use Rattle.ada_flow.specs.declared.rule.Hold.{Hold}
 use Rattle.ada_flow.specs.declared.rule.Hold.TheVariants as hold
 use Rattle.ada_flow.specs.declared.rule.Region.TheVariants.{Whole}
-use Rattle.ada_flow.specs.Flow.{Holds, hold_at, variable_access, uses_in_item, copies_to, reaches_it, is_owning_record, is_target, lost_by, lost_behind, moved_behind, without_values, moved_by_items, leaves_owners, shares_it}
+use Rattle.ada_flow.specs.Flow.{Holds, hold_at, variable_access, uses_in_item, copies_to, reaches_it, is_target, lost_by, lost_behind, moved_behind, without_values, moved_by_items, leaves_owners, shares_it}
 use Rattle.ada_flow.specs.Tracking.{no_tracks}
 use Rattle.ada_meaning.specs.declared.state.Value.{Value}
 use Rattle.ada_meaning.specs.declared.state.Value.TheVariants.{Null, Names, Scalar, Part}
@@ -41,18 +41,16 @@ use Rattle.ada_sound.proofs.Stored.{Stored, stored_new, stored_filled}
 use Rattle.ada_sound.proofs.Alters.{alters_new}
 use Rattle.ada_sound.proofs.Fits.{Fit, Hand, stacked, none_spared, hold_in, place_at, component_access, is_object, weaker_fit, plain_place, as_reliance, lose_all, put_owner, create_fit, insert_fit}
 use Rattle.ada_sound.proofs.Begins.{root_follows}
-use Rattle.ada_sound.proofs.Invariant.{begun, along, outers, HasRoom, RoomFor, Known, Control, Rooms, NoneBroken, MayRaise, back_onto, named_of, FilledBy, GoesInto, LeadsTo, Filling, FillsTo, Accepts, StoresTo, IsHolder, IsCollected, NamesTo, To, RunsOn, Working, Stepped, Fine}
+use Rattle.ada_sound.proofs.Invariant.{begun, along, outers, HasRoom, RoomFor, Known, Control, Rooms, NoneBroken, MayRaise, back_onto, named_of, FilledBy, GoesInto, LeadsTo, Filling, FillsTo, Accepts, StoresTo, IsHolder, IsCollected, NamesTo, To, RunsOn, Working, Stepped, Fine, InitialTo, AdjustsFirst, HasCopied, owns_at_first}
 use Rattle.ada_sound.proofs.Ready.{running, at_work, ready_on, jumps_less, treats_ready}
 use Rattle.ada_sound.proofs.Followings.{first_kept}
 use Rattle.ada_sound.proofs.Roots.{root_object, object_there, rest_raises, record_raises, selected_raises}
 use Rattle.ada_sound.proofs.Filled.{Lends, kept_by, filled_length, filled_in_hand}
-use Rattle.ada_sound.proofs.Copied.{give_next, fill_one, raise_back, copies_on, copied_plain, RecordThere, record_there}
+use Rattle.ada_sound.proofs.Copied.{give_next, fill_one, raise_back, copies_on, RecordThere, record_there}
 use Rattle.ada_sound.proofs.Lendings.{lends_none, lends_some}
 use Rattle.ada_sound.proofs.Undone.{new_may_undo}
 use Rattle.ada_sound.proofs.Walks.{finds_fine, fills_fine}
 use Rattle.ada_sound.proofs.Raising.{or_left}
-use Rattle.ada_sound.specs.Untracked.{AdjustsNoOwners}
-use Rattle.ada_sound.proofs.Untracked.{owns_nothing}
 
 module _ (known : Known) (heap : List Object) (places : List Value) where
   -- An item has its value.
@@ -60,7 +58,16 @@ module _ (known : Known) (heap : List Object) (places : List Value) where
   fills_on i items [] operands v rooms holds is f = f
   fills_on i items (Creates access count ∷ k) operands v rooms holds is f = fill_one known heap places access count i items k operands v rooms holds is f
   fills_on i items (StoresRecord o first count ∷ k) operands v rooms holds is f = (give_next known heap places i items k rooms holds f.0, f.1)
-  fills_on i items (DeclaresRecord x t ∷ k) operands v rooms holds is f = (give_next known heap places i items k rooms holds f.0, f.1)
+  fills_on i items (DeclaresRecord x t ∷ k) operands v rooms holds is (giving, initial, recording) =
+      (give_next known heap places i items k rooms holds giving, first_on initial, recording)
+    where
+      no_record : (j : ItemForm) (p : RecordPathForm) → FilledBy heap places j v → j ≡ item_of_record p → ⊥
+      no_record j p by same = rw same at by
+
+      first_on : InitialTo known heap (i ∷ items) operands t → InitialTo known heap items (v ∷ operands) t
+      first_on (inl none) = inl none
+      first_on (inr (r, first, inr (nothing_left, has))) = absurd (cc nothing_left)
+      first_on (inr (r, first, inl (p, all, of))) = let same : i ≡ item_of_record p = cc all in absurd (no_record i p is same)
   fills_on i items (f ∷ k) operands v rooms holds is g = g
 
   -- What the next item uses breaks no rule, behind some items; and what it may raise is known.
@@ -117,7 +124,7 @@ module _ (known : Known) (k : Control) (a : Activation Value) (rest : List (Acti
       (rw e at (next_raises known s.heap a.places (item_of_path path) items k a.operands w.rooms w.holds w.rest)))
 
   -- The object in which a record lies is found, and then its components are copied.
-  record_item : (p : RecordPathForm) (items : List ItemForm) → RecordThere known.program.types known.program.variables p → (w : Working known s.heap a.places s.masters (FillsTo known s.heap a.places (item_of_record p ∷ items) k a.operands)) → (is_owning_record known.program.types p.record_type ≡ false) × (lost_by (hold_at w.holds p.object.root) p.object.spot ≡ None) → Fine known s.heap s.masters (record_holder_next named p (λ place. Copies place.component p.record_type) (running (Fills items ∷ k) a rest s))
+  record_item : (p : RecordPathForm) (items : List ItemForm) → RecordThere known.program.types known.program.variables p → (w : Working known s.heap a.places s.masters (FillsTo known s.heap a.places (item_of_record p ∷ items) k a.operands)) → lost_by (hold_at w.holds p.object.root) p.object.spot ≡ None → Fine known s.heap s.masters (record_holder_next named p (λ place. Copies place.component p.record_type) (running (Fills items ∷ k) a rest s))
   record_item p items there w kept =
       let path = p.object in
       let v = begun a.places path in
@@ -126,17 +133,17 @@ module _ (known : Known) (k : Control) (a : Activation Value) (rest : List (Acti
       (at_work w (
         selected_raises known (place_at a.places path.root) v path.selectors (Fills items ∷ k) w.rooms w.holds
             (record_raises known v (Fills items ∷ k) w.rooms w.holds path.of_record path.selectors
-            (λ is. object_there path.root path.spot kept.1 (root_object known.program.types known.program.variables path there.to there.leads is) w.fit)
+            (λ is. object_there path.root path.spot kept (root_object known.program.types known.program.variables path there.to there.leads is) w.fit)
             (next_raises known s.heap a.places (item_of_record p) items k a.operands w.rooms w.holds w.rest)),
-        (there.kinds, there.components, copies_on known s.heap a.places p there.kinds items k a.operands w.rooms w.holds there.components kept.0 w.rest),
-      )) (root_follows path.root path.spot kept.1 w.fit)
+        (there.kinds, there.components, copies_on known s.heap a.places p there.kinds items k a.operands w.rooms w.holds there.components w.rest),
+      )) (root_follows path.root path.spot kept w.fit)
 
-  -- A record that is copied owns nothing, and its path is not lost.
-  record_kept : AdjustsNoOwners known.program.types → (holds : Holds) (p : RecordPathForm) → NextKeeps known s.heap a.places holds (item_of_record p) → (is_owning_record known.program.types p.record_type ≡ false) × (lost_by (hold_at holds p.object.root) p.object.spot ≡ None)
-  record_kept adjusts holds p (spot, target, earlier, keeps) =
+  -- The path of a record that is copied is not lost.
+  record_kept : (holds : Holds) (p : RecordPathForm) → NextKeeps known s.heap a.places holds (item_of_record p) → lost_by (hold_at holds p.object.root) p.object.spot ≡ None
+  record_kept holds p (spot, target, earlier, keeps) =
       let leaves = leaves_owners known.program.types p.record_type in
       let h = first_kept holds (copies_to leaves spot) (shares_it p ∷ reaches_it p.object ∷ []) keeps in
-      (owns_nothing known.program.types adjusts p.record_type (copied_plain leaves spot h.0), (first_kept holds (reaches_it p.object) [] h.1).0)
+      (first_kept holds (reaches_it p.object) [] h.1).0
 
   -- A path that typing knows of leads somewhere.
   and_left : (x y : Bool) → (x && y) ≡ true → x ≡ true
@@ -164,25 +171,30 @@ module _ (known : Known) (k : Control) (a : Activation Value) (rest : List (Acti
       record_there known.program.types known.program.variables p (and_left (is_record_path known.program.types known.program.variables p) _ (and_left _ _ e))
 
   -- The items of an aggregate are evaluated, and then its object is asked for, or its values are stored.
-  pub items_fine : AdjustsNoOwners known.program.types → (items : List ItemForm) (cs : List ComponentKind) → items_fit known.program.types known.program.variables cs items ≡ true → Working known s.heap a.places s.masters (FillsTo known s.heap a.places items k a.operands) → Fine known s.heap s.masters (items_next named items (running k a rest s))
-  items_fine adjusts [] cs fits w = asked k w
+  pub items_fine : (items : List ItemForm) (cs : List ComponentKind) → items_fit known.program.types known.program.variables cs items ≡ true → Working known s.heap a.places s.masters (FillsTo known s.heap a.places items k a.operands) → Fine known s.heap s.masters (items_next named items (running k a rest s))
+  items_fine [] cs fits w = asked k w
     where
+      all_there : (t : ℕ) → InitialTo known s.heap [] a.operands t → (owns_at_first known.program.types t ≡ false) ⊎ ((r : ℕ) × AdjustsFirst known.program.types t r × HasCopied known s.heap r a.operands)
+      all_there t (inl none) = inl none
+      all_there t (inr (r, first, inl (p, all, of))) = absurd (cc all)
+      all_there t (inr (r, first, inr (nothing_left, has))) = inr (r, first, has)
+
       asked : (k' : Control) → Working known s.heap a.places s.masters (FillsTo known s.heap a.places [] k' a.operands) → Stepped known s.heap Quiet (running k' a rest s)
       asked [] w' = absurd w'.rest
       asked (Creates access count ∷ k') w' = ready_on known (Creates access count ∷ k') a rest s a.operands w'
-      asked (StoresRecord o first count ∷ k') w' = ready_on known (StoresRecord o first count ∷ k') a rest s a.operands (at_work w' w'.rest.1)
-      asked (DeclaresRecord x t ∷ k') w' = ready_on known (DeclaresRecord x t ∷ k') a rest s a.operands (at_work w' w'.rest.1)
+      asked (StoresRecord o first count ∷ k') w' = ready_on known (StoresRecord o first count ∷ k') a rest s a.operands (at_work w' (inl w'.rest.1))
+      asked (DeclaresRecord x t ∷ k') w' = ready_on known (DeclaresRecord x t ∷ k') a rest s a.operands (at_work w' (all_there t w'.rest.1, w'.rest.2))
       asked (f ∷ k') w' = absurd w'.rest
-  items_fine adjusts (null_item ∷ items) cs fits w = item_there null_item items Null refl w
-  items_fine adjusts (item_of_path path ∷ items) cs fits w =
+  items_fine (null_item ∷ items) cs fits w = item_there null_item items Null refl w
+  items_fine (item_of_path path ∷ items) cs fits w =
       let keeps = next_keeps known s.heap a.places (item_of_path path) items k a.operands w.rooms w.holds w.rest in
       path_item path items path.selectors refl w (path_fits cs path items fits)
       (moved_kept (is_target keeps.1 path) path.selectors (hold_at w.holds path.root) path.spot (kept_by keeps.1 w.holds keeps.2 path keeps.3).1)
-  items_fine adjusts (item_of_value e ∷ items) cs fits w =
+  items_fine (item_of_value e ∷ items) cs fits w =
       let keeps = next_keeps known s.heap a.places (item_of_value e) items k a.operands w.rooms w.holds w.rest in
       ready_on known (Computes e ∷ Fills items ∷ k) a rest s a.operands (at_work w (keeps.3, next_raises known s.heap a.places (item_of_value e) items k a.operands w.rooms w.holds w.rest, λ v. fills_on known s.heap a.places (item_of_value e) items k a.operands v w.rooms w.holds tt w.rest))
-  items_fine adjusts (item_of_record p ∷ items) cs fits w =
-      record_item p items (record_fits cs p items fits) w (record_kept adjusts w.holds p (next_keeps known s.heap a.places (item_of_record p) items k a.operands w.rooms w.holds w.rest))
+  items_fine (item_of_record p ∷ items) cs fits w =
+      record_item p items (record_fits cs p items fits) w (record_kept w.holds p (next_keeps known s.heap a.places (item_of_record p) items k a.operands w.rooms w.holds w.rest))
 
   -- A new object is granted, or refused.
   module _ (types : List TypeDefinition) (access count words : ℕ) (home : Destination) (is_home : home_of access s.masters ≡ Some home) (w : Working known s.heap a.places s.masters (Filling known s.heap a.places access count [] k a.operands)) (kinds : HaveKinds known.program.types (cells_of s.heap) w.rest.leads.components (reverse (take count a.operands))) where

@@ -5,11 +5,9 @@ use Rattle.std.specs.Prelude.{Option, Some, None, if◌then◌else◌}
 use Rattle.std.specs.List.{slice_get}
 use Rattle.ada_program.specs.ProgramForm.{TypeForm, BodyForm, ProgramForm, main_body, seen_by, seen_in}
 use Rattle.ada_effects.specs.Effects.{Effect, Implicit, effect_of, known_of, effects_from, effects_of}
-use Rattle.ada_flow.specs.Flow.{Keeping, keeping_from, keeping_of, body_keeps, Holds, Outcome, faults, goes, body_flow, first_fault, bodies_flow, flow_of, is_left_of}
-use Rattle.ada_flow.specs.Tracking.{no_tracks}
-use Rattle.ada_sound.specs.Untracked.{AdjustsNoOwners}
+use Rattle.ada_flow.specs.Flow.{Keeping, keeping_from, keeping_of, body_keeps, Holds, Outcome, faults, goes, body_flow, tracks_of, first_fault, bodies_flow, flow_of, is_left_of}
+use Rattle.ada_flow.specs.Tracking.{Tracks, no_tracks}
 use Rattle.ada_sound.proofs.Objects.{get_more, get_new}
-use Rattle.ada_sound.proofs.Untracked.{tracks_nothing}
 
 -- What is among the first of a list is in the list, and what stands before it is the same.
 pub taken_get : {X : Type 0} (n : ℕ) (xs : List X) (k : ℕ) (x : X) → slice_get (take n xs) k ≡ Some x → slice_get xs k ≡ Some x
@@ -69,47 +67,32 @@ module _ (types : List TypeForm) (implicit : Implicit) where
   pub effect_at : (bs : List BodyForm) (k : ℕ) (b : BodyForm) → slice_get bs k ≡ Some b → slice_get (effects_from types implicit [] bs) k ≡ Some (effect_of types (known_of implicit (effects_from types implicit [] (take k bs))) b)
   effect_at bs k b e = let at : zero + k ≡ k = omega arith in rw at at (effect_behind bs [] k b e)
 
--- Where no Adjust is of a type that declares components of access types, no body tracks any.
-module _ (types : List TypeForm) (implicit : Implicit) (none : AdjustsNoOwners types) where
-  -- What a procedure adds to what is kept.
-  pub more_kept : (done : List Effect) (kept : List Keeping) (b : BodyForm) (bs : List BodyForm)
-      → keeping_from types implicit (done ++ effect_of types (known_of implicit done) b ∷ []) (kept ++ body_keeps types (known_of implicit done) kept no_tracks b ∷ []) bs
-      ≡ keeping_from types implicit done kept (b ∷ bs)
-  more_kept done kept b bs =
-      ap (λ tracks. keeping_from types implicit (done ++ effect_of types (known_of implicit done) b ∷ []) (kept ++ body_keeps types (known_of implicit done) kept tracks b ∷ []) bs)
-      (sym (tracks_nothing types none (length done) b))
-
-  -- What is asked of it and of those behind it.
-  both_fine : (done : List Effect) (kept : List Keeping) (b : BodyForm) (bs : List BodyForm) (main : BodyForm) → IsFine (bodies_flow types implicit done kept (b ∷ bs) main)
-      → IsFine (first_fault (body_flow types (known_of implicit done) kept no_tracks b)
-      (bodies_flow types implicit (done ++ effect_of types (known_of implicit done) b ∷ []) (kept ++ body_keeps types (known_of implicit done) kept no_tracks b ∷ []) bs main))
-  both_fine done kept b bs main f =
-      subst (λ tracks. IsFine (first_fault (body_flow types (known_of implicit done) kept tracks b)
-      (bodies_flow types implicit (done ++ effect_of types (known_of implicit done) b ∷ []) (kept ++ body_keeps types (known_of implicit done) kept tracks b ∷ []) bs main)))
-      (tracks_nothing types none (length done) b) f
-
-  main_fine : (bs : List BodyForm) (done : List Effect) (kept : List Keeping) (main : BodyForm) → IsFine (bodies_flow types implicit done kept bs main) → IsFine (body_flow types (known_of implicit (effects_from types implicit done bs)) (keeping_from types implicit done kept bs) no_tracks main)
+  -- Each procedure breaks no rule, with the components that it tracks (7.6); so does the main body, which tracks none.
+  pub main_fine : (bs : List BodyForm) (done : List Effect) (kept : List Keeping) (main : BodyForm) → IsFine (bodies_flow types implicit done kept bs main)
+      → IsFine (body_flow types (known_of implicit (effects_from types implicit done bs)) (keeping_from types implicit done kept bs) no_tracks main)
   main_fine [] done kept main f = f
   main_fine (b ∷ bs) done kept main f =
       let more = done ++ effect_of types (known_of implicit done) b ∷ [] in
-      let keeping = kept ++ body_keeps types (known_of implicit done) kept no_tracks b ∷ [] in
-      subst (λ all. IsFine (body_flow types (known_of implicit (effects_from types implicit more bs)) all no_tracks main)) (more_kept done kept b bs)
-      (main_fine bs more keeping main (second_of_two (body_flow types (known_of implicit done) kept no_tracks b) (bodies_flow types implicit more keeping bs main) (both_fine done kept b bs main f)))
+      let keeping = kept ++ body_keeps types (known_of implicit done) kept (tracks_of types (length done) b) b ∷ [] in
+      main_fine bs more keeping main (second_of_two (body_flow types (known_of implicit done) kept (tracks_of types (length done) b) b) (bodies_flow types implicit more keeping bs main) f)
 
-  body_fine : (bs : List BodyForm) (done : List Effect) (kept : List Keeping) (main : BodyForm) (k : ℕ) (b : BodyForm) → slice_get bs k ≡ Some b → IsFine (bodies_flow types implicit done kept bs main) → IsFine (body_flow types (known_of implicit (effects_from types implicit done (take k bs))) (keeping_from types implicit done kept (take k bs)) no_tracks b)
+  pub body_fine : (bs : List BodyForm) (done : List Effect) (kept : List Keeping) (main : BodyForm) (k : ℕ) (b : BodyForm) → slice_get bs k ≡ Some b → IsFine (bodies_flow types implicit done kept bs main)
+      → IsFine (body_flow types (known_of implicit (effects_from types implicit done (take k bs))) (keeping_from types implicit done kept (take k bs)) (tracks_of types (length done + k) b) b)
   body_fine [] done kept main k b e f = absurd (cc e)
   body_fine (c ∷ bs) done kept main zero b e f =
       let more = done ++ effect_of types (known_of implicit done) c ∷ [] in
-      let keeping = kept ++ body_keeps types (known_of implicit done) kept no_tracks c ∷ [] in
-      rw (← some_same c b e) (first_of_two (body_flow types (known_of implicit done) kept no_tracks c) (bodies_flow types implicit more keeping bs main) (both_fine done kept c bs main f))
+      let keeping = kept ++ body_keeps types (known_of implicit done) kept (tracks_of types (length done) c) c ∷ [] in
+      let at : length done + zero ≡ length done = omega arith in
+      rw (at, ← some_same c b e) (first_of_two (body_flow types (known_of implicit done) kept (tracks_of types (length done) c) c) (bodies_flow types implicit more keeping bs main) f)
     where
       some_same : (c b : BodyForm) → Some c ≡ Some b → c ≡ b
       some_same c b e = cc e
   body_fine (c ∷ bs) done kept main (suc k) b e f =
       let more = done ++ effect_of types (known_of implicit done) c ∷ [] in
-      let keeping = kept ++ body_keeps types (known_of implicit done) kept no_tracks c ∷ [] in
-      subst (λ before. IsFine (body_flow types (known_of implicit (effects_from types implicit more (take k bs))) before no_tracks b)) (more_kept done kept c (take k bs))
-      (body_fine bs more keeping main k b e (second_of_two (body_flow types (known_of implicit done) kept no_tracks c) (bodies_flow types implicit more keeping bs main) (both_fine done kept c bs main f)))
+      let keeping = kept ++ body_keeps types (known_of implicit done) kept (tracks_of types (length done) c) c ∷ [] in
+      let at : length more + k ≡ length done + suc k = omega (arith, length-append done (effect_of types (known_of implicit done) c ∷ [])) in
+      subst (λ number. IsFine (body_flow types (known_of implicit (effects_from types implicit more (take k bs))) (keeping_from types implicit more keeping (take k bs)) (tracks_of types number b) b)) at
+      (body_fine bs more keeping main k b e (second_of_two (body_flow types (known_of implicit done) kept (tracks_of types (length done) c) c) (bodies_flow types implicit more keeping bs main) f))
 
 -- The body of a program as one of its bodies sees it: the main one, or a procedure's that is there.
 abbrev pub IsBody : ProgramForm → (procedure : Option ℕ) → Type 0
@@ -120,11 +103,24 @@ IsBody p (Some number) = (b : BodyForm) × (slice_get p.bodies number ≡ Some b
 pub seen_is : (p : ProgramForm) (number : ℕ) (b : BodyForm) → slice_get p.bodies number ≡ Some b → seen_in (Some number) p ≡ seen_by number b p
 seen_is p number b e = rw e refl
 
--- Each body breaks no rule.
-pub obeys_in : (implicit : Implicit) (p : ProgramForm) (procedure : Option ℕ) → AdjustsNoOwners p.types → IsBody p procedure → IsFine (flow_of implicit p) → IsFine (body_flow p.types (effects_of implicit (seen_in procedure p)) (keeping_of implicit (seen_in procedure p)) no_tracks (main_body (seen_in procedure p)))
-obeys_in implicit p None none is f = main_fine p.types implicit none p.bodies [] [] (main_body p) f
-obeys_in implicit p (Some number) none (b, e) f =
-    rw (seen_is p number b e) (body_fine p.types implicit none p.bodies [] [] (main_body p) number b e f)
+-- The components of its formal parameter that it tracks (7.6): the main body has none.
+abbrev pub tracks_in : (procedure : Option ℕ) → ProgramForm → Tracks
+tracks_in None p = no_tracks
+tracks_in (Some number) p = tracks_of p.types number (main_body (seen_in (Some number) p))
+
+-- The body of a procedure breaks no rule.
+pub obeys_at : (implicit : Implicit) (p : ProgramForm) (number : ℕ) (b : BodyForm) → slice_get p.bodies number ≡ Some b → IsFine (flow_of implicit p)
+    → IsFine (body_flow p.types (effects_of implicit (seen_by number b p)) (keeping_of implicit (seen_by number b p)) (tracks_of p.types number b) b)
+obeys_at implicit p number b e f =
+    let own = seen_by number b p in
+    let at : zero + number ≡ number = omega arith in
+    subst (λ n. IsFine (body_flow p.types (effects_of implicit own) (keeping_of implicit own) (tracks_of p.types n b) b)) at (body_fine p.types implicit p.bodies [] [] (main_body p) number b e f)
+
+-- Each body breaks none.
+pub obeys_in : (implicit : Implicit) (p : ProgramForm) (procedure : Option ℕ) → IsBody p procedure → IsFine (flow_of implicit p)
+    → IsFine (body_flow p.types (effects_of implicit (seen_in procedure p)) (keeping_of implicit (seen_in procedure p)) (tracks_in procedure p) (main_body (seen_in procedure p)))
+obeys_in implicit p None is f = main_fine p.types implicit p.bodies [] [] (main_body p) f
+obeys_in implicit p (Some number) (b, e) f = rw (seen_is p number b e) (obeys_at implicit p number b e f)
 
 -- A procedure that a body may call is one of the program, and sees what it sees by that body's view.
 pub callee_get : (p : ProgramForm) (procedure : Option ℕ) (number : ℕ) (b : BodyForm) → IsBody p procedure → slice_get (seen_in procedure p).bodies number ≡ Some b → slice_get p.bodies number ≡ Some b

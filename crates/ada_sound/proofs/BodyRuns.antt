@@ -11,7 +11,7 @@ use Rattle.ada_program.specs.ProgramForm.{TypeForm, VariableForm, BodyForm, Prog
 use Rattle.ada_effects.specs.Effects.{Effect, Effects, declarations_free, leaving_frees, untaken, declarations_raise, stmts_raise, handlers_raise, stmts_free, handlers_free, call_frees, body_frees, effects_of, passes}
 use Rattle.ada_flow.specs.declared.rule.Hold.{Hold}
 use Rattle.ada_flow.specs.declared.rule.Hold.TheVariants as hold
-use Rattle.ada_flow.specs.Flow.{left_finalized, Holds, hold_at, variable_access, Outcome, then_flow, declarations_flow, stmts_flow, handlers_flow, handled, leaves_block, Keeping, keeping_of, body_keeps, kept_from, is_kept, all_give_back, first_kept, others_kept, unless_kept, left_unkept, left_by_move, without_alias, without_freed, left_by_call, left, gone_with, nothing_gone, collected, have_exit, handlers_have_exit, body_flow, first_holds}
+use Rattle.ada_flow.specs.Flow.{left_finalized, Holds, hold_at, variable_access, Outcome, then_flow, declarations_flow, stmts_flow, handlers_flow, handled, leaves_block, ends_body, Keeping, keeping_of, body_keeps, kept_from, kept_by, is_kept, all_give_back, first_kept, others_kept, unless_kept, left_unkept, left_by_move, without_alias, without_freed, left_by_call, left, gone_with, nothing_gone, collected, have_exit, handlers_have_exit, body_flow, first_holds}
 use Rattle.ada_flow.specs.Tracking.{no_tracks}
 use Rattle.ada_meaning.specs.declared.state.Id.{Id}
 use Rattle.ada_meaning.specs.declared.state.Value.{Value}
@@ -26,7 +26,8 @@ use Rattle.ada_sound.proofs.Leavings.{all_among}
 use Rattle.ada_sound.proofs.Raising.{or_left, or_right}
 use Rattle.ada_sound.proofs.Nestings.{part_from}
 use Rattle.ada_sound.proofs.Bodies.{IsFine}
-use Rattle.ada_sound.proofs.Invariant.{MayEnd, Known, Goes, GoesBy, To, Ways, Raised, Outside, RunsOn, Spares, Where, owed_in, around_at, body_among, is_kept_at, KeepsAll, ways}
+use Rattle.ada_sound.proofs.Invariant.{MayEnd, Known, Goes, GoesBy, To, Ways, Raised, Outside, RunsOn, Spares, Where, Control, owed_by, around_at, body_among, is_kept_at, KeepsAll, ways}
+use Rattle.ada_sound.specs.Agreement.{Turning, ComesInside}
 use Rattle.ada_sound.proofs.Callers.{Suspension, rest_of, known_in}
 use Rattle.ada_sound.proofs.LeftFinalized.{finalized_gives, finalized_keeps, endings_leave}
 
@@ -45,102 +46,141 @@ kept_there holds n (m ∷ ms) (suc x) kept =
     let at : (n + 1) + x ≡ n + suc x = omega arith in
     rw at at (kept_there holds (n + 1) ms x kept)
 
+-- Where what flow answers for a body breaks no rule, formal parameters are kept where an exception leaves it.
+pub fine_keeps : (o : Outcome) (formals : List FormalMode) → IsFine o → Goes o (λ holds. Unit {0}) (KeepsAll (kept_by o formals))
+fine_keeps o formals (normal, raising, is) = rw is (goes_anywhere normal, keeps raising)
+  where
+    keeps : (raising : Option Holds) → GoesBy raising (KeepsAll (kept_from raising 0 formals))
+    keeps None = tt
+    keeps (Some holds) = λ x e. let at : 0 + x ≡ x = omega arith in rw at at (kept_there holds 0 formals x e)
+
 -- Where a body breaks no rule, formal parameters give back what they owe at its end, and are kept where an exception leaves it.
 pub gives_and_keeps : (types : List TypeForm) (effects : Effects) (kept : List Keeping) (b : BodyForm) → IsFine (body_flow types effects kept no_tracks b) → Goes (body_flow types effects kept no_tracks b) (λ holds. Unit {0}) (KeepsAll (body_keeps types effects kept no_tracks b))
-gives_and_keeps types effects kept b (normal, raising, is) = rw is (goes_anywhere normal, keeps raising)
-  where
-    keeps : (raising : Option Holds) → GoesBy raising (KeepsAll (kept_from raising 0 b.formals))
-    keeps None = tt
-    keeps (Some holds) = λ x e. let at : 0 + x ≡ x = omega arith in rw at at (kept_there holds 0 b.formals x e)
+gives_and_keeps types effects kept b fine = fine_keeps (body_flow types effects kept no_tracks b) b.formals fine
 
-module _ (program : Program) (procedure : Option ℕ) (gs : List Suspension) where
-  abbrev known : Known
-  known = known_in program procedure gs
-
-  abbrev p : ProgramForm
-  p = known.program
+-- Any body, of which this is known, and behind which this is to be done.
+module _ (known : Known) (rest : Control) where
+  abbrev own : ProgramForm
+  own = known.program
 
   -- What is behind the body: its caller waits for each way in which it ends.
   abbrev behind : Ways
-  behind = ways known (rest_of gs) []
+  behind = ways known rest []
+
+  -- It waits for what the body gives back, and for what that keeps.
+  pub record AwaitsEnds (kept : Keeping) : Type 0 where
+    pub ends : (holds : Holds) → all_give_back (owed_by known) holds ≡ true → behind.normal holds
+    pub raises : (e : Exception) (holds : Holds) → body_among known.implicit own e ≡ true → KeepsAll kept holds → behind.raised e holds
+    pub returns : (holds : Holds) → all_give_back (owed_by known) holds ≡ true → behind.returned holds
 
   -- At first a body is in no loop, and in no block but itself.
   abbrev nowhere_yet : Where
-  nowhere_yet = record { start = None; inside = nothing_gone; within = gone_with p.declarations }
+  nowhere_yet = record { start = None; inside = nothing_gone; within = gone_with own.declarations }
+
+  abbrev outside : Ways
+  outside = Outside known (gone_with own.declarations) behind
+
+  -- Its part: its declarations, its statements and its handlers, before the body is left, where it begins with these holds.
+  abbrev part : Holds → Outcome
+  part first =
+      then_flow (declarations_flow own.types own.variables no_tracks known.implicit own.declarations first)
+      (λ at. handled (passes (effects_of known.implicit own) own.statements own.handlers)
+      (handlers_flow own.types own.variables (around_at known nowhere_yet) own.handlers)
+      (stmts_flow own.types own.variables (around_at known nowhere_yet) own.statements at))
+
+  -- The whole body.
+  abbrev pub whole_flow : Holds → Outcome
+  whole_flow first = ends_body (owed_by known) own.end_spot (leaves_block own.variables (gone_with own.declarations) (part first))
+
+  -- Flow comes from its beginning to places of which that is known.
+  abbrev pub ComesFrom : Holds → Type 0
+  ComesFrom first =
+      (way : List Turning) (place : Control) (at : Holds)
+      → ComesInside own.types own.variables (around_at known nowhere_yet) rest own.declarations own.statements own.handlers first way place at → known.At place at
+
+  abbrev left_there : Holds → Holds
+  left_there holds = left own.variables (gone_with own.declarations) holds
+
+  abbrev behind_there : Holds → Holds
+  behind_there holds = left_finalized own.variables known.implicit (gone_with own.declarations) holds
+
+  part_goes : (first : Holds) (kept : Keeping) → Goes (whole_flow first) (λ h. Unit {0}) (KeepsAll kept) → Goes (part first) (λ h. all_give_back (owed_by known) (left_there h) ≡ true) (λ h. KeepsAll kept (left_there h))
+  part_goes first kept goes =
+      block_goes own.variables (gone_with own.declarations) (part first) (λ h. all_give_back (owed_by known) h ≡ true) (KeepsAll kept)
+      (body_goes (owed_by known) own.end_spot (leaves_block own.variables (gone_with own.declarations) (part first)) (λ h. Unit {0}) (KeepsAll kept) goes)
+
+  -- What its statements and its handlers may free, it may.
+  freed_there : (t : ℕ) → (stmts_free own.types own.variables (effects_of known.implicit own) t own.statements || handlers_free own.types own.variables (effects_of known.implicit own) t own.handlers) ≡ true → body_frees own.types (effects_of known.implicit own) (main_body own) t ≡ true
+  freed_there t i =
+      or_left (stmts_free own.types own.variables (effects_of known.implicit own) t own.statements || handlers_free own.types own.variables (effects_of known.implicit own) t own.handlers)
+      (declarations_free known.implicit t own.declarations || leaving_frees known.implicit t own.declarations) i
+
+  -- It runs, if it breaks no rule, no exit leads out of it, no suspended activation has an alias of what it may free, and its caller waits for what it
+  -- keeps.
+  pub any_body_runs : (first : Holds) (kept : Keeping) → ComesFrom first → Goes (whole_flow first) (λ h. Unit {0}) (KeepsAll kept)
+      → have_exit own.statements ≡ false → handlers_have_exit own.handlers ≡ false → Spares known (body_frees own.types (effects_of known.implicit own) (main_body own)) → AwaitsEnds kept
+      → RunsOn known (Elaborates own.declarations own.statements own.handlers ∷ rest) (gone_with own.declarations ∷ []) first
+  any_body_runs first kept from goes none_out none_on spares awaits =
+      let effects = effects_of known.implicit own in
+      let gone = gone_with own.declarations in
+      let may_state = λ (t : ℕ). stmts_free own.types own.variables effects t own.statements in
+      let may_handle = λ (t : ℕ). handlers_free own.types own.variables effects t own.handlers in
+      let may_declare = λ (t : ℕ). declarations_free known.implicit t own.declarations in
+      let may_leave = λ (t : ℕ). leaving_frees known.implicit t own.declarations in
+      let declaring = λ (e : Exception). declarations_raise known.implicit (is_same e) own.declarations in
+      let stating = λ (e : Exception). stmts_raise effects (untaken own.handlers (is_same e)) own.statements in
+      let handling = λ (e : Exception). handlers_raise effects (is_same e) own.handlers in
+      let may_end : MayEnd known gone = λ t i. spares t (or_right (may_state t || may_handle t) (may_declare t || may_leave t) (or_right (may_declare t) (may_leave t) (endings_leave known.implicit t own.declarations i))) in (
+        all_among (collected own.declarations),
+        part_from known nowhere_yet rest own.declarations own.statements own.handlers outside (body_among known.implicit own) first
+            (record {
+              by_declarations = λ e i. or_left (declaring e || stating e) (handling e) (or_left (declaring e) (stating e) i);
+              by_statements = λ e i. or_left (declaring e || stating e) (handling e) (or_right (declaring e) (stating e) i);
+              by_handlers = λ e i. or_right (declaring e || stating e) (handling e) i;
+            })
+            from
+            (goes_map (part first) (λ h. all_give_back (owed_by known) (left_there h) ≡ true) (λ h. KeepsAll kept (left_there h)) (To outside.normal) (Raised (body_among known.implicit own) outside)
+            (λ h gives. to_here outside.normal h (may_end, to_here behind.normal (behind_there h) (awaits.ends (behind_there h) (finalized_gives own.variables known.implicit gone (owed_by known) h gives))))
+            (λ h keeps. λ e i. to_here (outside.raised e) h (may_end, to_here (behind.raised e) (behind_there h) (awaits.raises e (behind_there h) i (λ x is. finalized_keeps own.variables known.implicit gone h x (keeps x is))))) (part_goes first kept goes))
+            (λ one h may. absurd (cc (one, none_out)))
+            (λ one h may. absurd (cc (one, none_on)))
+            (λ h gives. (may_end, to_here behind.returned (behind_there h) (awaits.returns (behind_there h) (finalized_gives own.variables known.implicit gone (owed_by known) h gives))))
+            (λ t i. spares t (freed_there t (or_left (may_state t) (may_handle t) i)))
+            (λ t i. spares t (freed_there t (or_right (may_state t) (may_handle t) i)))
+            (λ t i. spares t (or_right (may_state t || may_handle t) (may_declare t || may_leave t) (or_left (may_declare t) (may_leave t) i))),
+      )
+
+-- A body that tracks nothing.
+module _ (program : Program) (procedure : Option ℕ) (gs : List Suspension) where
+  abbrev known_here : Known
+  known_here = known_in program procedure gs
+
+  abbrev p : ProgramForm
+  p = known_here.program
 
   -- What the body keeps, by its outcome.
-  abbrev kept : Keeping
-  kept = body_keeps p.types (effects_of known.implicit p) (keeping_of known.implicit p) no_tracks (main_body p)
+  abbrev kept_here : Keeping
+  kept_here = body_keeps p.types (effects_of known_here.implicit p) (keeping_of known_here.implicit p) no_tracks (main_body p)
 
   -- The body's caller waits for what it keeps.
   abbrev pub KeepsFor : List Suspension → Type 0
   KeepsFor [] = Unit {0}
-  KeepsFor (g ∷ gs) = g.kept ≡ kept
+  KeepsFor (g ∷ gs) = g.kept ≡ kept_here
 
-  ends : (gs : List Suspension) (holds : Holds) → all_give_back (owed_in p) holds ≡ true → (ways (known_in program procedure gs) (rest_of gs) []).normal holds
-  ends [] holds gives = tt
-  ends (g ∷ gs) holds gives = (refl, refl, refl, gives)
-
-  raises : (gs : List Suspension) → KeepsFor gs → (e : Exception) (holds : Holds) → body_among known.implicit p e ≡ true → KeepsAll kept holds → (ways (known_in program procedure gs) (rest_of gs) []).raised e holds
-  raises [] same e holds may keeps = tt
-  raises (g ∷ gs) same e holds may keeps = (may, refl, rw same keeps)
-
-  returns : (gs : List Suspension) (holds : Holds) → all_give_back (owed_in p) holds ≡ true → (ways (known_in program procedure gs) (rest_of gs) []).returned holds
-  returns [] holds gives = tt
-  returns (g ∷ gs) holds gives = (refl, refl, refl, gives)
-
-  abbrev outside : Ways
-  outside = Outside known (gone_with p.declarations) behind
-
-  -- Its part: its declarations, its statements and its handlers, before the body is left.
-  abbrev part : Outcome
-  part =
-      then_flow (declarations_flow p.types p.variables no_tracks known.implicit p.declarations (first_holds p.formals p.variables))
-      (λ at. handled (passes (effects_of known.implicit p) p.statements p.handlers)
-      (handlers_flow p.types p.variables (around_at known nowhere_yet) p.handlers)
-      (stmts_flow p.types p.variables (around_at known nowhere_yet) p.statements at))
-
-  abbrev left_there : Holds → Holds
-  left_there holds = left p.variables (gone_with p.declarations) holds
-
-  abbrev behind_there : Holds → Holds
-  behind_there holds = left_finalized p.variables known.implicit (gone_with p.declarations) holds
-
-  part_goes : IsFine (body_flow p.types (effects_of known.implicit p) (keeping_of known.implicit p) no_tracks (main_body p)) → Goes part (λ h. all_give_back (owed_in p) (left_there h) ≡ true) (λ h. KeepsAll kept (left_there h))
-  part_goes fine =
-      block_goes p.variables (gone_with p.declarations) part (λ h. all_give_back (owed_in p) h ≡ true) (KeepsAll kept)
-      (body_goes (owed_in p) p.end_spot (leaves_block p.variables (gone_with p.declarations) part) (λ h. Unit {0}) (KeepsAll kept)
-      (gives_and_keeps p.types (effects_of known.implicit p) (keeping_of known.implicit p) (main_body p) fine))
-
-  -- What its statements and its handlers may free, it may.
-  freed_there : (t : ℕ) → (stmts_free p.types p.variables (effects_of known.implicit p) t p.statements || handlers_free p.types p.variables (effects_of known.implicit p) t p.handlers) ≡ true → body_frees p.types (effects_of known.implicit p) (main_body p) t ≡ true
-  freed_there t i =
-      or_left (stmts_free p.types p.variables (effects_of known.implicit p) t p.statements || handlers_free p.types p.variables (effects_of known.implicit p) t p.handlers)
-      (declarations_free known.implicit t p.declarations || leaving_frees known.implicit t p.declarations) i
+  awaited : (gs : List Suspension) → KeepsFor gs → AwaitsEnds (known_in program procedure gs) (rest_of gs) kept_here
+  awaited [] same = record { ends = λ holds gives. tt; raises = λ e holds may keeps. tt; returns = λ holds gives. tt }
+  awaited (g ∷ gs) same = record {
+    ends = λ holds gives. (refl, refl, refl, gives);
+    raises = λ e holds may keeps. (may, refl, rw same keeps);
+    returns = λ holds gives. (refl, refl, refl, gives);
+  }
 
   -- It runs, if it breaks no rule, no exit leads out of it, no suspended activation has an alias of what it may free, and its caller waits for what it
   -- keeps.
-  pub body_runs : IsFine (body_flow p.types (effects_of known.implicit p) (keeping_of known.implicit p) no_tracks (main_body p)) → have_exit p.statements ≡ false → handlers_have_exit p.handlers ≡ false → Spares known (body_frees p.types (effects_of known.implicit p) (main_body p)) → KeepsFor gs → RunsOn known (Elaborates p.declarations p.statements p.handlers ∷ rest_of gs) (gone_with p.declarations ∷ []) (first_holds p.formals p.variables)
+  pub body_runs : IsFine (body_flow p.types (effects_of known_here.implicit p) (keeping_of known_here.implicit p) no_tracks (main_body p)) → have_exit p.statements ≡ false → handlers_have_exit p.handlers ≡ false → Spares known_here (body_frees p.types (effects_of known_here.implicit p) (main_body p)) → KeepsFor gs → RunsOn known_here (Elaborates p.declarations p.statements p.handlers ∷ rest_of gs) (gone_with p.declarations ∷ []) (first_holds p.formals p.variables)
   body_runs fine none_out none_on spares same =
-      let may_end : MayEnd known (gone_with p.declarations) = λ t i. spares t (or_right (stmts_free p.types p.variables (effects_of known.implicit p) t p.statements || handlers_free p.types p.variables (effects_of known.implicit p) t p.handlers) (declarations_free known.implicit t p.declarations || leaving_frees known.implicit t p.declarations) (or_right (declarations_free known.implicit t p.declarations) (leaving_frees known.implicit t p.declarations) (endings_leave known.implicit t p.declarations i))) in (
-        all_among (collected p.declarations),
-        part_from known nowhere_yet (rest_of gs) p.declarations p.statements p.handlers outside (body_among known.implicit p) (first_holds p.formals p.variables)
-            (record {
-              by_declarations = λ e i. or_left (declarations_raise known.implicit (is_same e) p.declarations || stmts_raise (effects_of known.implicit p) (untaken p.handlers (is_same e)) p.statements) (handlers_raise (effects_of known.implicit p) (is_same e) p.handlers) (or_left (declarations_raise known.implicit (is_same e) p.declarations) (stmts_raise (effects_of known.implicit p) (untaken p.handlers (is_same e)) p.statements) i);
-              by_statements = λ e i. or_left (declarations_raise known.implicit (is_same e) p.declarations || stmts_raise (effects_of known.implicit p) (untaken p.handlers (is_same e)) p.statements) (handlers_raise (effects_of known.implicit p) (is_same e) p.handlers) (or_right (declarations_raise known.implicit (is_same e) p.declarations) (stmts_raise (effects_of known.implicit p) (untaken p.handlers (is_same e)) p.statements) i);
-              by_handlers = λ e i. or_right (declarations_raise known.implicit (is_same e) p.declarations || stmts_raise (effects_of known.implicit p) (untaken p.handlers (is_same e)) p.statements) (handlers_raise (effects_of known.implicit p) (is_same e) p.handlers) i;
-            })
-            (λ way place at comes. (way, comes))
-            (goes_map part (λ h. all_give_back (owed_in p) (left_there h) ≡ true) (λ h. KeepsAll kept (left_there h)) (To outside.normal) (Raised (body_among known.implicit p) outside)
-            (λ h gives. to_here outside.normal h (may_end, to_here behind.normal (behind_there h) (ends gs (behind_there h) (finalized_gives p.variables known.implicit (gone_with p.declarations) (owed_in p) h gives))))
-            (λ h keeps. λ e i. to_here (outside.raised e) h (may_end, to_here (behind.raised e) (behind_there h) (raises gs same e (behind_there h) i (λ x is. finalized_keeps p.variables known.implicit (gone_with p.declarations) h x (keeps x is))))) (part_goes fine))
-            (λ one h may. absurd (cc (one, none_out)))
-            (λ one h may. absurd (cc (one, none_on)))
-            (λ h gives. (may_end, to_here behind.returned (behind_there h) (returns gs (behind_there h) (finalized_gives p.variables known.implicit (gone_with p.declarations) (owed_in p) h gives))))
-            (λ t i. spares t (freed_there t (or_left (stmts_free p.types p.variables (effects_of known.implicit p) t p.statements) (handlers_free p.types p.variables (effects_of known.implicit p) t p.handlers) i)))
-            (λ t i. spares t (freed_there t (or_right (stmts_free p.types p.variables (effects_of known.implicit p) t p.statements) (handlers_free p.types p.variables (effects_of known.implicit p) t p.handlers) i)))
-            (λ t i. spares t (or_right (stmts_free p.types p.variables (effects_of known.implicit p) t p.statements || handlers_free p.types p.variables (effects_of known.implicit p) t p.handlers) (declarations_free known.implicit t p.declarations || leaving_frees known.implicit t p.declarations) (or_left (declarations_free known.implicit t p.declarations) (leaving_frees known.implicit t p.declarations) i))),
-      )
+      any_body_runs known_here (rest_of gs) (first_holds p.formals p.variables) kept_here (λ way place at comes. (way, comes))
+      (gives_and_keeps p.types (effects_of known_here.implicit p) (keeping_of known_here.implicit p) (main_body p) fine) none_out none_on spares (awaited gs same)
 
 -- The main body has no caller, so no suspended activation has an alias.
 pub none_suspended : (program : Program) (procedure : Option ℕ) → let known : Known = known_in program procedure [] in Spares known (body_frees known.program.types (effects_of known.implicit known.program) (main_body known.program))

@@ -1,6 +1,6 @@
 -- The body of a procedure runs when it is called (6.4).
 
-use Rattle.std.proofs.Common.{◌≡◌, ℕ, List, [], ◌∷◌, sym, ap, subst, ◌∙◌, reverse}
+use Rattle.std.proofs.Common.{◌≡◌, ℕ, List, [], ◌∷◌, sym, ap, subst, ◌∙◌, reverse, false}
 use Rattle.std.specs.Prelude.{Some}
 use Rattle.std.specs.List.{slice_get}
 use Rattle.ada_deeds.specs.Implicit.{implicit_of}
@@ -9,7 +9,7 @@ use Rattle.ada_program.specs.Form.{ActualForm}
 use Rattle.ada_program.specs.ProgramForm.{TypeForm, BodyForm, ProgramForm, program_form, main_body, seen_by, seen_in}
 use Rattle.ada_program.specs.WellFormed.{IsWellFormed}
 use Rattle.ada_effects.specs.Effects.{body_frees, effects_of}
-use Rattle.ada_flow.specs.Flow.{first_holds, gone_with}
+use Rattle.ada_flow.specs.Flow.{first_holds, gone_with, tracks_of}
 use Rattle.ada_meaning.specs.declared.state.Value.{Value}
 use Rattle.ada_meaning.specs.State.{Activation}
 use Rattle.ada_meaning.specs.Frame.{Elaborates, Returns}
@@ -26,8 +26,10 @@ use Rattle.ada_sound.proofs.Fits.{NoOuterAlias}
 use Rattle.ada_sound.proofs.Calls.{callee, values, waiting, freed_by_call, references, referenced, passes_spared}
 use Rattle.ada_sound.proofs.Keepings.{callee_keeps}
 use Rattle.ada_sound.proofs.BodyRuns.{body_runs, call_spares}
-use Rattle.ada_sound.specs.Untracked.{AdjustsNoOwners}
-use Rattle.ada_sound.proofs.Starts.{Obeys, body_obeys, none_out, none_on}
+use Rattle.ada_sound.proofs.Starts.{Obeys, untracked_body_obeys, none_out, none_on}
+use Rattle.ada_sound.proofs.Trackers.{untracked_by}
+use Rattle.ada_quiet.specs.Apart.{is_tracker}
+use Rattle.ada_flow.specs.Tracking.{no_tracks}
 
 -- Each variable of the running body has a place.
 pub placed_in : (p : ProgramForm) (a : Activation Value) (rest : List (Activation Value)) (s : State) → s.activations ≡ a ∷ rest → typed.TypedIn p s → ArePlaced p.variables a.places
@@ -37,7 +39,7 @@ placed_in p a rest s is (typed.operated kinds ready ended) x kind at = active_pl
 placed_in p a rest s is (typed.out_of_operation e kinds jumps ended) x kind at = active_placed p.types (cells_of s.heap) p.variables [] (a ∷ rest) x kind (rw is at jumps.active) at
 
 -- The body of a procedure runs when it is called.
-module _ (program : Program) (number : ℕ) (b : BodyForm) (given : List ActualForm) (k : Control) (a : Activation Value) (gs : List Suspension) (s : State) (well : IsWellFormed (program_form program)) (obeys : Obeys program)
+module _ (program : Program) (number : ℕ) (b : BodyForm) (given : List ActualForm) (k : Control) (a : Activation Value) (gs : List Suspension) (s : State) (well : IsWellFormed (program_form program)) (obeys : Obeys program) (apart : is_tracker (program_form program) number ≡ false)
     (w : Working (known_in program a.procedure gs) s.heap a.places s.masters (CallsOn (known_in program a.procedure gs) number b given k)) (is : IsBody (program_form program) a.procedure) (passed : ArePassed s.heap a.places (reverse given) a.operands) where
   abbrev called : Known
   called = callee program number b given k a [] gs s w
@@ -60,10 +62,14 @@ module _ (program : Program) (number : ℕ) (b : BodyForm) (given : List ActualF
         may,
       )
 
-  none_adjusts : AdjustsNoOwners (seen_in a.procedure (program_form program)).types
-  none_adjusts = rw (same_types a.procedure (program_form program)) obeys.0
+  -- The body tracks nothing.
+  nothing : tracks_of (program_form program).types number b ≡ no_tracks
+  nothing = untracked_by (program_form program) number b apart
+
+  nothing_there : tracks_of (seen_in a.procedure (program_form program)).types number b ≡ no_tracks
+  nothing_there = rw (same_types a.procedure (program_form program)) nothing
 
   pub runs_called : (rest : List (Activation Value)) → Stands program gs (record s { activations = a ∷ rest }) → RunsOn called (Elaborates b.declarations b.statements b.handlers ∷ Returns given (references program number b given k a [] gs s) ∷ k) (gone_with b.declarations ∷ []) (first_holds b.formals b.variables)
   runs_called rest stands =
       subst (λ (c : BodyForm). RunsOn called (Elaborates c.declarations c.statements c.handlers ∷ Returns given (references program number b given k a [] gs s) ∷ k) (gone_with c.declarations ∷ []) (first_holds c.formals c.variables)) same_body
-      (body_runs program (Some number) (waiting program number b given k a [] gs s w ∷ gs) (body_obeys program (Some number) (b, seen_body) obeys) (none_out program (Some number) well) (none_on program (Some number) well) (spares_called rest stands) (callee_keeps (implicit_of (program_form program)) (program_form program) a.procedure number b none_adjusts is w.rest.0))
+      (body_runs program (Some number) (waiting program number b given k a [] gs s w ∷ gs) (untracked_body_obeys program number b seen_body nothing obeys.1) (none_out program (Some number) well) (none_on program (Some number) well) (spares_called rest stands) (callee_keeps (implicit_of (program_form program)) (program_form program) a.procedure number b nothing_there is w.rest.0))

@@ -30,18 +30,16 @@ use Rattle.ada_sound.proofs.Raising.{or_left, or_right, program_asks, call_more}
 use Rattle.ada_sound.proofs.Invariant.{Known, Where, Control, Rooms, NoneBroken, ArePassed, PassesTo, GetLost, CallsOn, effect_in, kept_in, left_in, Doing, Raised, To, Working, Fine, ways, AreRecords}
 use Rattle.ada_sound.proofs.Ready.{running, at_work, ready_on, passes_ready}
 use Rattle.ada_sound.proofs.Nestings.{Starting}
-use Rattle.ada_sound.specs.Untracked.{AdjustsNoOwners}
 
 -- The bodies that a running body may call are among those of the program, under the same numbers.
 abbrev pub AreAmong : (callable bodies : List BodyForm) → Type 0
 AreAmong callable bodies = (q : ℕ) (b : BodyForm) → slice_get callable q ≡ Some b → slice_get bodies q ≡ Some b
 
--- What a body relies on that may call these: they are those of the program, no Adjust is of a type that declares components of access types, and wherever flow
--- comes to in it, it calls Integers and Booleans lost.
+-- What a body relies on that calls one of these: they are those of the program, record objects are of no access types, and wherever flow comes to in it,
+-- it calls Integers and Booleans lost.
 pub record MayCall (known : Known) (bodies : List BodyForm) : Type 0 where
   pub among : AreAmong known.program.bodies bodies
   pub lost : (place : Control) (at : Holds) → known.At place at → (x : ℕ) → variable_access known.program.variables x ≡ None → hold_at at x ≡ hold.Lost
-  pub adjusts : AdjustsNoOwners known.program.types
   pub records : AreRecords known
 
 -- There is a procedure that is called, and the actual parameters suit it.

@@ -74,6 +74,7 @@ known_in program procedure gs = record {
   program = seen_in procedure (program_form program);
   At = Reaches program procedure (rest_of gs);
   callers = callers_of program gs;
+  tracked = [];
 }
 
 -- The activations are those of these bodies, which are there; the main one has no caller.

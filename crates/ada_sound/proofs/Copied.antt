@@ -1,17 +1,18 @@
 -- Records that are copied as items: each of their components counts as an item of its own, which is what it holds at first.
 
-use Rattle.std.proofs.Common.{◌≡◌, ℕ, Bool, true, false, ◌&&◌, ◌||◌, List, [], ◌∷◌, ◌++◌, length, map, drop, refl, ap, arith}
+use Rattle.std.proofs.Common.{◌≡◌, ℕ, Bool, true, false, not, ◌&&◌, ◌||◌, List, [], ◌∷◌, ◌++◌, length, map, drop, refl, ap, arith, inl, inr}
 use Rattle.std.specs.Prelude.{Option, Some, None}
-use Rattle.std.specs.List.{list_any}
+use Rattle.std.specs.List.{list_all, list_any}
 use Rattle.ada_text.specs.declared.spot.Spot.{Spot}
 use Rattle.ada_program.specs.declared.program.ComponentKind.{ComponentKind}
 use Rattle.ada_program.specs.declared.program.ComponentKind.TheVariants as component
 use Rattle.ada_program.specs.declared.program.VariableKind.{VariableKind}
 use Rattle.ada_program.specs.Form.{PathForm, RecordPathForm, integer, boolean, ItemForm, null_item, item_of_value, item_of_record}
 use Rattle.ada_program.specs.ProgramForm.{TypeForm, VariableForm}
-use Rattle.ada_program.specs.WellFormed.{access_of, path_kind, record_components, object_components, is_alike, begins_with, begins_with_record, has_record_at, is_record_path, item_fits, item_width, width_in, items_fit}
+use Rattle.ada_program.specs.declared.program.Finalization.{Finalization}
+use Rattle.ada_program.specs.WellFormed.{copies_whole, finalization_of, is_copy, is_filled, item_owns, record_fits as fits_record, access_of, path_kind, record_components, object_components, is_alike, begins_with, begins_with_record, has_record_at, is_record_path, item_fits, item_width, width_in, items_fit}
 use Rattle.ada_effects.specs.Effects.{items_raise, item_raises}
-use Rattle.ada_flow.specs.Flow.{Holds, moved_by_item, moved_by_items, named_by_item, is_owning, is_owning_record, uses_in, uses_in_item, uses_in_items, copied_to}
+use Rattle.ada_flow.specs.Flow.{Holds, moved_by_item, moved_by_items, named_by_item, is_owning, uses_in, uses_in_item, uses_in_items, copied_to}
 use Rattle.ada_flow.specs.Tracking.{no_tracks}
 use Rattle.ada_meaning.specs.declared.state.Value.{Value}
 use Rattle.ada_meaning.specs.Frame.{Creates, StoresRecord, DeclaresRecord}
@@ -19,7 +20,8 @@ use Rattle.ada_meaning.specs.Step.{in_front}
 use Rattle.ada_meaning.specs.Named.{Object}
 use Rattle.ada_sound.proofs.Raising.{or_right}
 use Rattle.ada_sound.proofs.Followings.{kept_apart}
-use Rattle.ada_sound.proofs.Invariant.{Known, Control, Rooms, NoneBroken, back_onto, named_of, ItemsKeep, FilledBy, Giving, Filling, FillsTo}
+use Rattle.ada_sound.proofs.CopiedOwners.{NameThere, names_in_front}
+use Rattle.ada_sound.proofs.Invariant.{Known, Control, Rooms, InitialTo, NoneBroken, back_onto, named_of, ItemsKeep, FilledBy, Giving, Filling, FillsTo, OwnNothing}
 
 -- What a component holds at first, as an item.
 abbrev pub default_item : ComponentKind → ItemForm
@@ -43,6 +45,7 @@ module _ (known : Known) (heap : List Object) (places : List Value) where
     filled = (is, f.filled);
     before = (f.behind.0, f.before);
     behind = f.behind.1;
+    bare = f.bare.1;
     leads = f.leads;
     counted = f.counted;
   }
@@ -120,6 +123,12 @@ unrolled_moves (component.Integer initial ∷ kinds) items = unrolled_moves kind
 unrolled_moves (component.Boolean initial ∷ kinds) items = unrolled_moves kinds items
 unrolled_moves (component.Access access ∷ kinds) items = unrolled_moves kinds items
 
+pub unrolled_bare : (types : List TypeForm) (kinds : List ComponentKind) (items : List ItemForm) → OwnNothing types items → OwnNothing types (map default_item kinds ++ items)
+unrolled_bare types [] items bare = bare
+unrolled_bare types (component.Integer initial ∷ kinds) items bare = (tt, unrolled_bare types kinds items bare)
+unrolled_bare types (component.Boolean initial ∷ kinds) items bare = (tt, unrolled_bare types kinds items bare)
+unrolled_bare types (component.Access access ∷ kinds) items bare = (tt, unrolled_bare types kinds items bare)
+
 unrolled_keep : (types : List TypeForm) (spot : Spot) (target : Option PathForm) (holds : Holds) (earlier : List PathForm) (kinds : List ComponentKind) (items : List ItemForm) → ItemsKeep types spot target holds earlier items → ItemsKeep types spot target holds earlier (map default_item kinds ++ items)
 unfolding uses_in
 unrolled_keep types spot target holds earlier [] items keep = keep
@@ -143,6 +152,7 @@ module _ (known : Known) (heap : List Object) (places : List Value) where
         filled = f.filled;
         before = f.before;
         behind = unrolled_keep types f.spot f.target holds (named_of f.done) kinds items f.behind.1;
+        bare = unrolled_bare types kinds items f.bare.1;
         leads = record {
           components = f.leads.components;
           reached = f.leads.reached;
@@ -176,13 +186,23 @@ module _ (known : Known) (heap : List Object) (places : List Value) where
       (fill_one known heap places access count (default_item kind) (map default_item kinds ++ items) k operands v rooms holds (plain_filled kind v two.0) f)
 
   -- The components of a record are there.
-  pub copies_on : (p : RecordPathForm) (kinds : List ComponentKind) (items : List ItemForm) (k : Control) (operands : List Value) (rooms : Rooms) (holds : Holds) → record_components known.program.types p.record_type ≡ Some kinds → is_owning_record known.program.types p.record_type ≡ false → FillsTo known heap places (item_of_record p ∷ items) k operands rooms holds → (vs : List Value) → length vs ≡ length kinds → FillsTo known heap places items k (in_front vs operands) rooms holds
-  copies_on p kinds items [] operands rooms holds is plain f vs as_many = f
-  copies_on p kinds items (Creates access count ∷ k) operands rooms holds is plain f vs as_many =
-      filled_plain access count kinds items k vs operands rooms holds (rw is at plain) as_many (unrolled access count p kinds items k operands rooms holds is f)
-  copies_on p kinds items (StoresRecord o first count ∷ k) operands rooms holds is plain f vs as_many = (give_next known heap places (item_of_record p) items k rooms holds f.0, f.1)
-  copies_on p kinds items (DeclaresRecord x t ∷ k) operands rooms holds is plain f vs as_many = (give_next known heap places (item_of_record p) items k rooms holds f.0, f.1)
-  copies_on p kinds items (f ∷ k) operands rooms holds is plain g vs as_many = g
+  pub copies_on : (p : RecordPathForm) (kinds : List ComponentKind) (items : List ItemForm) (k : Control) (operands : List Value) (rooms : Rooms) (holds : Holds) → record_components known.program.types p.record_type ≡ Some kinds → FillsTo known heap places (item_of_record p ∷ items) k operands rooms holds → (vs : List Value) → length vs ≡ length kinds → NameThere heap vs → FillsTo known heap places items k (in_front vs operands) rooms holds
+  copies_on p kinds items [] operands rooms holds is f vs as_many names = f
+  copies_on p kinds items (Creates access count ∷ k) operands rooms holds is f vs as_many names =
+      filled_plain access count kinds items k vs operands rooms holds (rw is at (f.bare.0)) as_many (unrolled access count p kinds items k operands rooms holds is f)
+  copies_on p kinds items (StoresRecord o first count ∷ k) operands rooms holds is f vs as_many names = (give_next known heap places (item_of_record p) items k rooms holds f.0, f.1)
+  copies_on p kinds items (DeclaresRecord x t ∷ k) operands rooms holds is (giving, initial, recording) vs as_many names =
+      (give_next known heap places (item_of_record p) items k rooms holds giving, copied_first initial, recording)
+    where
+      copied_first : InitialTo known heap (item_of_record p ∷ items) operands t → InitialTo known heap items (in_front vs operands) t
+      copied_first (inl none) = inl none
+      copied_first (inr (r, first, inr (nothing_left, has))) = absurd (cc nothing_left)
+      copied_first (inr (r, first, inl (q, all, of))) =
+          let same : p ≡ q = cc all in
+          let last : items ≡ [] = cc all in
+          let own : record_components known.program.types r ≡ Some kinds = rw (← of, ← same) is in
+          inr (r, first, inr (last, (kinds, own, rw (← as_many) (names_in_front heap vs operands names))))
+  copies_on p kinds items (f ∷ k) operands rooms holds is g vs as_many names = g
 
 -- Items that use no path that breaks a rule.
 pub items_keep : (types : List TypeForm) (spot : Spot) (target : Option PathForm) (holds : Holds) (earlier : List PathForm) (items : List ItemForm) → NoneBroken holds (uses_in_items types spot target earlier items) → ItemsKeep types spot target holds earlier items
@@ -216,3 +236,18 @@ record_there types variables p e =
     by None record_kinds leads is e' = absurd (cc e')
     by (Some to) None leads is e' = absurd (some_first (object_components types (access_of (Some to))) e')
     by (Some to) (Some kinds) leads is e' = record { to = to; leads = leads; kinds = kinds; components = is }
+
+-- A record that gets items is of a type that is not limited, where it has controlled parts.
+pub may_copy : (types : List TypeForm) (variables : List VariableForm) (t : ℕ) (items : List ItemForm) → fits_record types variables t items ≡ true → (f : Finalization) → finalization_of types t ≡ Some f → f.limited ≡ false
+may_copy types variables t items fits f is = by (finalization_of types t) is whole
+  where
+    whole : copies_whole t (finalization_of types t) items ≡ true
+    whole = (both (is_filled types variables (record_components types t) items && list_all (item_owns variables) items) (copies_whole t (finalization_of types t) items) fits).1
+
+    no_not : (b : Bool) → not b ≡ true → b ≡ false
+    no_not true e = absurd (cc e)
+    no_not false e = refl
+
+    by : (found : Option Finalization) → found ≡ Some f → copies_whole t found items ≡ true → f.limited ≡ false
+    by None at copies = absurd (cc at)
+    by (Some g) at copies = let same : g ≡ f = cc at in rw (← same) (no_not g.limited (both (not g.limited) (is_copy t items) copies).0)

@@ -17,7 +17,7 @@ use Rattle.ada_program.specs.declared.program.TypeDefinition.{TypeDefinition}
 use Rattle.ada_program.specs.declared.program.TypeDefinition.TheVariants as definition
 use Rattle.ada_program.specs.ProgramForm.{TypeForm, type_form, VariableForm}
 use Rattle.ada_program.specs.Typed.{components_by, components_of, reached_of}
-use Rattle.ada_program.specs.WellFormed.{finalization_of, access_of, components_in, record_components, reached_components, items_fit, kind_takes}
+use Rattle.ada_program.specs.WellFormed.{object_named, finalization_of, access_of, components_in, record_components, reached_components, items_fit, kind_takes}
 use Rattle.ada_effects.specs.Effects.{items_raise}
 use Rattle.ada_flow.specs.Flow.{Holds, moved_by_items, uses_in}
 use Rattle.ada_flow.specs.Tracking.{no_tracks}
@@ -25,8 +25,10 @@ use Rattle.ada_meaning.specs.declared.state.Value.{Value}
 use Rattle.ada_meaning.specs.Step.{record_tasks, initial_value, in_front}
 use Rattle.ada_meaning.specs.Named.{Object, named}
 use Rattle.ada_typed.proofs.Shown.{same_components}
-use Rattle.ada_sound.proofs.Invariant.{Known, Control, Rooms, ItemsKeep, FilledBy, Filling}
+use Rattle.ada_sound.proofs.Invariant.{Known, Control, Rooms, ItemsKeep, OwnNothing, FilledBy, Filling}
 use Rattle.ada_sound.proofs.Copied.{default_item, fill_one}
+use Rattle.ada_program.specs.Controlled.{number_of, number_reached, shapes_of}
+use Rattle.ada_typed.proofs.Parts.{shown_number, shown_shapes}
 use Rattle.ada_sound.proofs.InsideRecords.{TasksInside}
 
 -- Such items are those of an object.
@@ -55,6 +57,13 @@ defaults_keep types spot target holds earlier [] = tt
 defaults_keep types spot target holds earlier (component.Integer initial ∷ kinds) = (refl, defaults_keep types spot target holds earlier kinds)
 defaults_keep types spot target holds earlier (component.Boolean initial ∷ kinds) = (refl, defaults_keep types spot target holds earlier kinds)
 defaults_keep types spot target holds earlier (component.Access access ∷ kinds) = (refl, defaults_keep types spot target holds earlier kinds)
+
+-- None of them is a record.
+pub defaults_bare : (types : List TypeForm) (kinds : List ComponentKind) → OwnNothing types (map default_item kinds)
+defaults_bare types [] = tt
+defaults_bare types (component.Integer initial ∷ kinds) = (tt, defaults_bare types kinds)
+defaults_bare types (component.Boolean initial ∷ kinds) = (tt, defaults_bare types kinds)
+defaults_bare types (component.Access access ∷ kinds) = (tt, defaults_bare types kinds)
 
 module _ (known : Known) (heap : List Object) (places : List Value) (access count : ℕ) (k : Control) (rooms : Rooms) (holds : Holds) where
   -- The value that is kept for a component is that of its item.
@@ -94,14 +103,17 @@ default_for types variables (variable.Access t) access takes =
     let f = there (reached_components types t.0) h.1 in
     record { goes = ap Some (sym same); components = f.0; reached = ap (λ u. reached_components types u) same ∙ f.1 }
 
--- The types that a run has lead to the components that flow speaks of; nothing is done for a record without controlled parts, and for one with some what is done
--- speaks of records that lie in it (7.6).
+-- The types that a run has lead to the components that flow speaks of; nothing is done for a record without controlled parts, and for one with some what is
+-- done speaks of records that lie in it (7.6). They have the same numbers, and the same shapes.
 abbrev pub Reaches : Known → List TypeDefinition → Type 0
 Reaches known types =
     ((access : ℕ) → reached_of types access ≡ reached_components known.program.types access)
     × ((t : ℕ) → components_of types t ≡ record_components known.program.types t)
     × ((t : ℕ) → finalization_of known.program.types t ≡ None → (direction : Direction) (first : ℕ) → record_tasks types t direction first ≡ [])
     × ((t : ℕ) (direction : Direction) (first : ℕ) → TasksInside known.program.types t (record_tasks types t direction first))
+    × ((t : ℕ) → number_of types (Some t) ≡ shown_number known.program.types (Some t))
+    × ((t : ℕ) → number_reached types t ≡ shown_number known.program.types (object_named known.program.types (Some t)))
+    × (shown_shapes known.program.types ≡ shapes_of types)
 
 components_shown : (o : Option TypeDefinition) → components_in (option_map type_form o) ≡ components_by o
 components_shown None = refl

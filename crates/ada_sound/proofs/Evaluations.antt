@@ -39,7 +39,8 @@ use Rattle.ada_typed.specs.Holding.{cells_of}
 use Rattle.ada_typed.proofs.Values.{OperandKind, of_kind, AreComputed}
 use Rattle.ada_typed.proofs.Control as typed
 use Rattle.ada_sound.proofs.Copied.{default_item, items_keep}
-use Rattle.ada_sound.proofs.Defaults.{defaults_fit, defaults_raise, defaults_move, defaults_keep, fill_defaults, DefaultFor, default_for, Reaches}
+use Rattle.ada_sound.proofs.Gathered.{BareItems}
+use Rattle.ada_sound.proofs.Defaults.{defaults_fit, defaults_raise, defaults_move, defaults_keep, defaults_bare, fill_defaults, DefaultFor, default_for, Reaches}
 use Rattle.ada_sound.proofs.Values.{read_other}
 use Rattle.ada_sound.proofs.Stored.{Stored, exists_out, stored_owning}
 use Rattle.ada_sound.proofs.Fits.{Fit, MayFollow, names_object, is_object, component_value, component_access, none_spared, place_at, put_null, put_alias, component_is, component_follows, take_variable, take_component, ArePlain, plain_object}
@@ -466,27 +467,27 @@ module _ (known : Known) (k : Control) (a : Activation Value) (rest : List (Acti
       let found : reached_of types access ≡ Some kinds = same ∙ d.reached in
       rw found (ready_on known (Creates access (length kinds) ∷ k) a rest s (in_front (map (initial_value named) kinds) a.operands)
       (at_work w (fill_defaults known s.heap a.places access (length kinds) k w.rooms w.holds kinds a.operands
-      (record { done = []; spot = record { line = 0; column = 0 }; target = h.0; into = h.1; filled = tt; before = tt; behind = defaults_keep known.program.types (record { line = 0; column = 0 }) h.0 w.holds [] kinds; leads = h.2; counted = (let one : kinds ≡ h.2.components = let mine = d.reached in let its = h.2.reached in cc (mine, its) in ap length one) }))))
+      (record { done = []; spot = record { line = 0; column = 0 }; target = h.0; into = h.1; filled = tt; before = tt; behind = defaults_keep known.program.types (record { line = 0; column = 0 }) h.0 w.holds [] kinds; bare = defaults_bare known.program.types kinds; leads = h.2; counted = (let one : kinds ≡ h.2.components = let mine = d.reached in let its = h.2.reached in cc (mine, its) in ap length one) }))))
 
   -- What is assigned is evaluated.
-  right_fine : (types : List TypeDefinition) → Reaches known types → (right : RightForm) (kinds : List OperandKind) → typed.Fits known.program (cells_of s.heap) kinds (Evaluates right ∷ k) → EvaluatesTo known right k s.heap a.places s.masters → Fine known s.heap s.masters (right_next named types right (running k a rest s))
-  right_fine types reaches nothing kinds (kind, takes, fits) e = ready_on known k a rest s (Null ∷ a.operands) (nothing_ready kind kinds (takes_none known.program.types known.program.variables kind nothing takes) fits e)
-  right_fine types reaches (value_of path) kinds fits w = value_fine path.of_record path.root path.selectors path.spot kinds fits w
-  right_fine types reaches (allocates access items) kinds (kind, takes, fits) w =
+  right_fine : (types : List TypeDefinition) → Reaches known types → (right : RightForm) → ((access : ℕ) (items : List ItemForm) → right ≡ allocates access items → BareItems known.program.types items) → (kinds : List OperandKind) → typed.Fits known.program (cells_of s.heap) kinds (Evaluates right ∷ k) → EvaluatesTo known right k s.heap a.places s.masters → Fine known s.heap s.masters (right_next named types right (running k a rest s))
+  right_fine types reaches nothing bare kinds (kind, takes, fits) e = ready_on known k a rest s (Null ∷ a.operands) (nothing_ready kind kinds (takes_none known.program.types known.program.variables kind nothing takes) fits e)
+  right_fine types reaches (value_of path) bare kinds fits w = value_fine path.of_record path.root path.selectors path.spot kinds fits w
+  right_fine types reaches (allocates access items) bare kinds (kind, takes, fits) w =
       let h = allocating access items kind kinds takes fits w.rooms w.holds w.rest in
       ready_on known (Fills items ∷ Creates access (words_of types access) ∷ k) a rest s a.operands
-      (at_work w (record { done = []; spot = h.0; target = h.1; into = h.2; filled = tt; before = tt; behind = items_keep known.program.types h.0 h.1 w.holds [] items h.3; leads = h.4; counted = ap count_of (reaches.0 access ∙ h.4.reached) }))
-  right_fine types reaches (allocates_default access) kinds (kind, takes, fits) w =
+      (at_work w (record { done = []; spot = h.0; target = h.1; into = h.2; filled = tt; before = tt; behind = items_keep known.program.types h.0 h.1 w.holds [] items h.3; bare = bare access items refl h.0 h.1 w.holds h.3; leads = h.4; counted = ap count_of (reaches.0 access ∙ h.4.reached) }))
+  right_fine types reaches (allocates_default access) bare kinds (kind, takes, fits) w =
       let d = default_for known.program.types known.program.variables kind access takes in
       let h = defaulting access kind kinds d (takes_none known.program.types known.program.variables kind (allocates_default access) takes) fits w.rooms w.holds w.rest in
       default_ready types access kind d w (reaches.0 access) h
-  right_fine types reaches (computes e) kinds (kind, takes, fits) w =
+  right_fine types reaches (computes e) bare kinds (kind, takes, fits) w =
       ready_on known (Computes e ∷ k) a rest s a.operands (at_work w (computing e kind kinds takes fits w.rooms w.holds w.rest))
 
   -- What is assigned is evaluated, or what is passed.
-  pub evaluates_fine : (types : List TypeDefinition) → Reaches known types → (right : RightForm) (kinds : List OperandKind) → typed.Fits known.program (cells_of s.heap) kinds (Evaluates right ∷ k) → EvaluatesTo known right k s.heap a.places s.masters ⊎ Working known s.heap a.places s.masters (PassesTo known s.heap a.places a.operands (Evaluates right ∷ k)) → Fine known s.heap s.masters (right_next named types right (running k a rest s))
-  evaluates_fine types reaches right kinds fits (inl e) = right_fine types reaches right kinds fits e
-  evaluates_fine types reaches right kinds (kind, takes, fits) (inr w) = passes_fine known k a rest s types kind right takes w
+  pub evaluates_fine : (types : List TypeDefinition) → Reaches known types → (right : RightForm) → ((access : ℕ) (items : List ItemForm) → right ≡ allocates access items → BareItems known.program.types items) → (kinds : List OperandKind) → typed.Fits known.program (cells_of s.heap) kinds (Evaluates right ∷ k) → EvaluatesTo known right k s.heap a.places s.masters ⊎ Working known s.heap a.places s.masters (PassesTo known s.heap a.places a.operands (Evaluates right ∷ k)) → Fine known s.heap s.masters (right_next named types right (running k a rest s))
+  evaluates_fine types reaches right bare kinds fits (inl e) = right_fine types reaches right bare kinds fits e
+  evaluates_fine types reaches right bare kinds (kind, takes, fits) (inr w) = passes_fine known k a rest s types kind right takes w
 
   -- What typing says of a value that is followed on.
   followed_kind : (kinds : List OperandKind) (cs : List ℕ) (v : Value) (below : List Value) → typed.Fits known.program (cells_of s.heap) kinds (Follows cs ∷ k) → AreComputed known.program.types (cells_of s.heap) kinds (v ∷ below) → (from : VariableKind) × (to : VariableKind) × (ks : List OperandKind) × ((o : Id) (object : Object) → v ≡ Names o → object_at s.heap o ≡ Some object → access_of (Some from) ≡ Some object.cell.access) × (selectors_kind known.program.types (Some from) cs ≡ Some to) × typed.Fits known.program (cells_of s.heap) (of_kind to ∷ ks) k

@@ -104,3 +104,10 @@ module _ (types : List TypeForm) where
 -- The body of a frugal procedure nests wherever it is called.
 pub frugal_nests : (p : ProgramForm) (number : ℕ) → slice_index_or (frugal_procedures p) number false ≡ true → (around : List ℕ) → call_nests (slice_get (callees_of p) number) around ≡ true
 frugal_nests p number is around = step_nests (frugal_procedures p) (callees_of p) (all_step p.types p.bodies [] [] tt) number is around
+
+-- One that calls nothing nests whatever calls create.
+pub lone_nests : (types : List TypeForm) (callees : Callees) (b : BodyForm) (around : List ℕ) → is_frugal_body [] b ≡ true → body_nests types callees b around ≡ true
+lone_nests types callees b around is =
+    let parts = frugal_parts [] b is in
+    let none : CalleesNest [] callees = λ number called around'. absurd (cc called) in
+    rw (part_is types around b.declarations parts.0, stmts_are types [] callees none (collected b.declarations ++ around) b.statements parts.1, handlers_are types [] callees none (collected b.declarations ++ around) b.handlers parts.2) refl

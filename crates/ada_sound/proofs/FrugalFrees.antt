@@ -15,7 +15,7 @@ use Rattle.ada_program.specs.declared.program.VariableKind.TheVariants as variab
 use Rattle.ada_program.specs.Controlled.{number_in, number_reached, shapes_of}
 use Rattle.ada_program.specs.Form.{PathForm, ItemForm, StmtForm, frees, a_stmt}
 use Rattle.ada_program.specs.ProgramForm.{TypeForm, VariableForm, record_of, access_to, object_of, ProgramForm, program_form}
-use Rattle.ada_program.specs.WellFormed.{is_access, designated_in, is_freed_by, finalization_of, kind_among, kind_fits, reached_components, components_in, components_reached, named_in, type_fits, variable_kind_fits, variable_fits, access_of, path_access, variable_kind, selected_kind, selectors_kind, statement_fits, callable_in}
+use Rattle.ada_program.specs.WellFormed.{is_access, designated_in, is_freed_by, finalization_of, kind_among, kind_fits, reached_components, components_in, components_reached, named_in, type_fits, variable_kind_fits, variable_fits, access_of, path_access, variable_kind, selected_kind, selectors_kind, callable_in}
 use Rattle.ada_flow.specs.Flow.{Holds}
 use Rattle.ada_parts.specs.declared.tasks.Direction.{Direction}
 use Rattle.ada_parts.specs.declared.tasks.Direction.TheVariants.{PartsFirst, WholeFirst}
@@ -31,7 +31,8 @@ use Rattle.ada_meaning.specs.State.{Activation}
 use Rattle.ada_meaning.specs.Step.{all_tasks, tasks_for, first_or, places_of, operands_of, places, operands}
 use Rattle.ada_meaning.specs.Named.{Object, State, object_at, look, seen, existing, all_alive, standing, standing_by}
 use Rattle.ada_typed.specs.Holding.{Cells, Designates, IsAccess, HasKind, cells_of}
-use Rattle.ada_typed.proofs.Bodies.{SeenFits}
+use Rattle.ada_typed.proofs.Bodies.{TablesFit}
+use Rattle.ada_typed.proofs.OfKinds.{statement_is_of_kind}
 use Rattle.ada_typed.proofs.Control as typed
 use Rattle.ada_typed.proofs.Evaluations.{cell_at}
 use Rattle.ada_typed.proofs.Parts.{known_number, shown_number}
@@ -146,7 +147,7 @@ module _ (tds : List TypeDefinition) where
   NextIsBare (f ∷ k) heap places operands = FrameIsBare f heap places operands
 
 -- Typing says so, and what every step keeps.
-module _ (known : Known) (tds : List TypeDefinition) (fits : SeenFits known.program) (bare : AccessIsBare known.program.types tds) where
+module _ (known : Known) (tds : List TypeDefinition) (fits : TablesFit known.program) (bare : AccessIsBare known.program.types tds) where
   abbrev p : ProgramForm
   p = known.program
 
@@ -193,7 +194,7 @@ module _ (known : Known) (tds : List TypeDefinition) (fits : SeenFits known.prog
       let at = freed_at p.types p.variables access path freed in
       variable_bare s at.0 path.root (variable_kind p.variables path.root) typing' refl (stands_so (variable_kind p.variables path.root) path.selectors at.0 alone at.2) at.3
 
-  stmt_bare : (s : State) (inside : Bool) (f : StmtForm) → typed.TypedIn p s → statement_fits p.types p.variables p.texts p.exceptions (callable_in p) inside f ≡ true → StmtIsBare tds f s.heap (places_of s.activations)
+  stmt_bare : (s : State) (inside : Bool) (f : StmtForm) → typed.TypedIn p s → statement_is_of_kind p.types p.variables p.texts p.exceptions (callable_in p) inside f ≡ true → StmtIsBare tds f s.heap (places_of s.activations)
   stmt_bare s inside (frees access path) typing' fitting = path_bare s access path typing' (apart _ _ fitting).0
   stmt_bare s inside f typing' fitting = tt
 

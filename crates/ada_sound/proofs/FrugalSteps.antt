@@ -21,7 +21,7 @@ use Rattle.ada_meaning.specs.Step.{first_or, places_of, operands_of, operand_cou
 use Rattle.ada_meaning.specs.Named.{State, Next, named, next, look, lent}
 use Rattle.ada_quiet.specs.Frugal.{are_frugal, are_frugal_handlers, is_frugal_body, frugal_procedures}
 use Rattle.ada_quiet.proofs.FrugalAt.{frugal_at}
-use Rattle.ada_typed.proofs.Bodies.{SeenFits, seen_fits, types_seen}
+use Rattle.ada_typed.proofs.Bodies.{TablesFit, tables_in, seen_fits, types_seen}
 use Rattle.ada_typed.proofs.Control as typed
 use Rattle.ada_typed.proofs.Kept.{crosses as crosses_by, is_treatment}
 use Rattle.ada_sound.specs.Agreement.{running_procedure}
@@ -216,7 +216,7 @@ EndsInner marks behind k ms = (actuals : List ActualForm) (references : List Val
 
 -- While a frugal body runs, or one that it calls, and its own end is not next, nothing is treated: whatever comes next is in such a body, too.
 pub frugal_steps :
-    (known : Known) (tds : List TypeDefinition) (bodies : List BodyForm) → SeenFits known.program → AccessIsBare known.program.types tds
+    (known : Known) (tds : List TypeDefinition) (bodies : List BodyForm) → TablesFit known.program → AccessIsBare known.program.types tds
     → (marks : List Bool) → FindsFrugal marks bodies → (behind : Control) (lower : List Master) (s : State) (f : Frugally marks lower behind s)
     → EndsInner marks behind s.control f.upper → typed.TypedIn known.program s → Ready known s → GoesFrugally marks lower behind (next tds bodies s)
 unfolding next
@@ -244,7 +244,7 @@ frugal_goes program well none lower behind s f inner typing known seen ready =
     let p = program_form program in
     let procedure = running_procedure s in
     let types : known.program.types ≡ p.types = ap (λ (own : ProgramForm). own.types) seen ∙ types_seen p procedure in
-    let fits : SeenFits known.program = subst SeenFits (sym seen) (seen_fits p well procedure) in
+    let fits : TablesFit known.program = subst TablesFit (sym seen) (tables_in (seen_in procedure p) (seen_fits p well procedure)) in
     let bare : AccessIsBare known.program.types program.types.items = subst (λ (all : List TypeForm). AccessIsBare all program.types.items) (sym types) (bare_by program none) in
     let typing' : typed.TypedIn known.program s = subst (λ (own : ProgramForm). typed.TypedIn own s) (sym seen) typing in
     frugal_steps known program.types.items (body_forms program) fits bare (frugal_procedures p) (λ number b there told. frugal_at p number b told there) behind lower s f inner typing' ready

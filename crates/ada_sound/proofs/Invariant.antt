@@ -20,7 +20,7 @@ use Rattle.ada_effects.specs.Effects.{expression_raises, links_raise, items_rais
 use Rattle.ada_flow.specs.declared.rule.Hold.TheVariants as hold
 use Rattle.ada_flow.specs.declared.rule.Region.TheVariants.{Whole}
 use Rattle.ada_flow.specs.Flow.{Holds, hold_at, variable_access, lost_by, Outcome, faults, goes, Use, uses_in, uses_in_links, uses_in_item, named_by_item, is_owning, is_owning_record, broken_among, without_values, moved_by_items, passes_type, behind_end, gives, gives_component, clears, compares_it, uses_in_actuals, Keeping, keeping_of, kept_at, is_kept, handed_back, left_unkept, owed_from, gives_back, all_give_back, are_as_good, have_exit, branches_have_exit, handlers_have_exit, is_left, condition_flow, stmts_flow, branches_flow, handlers_flow, declaration_flow, Gone as GoneWith, collected, is_among, left, left_finalized, left_by_call, nothing_gone, Around, owns_among}
-use Rattle.ada_flow.specs.Tracking.{no_tracks}
+use Rattle.ada_flow.specs.Tracking.{no_tracks, with_tracked}
 use Rattle.ada_meaning.specs.declared.state.Id.{Id}
 use Rattle.ada_meaning.specs.declared.state.Place.{Place}
 use Rattle.ada_meaning.specs.declared.state.Value.{Value}
@@ -55,6 +55,10 @@ use Rattle.ada_sound.proofs.Fits.{Outer, Reference, IsReferred, IsPlace, Outside
 use Rattle.ada_sound.proofs.Orderings.{AsGood}
 use Rattle.ada_sound.proofs.InsideRecords.{TasksInside}
 use Rattle.ada_typed.specs.Holding.{PartsLie}
+use Rattle.ada_typed.proofs.Parts.{shown_shapes}
+use Rattle.ada_parts.specs.Part.{Part as TreatedPart}
+use Rattle.ada_tracked.specs.Frames.{values_at, blanked}
+use Rattle.ada_sound.proofs.CopiedOwners.{NameThere, BeginsCopy, part_owners, hiding, Covered, OnlyPart, Leads, AdjustsOwners}
 use Rattle.ada_sound.proofs.Alters.{BackIn, Alters}
 
 -- What is left to do, over names.
@@ -106,12 +110,13 @@ abbrev pub waiting_holds : Caller → Holds
 waiting_holds w = left_unkept [] w.actuals w.before
 
 -- What is known of implicit calls, the program as the running body sees it, what is known where flow comes to a place in it, and its callers, the nearest
--- one first.
+-- one first; and which of its variables stand for components that the body tracks (7.6).
 pub record Known : Type 1 where
   pub implicit : Implicit
   pub program : ProgramForm
   pub At : Control → Holds → Type 0
   pub callers : List Caller
+  pub tracked : List ℕ
 
 abbrev pub outer_of : Caller → Outer
 outer_of w = record { variables = w.program.variables; places = w.places; holds = waiting_holds w }
@@ -231,16 +236,20 @@ pub record Where : Type 0 where
   pub inside : GoneWith
   pub within : GoneWith
 
--- The formal parameters of the running body that owe something at its normal end.
+-- The formal parameters of a body that owe something at its normal end.
 abbrev pub owed_in : ProgramForm → List ℕ
 owed_in p = owed_from 0 p.formals p.variables
+
+-- What owes something at the normal end of the running body: those, and behind them what stands for components that it tracks.
+abbrev pub owed_by : Known → List ℕ
+owed_by known = with_tracked (owed_in known.program) known.tracked
 
 abbrev pub around_at : Known → Where → Around
 around_at known at = record {
   effects = effects_of known.implicit known.program;
   kept = keeping_of known.implicit known.program;
   tracks = no_tracks;
-  owed = owed_in known.program;
+  owed = owed_by known;
   start = at.start;
   inside = at.inside;
   within = at.within;
@@ -381,20 +390,20 @@ KeepsAll kept holds = (x : ℕ) → is_kept_at kept x ≡ true → is_kept (hold
 
 -- The body of a call comes to its end: its caller goes on with what it was to do. At a normal end formal parameters give back what they owe, and where an
 -- exception leaves the body, they hold what is kept.
-abbrev pub returning : Implicit → ProgramForm → List Caller → List ActualForm → (references : List Value) → Control → Ways
-returning implicit p [] actuals references k = nowhere
-returning implicit p (w ∷ ws) actuals references k = record {
-  normal = λ holds. (actuals ≡ w.actuals) × (references ≡ w.references) × (k ≡ w.control) × (all_give_back (owed_in p) holds ≡ true);
+abbrev pub returning : Implicit → ProgramForm → (owed : List ℕ) → List Caller → List ActualForm → (references : List Value) → Control → Ways
+returning implicit p owed [] actuals references k = nowhere
+returning implicit p owed (w ∷ ws) actuals references k = record {
+  normal = λ holds. (actuals ≡ w.actuals) × (references ≡ w.references) × (k ≡ w.control) × (all_give_back owed holds ≡ true);
   raised = λ e holds. (body_among implicit p e ≡ true) × (k ≡ w.control) × KeepsAll w.kept holds;
   exited = λ holds. ⊥;
-  returned = λ holds. (actuals ≡ w.actuals) × (references ≡ w.references) × (k ≡ w.control) × (all_give_back (owed_in p) holds ≡ true);
+  returned = λ holds. (actuals ≡ w.actuals) × (references ≡ w.references) × (k ≡ w.control) × (all_give_back owed holds ≡ true);
 }
 
 -- What is left to do, by the mode that it is come to in. A form that waits for a value is passed by a jump alone. No operation of a controlled type is called.
 abbrev pub ways : Known → Control → Rooms → Ways
 ways known [] [] = at_end known.callers
 ways known [] (gone ∷ rooms) = nowhere
-ways known (Returns actuals references ∷ k) [] = returning known.implicit known.program known.callers actuals references k
+ways known (Returns actuals references ∷ k) [] = returning known.implicit known.program (owed_by known) known.callers actuals references k
 ways known (Returns actuals references ∷ k) (gone ∷ rooms) = nowhere
 ways known (Elaborates ds fs hs ∷ k) [] = nowhere
 ways known (Elaborates ds fs hs ∷ k) (gone ∷ rooms) = record (Outside known gone (ways known k rooms)) {
@@ -618,6 +627,17 @@ pub record Allocating (known : Known) (heap : List Object) (access : ℕ) (all :
       × To (RunsOn known k' rooms) (slice_set (without_values (moved_by_items no_tracks all) holds) x (hold.Own Whole)))
       (λ o c k'. Accepts known heap o c (Some access) × To (RunsOn known k' rooms) (without_values (moved_by_items no_tracks all) holds))
 
+-- An item that is a record owns nothing; nor do all that are, of these.
+abbrev pub OwnsNothing : List TypeForm → ItemForm → Type 0
+OwnsNothing types null_item = Unit {0}
+OwnsNothing types (item_of_path path) = Unit {0}
+OwnsNothing types (item_of_value e) = Unit {0}
+OwnsNothing types (item_of_record p) = is_owning_record types p.record_type ≡ false
+
+abbrev pub OwnNothing : List TypeForm → List ItemForm → Type 0
+OwnNothing types [] = Unit {0}
+OwnNothing types (i ∷ is) = OwnsNothing types i × OwnNothing types is
+
 -- Some items are evaluated, and these are left.
 pub record Filling (known : Known) (heap : List Object) (places : List Value) (access count : ℕ) (todo : List ItemForm) (k : Control) (operands : List Value) (rooms : Rooms) (holds : Holds) : Type 0 where
   pub done : List ItemForm
@@ -627,6 +647,7 @@ pub record Filling (known : Known) (heap : List Object) (places : List Value) (a
   pub filled : Filled heap places done operands
   pub before : DoneKeep known.program.types spot target holds done
   pub behind : ItemsKeep known.program.types spot target holds (named_of done) todo
+  pub bare : OwnNothing known.program.types todo
   pub leads : Allocating known heap access (back_onto done todo) k rooms holds
   pub counted : count ≡ length leads.components
 
@@ -656,6 +677,47 @@ IsPlainIn known heap (Names o) first count =
 IsPlainIn known heap (Scalar v) first count = ⊥
 IsPlainIn known heap (Part o base) first count = ⊥
 
+-- So many components of an object that is known by this type, from one on, get those of a record of a type, and then the record is adjusted (5.2, 7.6): the
+-- Adjust of the object's only controlled part sees to all of them that are of access types. What is left goes on behind that, perhaps with less known.
+pub record AdjustedBehind (known : Known) (v : Value) (access record_type first count : ℕ) (k : Control) (rooms : Rooms) (holds : Holds) : Type 0 where
+  pub number : ℕ
+  pub tasks : List Task
+  pub behind : Control
+  pub is : k ≡ Treats v (begins (Adjustment number) []) tasks ∷ behind
+  pub kinds : List ComponentKind
+  pub components : record_components known.program.types record_type ≡ Some kinds
+  pub counted : count ≡ length kinds
+  pub part_type : ℕ
+  pub of : ℕ
+  pub owns : ℕ
+  pub part : ℕ
+  pub only : OnlyPart known.program.types access part_type of owns
+  pub leads : Leads (shown_shapes known.program.types) tasks of part
+  pub covers :
+      (reached : List ComponentKind) → reached_components known.program.types access ≡ Some reached
+      → Covered (part_owners known.program.types part_type owns) first (take count (drop first reached))
+  pub runs : To (RunsOn known behind rooms) holds
+
+-- The object of a value is there, and is such a one.
+abbrev pub IsAdjustedIn : Known → List Object → Value → (record_type first count : ℕ) → Control → Rooms → Holds → Type 0
+IsAdjustedIn known heap Null t first count k rooms holds = ⊥
+IsAdjustedIn known heap (Names o) t first count k rooms holds =
+    (object : Object) × (object_at heap o ≡ Some object) × (is_there object.stage ≡ true)
+    × AdjustedBehind known (Names o) object.cell.access t first count k rooms holds
+IsAdjustedIn known heap (Scalar v) t first count k rooms holds = ⊥
+IsAdjustedIn known heap (Part o base) t first count k rooms holds = ⊥
+
+-- The components of an object get those of a record of this type: they are Integers and Booleans, or an Adjust sees to them.
+abbrev pub StoresSo : Known → List Object → Value → (record_type first count : ℕ) → Control → Rooms → Holds → Type 0
+StoresSo known heap v t first count k rooms holds =
+    (IsPlainIn known heap v first count × RunsBehind known k rooms holds) ⊎ IsAdjustedIn known heap v t first count k rooms holds
+
+-- So it is where they are the newest operands: what these name is there.
+abbrev pub StoresFrom : Known → List Object → (operands : List Value) → Value → (first count : ℕ) → Control → Rooms → Holds → Type 0
+StoresFrom known heap operands v first count k rooms holds =
+    (IsPlainIn known heap v first count × RunsBehind known k rooms holds)
+    ⊎ ((t : ℕ) × IsAdjustedIn known heap v t first count k rooms holds × NameThere heap (take count operands))
+
 -- The innermost master may own a record object that is known by this type.
 abbrev pub MayOwn : Rooms → (object_type : ℕ) → Type 0
 MayOwn [] t = ⊥
@@ -665,18 +727,43 @@ MayOwn (gone ∷ rooms) t = is_among gone.types (Some t) ≡ true
 abbrev pub owns_at_first : List TypeForm → (object_type : ℕ) → Bool
 owns_at_first types t = owns_among (reached_components types t)
 
--- A record object of Integers and Booleans is declared, of this type: less may be known behind it, where its operations free objects.
+-- A record object is declared, of this type: less may be known behind it, where its operations free objects.
 abbrev pub Recording : Known → (x object_type : ℕ) → Control → Rooms → Holds → Type 0
 Recording known x t k rooms holds =
-    (owns_at_first known.program.types t ≡ false) × (is_record_object t (variable_kind known.program.variables x) ≡ true)
-    × MayOwn rooms t × To (RunsOn known k rooms) (slice_set holds x (hold.Own Whole))
+    (is_record_object t (variable_kind known.program.variables x) ≡ true) × MayOwn rooms t × To (RunsOn known k rooms) (slice_set holds x (hold.Own Whole))
+
+-- The object that is known by a type is a record of this type, of which an Adjust sees to all components of access types (7.6).
+abbrev pub AdjustsFirst : List TypeForm → (object_type record_type : ℕ) → Type 0
+AdjustsFirst types t r = (object_named types (Some t) ≡ Some r) × AdjustsOwners types r
+
+-- The newest operands are the components of a record of this type, which is copied: what they name is there.
+abbrev pub HasCopied : Known → List Object → (record_type : ℕ) → (operands : List Value) → Type 0
+HasCopied known heap r operands =
+    (kinds : List ComponentKind) × (record_components known.program.types r ≡ Some kinds) × NameThere heap (take (length kinds) operands)
+
+-- What is left of an initial value that is a copy: the record that is copied, or nothing, once it has been.
+abbrev pub CopiesFirst : Known → List Object → (record_type : ℕ) → List ItemForm → (operands : List Value) → Type 0
+CopiesFirst known heap r todo operands =
+    ((p : RecordPathForm) × (todo ≡ item_of_record p ∷ []) × (p.record_type ≡ r)) ⊎ ((todo ≡ []) × HasCopied known heap r operands)
+
+-- Items are left of the initial value of a record object, which has no component of an access type, or an Adjust sees to them.
+abbrev pub InitialTo : Known → List Object → List ItemForm → (operands : List Value) → (object_type : ℕ) → Type 0
+InitialTo known heap todo operands t =
+    (owns_at_first known.program.types t ≡ false) ⊎ ((r : ℕ) × AdjustsFirst known.program.types t r × CopiesFirst known heap r todo operands)
+
+-- The newest operands are all of it.
+abbrev pub RecordsFrom : Known → List Object → (operands : List Value) → (x object_type : ℕ) → Control → Rooms → Holds → Type 0
+RecordsFrom known heap operands x t k rooms holds =
+    ((owns_at_first known.program.types t ≡ false) ⊎ ((r : ℕ) × AdjustsFirst known.program.types t r × HasCopied known heap r operands))
+    × Recording known x t k rooms holds
 
 abbrev pub FillsTo : Known → List Object → List Value → List ItemForm → Control → (operands : List Value) → Rooms → Holds → Type 0
 FillsTo known heap places todo [] operands rooms holds = ⊥
 FillsTo known heap places todo (Creates access count ∷ k) operands rooms holds = Filling known heap places access count todo k operands rooms holds
 FillsTo known heap places todo (StoresRecord o first count ∷ k) operands rooms holds =
     Giving known todo k rooms holds × (IsPlainIn known heap o first count × RunsBehind known k rooms holds)
-FillsTo known heap places todo (DeclaresRecord x t ∷ k) operands rooms holds = Giving known todo k rooms holds × Recording known x t k rooms holds
+FillsTo known heap places todo (DeclaresRecord x t ∷ k) operands rooms holds =
+    Giving known todo k rooms holds × InitialTo known heap todo operands t × Recording known x t k rooms holds
 FillsTo known heap places todo (f ∷ k) operands rooms holds = ⊥
 
 -- Where a value is null, Constraint_Error may be raised; and where selectors are followed behind it.
@@ -684,14 +771,13 @@ abbrev pub RaisesAt : Known → Value → List ℕ → Control → Rooms → Hol
 RaisesAt known v [] k rooms holds = v ≡ Null → To ((ways known k rooms).raised ConstraintError) holds
 RaisesAt known v (c ∷ cs) k rooms holds = To ((ways known k rooms).raised ConstraintError) holds
 
--- The components of a record of this type are copied onto these operands, and then more items come; or those of an object get them, which are Integers and
--- Booleans.
+-- The components of a record of this type are copied onto these operands, and then more items come; or those of an object get them.
 abbrev pub CopiesTo : Known → List Object → List Value → (record_type : ℕ) → (below : List Value) → Control → Rooms → Holds → Type 0
 CopiesTo known heap places t below [] rooms holds = ⊥
 CopiesTo known heap places t below (Fills items ∷ k) rooms holds =
     (kinds : List ComponentKind) × (record_components known.program.types t ≡ Some kinds)
-    × ((vs : List Value) → length vs ≡ length kinds → FillsTo known heap places items k (in_front vs below) rooms holds)
-CopiesTo known heap places t below (StoresRecord o first count ∷ k) rooms holds = IsPlainIn known heap o first count × RunsBehind known k rooms holds
+    × ((vs : List Value) → length vs ≡ length kinds → NameThere heap vs → FillsTo known heap places items k (in_front vs below) rooms holds)
+CopiesTo known heap places t below (StoresRecord o first count ∷ k) rooms holds = StoresSo known heap o t first count k rooms holds
 CopiesTo known heap places t below (f ∷ k) rooms holds = ⊥
 
 -- A record of this type, of Integers and Booleans, is a target: less may be known behind the assignment, where its operations free objects.
@@ -846,11 +932,13 @@ MayCopy known t = (f : Finalization) → finalization_of known.program.types t �
 abbrev pub IsCopied : Known → (record_type : ℕ) → Type 0
 IsCopied known t = (f : Finalization) × (finalization_of known.program.types t ≡ Some f) × (f.limited ≡ false)
 
--- The two newest operands refer to records of a type, without access values, of which the newest one is assigned to the other (5.2, 7.6).
+-- The two newest operands refer to records of a type, without access values, or an Adjust sees to these, of which the newest one is assigned to the other (5.2,
+-- 7.6).
 abbrev pub AreAssigned : Known → List Object → (record_type : ℕ) → (operands : List Value) → Type 0
 AreAssigned known heap t operands =
     (kinds : List ComponentKind) × (record_components known.program.types t ≡ Some kinds)
-    × IsTarget known heap (length kinds) (first_or Null (older operands)) × IsSource heap (first_or Null operands) × MayCopy known t
+    × (IsTarget known heap (length kinds) (first_or Null (older operands)) ⊎ (IsSource heap (first_or Null (older operands)) × AdjustsOwners known.program.types t))
+    × IsSource heap (first_or Null operands) × MayCopy known t
 
 -- Of what the assignment of a record of this type may free, no suspended activation and no variable has an alias, and the running body may free it (5.2, 7.6).
 abbrev pub AssignsWell : Known → (record_type : ℕ) → Holds → Type 0
@@ -1207,11 +1295,11 @@ EndsTo known v [] heap places masters = ⊥
 EndsTo known v (Ends w ∷ k) heap places masters = (w ≡ v) × EndingBy known w k heap places masters
 EndsTo known v (f ∷ k) heap places masters = ⊥
 
--- Behind that of a record that is assigned to, its components get those of another one, which is found (5.2): they are Integers and Booleans.
-abbrev pub StoresBehind : Known → List Object → Control → Rooms → Holds → Type 0
-StoresBehind known heap [] rooms holds = ⊥
-StoresBehind known heap (StoresRecord o first count ∷ k) rooms holds = IsPlainIn known heap o first count × RunsBehind known k rooms holds
-StoresBehind known heap (f ∷ k) rooms holds = ⊥
+-- Behind that of a record that is assigned to, its components get those of another one of this type, which is found (5.2).
+abbrev pub StoresBehind : Known → List Object → (record_type : ℕ) → Control → Rooms → Holds → Type 0
+StoresBehind known heap t [] rooms holds = ⊥
+StoresBehind known heap t (StoresRecord o first count ∷ k) rooms holds = StoresSo known heap o t first count k rooms holds
+StoresBehind known heap t (f ∷ k) rooms holds = ⊥
 
 -- A record of this type lies in the objects that are known by this one, with its controlled parts (7.6).
 abbrev pub LiesAmong : Known → (access record_type : ℕ) → Type 0
@@ -1227,7 +1315,7 @@ LiesIn known heap t (Part o first) = ⊥
 abbrev pub CopiesBehind : Known → Control → List Object → (places operands : List Value) → List Master → Type 0
 CopiesBehind known [] heap places operands masters = ⊥
 CopiesBehind known (Copies first t ∷ k) heap places operands masters =
-    IsCopied known t × Working known heap places masters (λ rooms holds. LiesIn known heap t (first_or Null operands) × StoresBehind known heap k rooms holds × AssignsWell known t holds)
+    IsCopied known t × Working known heap places masters (λ rooms holds. LiesIn known heap t (first_or Null operands) × StoresBehind known heap t k rooms holds × AssignsWell known t holds)
 CopiesBehind known (f ∷ k) heap places operands masters = ⊥
 
 -- This exception may come out of the initialization of the object that a value names (7.6).
@@ -1275,6 +1363,31 @@ IsOfAssigned types (ends cause) tasks k = IsOfCopied types cause tasks k
 abbrev pub TreatsBy : Known → Value → Treatment → Control → List Object → (places operands : List Value) → List Master → Type 0
 TreatsBy known v (begins by done) k heap places operands masters = BegunTo known v by k heap places operands masters × MayUndo known v by k heap places masters
 TreatsBy known v (ends cause) k heap places operands masters = EndsBy known v cause k heap places operands masters
+
+-- A record in an object was copied to, and its Adjust comes next, in front of this (7.6): its components of access types name what those of the other record
+-- name, and so they count as null until it has ended; what they name is there.
+pub record Adjusted (known : Known) (o : Id) (record_type of first : ℕ) (k : Control) (heap : List Object) (places : List Value) (masters : List Master) : Type 0 where
+  pub x : Object
+  pub found : object_at heap o ≡ Some x
+  pub there : is_there x.stage ≡ true
+  pub only : OnlyPart known.program.types x.cell.access record_type of first
+  pub named : NameThere heap (values_at (part_owners known.program.types record_type first) x.cell.values)
+  pub works : Working known (blanked (hiding known.program.types record_type first o) heap) places masters (RunsOn known k)
+
+-- What is left of a treatment is such an adjustment, which comes to that Adjust alone.
+pub record AdjustsTo (known : Known) (v : Value) (treatment : Treatment) (tasks : List Task) (k : Control) (heap : List Object) (places : List Value) (masters : List Master) : Type 0 where
+  pub by : Birth
+  pub done : List TreatedPart
+  pub begun : treatment ≡ begins by done
+  pub copies : BeginsCopy by
+  pub o : Id
+  pub is : v ≡ Names o
+  pub record_type : ℕ
+  pub of : ℕ
+  pub first : ℕ
+  pub part : ℕ
+  pub adjusted : Adjusted known o record_type of first k heap places masters
+  pub leads : Leads (shown_shapes known.program.types) tasks of part
 
 -- An object exists that a value names.
 abbrev pub IsLive : List Object → Value → Type 0
@@ -1330,16 +1443,17 @@ ReadyBy known (StoresIn o c) k heap places operands masters = StoringIn known o 
 ReadyBy known (TargetsRecord first t items) k heap places operands masters = Working known heap places masters (λ rooms holds.
     MayFollow heap (first_or Null operands) × RaisesAt known (first_or Null operands) [] k rooms holds × RecordIn known t items k rooms holds)
 ReadyBy known (StoresRecord o first count) k heap places operands masters =
-    Working known heap places masters (λ rooms holds. IsPlainIn known heap o first count × RunsBehind known k rooms holds)
+    Working known heap places masters (StoresFrom known heap operands o first count k)
 ReadyBy known (Assigns t) k heap places operands masters = Working known heap places masters (PassesTo known heap places operands (Assigns t ∷ k))
 ReadyBy known (Receives c) k heap places operands masters = Working known heap places masters (Receiving known heap (first_or Null operands) k)
 ReadyBy known (FreesIn access c) k heap places operands masters =
     Working known heap places masters (λ rooms holds. MayFollow heap (first_or Null operands) × Releasing known heap (first_or Null operands) [] access c k rooms holds)
 ReadyBy known (Declares x) k heap places operands masters =
     Working known heap (slice_set places x (first_or Null operands)) masters (λ rooms holds. HasRoom rooms × RunsOn known k rooms holds)
-ReadyBy known (DeclaresRecord x t) k heap places operands masters = Working known heap places masters (Recording known x t k)
+ReadyBy known (DeclaresRecord x t) k heap places operands masters = Working known heap places masters (RecordsFrom known heap operands x t k)
 ReadyBy known (Treats v treatment tasks) k heap places operands masters =
-    TreatsBy known v treatment k heap places operands masters × IsOfAssigned known.program.types treatment tasks k
+    (TreatsBy known v treatment k heap places operands masters × IsOfAssigned known.program.types treatment tasks k)
+    ⊎ AdjustsTo known v treatment tasks k heap places masters
 ReadyBy known (frame.Awaits v by done of part tasks) k heap places operands masters = IsLive heap v × TreatsBy known v (begins by done) k heap places operands masters
 ReadyBy known frame.Confines k heap places operands masters = ConfinesBy known k heap places operands masters
 ReadyBy known (frame.Resumes mode) k heap places operands masters = Working known heap places masters (λ rooms holds. To (By mode (ways known k rooms)) holds)
@@ -1373,7 +1487,7 @@ Ready known s = IsActive s.activations × ReadyIn known s.mode s.control s.heap 
 
 -- A caller as the body at work.
 abbrev pub known_of : Caller → List Caller → Known
-known_of w ws = record { implicit = w.implicit; program = w.program; At = w.At; callers = ws }
+known_of w ws = record { implicit = w.implicit; program = w.program; At = w.At; callers = ws; tracked = [] }
 
 -- The variable that an actual parameter hands over to a formal one of mode `in out` of an access type, if it does; and that of a formal parameter, by its
 -- number.

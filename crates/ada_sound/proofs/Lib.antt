@@ -32,6 +32,20 @@ pub mod Orderings
 pub mod Alters
 -- which records a treatment speaks of
 pub mod InsideRecords
+-- records with one controlled part
+pub mod OnlyParts
+-- where such a part lies
+pub mod OnlyPlaces
+-- types of which a copy adjusts one part
+pub mod OnlyRows
+-- records that own by one controlled part
+pub mod OnlyOwners
+-- records that are copied with components of access types
+pub mod CopiedOwners
+-- what their adjustments come to
+pub mod CopiedLeads
+-- and that records are seen to
+pub mod CopiedWell
 -- what every step keeps
 pub mod Invariant
 -- objects are stored in each state
@@ -102,12 +116,26 @@ pub mod Operating
 pub mod Calm
 -- a frugal body of a Finalize runs
 pub mod FrugalBodies
+-- simple bodies of an Adjust
+pub mod SimpleBodies
+-- procedures that track stand apart
+pub mod Trackers
+-- so no copy leaves two owners
+pub mod TracksWell
 -- what overrides an operation is plain, or quiet
 pub mod QuietOperations
 -- what comes out of the initialization of an object
 pub mod Started
 -- what forms raise where nothing is called
 pub mod Uncalled
+-- procedures that track stand apart in what is left to do
+pub mod CallsApart
+-- while objects are treated
+pub mod CallsApartTreatments
+-- whatever the next step is
+pub mod CallsApartSteps
+-- in whole runs: what tracks is never called
+pub mod CallsApartRuns
 -- the body of an operation begins and ends
 pub mod OperationCalls
 pub mod OperationStarts
@@ -134,10 +162,16 @@ pub mod AssignedParts
 pub mod Releases
 -- record objects are declared
 pub mod Records
+-- records to which others are copied that own something
+pub mod HiddenOwners
 -- records are copied and assigned to as wholes
 pub mod Wholes
+-- what an Adjust sees to, wherever its record lies
+pub mod CoveredOwners
 -- records with controlled parts that are assigned to
 pub mod RecordAssignments
+-- record objects that are declared as copies
+pub mod DeclaredOwners
 -- what variables get back from a call
 pub mod GivenBack
 -- calls begin
@@ -148,6 +182,44 @@ pub mod Statements
 pub mod Jumps
 -- the body of a Finalize that touches storage
 pub mod Touching
+-- a body that tracks components, as it is judged
+pub mod Judged
+-- the forms of such a body are of the kinds that are wanted
+pub mod JudgedKinds
+-- it is typed where it begins, and after each step
+pub mod JudgedTyped
+-- no two of the components that an Adjust tracks are one
+pub mod TracksApart
+-- nothing but the formal parameter leads to the object whose components it tracks
+pub mod WatchedBy
+-- its formal parameter stays
+pub mod FormalStays
+-- such a body runs
+pub mod Adjusting
+-- it may free and raise what the body may
+pub mod JudgedForms
+-- it runs from its beginning
+pub mod JudgedRuns
+-- it comes to its end
+pub mod AdjustingEnds
+-- it begins
+pub mod AdjustingBegins
+-- what holds of objects where components of one hold null
+mod AdjustingBlanked
+-- what a state that stands for another one has of it
+mod AdjustingSeen
+-- the masters of a frugal body
+mod AdjustingLeaves
+-- each step of a body that tracks components
+mod AdjustingSteps
+-- what such a step keeps
+mod AdjustingKept
+-- what holds where it is called
+pub mod AdjustingEnters
+-- the core lemma for such a body, as it is judged
+mod AdjustingCore
+-- each step of such a body, its end included
+pub mod AdjustingGoes
 -- the first state
 pub mod Starts
 -- one step
@@ -242,5 +314,11 @@ pub mod ExampleInside
 pub mod Agreeing
 -- what effects cover
 pub mod Covered
+-- heaps in which tracked components hold null
+pub mod Blanked
+-- and the variables that stand for these, where a body begins
+pub mod BlankedBegins
+-- and where it comes to its end
+pub mod BlankedEnds
 -- the laws
 pub mod Headline

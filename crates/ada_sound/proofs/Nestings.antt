@@ -14,7 +14,7 @@ use Rattle.ada_meaning.specs.Frame.{Does, Repeats, Counts, Handles, Closes}
 use Rattle.ada_sound.specs.Agreement.{Turning, past, into, counting, behind, in_branches, in_body, in_count, in_enclosed, in_others, in_this, in_next, to_this, to_next, ComesInside, in_statements, in_handlers}
 use Rattle.ada_sound.proofs.Orderings.{AsGood, as_good_then, good_each, all_good, good_to_lost}
 use Rattle.ada_sound.proofs.Values.{lost_here}
-use Rattle.ada_sound.proofs.Invariant.{Known, Where, around_at, in_turn, Spares, Control, Goes, To, Ways, Raised, From, MayExit, OnExit, MayReturn, OnReturn, owed_in, Doing, Choosing, Handling, TurnsTo, condition_among, Repeating, Counting, TakenBy, Handled, MayEnd, Outside, Elaborating, NoneBroken}
+use Rattle.ada_sound.proofs.Invariant.{Known, Where, around_at, in_turn, Spares, Control, Goes, To, Ways, Raised, From, MayExit, OnExit, MayReturn, OnReturn, owed_by, Doing, Choosing, Handling, TurnsTo, condition_among, Repeating, Counting, TakenBy, Handled, MayEnd, Outside, Elaborating, NoneBroken}
 use Rattle.ada_sound.proofs.Outcomes.{goes_map, goes_with, to_here, to_before, raised_before, raised_less, then_goes, either_goes, computed_goes, worse_goes, turn_goes, left_goes, loses_goes, block_goes, handled_goes}
 use Rattle.ada_sound.proofs.Raising.{or_left, or_right, raises_untaken, raises_past}
 use Rattle.ada_sound.proofs.Leavings.{left_twice}
@@ -339,7 +339,7 @@ module _ (known : Known) where
       (block_goes v gone (loses v may flow) (Doing known fs k w) (Raised among w) g)))
       (λ one h may. (let behind = left_finalized v known.implicit gone h in (ends, to_here w.exited behind (out (or_left (have_exit body) (handlers_have_exit hs) one) behind (exits_block gone here.inside here.start h may)))))
       (λ one h may. (let behind = left_finalized v known.implicit gone h in (ends, to_here w.exited behind (out (or_right (have_exit body) (handlers_have_exit hs) one) behind (exits_block gone here.inside here.start h may)))))
-      (λ h may. (let behind = left_finalized v known.implicit gone h in (ends, to_here w.returned behind (returns' behind (returns_block gone here.within (owed_in known.program) h may)))))
+      (λ h may. (let behind = left_finalized v known.implicit gone h in (ends, to_here w.returned behind (returns' behind (returns_block gone here.within (owed_by known) h may)))))
       (λ t i. spares t (or_left (stmts_may t body || handlers_may t hs) (parts_may t ds) (or_left (stmts_may t body) (handlers_may t hs) i)))
       (λ t i. spares t (or_left (stmts_may t body || handlers_may t hs) (parts_may t ds) (or_right (stmts_may t body) (handlers_may t hs) i)))
       (λ t i. spares t (or_right (stmts_may t body || handlers_may t hs) (parts_may t ds) (or_left (declarations_free known.implicit t ds) (leaving_frees known.implicit t ds) i)))

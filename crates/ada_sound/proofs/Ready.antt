@@ -25,7 +25,8 @@ use Rattle.ada_sound.proofs.Fits.{MayFollow, weaker_fit, spare_fit, put_lost, sp
 use Rattle.ada_sound.proofs.Orderings.{AsGood}
 use Rattle.ada_sound.proofs.Alters.{alters_same}
 use Rattle.ada_sound.proofs.Stored.{Stored}
-use Rattle.ada_sound.proofs.Invariant.{under_in, outers, StoresOn, Caller, below_callers, below, at_end, nowhere, Known, Control, Rooms, Roomed, To, RunsOn, RunsBehind, GoesOn, RaisesAt, CopiesTo, PassesTo, Awaits, IsHolder, Working, Parting, HalfBy, Resumes, NamesTo, BeginsBy, BegunTo, EndsTo, StoresBehind, CopiesBehind, TreatsBy, RaisesBy, ReadyIn, Ready, Says, Stepped, By, innermost, ways, IsOfAssigned, LiesIn, EndsBy}
+use Rattle.ada_sound.proofs.CopiedOwners.{leads_some}
+use Rattle.ada_sound.proofs.Invariant.{AdjustsTo, under_in, outers, StoresOn, Caller, below_callers, below, at_end, nowhere, Known, Control, Rooms, Roomed, To, RunsOn, RunsBehind, GoesOn, RaisesAt, CopiesTo, PassesTo, Awaits, IsHolder, Working, Parting, HalfBy, Resumes, NamesTo, BeginsBy, BegunTo, EndsTo, StoresBehind, CopiesBehind, TreatsBy, RaisesBy, ReadyIn, Ready, Says, Stepped, By, innermost, ways, IsOfAssigned, LiesIn, EndsBy}
 use Rattle.ada_meaning.specs.declared.event.Cause.{Cause}
 
 -- The state at work on something, with a running activation; and in another mode.
@@ -101,7 +102,7 @@ module _ (known : Known) where
   behind_ready [] heap places operands ms w = runs_ready [] heap places operands ms (at_less w w.rest)
   behind_ready (Treats v (begins Creation done) tasks ∷ k) heap places operands ms w = absurd (w.rest)
   behind_ready (Treats v (begins Copy done) tasks ∷ k) heap places operands ms w = absurd (w.rest)
-  behind_ready (Treats v (begins (Adjustment number) done) tasks ∷ k) heap places operands ms w = ((inl (at_less w w.rest), tt), tt)
+  behind_ready (Treats v (begins (Adjustment number) done) tasks ∷ k) heap places operands ms w = inl ((inl (at_less w w.rest), tt), tt)
   behind_ready (Treats v (ends cause) tasks ∷ k) heap places operands ms w = absurd (w.rest)
   behind_ready (f ∷ k) heap places operands ms w = runs_ready (f ∷ k) heap places operands ms (at_less w w.rest)
 
@@ -170,12 +171,12 @@ module _ (known : Known) where
   holder_raises heap (Scalar n) k rooms holds there = absurd there
   holder_raises heap (Part o place) k rooms holds there = absurd there
 
-  stores_copied : (heap : List Object) (places : List Value) (t : ℕ) (below : List Value) (k : Control) (rooms : Rooms) (holds : Holds) → StoresBehind known heap k rooms holds → CopiesTo known heap places t below k rooms holds
+  stores_copied : (heap : List Object) (places : List Value) (t : ℕ) (below : List Value) (k : Control) (rooms : Rooms) (holds : Holds) → StoresBehind known heap t k rooms holds → CopiesTo known heap places t below k rooms holds
   stores_copied heap places t below [] rooms holds r = absurd r
   stores_copied heap places t below (StoresRecord o first count ∷ k) rooms holds r = r
   stores_copied heap places t below (f ∷ k) rooms holds r = absurd r
 
-  pub copies_on : (first t : ℕ) (k : Control) (heap : List Object) (places operands : List Value) (ms : List Master) → Working known heap places ms (λ rooms holds. IsHolder heap (first_or Null operands) × StoresBehind known heap k rooms holds) → ReadyIn known Running (Copies first t ∷ k) heap places operands ms
+  pub copies_on : (first t : ℕ) (k : Control) (heap : List Object) (places operands : List Value) (ms : List Master) → Working known heap places ms (λ rooms holds. IsHolder heap (first_or Null operands) × StoresBehind known heap t k rooms holds) → ReadyIn known Running (Copies first t ∷ k) heap places operands ms
   copies_on first t k heap places operands ms w =
       let v = first_or Null operands in
       at_work w (
@@ -207,7 +208,16 @@ module _ (known : Known) where
   pub treats_ready : (v : Value) (treatment : Treatment) (tasks : List Task) (k : Control) (heap : List Object) (places operands : List Value) (ms : List Master) → TreatsBy known v treatment k heap places operands ms → IsOfAssigned known.program.types treatment tasks k → ReadyIn known Running (treating v treatment tasks k) heap places operands ms
   treats_ready v (begins by done) [] k heap places operands ms r of = begun_ready v by k heap places operands ms r.0
   treats_ready v (ends cause) [] k heap places operands ms r of = ended_ready v cause k heap places operands ms r
-  treats_ready v treatment (task ∷ tasks) k heap places operands ms r of = (r, of)
+  treats_ready v treatment (task ∷ tasks) k heap places operands ms r of = inl (r, of)
+
+  -- So is an adjustment that comes to one Adjust alone.
+  pub adjusts_ready : (v : Value) (treatment : Treatment) (tasks : List Task) (k : Control) (heap : List Object) (places operands : List Value) (ms : List Master) → AdjustsTo known v treatment tasks k heap places ms → ReadyIn known Running (treating v treatment tasks k) heap places operands ms
+  adjusts_ready v treatment tasks k heap places operands ms to = by (leads_some to.leads)
+    where
+      by : (task : Task) × (left : List Task) × (tasks ≡ task ∷ left) → ReadyIn known Running (treating v treatment tasks k) heap places operands ms
+      by (task, left, is) =
+          let there : AdjustsTo known v treatment (task ∷ left) k heap places ms = rw is at to in
+          rw is (inr there)
 
   -- Any value is stored where nothing relies on it.
   pub lost_stored : (x : ℕ) (k : Control) (v : Value) (heap : List Object) (places : List Value) (ms : List Master) → Working known heap places ms (λ rooms holds. RunsOn known k rooms (slice_set holds x hold.Lost)) → Working known heap (slice_set places x v) ms (RunsOn known k)

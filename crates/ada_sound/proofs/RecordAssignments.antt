@@ -4,7 +4,7 @@
 use Rattle.ada_meaning.specs.declared.state.Mode.TheVariants.{Running}
 use Rattle.ada_parts.specs.Task.{Task}
 use Rattle.ada_program.specs.declared.program.Finalization.{Finalization}
-use Rattle.std.proofs.Common.{not, ◌≡◌, ℕ, suc, ◌+◌, Bool, true, false, ◌||◌, ◌&&◌, List, [], ◌∷◌, ◌++◌, length, take, drop, refl, ◌∙◌, sym}
+use Rattle.std.proofs.Common.{◌≡◌, ℕ, suc, ◌+◌, Bool, true, false, ◌||◌, ◌&&◌, List, [], ◌∷◌, ◌++◌, length, take, drop, refl, ◌∙◌, sym, ◌⊎◌, inl, inr}
 use Rattle.std.proofs.lemmas.Bool.{and_parts}
 use Rattle.std.specs.Prelude.{Option, Some, None}
 use Rattle.std.specs.List.{list_any, list_all}
@@ -19,27 +19,29 @@ use Rattle.ada_program.specs.Form.{RecordPathForm, ItemForm, null_item, item_of_
 use Rattle.ada_program.specs.ProgramForm.{TypeForm, VariableForm}
 use Rattle.ada_program.specs.Handling.{is_same}
 use Rattle.ada_program.specs.Typed.{width_of}
-use Rattle.ada_program.specs.WellFormed.{is_copy, held_kind, kind_among, record_components, reached_components, is_record_path, item_fits, is_filled, item_owns, copies_whole, finalization_of, record_fits}
+use Rattle.ada_program.specs.WellFormed.{held_kind, kind_among, record_components, reached_components, is_record_path, item_fits, is_filled, item_owns, copies_whole, finalization_of, record_fits, has_record_at, object_named}
 use Rattle.ada_effects.specs.Effects.{effects_of, record_path_raises, item_raises, items_raise, stmt_raises, assignment_frees}
 use Rattle.ada_flow.specs.Flow.{Holds, hold_at, lost_by, is_owning, is_owning_record, reaches_it, passes_it, copies_to, uses_in_items, uses_in_record, uses_in_copy, record_passes, gives_record, using_paths, ends_with, without_freed, gathers_owners, leaves_owners, shares_it}
 use Rattle.ada_flow.specs.Tracking.{no_tracks}
 use Rattle.ada_meaning.specs.declared.event.Birth.TheVariants.{Adjustment}
 use Rattle.ada_meaning.specs.declared.event.Cause.TheVariants.{Assigning}
+use Rattle.ada_meaning.specs.declared.state.Id.{Id}
+use Rattle.ada_meaning.specs.declared.state.Place.{Place}
 use Rattle.ada_meaning.specs.declared.state.Value.{Value}
-use Rattle.ada_meaning.specs.declared.state.Value.TheVariants.{Null, Part}
+use Rattle.ada_meaning.specs.declared.state.Value.TheVariants.{Null, Names, Part}
 use Rattle.ada_meaning.specs.Event.{Quiet}
-use Rattle.ada_meaning.specs.Frame.{Does, Refers, Assigns, Copies, StoresRecord, begins, ends}
+use Rattle.ada_meaning.specs.Frame.{Treatment, Does, Refers, Assigns, Copies, StoresRecord, Treats, begins, ends}
 use Rattle.ada_meaning.specs.State.{Activation}
 use Rattle.ada_meaning.specs.Step.{first_or, older, treating, record_tasks, assigning, assigns_next, copy_next, moves}
 use Rattle.ada_meaning.specs.Named.{State, named, whole, base, part_base, same}
 use Rattle.ada_owners.proofs.Objects.{present_at}
 use Rattle.ada_sound.proofs.Begins.{Referred, record_referred, drop_kind}
-use Rattle.ada_sound.proofs.Gathered.{gathered_plain}
-use Rattle.ada_sound.proofs.Copied.{copied_plain, record_there}
+use Rattle.ada_sound.proofs.Gathered.{gathered_well}
+use Rattle.ada_sound.proofs.Copied.{copied_plain, record_there, may_copy}
 use Rattle.ada_sound.proofs.Defaults.{Reaches}
 use Rattle.ada_sound.proofs.Followings.{first_kept, kept_apart}
 use Rattle.ada_sound.proofs.Handings.{passed_safe}
-use Rattle.ada_sound.proofs.Invariant.{outers, Known, Control, Rooms, Goes, To, Raised, RunsOn, IsPlainIn, IsHolder, ReferredBy, IsTarget, IsSource, PassesTo, Working, Fine, ways, MayCopy, StoresBehind, ReadyIn, LiesIn, Spares, AssignsTo, AssignsWell}
+use Rattle.ada_sound.proofs.Invariant.{outers, Known, Control, Rooms, Goes, To, Raised, RunsOn, AdjustedBehind, IsAdjustedIn, StoresSo, IsHolder, ReferredBy, IsTarget, IsSource, PassesTo, Working, Fine, ways, MayCopy, StoresBehind, ReadyIn, LiesIn, Spares, AssignsTo, AssignsWell}
 use Rattle.ada_sound.proofs.Outcomes.{raised_before, using_goes, ends_goes, before_lost, goes_map, loses_goes, to_here}
 use Rattle.ada_sound.proofs.Raising.{or_left, or_right}
 use Rattle.ada_sound.proofs.Ready.{running, at_work, at_less, stays, ready_on, runs_on, treats_ready, treating_behind, copies_on}
@@ -50,8 +52,10 @@ use Rattle.ada_sound.proofs.InsideRecords.{TasksInside}
 use Rattle.ada_sound.proofs.LeftFinalized.{freed_none}
 use Rattle.ada_sound.proofs.Orderings.{without_freed_good}
 use Rattle.ada_typed.proofs.Evaluations.{cell_at}
-use Rattle.ada_typed.specs.Holding.{cells_of}
-use Rattle.ada_sound.specs.Untracked.{AdjustsNoOwners}
+use Rattle.ada_typed.specs.Holding.{cells_of, PartsLie}
+use Rattle.ada_typed.proofs.Parts.{shown_shapes}
+use Rattle.ada_sound.proofs.CopiedOwners.{AdjustsOwners, CopiesWell, Leads, leads_some}
+use Rattle.ada_sound.proofs.CoveredOwners.{covered_reached, only_part}
 
 -- Where a record without access values lies in an object, its components there are no access values.
 same_owning : (c d : ComponentKind) → held_kind c ≡ held_kind d → is_owning c ≡ is_owning d
@@ -97,21 +101,6 @@ source_lies types variables t source fits = go (record_components types t) fille
         let item = (and_parts (item_fits types variables components (item_of_record source)) _ e).0 in
         (and_parts (is_record_path types variables source) _ item).0
 
--- And its type is not limited, where it has controlled parts.
-may_copy : (types : List TypeForm) (variables : List VariableForm) (t : ℕ) (items : List ItemForm) → record_fits types variables t items ≡ true → (f : Finalization) → finalization_of types t ≡ Some f → f.limited ≡ false
-may_copy types variables t items fits f is = by (finalization_of types t) is whole
-  where
-    whole : copies_whole t (finalization_of types t) items ≡ true
-    whole = (and_parts (is_filled types variables (record_components types t) items && list_all (item_owns variables) items) (copies_whole t (finalization_of types t) items) fits).1
-
-    no_not : (b : Bool) → not b ≡ true → b ≡ false
-    no_not true e = absurd (cc e)
-    no_not false e = refl
-
-    by : (found : Option Finalization) → found ≡ Some f → copies_whole t found items ≡ true → f.limited ≡ false
-    by None at copies = absurd (cc at)
-    by (Some g) at copies = let same : g ≡ f = cc at in rw (← same) (no_not g.limited (and_parts (not g.limited) (is_copy t items) copies).0)
-
 some_same : {c d : Cell Value} → Some c ≡ Some d → c ≡ d
 some_same e = cc e
 
@@ -143,8 +132,13 @@ module _ (known : Known) (a : Activation Value) (rest : List (Activation Value))
           ),
         )
 
+    -- Or its Adjust sees to those.
+    target_may : (p : RecordPathForm) (v : Value) (kinds : List ComponentKind) → record_components known.program.types p.record_type ≡ Some kinds → (is_owning_record known.program.types p.record_type ≡ false) ⊎ AdjustsOwners known.program.types p.record_type → Referred known.program.types known.program.variables (outers known).referenced s.heap p v → IsTarget known s.heap (length kinds) v ⊎ (IsSource s.heap v × AdjustsOwners known.program.types p.record_type)
+    target_may p v kinds is (inl plain) r = inl (target_there p v kinds is plain r)
+    target_may p v kinds is (inr sees) r = inr (source_there p v r, sees)
+
   -- The target is found, and then the other record.
-  pub copy_begins : AdjustsNoOwners known.program.types → (target : RecordPathForm) (items : List ItemForm) (fs : StmtsForm) (k : Control) → Spares known (λ u. assignment_frees known.implicit u target.record_type) → is_record_path known.program.types known.program.variables target ≡ true → record_fits known.program.types known.program.variables target.record_type items ≡ true → Working known s.heap a.places s.masters (λ rooms holds. Goes (gives_record known.program.types known.program.variables no_tracks (λ u. assignment_frees known.implicit u target.record_type) target items holds) (RunsOn known (Does fs ∷ k) rooms) (Raised (λ e. stmt_raises (effects_of known.implicit known.program) (is_same e) (assigns_record target items)) (ways known k rooms))) → Fine known s.heap s.masters (copy_next named target items (running (Does fs ∷ k) a rest s))
+  pub copy_begins : CopiesWell known.program.types → (target : RecordPathForm) (items : List ItemForm) (fs : StmtsForm) (k : Control) → Spares known (λ u. assignment_frees known.implicit u target.record_type) → is_record_path known.program.types known.program.variables target ≡ true → record_fits known.program.types known.program.variables target.record_type items ≡ true → Working known s.heap a.places s.masters (λ rooms holds. Goes (gives_record known.program.types known.program.variables no_tracks (λ u. assignment_frees known.implicit u target.record_type) target items holds) (RunsOn known (Does fs ∷ k) rooms) (Raised (λ e. stmt_raises (effects_of known.implicit known.program) (is_same e) (assigns_record target items)) (ways known k rooms))) → Fine known s.heap s.masters (copy_next named target items (running (Does fs ∷ k) a rest s))
   copy_begins adjusts target [] fs k spares lies fits w = tt
   copy_begins adjusts target (null_item ∷ is) fs k spares lies fits w = tt
   copy_begins adjusts target (item_of_path path ∷ is) fs k spares lies fits w = tt
@@ -190,7 +184,7 @@ module _ (known : Known) (a : Activation Value) (rest : List (Activation Value))
             (
               there.kinds,
               there.components,
-              target_there w target v there.kinds there.components (gathered_plain program.types adjusts path.spot w.holds target.record_type items (copied_plain owning path.spot plain.0) plain.1) (found_there w target v lies reached by),
+              target_may w target v there.kinds there.components (gathered_well program.types adjusts path.spot w.holds target.record_type items (may_copy program.types program.variables target.record_type items fits) (copied_plain owning path.spot plain.0) plain.1) (found_there w target v lies reached by),
               source_there w source u (found_there w source u (source_lies program.types program.variables target.record_type source fits) kept by'),
               may_copy program.types program.variables target.record_type items fits,
             ),
@@ -201,21 +195,66 @@ module _ (known : Known) (a : Activation Value) (rest : List (Activation Value))
 
   -- Both are found: nothing is done, where they are one.
   module _ (types : List TypeDefinition) (reaches : Reaches known types) (k : Control) where
-    begins_assigning : (t : ℕ) (v u : Value) (below : List Value) (kinds : List ComponentKind) → record_components known.program.types t ≡ Some kinds → IsTarget known s.heap (length kinds) v → IsSource s.heap u → LiesIn known s.heap t (whole u) → (found : Option Finalization) → finalization_of known.program.types t ≡ found → MayCopy known t → Working known s.heap a.places s.masters (AssignsTo known t k) → Fine known s.heap s.masters (moves Quiet (assigning named types t v u (running k (record a { operands = below }) rest s)))
-    begins_assigning t v u below kinds is (o, place, to, plain) (p, other, from, there) lies found at may w =
+    -- What is to be adjusted comes to the one Adjust.
+    leads_there : (t part : ℕ) (sees : AdjustsOwners known.program.types t) → Leads (shown_shapes known.program.types) (record_tasks types t PartsFirst part) sees.of part
+    leads_there t part sees = rw (reaches.4 t ∙ sees.numbered, ← reaches.6) (sees.leads part)
+
+    treating_some : (v : Value) (treatment : Treatment) (tasks : List Task) (next : Control) → (task : Task) × (rest : List Task) × (tasks ≡ task ∷ rest) → treating v treatment tasks next ≡ Treats v treatment tasks ∷ next
+    treating_some v treatment tasks next (task, rest', is) = rw is refl
+
+    -- The target's object, and what its components get.
+    adjusted_there : (t : ℕ) (v : Value) (kinds : List ComponentKind) → record_components known.program.types t ≡ Some kinds → RefersToRecord known.program.types (cells_of s.heap) t v → IsSource s.heap v → AdjustsOwners known.program.types t → (number : ℕ) (next : Control) (rooms : Rooms) (holds : Holds) → To (RunsOn known next rooms) holds → IsAdjustedIn known s.heap (whole v) t (base v) (length kinds) (treating (whole v) (begins (Adjustment number) []) (record_tasks types t PartsFirst (part_base v)) next) rooms holds
+    adjusted_there t v kinds is refers (p, place, from, (x, found, there)) sees number next rooms holds runs =
+        let forms = known.program.types in
+        let lies : RefersToRecord forms (cells_of s.heap) t (Part p place) = rw from at refers in
+        let one : lies.0 ≡ x.cell = some_same (sym lies.1 ∙ cell_at s.heap p.0 x found) in
+        let has : has_record_at (reached_components forms x.cell.access) place.component (Some kinds) ≡ true = rw (← is, ← one) lies.2 in
+        let parts : PartsLie forms (object_named forms (Some x.cell.access)) (Some t) place.component place.part = rw one at lies.3 in
+        rw from (x, found, there, adjusted_in t x.cell.access p place kinds is has parts sees number next rooms holds runs)
+      where
+        adjusted_in : (t access : ℕ) (p : Id) (place : Place) (kinds : List ComponentKind) → record_components known.program.types t ≡ Some kinds → has_record_at (reached_components known.program.types access) place.component (Some kinds) ≡ true → PartsLie known.program.types (object_named known.program.types (Some access)) (Some t) place.component place.part → AdjustsOwners known.program.types t → (number : ℕ) (next : Control) (rooms : Rooms) (holds : Holds) → To (RunsOn known next rooms) holds → AdjustedBehind known (Names p) access t place.component (length kinds) (treating (Names p) (begins (Adjustment number) []) (record_tasks types t PartsFirst place.part) next) rooms holds
+        adjusted_in t access p place kinds is has parts sees number next rooms holds runs =
+            let forms = known.program.types in
+            let leads = leads_there t place.part sees in
+            record {
+              number = number;
+              tasks = record_tasks types t PartsFirst place.part;
+              behind = next;
+              is = treating_some (Names p) (begins (Adjustment number) []) (record_tasks types t PartsFirst place.part) next (leads_some leads);
+              kinds = kinds;
+              components = is;
+              counted = refl;
+              part_type = sees.record_type;
+              of = sees.of;
+              owns = place.component + sees.depth;
+              part = place.part;
+              only = only_part forms t sees access place.component place.part parts;
+              leads = leads;
+              covers = λ reached at. covered_reached forms t sees access place.component place.part kinds reached is (rw at at has);
+              runs = runs;
+            }
+
+    begins_assigning : (t : ℕ) (v u : Value) (below : List Value) (kinds : List ComponentKind) → record_components known.program.types t ≡ Some kinds → IsTarget known s.heap (length kinds) v ⊎ (IsSource s.heap v × AdjustsOwners known.program.types t) → RefersToRecord known.program.types (cells_of s.heap) t v → IsSource s.heap u → LiesIn known s.heap t (whole u) → (found : Option Finalization) → finalization_of known.program.types t ≡ found → MayCopy known t → Working known s.heap a.places s.masters (AssignsTo known t k) → Fine known s.heap s.masters (moves Quiet (assigning named types t v u (running k (record a { operands = below }) rest s)))
+    begins_assigning t v u below kinds is to at_target (p, other, from, there) lies found at may w =
         let adjusts = treating (whole v) (begins (Adjustment s.next) []) (record_tasks types t PartsFirst (part_base v)) k in
         let stores = StoresRecord (whole v) (base v) (width_of types t) ∷ adjusts in
         let holder : IsHolder s.heap (whole u) = rw from there in
-        let gets : IsPlainIn known s.heap (whole v) (base v) (width_of types t) = rw (width_is known types reaches k a rest s t kinds is, to) plain in
-        let behind = treating_behind known (whole v) s.next (record_tasks types t PartsFirst (part_base v)) k w.rooms w.holds (to_here (RunsOn known k w.rooms) w.holds w.rest.0) in
+        let runs = to_here (RunsOn known k w.rooms) w.holds w.rest.0 in
+        let gets : StoresSo known s.heap (whole v) t (base v) (width_of types t) adjusts w.rooms w.holds = rw (width_is known types reaches k a rest s t kinds is) (gets_so w.rooms w.holds to runs) in
         stays known Quiet (assigning named types t v u (running k (record a { operands = below }) rest s)) (
           tt,
           by found at (record_tasks types t WholeFirst (part_base v)) (λ none. reaches.2 t none WholeFirst (part_base v)) (reaches.3 t WholeFirst (part_base v)) stores
-              (at_work w (holder, (gets, behind), w.rest.1)),
+              (at_work w (holder, gets, w.rest.1)),
         ) tt
       where
+        gets_so : (rooms : Rooms) (holds : Holds) → IsTarget known s.heap (length kinds) v ⊎ (IsSource s.heap v × AdjustsOwners known.program.types t) → To (RunsOn known k rooms) holds → StoresSo known s.heap (whole v) t (base v) (length kinds) (treating (whole v) (begins (Adjustment s.next) []) (record_tasks types t PartsFirst (part_base v)) k) rooms holds
+        gets_so rooms holds (inl (o, place, is', plain)) runs =
+            let adjusts = record_tasks types t PartsFirst (part_base v) in
+            inl (rw is' plain, treating_behind known (whole v) s.next adjusts k rooms holds runs)
+        gets_so rooms holds (inr (there', sees)) runs = inr (adjusted_there t v kinds is at_target there' sees s.next k rooms holds runs)
+
         by : (f : Option Finalization) → finalization_of known.program.types t ≡ f → (tasks : List Task) → (finalization_of known.program.types t ≡ None → tasks ≡ []) → TasksInside known.program.types t tasks → (stores : Control)
-            → Working known s.heap a.places s.masters (λ rooms holds. IsHolder s.heap (whole u) × StoresBehind known s.heap stores rooms holds × AssignsWell known t holds)
+            → Working known s.heap a.places s.masters (λ rooms holds. IsHolder s.heap (whole u) × StoresBehind known s.heap t stores rooms holds × AssignsWell known t holds)
             → ReadyIn known Running (treating (whole v) (ends (Assigning s.next)) tasks (Copies (base u) t ∷ stores)) s.heap a.places (whole u ∷ below) s.masters
         by None none tasks empty inside stores works =
             rw (empty none) (copies_on known (base u) t stores s.heap a.places (whole u ∷ below) s.masters (at_work works (works.rest.0, works.rest.1)))
@@ -230,8 +269,8 @@ module _ (known : Known) (a : Activation Value) (rest : List (Activation Value))
         let one : lies.0 ≡ x.cell = some_same (sym lies.1 ∙ cell_at s.heap p.0 x found) in
         rw from (x, found, there, (other.component, other.part, rw one at lies.3))
 
-    pub assigns_fine : (t : ℕ) (operands : List Value) → RefersToRecord known.program.types (cells_of s.heap) t (first_or Null operands) → Working known s.heap a.places s.masters (PassesTo known s.heap a.places operands (Assigns t ∷ k)) → Fine known s.heap s.masters (assigns_next named types t (first_or Null (older operands)) (first_or Null operands) (same (first_or Null (older operands)) (first_or Null operands)) (running k (record a { operands = older (older operands) }) rest s))
-    assigns_fine t operands refers w = go (same (first_or Null (older operands)) (first_or Null operands))
+    pub assigns_fine : (t : ℕ) (operands : List Value) → RefersToRecord known.program.types (cells_of s.heap) t (first_or Null operands) → RefersToRecord known.program.types (cells_of s.heap) t (first_or Null (older operands)) → Working known s.heap a.places s.masters (PassesTo known s.heap a.places operands (Assigns t ∷ k)) → Fine known s.heap s.masters (assigns_next named types t (first_or Null (older operands)) (first_or Null operands) (same (first_or Null (older operands)) (first_or Null operands)) (running k (record a { operands = older (older operands) }) rest s))
+    assigns_fine t operands refers target w = go (same (first_or Null (older operands)) (first_or Null operands))
       where
         go : (one : Option Bool) → Fine known s.heap s.masters (assigns_next named types t (first_or Null (older operands)) (first_or Null operands) one (running k (record a { operands = older (older operands) }) rest s))
         go None = tt
@@ -240,4 +279,4 @@ module _ (known : Known) (a : Activation Value) (rest : List (Activation Value))
             runs_on known k (record a { operands = older (older operands) }) rest s (at_work runs runs.rest.0) Quiet tt
         go (Some false) =
             let are = w.rest.0 in
-            begins_assigning t (first_or Null (older operands)) (first_or Null operands) (older (older operands)) are.0 are.1 are.2 are.3 (lies_there t (first_or Null operands) refers are.3) (finalization_of known.program.types t) refl are.4 (at_less {other = AssignsTo known t k} w w.rest.1)
+            begins_assigning t (first_or Null (older operands)) (first_or Null operands) (older (older operands)) are.0 are.1 are.2 target are.3 (lies_there t (first_or Null operands) refers are.3) (finalization_of known.program.types t) refl are.4 (at_less {other = AssignsTo known t k} w w.rest.1)

@@ -10,14 +10,15 @@ use Rattle.ada_parts.specs.declared.tasks.Direction.TheVariants.{PartsFirst}
 use Rattle.ada_program.specs.declared.program.TypeDefinition.{TypeDefinition}
 use Rattle.ada_program.specs.declared.program.VariableKind.{VariableKind}
 use Rattle.ada_program.specs.declared.program.VariableKind.TheVariants as variable
-use Rattle.ada_program.specs.Form.{ItemForm, StmtsForm, HandlersForm, DeclarationForm, declares_record}
+use Rattle.ada_program.specs.Form.{RecordPathForm, ItemForm, item_of_record, StmtsForm, HandlersForm, DeclarationForm, declares_record}
 use Rattle.ada_program.specs.declared.program.Exception.{Exception}
 use Rattle.ada_program.specs.declared.program.Exception.TheVariants.{ConstraintError}
 use Rattle.ada_program.specs.Handling.{is_same}
 use Rattle.ada_program.specs.ProgramForm.{TypeForm, VariableForm}
 use Rattle.ada_effects.specs.Effects.{items_raise, initial_raises, initial_starts, initial_frees, declaration_raises}
 use Rattle.ada_program.specs.Typed.{reached_of, count_of, words_of}
-use Rattle.ada_program.specs.WellFormed.{access_of, held_kind, kind_among, reached_components, variable_kind, is_record_object}
+use Rattle.ada_program.specs.declared.program.Finalization.{Finalization}
+use Rattle.ada_program.specs.WellFormed.{finalization_of, named_in, object_named, access_of, held_kind, kind_among, reached_components, variable_kind, is_record_object}
 use Rattle.ada_flow.specs.declared.rule.Hold.{Hold}
 use Rattle.ada_flow.specs.declared.rule.Hold.TheVariants as hold
 use Rattle.ada_flow.specs.declared.rule.Region.TheVariants.{Whole}
@@ -43,6 +44,7 @@ use Rattle.ada_owners.proofs.Objects.{next_id, read_other}
 use Rattle.ada_owners.proofs.Changes.{put_reads}
 use Rattle.ada_owners.proofs.Creations.{not_next, past_access}
 use Rattle.ada_owners.proofs.Ends.{IsUnnamed}
+use Rattle.ada_typed.proofs.OfKinds.{record_initial_is_of_kind}
 use Rattle.ada_sound.proofs.Objects.{get_new, set_twice}
 use Rattle.ada_sound.proofs.Items.{HasItem}
 use Rattle.ada_sound.proofs.Stored.{Stored, stored_new, stored_owning}
@@ -51,7 +53,7 @@ use Rattle.ada_typed.proofs.Values.{OperandKind, AreComputed, AreHeld, active_pl
 use Rattle.ada_typed.proofs.Control as typed
 use Rattle.ada_sound.proofs.Fits.{Outsiders, Fit, Hand, IsUnreferred, outer_access, bare, stacked, none_spared, place_at, hold_in, weaker_fit, put_lost, put_owner, create_fit, hand_is_unnamed, less_unnamed}
 use Rattle.ada_sound.proofs.Alters.{alters_new}
-use Rattle.ada_sound.proofs.Invariant.{outers, below, Known, Control, Rooms, Roomed, To, Raised, Doing, Handled, Outside, Elaborating, Giving, MayOwn, Recording, RunsOn, StartsTo, Spares, Unaliased, IsAside, Beginning, BeginsBy, MayUndo, Working, Stepped, Fine, ways}
+use Rattle.ada_sound.proofs.Invariant.{outers, below, Known, Control, Rooms, Roomed, To, Raised, Doing, Handled, Outside, Elaborating, Giving, MayOwn, InitialTo, Recording, owns_at_first, RunsOn, StartsTo, Spares, Unaliased, IsAside, Beginning, BeginsBy, MayUndo, Working, Stepped, Fine, ways}
 use Rattle.ada_sound.proofs.Ready.{running, at_work, treats_ready, ready_on}
 use Rattle.ada_sound.proofs.Outcomes.{to_before, raised_before, using_goes, ends_goes, loses_goes, loses_to}
 use Rattle.ada_sound.proofs.Raising.{or_left, or_right, any_more}
@@ -61,10 +63,10 @@ use Rattle.ada_flow.specs.Flow.{left_finalized}
 use Rattle.ada_sound.proofs.LeftFinalized.{finalized_losing, freed_apart, freed_none}
 use Rattle.ada_sound.proofs.Undone.{beginning_undone}
 use Rattle.ada_sound.proofs.Followings.{first_kept}
-use Rattle.ada_sound.proofs.Gathered.{gathered_first}
-use Rattle.ada_sound.proofs.Copied.{items_keep, copied_plain}
+use Rattle.ada_sound.proofs.Copied.{items_keep, copied_plain, may_copy}
 use Rattle.ada_sound.proofs.Defaults.{Reaches}
-use Rattle.ada_sound.specs.Untracked.{AdjustsNoOwners}
+use Rattle.ada_sound.proofs.Gathered.{gathered_first_well}
+use Rattle.ada_sound.proofs.CopiedOwners.{AdjustsOwners, CopiesWell}
 
 -- What a component holds at first names nothing.
 first_blank : (kind : ComponentKind) (o : Id) → initial_value named kind ≡ Names o → ⊥
@@ -116,7 +118,7 @@ plain_names_nothing types cells (kind ∷ kinds) (v ∷ vs) plain have =
     let two = neither (is_owning kind) (list_any is_owning kinds) plain in
     (plain_blank types cells kind v two.0 have.0, plain_names_nothing types cells kinds vs two.1 have.1)
 
-nothing_in_hand : (outer : Outsiders) (heap : List Object) (places : List Value) (holding : Place → Hold) (kind : ℕ → Option ℕ) (c : ℕ) (vs : List Value) → NameNothing vs → AreInHand heap (stacked places outer) holding kind c vs
+pub nothing_in_hand : (outer : Outsiders) (heap : List Object) (places : List Value) (holding : Place → Hold) (kind : ℕ → Option ℕ) (c : ℕ) (vs : List Value) → NameNothing vs → AreInHand heap (stacked places outer) holding kind c vs
 nothing_in_hand outer heap places holding kind c [] none = tt
 nothing_in_hand outer heap places holding kind c (v ∷ vs) none =
     (record { hand = blank none.0 }, (λ o i e f. none.0 o e), nothing_in_hand outer heap places holding kind (suc c) vs none.1)
@@ -128,6 +130,12 @@ has_place types cells variables places x t held is = by (variable_kind variables
     by : (kind : Option VariableKind) → variable_kind variables x ≡ kind → is_record_object t kind ≡ true → (u : Value) × (slice_get places x ≡ Some u)
     by None of e = absurd (cc e)
     by (Some kind) of e = (slice_index_or places x Null, active_placed types cells variables [] (bare places ∷ []) x kind (held, tt) of)
+
+-- The type of an object whose initial value is written is not limited, where it has controlled parts.
+initial_copies : (types : List TypeForm) (variables : List VariableForm) (x t : ℕ) (items : List ItemForm) (r : ℕ) (f : Finalization) → named_in (slice_get types t) ≡ Some r → finalization_of types r ≡ Some f → record_initial_is_of_kind types variables (object_named types (Some t)) (Some items) ≡ true → f.limited ≡ false
+initial_copies types variables x t items r f named found fits =
+    let own : record_initial_is_of_kind types variables (Some r) (Some items) ≡ true = rw named at fits in
+    may_copy types variables r items own f found
 
 -- No place that is relied on names a new object, and no call refers to it.
 module _ {types : List TypeForm} {variables : List VariableForm} {outer : Outsiders} {heap : List Object} {places : List Value} {holds : Holds} (words : ℕ) (cell : Cell Value) (f : Fit types variables outer none_spared heap places holds) where
@@ -245,7 +253,7 @@ module _ (known : Known) (rest : List (Activation Value)) (s : State) (types : L
             new_unreferred words cell w.fit,
           )
 
-      made_works : To (RunsOn known k w.rooms) (slice_set w.holds x (hold.Own Whole)) → Working known heap places masters (RunsOn known k)
+      pub made_works : To (RunsOn known k w.rooms) (slice_set w.holds x (hold.Own Whole)) → Working known heap places masters (RunsOn known k)
       made_works runs = record { rooms = w.rooms; holds = runs.0; stored = made_stored; roomed = made_roomed; fit = made_fit runs.0 runs.1; rest = runs.2 }
 
     made_begins : (by : Birth) → Working known s.heap a.places s.masters (StartsBy by k) → BeginsBy known new by k heap places masters × MayUndo known new by k heap places masters
@@ -321,9 +329,9 @@ module _ (known : Known) (a : Activation Value) (rest : List (Activation Value))
         unaliased = λ y u of freed b. freed_none variables frees owned y u of freed b;
       }
 
-  by_items : AdjustsNoOwners known.program.types → (items : List ItemForm) (holds : Holds) (rooms : Rooms) → is_record_object t (variable_kind known.program.variables x) ≡ true → RunsOn known (Elaborates (declares_record x t (Some items) ∷ ds) fs hs ∷ k) rooms holds → Giving known items (Elaborates ds fs hs ∷ k) rooms holds × Recording known x t (Elaborates ds fs hs ∷ k) rooms holds
-  by_items adjusts items holds [] is e = absurd e
-  by_items adjusts items holds (gone ∷ rooms) is e =
+  by_items : CopiesWell known.program.types → (items : List ItemForm) → record_initial_is_of_kind known.program.types known.program.variables (object_named known.program.types (Some t)) (Some items) ≡ true → (heap : List Object) (operands : List Value) (holds : Holds) (rooms : Rooms) → is_record_object t (variable_kind known.program.variables x) ≡ true → RunsOn known (Elaborates (declares_record x t (Some items) ∷ ds) fs hs ∷ k) rooms holds → Giving known items (Elaborates ds fs hs ∷ k) rooms holds × InitialTo known heap items operands t × Recording known x t (Elaborates ds fs hs ∷ k) rooms holds
+  by_items copies items fits heap operands holds [] is e = absurd e
+  by_items copies items fits heap operands holds (gone ∷ rooms) is e =
       let program = known.program in
       let o = Outside known gone (ways known k rooms) in
       let spot = declared_at program.variables x in
@@ -344,23 +352,31 @@ module _ (known : Known) (a : Activation Value) (rest : List (Activation Value))
           keeps = items_keep program.types spot None holds [] items kept.1;
           raises = λ raises. (let either = or_left (items_raise items) false raises in n.1 either ConstraintError either);
         },
-        (gathered_first program.types adjusts spot holds t items (copied_plain owning spot kept.0) kept.1, is, e.0.0, (n.0.0, n.0.1, (e.0.1, n.0.2))),
+        first_well (gathered_first_well program.types copies spot holds t items (λ r f named found. initial_copies program.types program.variables x t items r f named found fits) (copied_plain owning spot kept.0) kept.1),
+        (is, e.0.0, (n.0.0, n.0.1, (e.0.1, n.0.2))),
       )
+    where
+      first_well : (owns_at_first known.program.types t ≡ false) ⊎ ((r : ℕ) × (named_in (slice_get known.program.types t) ≡ Some r) × AdjustsOwners known.program.types r × ((p : RecordPathForm) × (items ≡ item_of_record p ∷ []) × (p.record_type ≡ r))) → InitialTo known heap items operands t
+      first_well (inl none) = inl none
+      first_well (inr (r, named, sees, copy)) = inr (r, (named, sees), inl copy)
 
-  pub record_fine : AdjustsNoOwners known.program.types → (initial : Option (List ItemForm)) (u : Value) → slice_get a.places x ≡ Some u → is_record_object t (variable_kind known.program.variables x) ≡ true → Working known s.heap a.places s.masters (RunsOn known (Elaborates (declares_record x t initial ∷ ds) fs hs ∷ k)) → Fine known s.heap s.masters (record_next named types x t initial (running (Elaborates ds fs hs ∷ k) a rest s))
-  record_fine adjusts None u there is w =
+  pub record_fine : CopiesWell known.program.types → (initial : Option (List ItemForm)) → record_initial_is_of_kind known.program.types known.program.variables (object_named known.program.types (Some t)) initial ≡ true → (u : Value) → slice_get a.places x ≡ Some u → is_record_object t (variable_kind known.program.variables x) ≡ true → Working known s.heap a.places s.masters (RunsOn known (Elaborates (declares_record x t initial ∷ ds) fs hs ∷ k)) → Fine known s.heap s.masters (record_next named types x t initial (running (Elaborates ds fs hs ∷ k) a rest s))
+  record_fine copies None fits u there is w =
       made_fine known rest s types x t a (Elaborates ds fs hs ∷ k) (initial_values named (reached_of types t)) u is there
       (λ holding kind. initials_in_hand (outers known) s.heap a.places holding kind (reached_of types t)) Creation (at_work w (by_default w.holds w.rooms is w.rest))
-  record_fine adjusts (Some items) u there is w =
-      ready_on known (Fills items ∷ DeclaresRecord x t ∷ Elaborates ds fs hs ∷ k) a rest s a.operands (at_work w (by_items adjusts items w.holds w.rooms is w.rest))
+  record_fine copies (Some items) fits u there is w =
+      ready_on known (Fills items ∷ DeclaresRecord x t ∷ Elaborates ds fs hs ∷ k) a rest s a.operands (at_work w (by_items copies items fits s.heap a.operands w.holds w.rooms is w.rest))
 
--- A record object comes to be with the items of its initial value.
-pub recorded_fine : (known : Known) (k : Control) (a : Activation Value) (rest : List (Activation Value)) (s : State) (types : List TypeDefinition) → Reaches known types → (x t : ℕ) (kinds : List OperandKind) → typed.Fits known.program (cells_of s.heap) kinds (DeclaresRecord x t ∷ k) → AreComputed known.program.types (cells_of s.heap) kinds a.operands → AreHeld known.program.types (cells_of s.heap) known.program.variables a.places → Working known s.heap a.places s.masters (Recording known x t k) → Stepped known s.heap Quiet (made named types x t Copy (reverse (take (words_of types t) a.operands)) (running k (record a { operands = drop (words_of types t) a.operands }) rest s))
-recorded_fine known k a rest s types reaches x t kinds (ks, object, cs, is, of, one, reached, other, more) computed held w =
-    let counted : words_of types t ≡ length cs = ap count_of (reaches.0 t ∙ reached) in
-    let have = (typed.split known.program.types (cells_of s.heap) cs ks a.operands (rw is at computed)).0 in
-    let plain : list_any is_owning cs ≡ false = rw reached at w.rest.0 in
-    let none = plain_names_nothing known.program.types (cells_of s.heap) cs (reverse (take (length cs) a.operands)) plain have in
-    let place = has_place known.program.types (cells_of s.heap) known.program.variables a.places x t held w.rest.1 in
-    made_fine known rest s types x t (record a { operands = drop (words_of types t) a.operands }) k (reverse (take (words_of types t) a.operands)) place.0 w.rest.1 place.1
-    (λ holding kind. nothing_in_hand (outers known) s.heap a.places holding kind 0 (reverse (take (words_of types t) a.operands)) (rw counted none)) Copy (at_work w (w.rest.2, w.rest.3))
+-- A record object of Integers and Booleans comes to be with the items of its initial value.
+pub recorded_plain : (known : Known) (k : Control) (a : Activation Value) (rest : List (Activation Value)) (s : State) (types : List TypeDefinition) → Reaches known types → (x t : ℕ) (kinds : List OperandKind) → typed.Fits known.program (cells_of s.heap) kinds (DeclaresRecord x t ∷ k) → AreComputed known.program.types (cells_of s.heap) kinds a.operands → AreHeld known.program.types (cells_of s.heap) known.program.variables a.places → Working known s.heap a.places s.masters (λ rooms holds. (owns_at_first known.program.types t ≡ false) × Recording known x t k rooms holds) → Stepped known s.heap Quiet (made named types x t Copy (reverse (take (words_of types t) a.operands)) (running k (record a { operands = drop (words_of types t) a.operands }) rest s))
+recorded_plain known k a rest s types reaches x t kinds (ks, object, cs, is, of, one, reached, other, more) computed held w = by w.rest
+  where
+    by : (owns_at_first known.program.types t ≡ false) × Recording known x t k w.rooms w.holds → Stepped known s.heap Quiet (made named types x t Copy (reverse (take (words_of types t) a.operands)) (running k (record a { operands = drop (words_of types t) a.operands }) rest s))
+    by (none_owns, (of_record, owns, runs)) =
+        let counted : words_of types t ≡ length cs = ap count_of (reaches.0 t ∙ reached) in
+        let have = (typed.split known.program.types (cells_of s.heap) cs ks a.operands (rw is at computed)).0 in
+        let plain : list_any is_owning cs ≡ false = rw reached at none_owns in
+        let none = plain_names_nothing known.program.types (cells_of s.heap) cs (reverse (take (length cs) a.operands)) plain have in
+        let place = has_place known.program.types (cells_of s.heap) known.program.variables a.places x t held of_record in
+        made_fine known rest s types x t (record a { operands = drop (words_of types t) a.operands }) k (reverse (take (words_of types t) a.operands)) place.0 of_record place.1
+        (λ holding kind. nothing_in_hand (outers known) s.heap a.places holding kind 0 (reverse (take (words_of types t) a.operands)) (rw counted none)) Copy (at_work w (owns, runs))

@@ -25,7 +25,7 @@ use Rattle.ada_meaning.specs.State.{Activation, Master}
 use Rattle.ada_meaning.specs.declared.state.Mode.{Mode}
 use Rattle.ada_meaning.specs.declared.state.Mode.TheVariants.{Running, Raising, Exiting, Returning}
 use Rattle.ada_meaning.specs.Frame as frame
-use Rattle.ada_meaning.specs.Frame.{Frame, Treatment, Calls, Returns, Treats, is_master, landing}
+use Rattle.ada_meaning.specs.Frame.{Frame, Treatment, begins, Calls, Returns, Treats, is_master, landing}
 use Rattle.ada_finalized.specs.Law.{NoOperationRuns}
 use Rattle.ada_sound.specs.Agreement.{running_procedure}
 use Rattle.ada_sound.specs.Callees.{IsCovered}
@@ -49,7 +49,11 @@ use Rattle.ada_sound.proofs.Items.{NoMaster, HasItem, has_after, items_fall}
 use Rattle.ada_sound.proofs.Stored.{IsUnder, Stored, there_listed}
 use Rattle.ada_sound.proofs.Leavings.{HeldIn}
 use Rattle.ada_sound.proofs.InOrder.{in_order}
-use Rattle.ada_sound.proofs.Sees.{reaches_in, may_call}
+use Rattle.ada_sound.proofs.Sees.{reaches_in, may_call, adjust_overridden}
+use Rattle.ada_sound.proofs.TracksWell.{copies_at, allocates_at, called_apart}
+use Rattle.ada_sound.proofs.Trackers.{none_tracks, nothing_adjusts, calls_stand_apart}
+use Rattle.ada_sound.proofs.CallsApartRuns.{step_apart}
+use Rattle.ada_quiet.specs.Apart.{is_tracker}
 use Rattle.ada_sound.proofs.QuietOperations.{IsUsedAs, used_as}
 use Rattle.ada_sound.proofs.TouchingStarts.{touching_starts}
 use Rattle.ada_sound.proofs.TouchingSteps.{InTouching, Went, GoesTouching, touching_step}
@@ -57,7 +61,7 @@ use Rattle.ada_sound.proofs.Touching.{Touching, waiting_for}
 use Rattle.ada_sound.proofs.Operated.{OperatedOn, operated_by, OperatedAs}
 use Rattle.ada_parts.specs.declared.tasks.Next.TheVariants.{Perform}
 use Rattle.ada_sound.proofs.Alters.{BackIn, StaysItself, Alters, alters_same, alters_set}
-use Rattle.ada_sound.proofs.Invariant.{Known, Control, Working, CallsOn, Says, GoesOn, Stepped, EndsWell, Fine, outers, IsAwaited, under_in, IsOfAssigned}
+use Rattle.ada_sound.proofs.Invariant.{Known, Control, Working, CallsOn, Says, GoesOn, Stepped, EndsWell, Fine, outers, IsAwaited, under_in, IsOfAssigned, ReadyBy}
 use Rattle.ada_sound.proofs.Callers.{Suspension, callers_of, known_in, Stands}
 use Rattle.ada_sound.proofs.Returns.{Crosses, same_types, resumed_in, behind_call as behind_mode, behind_frames, behind_body, crosses_to, left_settled}
 use Rattle.ada_sound.proofs.Calls.{calls_to, references}
@@ -69,7 +73,12 @@ use Rattle.ada_sound.proofs.StoredStates.{IsStored, ready_stored}
 use Rattle.ada_sound.proofs.Finalization.{finalizes_in}
 use Rattle.ada_sound.proofs.Starts.{IsReached, Ordinary, Sound}
 use Rattle.ada_sound.proofs.Calm.{filled_in, typed_calm, behind_calm}
-use Rattle.ada_sound.proofs.Treatments.{inside_left, TellsNothing, Begins, StaysHere, Treated, treats_fine}
+use Rattle.ada_sound.proofs.Treatments.{inside_left, TellsNothing, Begins, StaysHere, TreatedIn, treats_fine, adjusts_fine}
+use Rattle.ada_sound.proofs.CopiedOwners.{SeesToOwners}
+use Rattle.ada_sound.specs.Untracked.{AdjustsNoOwners}
+use Rattle.ada_typed.proofs.Parts.{shown_shapes, shapes_shown}
+use Rattle.ada_parts.specs.Part as parts
+use Rattle.ada_meaning.specs.declared.event.Birth.{Birth}
 use Rattle.ada_sound.proofs.Operating.{Sight, StaysLive, IsCalm, Operates, behind_operation}
 use Rattle.ada_sound.proofs.OperationBegins.{begins_operation}
 use Rattle.ada_sound.proofs.OperationSteps.{acting, Wrote, IsMild}
@@ -280,7 +289,7 @@ unfolding next
 ordinary program s sound o inner n is same =
     let known = known_in program (running_procedure s) o.suspensions in
     fine_in program s o.suspensions o.stands o.calm o.settled n same
-    (subst (λ (coming : Next). Fine known s.heap s.masters coming) is (inside.fine known program.types.items (reaches_in program (running_procedure s) o.suspensions) (body_forms program) (may_call program (running_procedure s) o.suspensions sound.well sound.obeys.0) s inner sound.typed.inside (own_bodies (program_form program) sound.frees_own (running_procedure s)) (collect_two (program_form program) s sound.nested) (finalizes_in program sound.well s sound.reached sound.typed o.calm known.program.types)
+    (subst (λ (coming : Next). Fine known s.heap s.masters coming) is (inside.fine known (copies_at program (running_procedure s) o.suspensions sound.well sound.obeys.0) program.types.items (reaches_in program (running_procedure s) o.suspensions) (body_forms program) (may_call program (running_procedure s) o.suspensions sound.well) s (allocates_at program (running_procedure s) o.suspensions s sound.obeys.0 sound.apart) inner sound.typed.inside (own_bodies (program_form program) sound.frees_own (running_procedure s)) (collect_two (program_form program) s sound.nested) (finalizes_in program sound.well s sound.reached sound.typed o.calm known.program.types)
     (λ p x under found. absurd (none_is_under program (running_procedure s) o.suspensions o.settled p under))
     (λ left behind runs at_leaving.
     let parting = rw (runs, at_leaving) at (o.ready.1) in (
@@ -367,31 +376,52 @@ module _ (program : Program) (a : Activation Value) (rest : List (Activation Val
     begins_there : (e : Event) (after : State) → next program.types.items (body_forms program) whole ≡ moves e after → Begins treater a rest s program.types.items (body_forms program) k IsOperated e after → Led program s.heap e after
     begins_there e after is c = begun_as e after is c (used_as program sound.in_use sound.well c.of c.number c.b c.there c.treatment c.called)
 
-    treated_led : (n : Next) → next program.types.items (body_forms program) whole ≡ n → Treated treater a rest s program.types.items (body_forms program) k IsOperated n → FineIn program whole n
+    -- No Adjust sees to components of access types yet.
+    adjusts_nothing : (r of : ℕ) → SeesToOwners treater.program.types r of → ⊥
+    adjusts_nothing r of sees =
+        let none : AdjustsNoOwners treater.program.types = subst AdjustsNoOwners (sym (same_types a.procedure (program_form program))) (nothing_adjusts (program_form program) (none_tracks (program_form program) sound.well sound.in_use)) in
+        let inherits = none r sees.name sees.parts sees.components sees.finalization sees.at sees.declares in
+        let overrides = sees.overridden in
+        cc (inherits, overrides)
+
+    treated_led : (n : Next) → next program.types.items (body_forms program) whole ≡ n → TreatedIn treater a rest s program.types.items (body_forms program) k IsOperated v n → FineIn program whole n
     treated_led (halts halt) is t = t
     treated_led (moves e after) is (inl st) = goes_here e after st
-    treated_led (moves e after) is (inr c) = begins_there e after is c
+    treated_led (moves e after) is (inr (inl c)) = begins_there e after is c
+    treated_led (moves e after) is (inr (inr c)) = absurd (adjusts_nothing c.record_type c.of c.adjusted.only.sees)
     treated_led (tells request e after) is t = absurd t
     treated_led (asks request answered) is t = absurd t
     treated_led (picks n taken) is t = λ i lt. goes_here Quiet (taken i) (t i lt)
 
-    operated : (of part : ℕ) → task_next tasks ≡ Perform of part → (o : Id) → v ≡ Names o → IsOperated treatment o of
-    operated of part next object named = (
+    operated : IsOfAssigned treater.program.types treatment tasks k → (of part : ℕ) → task_next tasks ≡ Perform of part → (o : Id) → v ≡ Names o → IsOperated treatment o of
+    operated assigned of part next object named = (
       refl,
       subst (λ (types : List TypeForm). OperatedOn types (cells_of s.heap) object of) (same_types a.procedure (program_form program))
           (operated_by (seen_in a.procedure (program_form program)) whole v treatment tasks k refl refl sound.typed.inside of part next object named),
       subst (λ (types : List TypeForm). IsOfAssigned types treatment (performs of 0 ∷ []) k) (same_types a.procedure (program_form program))
-          (inside_left treater.program.types treatment tasks (performs of 0 ∷ []) k o.ready.1.1 (λ t inside. (next_inside treater.program.types t of part tasks inside next, tt))),
+          (inside_left treater.program.types treatment tasks (performs of 0 ∷ []) k assigned (λ t inside. (next_inside treater.program.types t of part tasks inside next, tt))),
       named,
     )
 
-    treating_step : FineIn program whole (frame_next named program.types.items (body_forms program) (Treats v treatment tasks) (state_with Running k (a ∷ rest) s))
+    -- An adjustment is no finalization of a record that is assigned to.
+    begun_assigned : (by : Treatment) (birth : Birth) (done : List parts.Part) → by ≡ begins birth done → IsOfAssigned treater.program.types by tasks k
+    begun_assigned by birth done is = rw is tt
+
+    treating_by : ReadyBy treater (Treats v treatment tasks) k s.heap a.places a.operands s.masters → FineIn program whole (frame_next named program.types.items (body_forms program) (Treats v treatment tasks) (state_with Running k (a ∷ rest) s))
     unfolding next
-    treating_step =
+    treating_by (inr to) =
+        treated_led _ refl (adjusts_fine treater a rest s program.types.items (body_forms program) k IsOperated v
+        (subst (λ (types : List TypeForm). shown_shapes types ≡ shapes_of program.types.items) (sym (same_types a.procedure (program_form program))) (shapes_shown program.types.items (program_form program).types refl))
+        (λ r of sees. adjust_overridden program a.procedure sound.well r of sees)
+        treatment tasks (operated (begun_assigned treatment to.by to.done to.begun)) to)
+    treating_by (inl ready) =
         treated_led _ refl (treats_fine treater a rest s program.types.items (body_forms program) k IsOperated v
         (λ t direction left i inside. subst (λ (types : List TypeForm). TasksInside types t (picked_task (shapes_of program.types.items) direction left i)) (sym (same_types a.procedure (program_form program)))
         (picked_inside program t direction left i (subst (λ (types : List TypeForm). TasksInside types t left) (same_types a.procedure (program_form program)) inside)))
-        (task_next tasks) treatment tasks operated (finalizes_in program sound.well whole sound.reached sound.typed o.calm treater.program.types) o.ready.1.0 o.ready.1.1)
+        (task_next tasks) treatment tasks (operated ready.1) (finalizes_in program sound.well whole sound.reached sound.typed o.calm treater.program.types) ready.0 ready.1)
+
+    treating_step : FineIn program whole (frame_next named program.types.items (body_forms program) (Treats v treatment tasks) (state_with Running k (a ∷ rest) s))
+    treating_step = treating_by o.ready.1
 
   passing_none : (mode : Mode) (f : Frame Value) → inside.crosses mode (f ∷ k) ≡ false → behind_call (f ∷ k) ≡ behind_call k → (n : Next) → mode_next named program.types.items (body_forms program) mode (state_with mode (f ∷ k) (a ∷ rest) s) ≡ n → n ≡ pass_next named (is_master f) (landing mode f) mode (state_with mode k (a ∷ rest) s) → (sound : Sound program (state_with mode (f ∷ k) (a ∷ rest) s)) → Ordinary program (state_with mode (f ∷ k) (a ∷ rest) s) → FineIn program (state_with mode (f ∷ k) (a ∷ rest) s) n
   passing_none mode f none behind n is passes sound o =
@@ -416,7 +446,7 @@ module _ (program : Program) (a : Activation Value) (rest : List (Activation Val
       let w : Working caller s.heap a.places s.masters (CallsOn caller number b actuals k) = at_work ready ready.rest.0 in
       let stands = restand Running (Calls number b actuals) o.suspensions o.stands in
       inl (
-        crosses_to (calls_to program number b actuals k a rest o.suspensions s w ready.rest.1 (inside.heap_typed (seen_in a.procedure (program_form program)) (state_with Running (Calls number b actuals ∷ k) (a ∷ rest) s) sound.typed.inside).1 stands (runs_called program number b actuals k a o.suspensions s sound.well sound.obeys w stands.body ready.rest.1 rest stands)),
+        crosses_to (calls_to program number b actuals k a rest o.suspensions s w ready.rest.1 (inside.heap_typed (seen_in a.procedure (program_form program)) (state_with Running (Calls number b actuals ∷ k) (a ∷ rest) s) sound.typed.inside).1 stands (runs_called program number b actuals k a o.suspensions s sound.well sound.obeys (called_apart program (state_with Running (Calls number b actuals ∷ k) (a ∷ rest) s) number b actuals k refl sound.obeys.0 sound.apart) w stands.body ready.rest.1 rest stands)),
         (typed_calm (seen_in a.procedure (program_form program)) (state_with Running (Calls number b actuals ∷ k) (a ∷ rest) s) sound.typed.inside refl o.calm).1,
         o.settled,
       )
@@ -580,6 +610,7 @@ sound_step program s choice e after r step = record {
   frees_own = r.frees_own;
   obeys = r.obeys;
   goes = goes_so program s.heap e after (led program s choice e after r step);
+  apart = λ may. step_apart (is_tracker (program_form program)) program (calls_stand_apart (program_form program) may).1 s after choice e (r.apart may) step;
   typed = step_typed program r.well s after choice e r.typed step;
   nested = step_nested program s after choice e r.nested step;
 }

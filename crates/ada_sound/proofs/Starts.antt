@@ -2,17 +2,18 @@
 -- the invariant.
 
 use Rattle.std.proofs.Common.{◌≡◌, ℕ, zero, suc, true, false, List, [], ◌∷◌, refl, sym, subst, ◌⊎◌, inl}
-use Rattle.std.specs.Prelude.{ℤ, Option, None}
+use Rattle.std.specs.Prelude.{ℤ, Option, Some, None}
+use Rattle.std.specs.List.{slice_get}
 use Rattle.ada_deeds.specs.Implicit.{implicit_of}
 use Rattle.ada_program.specs.declared.program.Program.{Program}
-use Rattle.ada_program.specs.ProgramForm.{TypeForm, VariableForm, program_form, main_body, seen_in}
+use Rattle.ada_program.specs.ProgramForm.{TypeForm, VariableForm, BodyForm, program_form, main_body, seen_in}
 use Rattle.ada_program.specs.WellFormed.{IsWellFormed}
 use Rattle.ada_program.specs.Nested.{CollectionsNest}
 use Rattle.ada_program.specs.Freed.{FreesItsOwn}
 use Rattle.ada_effects.specs.Effects.{effects_of}
 use Rattle.ada_flow.specs.declared.rule.Hold.TheVariants as hold
-use Rattle.ada_flow.specs.Flow.{hold_at, keeping_of, body_flow, first_holds, gone_with, have_exit, handlers_have_exit, ObeysRules}
-use Rattle.ada_flow.specs.Tracking.{no_tracks}
+use Rattle.ada_flow.specs.Flow.{hold_at, keeping_of, body_flow, tracks_of, first_holds, gone_with, have_exit, handlers_have_exit, ObeysRules}
+use Rattle.ada_flow.specs.Tracking.{Tracks, no_tracks}
 use Rattle.ada_meaning.specs.Step.{blanks}
 use Rattle.ada_meaning.specs.Named.{State, named}
 use Rattle.ada_meaning.specs.Run.{Event, Run, here, first_state}
@@ -24,9 +25,12 @@ use Rattle.ada_typed.proofs.Control as typed
 use Rattle.ada_typed.proofs.Runs.{first_typed}
 use Rattle.ada_scopes.proofs.Runs.{Scoped, first_nested}
 use Rattle.ada_sound.proofs.Fits.{first_fit}
-use Rattle.ada_sound.specs.Untracked.{AdjustsNoOwners}
-use Rattle.ada_sound.proofs.Untracked.{adjusts_no_owners}
-use Rattle.ada_sound.proofs.Bodies.{IsBody, IsFine, obeys_in}
+use Rattle.ada_quiet.specs.Apart.{is_tracker}
+use Rattle.ada_quiet.specs.Tracking.{may_track}
+use Rattle.ada_sound.proofs.CallsApart.{CallApart}
+use Rattle.ada_sound.proofs.CallsApartRuns.{first_apart}
+use Rattle.ada_sound.proofs.Trackers.{TracksSafely, none_tracks, calls_stand_apart}
+use Rattle.ada_sound.proofs.Bodies.{IsBody, IsFine, seen_is, tracks_in, obeys_in}
 use Rattle.ada_sound.proofs.BodyRuns.{body_runs, none_suspended}
 use Rattle.ada_sound.proofs.Exits.{no_exits, no_exit_handlers}
 use Rattle.ada_sound.proofs.Invariant.{Ready, under_in}
@@ -49,9 +53,9 @@ pub record Ordinary (program : Program) (s : State) : Type 0 where
   pub calm : IsCalm (behind_call s.control)
   pub settled : under_in (callers_of program suspensions) ≡ []
 
--- A program obeys the rules, and no Adjust is of a type that declares components of access types.
+-- A program obeys the rules, and nothing tracks components, or they may be tracked.
 abbrev pub Obeys : Program → Type 0
-Obeys program = AdjustsNoOwners (program_form program).types × ObeysRules program
+Obeys program = TracksSafely (program_form program) × ObeysRules program
 
 -- What every state of a run keeps: that invariant, or the body of an operation runs, one that touches no storage or a Finalize that does; values are of
 -- their kinds, and collections nest.
@@ -62,15 +66,25 @@ pub record Sound (program : Program) (s : State) : Type 0 where
   pub frees_own : FreesItsOwn (program_form program)
   pub obeys : Obeys program
   pub goes : Ordinary program s ⊎ (Operates program s ⊎ Touching program s)
+  pub apart : may_track (program_form program) ≡ true → CallApart (is_tracker (program_form program)) s.control
   pub typed : typed.Typed (program_form program) s
   pub nested : Scoped (program_form program) s
 
--- Each body of a program breaks no rule, and no exit leads out of it.
-pub body_obeys : (program : Program) (procedure : Option ℕ) → IsBody (program_form program) procedure → Obeys program → IsFine (body_flow (seen_in procedure (program_form program)).types (effects_of (implicit_of (program_form program)) (seen_in procedure (program_form program))) (keeping_of (implicit_of (program_form program)) (seen_in procedure (program_form program))) no_tracks (main_body (seen_in procedure (program_form program))))
-body_obeys program procedure is obeys =
+-- Each body of a program that tracks nothing breaks no rule.
+pub untracked_obeys : (program : Program) (procedure : Option ℕ) → IsBody (program_form program) procedure → tracks_in procedure (program_form program) ≡ no_tracks → ObeysRules program
+    → IsFine (body_flow (seen_in procedure (program_form program)).types (effects_of (implicit_of (program_form program)) (seen_in procedure (program_form program))) (keeping_of (implicit_of (program_form program)) (seen_in procedure (program_form program))) no_tracks (main_body (seen_in procedure (program_form program))))
+untracked_obeys program procedure is nothing obeys =
     let own = seen_in procedure (program_form program) in
     let implicit = implicit_of (program_form program) in
-    subst (λ (types : List TypeForm). IsFine (body_flow types (effects_of implicit own) (keeping_of implicit own) no_tracks (main_body own))) (sym (same_types procedure (program_form program))) (obeys_in implicit (program_form program) procedure obeys.0 is obeys.1)
+    subst (λ (types : List TypeForm). IsFine (body_flow types (effects_of implicit own) (keeping_of implicit own) no_tracks (main_body own))) (sym (same_types procedure (program_form program)))
+    (subst (λ (tracks : Tracks). IsFine (body_flow (program_form program).types (effects_of implicit own) (keeping_of implicit own) tracks (main_body own))) nothing
+    (obeys_in implicit (program_form program) procedure is obeys))
+
+-- So does that of a procedure at its number.
+pub untracked_body_obeys : (program : Program) (number : ℕ) (b : BodyForm) → slice_get (program_form program).bodies number ≡ Some b → tracks_of (program_form program).types number b ≡ no_tracks → ObeysRules program
+    → IsFine (body_flow (seen_in (Some number) (program_form program)).types (effects_of (implicit_of (program_form program)) (seen_in (Some number) (program_form program))) (keeping_of (implicit_of (program_form program)) (seen_in (Some number) (program_form program))) no_tracks (main_body (seen_in (Some number) (program_form program))))
+untracked_body_obeys program number b there nothing obeys =
+    untracked_obeys program (Some number) (b, there) (rw (seen_is (program_form program) number b there) nothing) obeys
 
 pub none_out : (program : Program) (procedure : Option ℕ) → IsWellFormed (program_form program) → have_exit (seen_in procedure (program_form program)).statements ≡ false
 none_out program procedure well =
@@ -99,24 +113,25 @@ ready_first program input well obeys =
         stored = record { counted = tt; sane = λ o x e. absurd (cc e) };
         roomed = (tt, refl);
         fit = first_fit p.types p.variables (blanks named p.variables) (first_holds [] p.variables) (lost_first p.variables);
-        rest = body_runs program None [] (body_obeys program None tt obeys) (none_out program None well) (none_on program None well) (none_suspended program None) tt;
+        rest = body_runs program None [] (untracked_obeys program None tt refl obeys.1) (none_out program None well) (none_on program None well) (none_suspended program None) tt;
       },
     )
 
 pub sound_first : (program : Program) (input : List ℤ) → IsWellFormed (program_form program) → operations_are_in_use (program_form program) ≡ true → CollectionsNest (program_form program) → FreesItsOwn (program_form program) → ObeysRules program → Sound program (first_state program input)
-sound_first program input well uses nest own obeys = let none = adjusts_no_owners (program_form program) well uses in record {
+sound_first program input well uses nest own obeys = let obeys_so : Obeys program = (inl (none_tracks (program_form program) well uses), obeys) in record {
   reached = (input, [], here);
   well = well;
   in_use = uses;
   frees_own = own;
-  obeys = (none, obeys);
+  obeys = obeys_so;
   goes = inl (record {
     suspensions = [];
-    ready = ready_first program input well (none, obeys);
+    ready = ready_first program input well obeys_so;
     stands = record { body = tt; behind = refl; bodies = tt; standing = record { suspended = tt; waiting = tt; low = tt } };
     calm = tt;
     settled = refl;
   });
+  apart = λ may. first_apart (is_tracker (program_form program)) program (calls_stand_apart (program_form program) may).1 (calls_stand_apart (program_form program) may).0 input;
   typed = first_typed program input well;
   nested = first_nested program well nest (operations_nest (program_form program) well uses) input;
 }

@@ -1,11 +1,11 @@
 -- Declarations and statements begin.
 
 use Rattle.std.proofs.Common.{◌≡◌, ◌≢◌, ℕ, ◌+◌, Bool, true, false, ◌&&◌, ◌||◌, not, List, [], ◌∷◌, refl, sym, ap, ◌∙◌, inl, inr}
-use Rattle.std.specs.Prelude.{ℤ, pos, ◌+ℤ◌, int_le, ◌==◌, if◌then◌else◌, Option, Some, None}
+use Rattle.std.specs.Prelude.{ℤ, pos, ◌+ℤ◌, int_le, ◌==◌, if◌then◌else◌, Option, Some, None, is_some}
 use Rattle.std.specs.List.{slice_set, list_all}
 use Rattle.std.proofs.lemmas.Bool.{eq-eqb, and_parts}
 use Rattle.ada_program.specs.declared.program.TypeDefinition.{TypeDefinition}
-use Rattle.ada_program.specs.WellFormed.{callable_in, is_this, access_of, selectors_kind, variable_kind, path_kind, path_access, object_named, is_record_path, record_fits, right_fits, lends_to, names_borrower, is_freed_by, is_record_object, record_initial_fits, initial_fits, statement_fits, stmts_fit}
+use Rattle.ada_program.specs.WellFormed.{callable_in, is_this, access_of, selectors_kind, variable_kind, path_kind, path_access, object_named, is_record_path, record_fits, right_fits, lends_to, names_borrower, is_freed_by, is_record_object}
 use Rattle.ada_program.specs.declared.program.Exception.{Exception}
 use Rattle.ada_program.specs.declared.program.Exception.TheVariants.{ConstraintError, EndError}
 use Rattle.ada_program.specs.Form.{PathForm, ExpressionForm, RightForm, nothing, value_of, allocates, allocates_default, computes, StmtForm, skips, assigns, assigns_record, frees, gets, writes, writes_text, chooses, repeats, counts, exits, calls, returns, raises, encloses, StmtsForm, no_stmts, a_stmt, BranchesForm, otherwise, a_branch, HandlersForm, DeclarationForm, creates_pool, collects, declares, declares_record}
@@ -25,6 +25,7 @@ use Rattle.ada_meaning.specs.Step.{moves, owning, assign_next, frees_next, gets_
 use Rattle.ada_meaning.specs.Named.{Object, State, named}
 use Rattle.ada_sound.proofs.Stored.{stored_owning, stored_entered}
 use Rattle.ada_typed.specs.Holding.{cells_of}
+use Rattle.ada_typed.proofs.OfKinds.{record_initial_is_of_kind, initial_is_of_kind, statement_is_of_kind, statements_are_of_kind}
 use Rattle.ada_typed.proofs.Values.{AreHeld}
 use Rattle.ada_sound.proofs.Fits.{is_object, weaker_fit, put_lost}
 use Rattle.ada_sound.proofs.Orderings.{good_losing}
@@ -35,7 +36,7 @@ use Rattle.ada_sound.proofs.Copied.{record_there}
 use Rattle.ada_sound.proofs.Records.{has_place, record_fine}
 use Rattle.ada_sound.proofs.Wholes.{record_begins}
 use Rattle.ada_sound.proofs.RecordAssignments.{copy_begins}
-use Rattle.ada_sound.proofs.Invariant.{outers, Spares, owed_in, Known, Where, below, Control, Rooms, Roomed, Goes, To, Raised, Doing, Choosing, TurnsTo, condition_among, assignment_among, component_among, Counting, Elaborating, Handled, Outside, RunsOn, RunsAfter, Deciding, TurningOn, ExitingTo, Computing, IsOne, Pairs, Takes, Working, Resumes, EvaluatesTo, Fine, ways}
+use Rattle.ada_sound.proofs.Invariant.{outers, Spares, owed_by, Known, Where, below, Control, Rooms, Roomed, Goes, To, Raised, Doing, Choosing, TurnsTo, condition_among, assignment_among, component_among, Counting, Elaborating, Handled, Outside, RunsOn, RunsAfter, Deciding, TurningOn, ExitingTo, Computing, IsOne, Pairs, Takes, Working, Resumes, EvaluatesTo, Fine, ways}
 use Rattle.ada_sound.proofs.Ready.{running, at_work, with_less, at_less, stays, lost_stored, ready_on, runs_on, jumps, jumps_less}
 use Rattle.ada_sound.proofs.Nestings.{Starting, starts, others_do, branch_does, chooses_from, repeats_from, turn_runs, counts_from, count_runs, exit_parts, encloses_from}
 use Rattle.ada_sound.proofs.Outcomes.{return_goes, goes_map, to_before, raised_before, raised_less, then_goes, using_goes, computed_goes, initializes_after, finalizes_to}
@@ -45,7 +46,10 @@ use Rattle.ada_sound.proofs.Targets.{component_begins, get_begins, half_begins}
 use Rattle.ada_sound.proofs.Frees.{free_fine}
 use Rattle.ada_sound.proofs.Releases.{free_begins}
 use Rattle.ada_sound.proofs.CallStatements.{MayCall, call_begins}
-use Rattle.ada_sound.specs.Untracked.{AdjustsNoOwners}
+use Rattle.ada_sound.proofs.CopiedOwners.{CopiesWell}
+use Rattle.ada_sound.proofs.Defaults.{Reaches}
+use Rattle.ada_program.specs.Controlled.{number_of}
+use Rattle.ada_typed.proofs.Parts.{shown_number}
 
 -- Which exceptions a Free may raise, and which Get may.
 abbrev free_among : PathForm → Exception → Bool
@@ -92,6 +96,15 @@ pairs_component c cs target (value_of path) fs k is =
 pairs_component c cs target (allocates access items) fs k is = tt
 pairs_component c cs target (allocates_default access) fs k is = tt
 pairs_component c cs target (computes e) fs k is = tt
+
+-- Is a call next (6.4)?
+abbrev pub is_call : StmtForm → Bool
+is_call (calls procedure actuals) = true
+is_call f = false
+
+abbrev pub begins_call : StmtsForm → Bool
+begins_call no_stmts = false
+begins_call (a_stmt f fs) = is_call f
 
 module _ (known : Known) where
   roomed_collects : (item access : ℕ) (pool : Option ℕ) (ds : List DeclarationForm) (fs : StmtsForm) (hs : HandlersForm) (k : Control) (holds : Holds) (ms : List Master) (rooms : Rooms) → Roomed (below known) ms rooms → RunsOn known (Elaborates (collects access ∷ ds) fs hs ∷ k) rooms holds → Roomed (below known) (owning (record { number = item; owned = collection access pool }) ms) rooms
@@ -151,8 +164,8 @@ module _ (known : Known) where
     declares_ready (computes e) x k w = w
 
     -- Declarations.
-    module _ (adjusts : AdjustsNoOwners known.program.types) (fs : StmtsForm) (hs : HandlersForm) (k : Control) where
-      declaration_fine : (types : List TypeDefinition) (d : DeclarationForm) (ds : List DeclarationForm) → AreHeld known.program.types (cells_of s.heap) known.program.variables a.places → initial_fits known.program.types known.program.variables d ≡ true → Working known s.heap a.places s.masters (RunsOn known (Elaborates (d ∷ ds) fs hs ∷ k)) → Fine known s.heap s.masters (declaration_next named types d (running (Elaborates ds fs hs ∷ k) a rest s))
+    module _ (copies : CopiesWell known.program.types) (fs : StmtsForm) (hs : HandlersForm) (k : Control) where
+      declaration_fine : (types : List TypeDefinition) (d : DeclarationForm) (ds : List DeclarationForm) → AreHeld known.program.types (cells_of s.heap) known.program.variables a.places → initial_is_of_kind known.program.types known.program.variables d ≡ true → Working known s.heap a.places s.masters (RunsOn known (Elaborates (d ∷ ds) fs hs ∷ k)) → Fine known s.heap s.masters (declaration_next named types d (running (Elaborates ds fs hs ∷ k) a rest s))
       declaration_fine types (creates_pool p) ds held fits w =
           stays known Quiet _ (
             tt,
@@ -178,14 +191,15 @@ module _ (known : Known) where
             },
           ) tt
       declaration_fine types (declares_record x t initial) ds held fits w =
-          let is = (and_parts (is_record_object t (variable_kind known.program.variables x)) (record_initial_fits known.program.types known.program.variables x (object_named known.program.types (Some t)) initial) fits).0 in
+          let both = and_parts (is_record_object t (variable_kind known.program.variables x)) (record_initial_is_of_kind known.program.types known.program.variables (object_named known.program.types (Some t)) initial) fits in
+          let is = both.0 in
           let place = has_place known.program.types (cells_of s.heap) known.program.variables a.places x t held is in
-          record_fine known a rest s types x t ds fs hs k adjusts initial place.0 place.1 is w
+          record_fine known a rest s types x t ds fs hs k copies initial both.1 place.0 place.1 is w
       declaration_fine types (declares x right) ds held fits w =
           ready_on known (Evaluates right ∷ Declares x ∷ Elaborates ds fs hs ∷ k) a rest s a.operands
           (inl (declares_ready right x (Elaborates ds fs hs ∷ k) (at_work w (declares_more s.heap a.places x right ds fs hs k w.holds w.rooms w.rest))))
 
-      pub declarations_fine : (types : List TypeDefinition) (ds : List DeclarationForm) → AreHeld known.program.types (cells_of s.heap) known.program.variables a.places → list_all (initial_fits known.program.types known.program.variables) ds ≡ true → Working known s.heap a.places s.masters (RunsOn known (Elaborates ds fs hs ∷ k)) → Fine known s.heap s.masters (declarations_next named types ds fs hs (running k a rest s))
+      pub declarations_fine : (types : List TypeDefinition) (ds : List DeclarationForm) → AreHeld known.program.types (cells_of s.heap) known.program.variables a.places → list_all (initial_is_of_kind known.program.types known.program.variables) ds ≡ true → Working known s.heap a.places s.masters (RunsOn known (Elaborates ds fs hs ∷ k)) → Fine known s.heap s.masters (declarations_next named types ds fs hs (running k a rest s))
       declarations_fine types [] held fits w = runs_on known (Does fs ∷ Handles hs ∷ Closes ∷ k) a rest s (at_work w (begins_more fs hs k w.holds w.rooms w.rest)) Quiet tt
       declarations_fine types (d ∷ ds) held fits w = declaration_fine types d ds held (and_parts _ _ fits).0 w
 
@@ -310,9 +324,9 @@ module _ (known : Known) where
         (first.0, (λ may. first.2 may ConstraintError (or_left (expression_raises low) (expression_raises high) may)), (second.0, (λ may. second.2 may ConstraintError (or_right (expression_raises low) (expression_raises high) may)), (λ v. second.1)))
 
     -- Statements.
-    stmt_fine : (defined : List TypeDefinition) (bodies : List BodyForm) → MayCall known bodies → (inside : Bool) (here : Where) (f : StmtForm) (fs : StmtsForm) (k : Control) → HaveHomes known.program.types (outers known).under s.heap s.masters → statement_fits known.program.types known.program.variables known.program.texts known.program.exceptions (callable_in known.program) inside f ≡ true → statement_frees_own known.program.types known.program.variables f ≡ true → Working known s.heap a.places s.masters (λ rooms holds. Starting known here f fs k (ways known k rooms) holds) → Fine known s.heap s.masters (stmt_next named defined bodies f (running (Does fs ∷ k) a rest s))
-    stmt_fine defined bodies calling inside here skips fs k homes fits own w = runs_on known (Does fs ∷ k) a rest s (at_work w w.rest.1.0) Quiet tt
-    stmt_fine defined bodies calling inside here (assigns target right) fs k homes fits own w =
+    stmt_fine : (defined : List TypeDefinition) → Reaches known defined → (bodies : List BodyForm) → CopiesWell known.program.types → (inside : Bool) (here : Where) (f : StmtForm) → (is_call f ≡ true → MayCall known bodies) → (fs : StmtsForm) (k : Control) → HaveHomes known.program.types (outers known).under s.heap s.masters → statement_is_of_kind known.program.types known.program.variables known.program.texts known.program.exceptions (callable_in known.program) inside f ≡ true → statement_frees_own known.program.types known.program.variables f ≡ true → Working known s.heap a.places s.masters (λ rooms holds. Starting known here f fs k (ways known k rooms) holds) → Fine known s.heap s.masters (stmt_next named defined bodies f (running (Does fs ∷ k) a rest s))
+    stmt_fine defined reaches bodies copies inside here skips calling fs k homes fits own w = runs_on known (Does fs ∷ k) a rest s (at_work w w.rest.1.0) Quiet tt
+    stmt_fine defined reaches bodies copies inside here (assigns target right) calling fs k homes fits own w =
         let types = known.program.types in
         let variables = known.program.variables in
         let leads = right_leads types variables (path_kind types variables target) right (and_parts (right_fits types variables (path_kind types variables target) right) (lends_to variables (names_borrower variables target) right) fits).0 in
@@ -323,44 +337,48 @@ module _ (known : Known) where
         let goes_on = initializes_after known right flow (Does fs ∷ k) w.rooms (Raised among out) (raised_before among out) used.1 in
         assign_fine target.selectors target right fs k refl (root_object types variables target leads.0 leads.1)
         (at_work w goes_on)
-    stmt_fine defined bodies calling inside here (assigns_record target items) fs k homes fits own w =
-        assigned_fine (has_parts defined target.record_type)
+    stmt_fine defined reaches bodies copies inside here (assigns_record target items) calling fs k homes fits own w =
+        assigned_fine (has_parts defined target.record_type) refl
       where
         two : (is_record_path known.program.types known.program.variables target ≡ true) × (record_fits known.program.types known.program.variables target.record_type items ≡ true)
         two = and_parts (is_record_path known.program.types known.program.variables target) (record_fits known.program.types known.program.variables target.record_type items) fits
 
-        assigned_fine : (parts : Bool) → Fine known s.heap s.masters (record_assign_next named parts target items (running (Does fs ∷ k) a rest s))
-        assigned_fine true = copy_begins known a rest s calling.adjusts target items fs k w.rest.4 two.0 two.1 (at_work w w.rest.1)
-        assigned_fine false = record_begins known a rest s calling.adjusts target items fs k (record_there known.program.types known.program.variables target two.0) (at_work w w.rest.1)
-    stmt_fine defined bodies calling inside here (frees access path) fs k homes fits own w =
+        bare : (found : Option ℕ) → number_of defined (Some target.record_type) ≡ found → is_some found ≡ false → shown_number known.program.types (Some target.record_type) ≡ None
+        bare None is none = sym (reaches.4 target.record_type) ∙ is
+        bare (Some n) is none = absurd (cc none)
+
+        assigned_fine : (parts : Bool) → has_parts defined target.record_type ≡ parts → Fine known s.heap s.masters (record_assign_next named parts target items (running (Does fs ∷ k) a rest s))
+        assigned_fine true has = copy_begins known a rest s copies target items fs k w.rest.4 two.0 two.1 (at_work w w.rest.1)
+        assigned_fine false has = record_begins known a rest s copies target items fs k (bare (number_of defined (Some target.record_type)) refl has) (record_there known.program.types known.program.variables target two.0) (at_work w w.rest.1)
+    stmt_fine defined reaches bodies copies inside here (frees access path) calling fs k homes fits own w =
         let types = known.program.types in
         let variables = known.program.variables in
         let freed = path_access types variables path in
         let out = ways known k w.rooms in
         let goes_on = finalizes_to variables known.implicit freed (frees_seen types variables no_tracks false known.implicit path.selectors path w.holds) (RunsOn known (Does fs ∷ k) w.rooms) (Raised (free_among path) out) (raised_before (free_among path) out) w.rest.1 in
         frees_fine defined path.selectors access path fs k homes (and_parts _ _ fits).0 own (λ t i. w.rest.4 t (or_left (is_this t freed) (ending_frees known.implicit t freed) i)) refl (at_work w goes_on)
-    stmt_fine defined bodies calling inside here (gets target) fs k homes fits own w = (
+    stmt_fine defined reaches bodies copies inside here (gets target) calling fs k homes fits own w = (
         let types = known.program.types in
         let variables = known.program.variables in
         let leads = integer_leads (path_kind types variables target) fits in
         gets_fine target.selectors target s.input fs k refl (root_object types variables target leads.0 leads.1) (at_work w w.rest.1)
         )
-    stmt_fine defined bodies calling inside here (writes e) fs k homes fits own w =
+    stmt_fine defined reaches bodies copies inside here (writes e) calling fs k homes fits own w =
         let h = computed_goes e w.holds (RunsOn known (Does fs ∷ k) w.rooms) (Raised (λ x. is_same x ConstraintError && expression_raises e) (ways known k w.rooms)) w.rest.1 in
         ready_on known (Computes e ∷ Writes ∷ Does fs ∷ k) a rest s a.operands (at_work w (h.0, (λ may. h.2 may ConstraintError may), h.1))
-    stmt_fine defined bodies calling inside here (writes_text text) fs k homes fits own w = runs_on known (Does fs ∷ k) a rest s (at_work w w.rest.1.0) (Line _) tt
-    stmt_fine defined bodies calling inside here (chooses branches) fs k homes fits own w = branches_fine branches (Does fs ∷ k) (at_work w (chooses_from known here branches fs k (ways known k w.rooms) w.holds w.rest))
-    stmt_fine defined bodies calling inside here (repeats condition body end_spot) fs k homes fits own w =
+    stmt_fine defined reaches bodies copies inside here (writes_text text) calling fs k homes fits own w = runs_on known (Does fs ∷ k) a rest s (at_work w w.rest.1.0) (Line _) tt
+    stmt_fine defined reaches bodies copies inside here (chooses branches) calling fs k homes fits own w = branches_fine branches (Does fs ∷ k) (at_work w (chooses_from known here branches fs k (ways known k w.rooms) w.holds w.rest))
+    stmt_fine defined reaches bodies copies inside here (repeats condition body end_spot) calling fs k homes fits own w =
         runs_on known (Repeats condition body ∷ Does fs ∷ k) a rest s (at_work w (repeats_from known here condition body end_spot fs k (ways known k w.rooms) w.holds w.rest)) Quiet tt
-    stmt_fine defined bodies calling inside here (counts x low high body end_spot) fs k homes fits own w =
+    stmt_fine defined reaches bodies copies inside here (counts x low high body end_spot) calling fs k homes fits own w =
         ready_on known (Computes low ∷ Computes high ∷ Ranges x body ∷ Does fs ∷ k) a rest s a.operands
         (at_work w (bounds_fine x low high body fs k w.rooms w.holds (counts_from known here x low high body end_spot fs k (ways known k w.rooms) w.holds w.rest)))
-    stmt_fine defined bodies calling inside here (exits condition spot) fs k homes fits own w =
+    stmt_fine defined reaches bodies copies inside here (exits condition spot) calling fs k homes fits own w =
         exit_fine condition (Does fs ∷ k) (at_work w (exit_parts known here.start here.inside condition spot w.holds (RunsOn known (Does fs ∷ k) w.rooms) (Raised (λ e. is_same e ConstraintError && condition_raises condition) (ways known k w.rooms)) (ways known k w.rooms).exited w.rest.1 (w.rest.2 refl)))
-    stmt_fine defined bodies calling inside here (calls procedure actuals) fs k homes fits own w = call_begins known bodies calling here procedure actuals fs k a rest s fits w
-    stmt_fine defined bodies calling inside here (returns spot) fs k homes fits own w = jumps known (Does fs ∷ k) a rest s Returning (at_work w (w.rest.3 w.holds (return_goes known.program.variables (owed_in known.program) here.within spot w.holds (Doing known fs k (ways known k w.rooms)) (Raised (λ e. stmt_raises (effects_of known.implicit known.program) (is_same e) (returns spot)) (ways known k w.rooms)) w.rest.1)))
-    stmt_fine defined bodies calling inside here (raises e) fs k homes fits own w = jumps_less known (Does fs ∷ k) a rest s (Raising e) (at_work w (w.rest.1.1 e (same_here e)))
-    stmt_fine defined bodies calling inside here (encloses ds body hs) fs k homes fits own w =
+    stmt_fine defined reaches bodies copies inside here (calls procedure actuals) calling fs k homes fits own w = call_begins known bodies (calling refl) here procedure actuals fs k a rest s fits w
+    stmt_fine defined reaches bodies copies inside here (returns spot) calling fs k homes fits own w = jumps known (Does fs ∷ k) a rest s Returning (at_work w (w.rest.3 w.holds (return_goes known.program.variables (owed_by known) here.within spot w.holds (Doing known fs k (ways known k w.rooms)) (Raised (λ e. stmt_raises (effects_of known.implicit known.program) (is_same e) (returns spot)) (ways known k w.rooms)) w.rest.1)))
+    stmt_fine defined reaches bodies copies inside here (raises e) calling fs k homes fits own w = jumps_less known (Does fs ∷ k) a rest s (Raising e) (at_work w (w.rest.1.1 e (same_here e)))
+    stmt_fine defined reaches bodies copies inside here (encloses ds body hs) calling fs k homes fits own w =
         stays known Quiet _ (
           tt,
           record {
@@ -373,7 +391,7 @@ module _ (known : Known) where
           },
         ) tt
 
-    pub stmts_fine : (defined : List TypeDefinition) (bodies : List BodyForm) → MayCall known bodies → (inside : Bool) (fs : StmtsForm) (k : Control) → HaveHomes known.program.types (outers known).under s.heap s.masters → stmts_fit known.program.types known.program.variables known.program.texts known.program.exceptions (callable_in known.program) inside fs ≡ true → statements_free_own known.program.types known.program.variables fs ≡ true → Resumes known s.heap a.places s.masters (Does fs ∷ k) → Fine known s.heap s.masters (stmts_next named defined bodies fs (running k a rest s))
-    stmts_fine defined bodies calling inside fs k homes fits own (inr h) = half_begins known a rest s defined bodies fs k h
-    stmts_fine defined bodies calling inside no_stmts k homes fits own (inl w) = runs_on known k a rest s (at_less w w.rest.2.0) Quiet tt
-    stmts_fine defined bodies calling inside (a_stmt f fs) k homes fits own (inl w) = stmt_fine defined bodies calling inside w.rest.0 f fs k homes (and_parts _ _ fits).0 (and_parts _ _ own).0 (at_work w (starts known f fs k (ways known k w.rooms) w.holds w.rest))
+    pub stmts_fine : (defined : List TypeDefinition) → Reaches known defined → (bodies : List BodyForm) → CopiesWell known.program.types → (inside : Bool) (fs : StmtsForm) → (begins_call fs ≡ true → MayCall known bodies) → (k : Control) → HaveHomes known.program.types (outers known).under s.heap s.masters → statements_are_of_kind known.program.types known.program.variables known.program.texts known.program.exceptions (callable_in known.program) inside fs ≡ true → statements_free_own known.program.types known.program.variables fs ≡ true → Resumes known s.heap a.places s.masters (Does fs ∷ k) → Fine known s.heap s.masters (stmts_next named defined bodies fs (running k a rest s))
+    stmts_fine defined reaches bodies copies inside fs calling k homes fits own (inr h) = half_begins known a rest s defined bodies fs k h
+    stmts_fine defined reaches bodies copies inside no_stmts calling k homes fits own (inl w) = runs_on known k a rest s (at_less w w.rest.2.0) Quiet tt
+    stmts_fine defined reaches bodies copies inside (a_stmt f fs) calling k homes fits own (inl w) = stmt_fine defined reaches bodies copies inside w.rest.0 f calling fs k homes (and_parts _ _ fits).0 (and_parts _ _ own).0 (at_work w (starts known f fs k (ways known k w.rooms) w.holds w.rest))

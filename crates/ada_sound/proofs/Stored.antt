@@ -43,7 +43,7 @@ stored_new {under} {heap} {masters} cell home s = record { counted = s.counted; 
     go o x (inr e) = rw (e.1) (record { back_gone = λ h. absurd (cc h); listed_exists = λ h. refl; there_exists = λ h. refl; housed = λ h. home; out_listed = λ h. inl refl })
 
 -- One object changes.
-stored_set : {under after : List Id} {heap : List Object} {masters : List Master} (o : Id) (y : Object) → Sane after (items_of masters) o y → ((p : Id) (z : Object) → p.0 ≢ o.0 → Sane under (items_of masters) p z → Sane after (items_of masters) p z) → Stored under heap masters → Stored after (slice_set heap o.0 y) masters
+pub stored_set : {under after : List Id} {heap : List Object} {masters : List Master} (o : Id) (y : Object) → Sane after (items_of masters) o y → ((p : Id) (z : Object) → p.0 ≢ o.0 → Sane under (items_of masters) p z → Sane after (items_of masters) p z) → Stored under heap masters → Stored after (slice_set heap o.0 y) masters
 stored_set {under} {after} {heap} {masters} o y here other s = record { counted = s.counted; sane = λ p z e. go p z (set_get heap o.0 p.0 y z e) }
   where
     go : (p : Id) (z : Object) → ((p.0 ≡ o.0) × (z ≡ y)) ⊎ ((p.0 ≢ o.0) × (slice_get heap p.0 ≡ Some z)) → Sane after (items_of masters) p z

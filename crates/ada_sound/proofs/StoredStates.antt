@@ -19,6 +19,8 @@ use Rattle.ada_meaning.specs.Named.{Object, State, store}
 use Rattle.ada_sound.proofs.Stored.{Stored}
 use Rattle.ada_sound.proofs.Back.{stored_before}
 use Rattle.ada_sound.proofs.Ready.{begins_work}
+use Rattle.ada_sound.proofs.CopiedOwners.{hiding}
+use Rattle.ada_sound.proofs.HiddenOwners.{stored_shown}
 use Rattle.ada_sound.proofs.Invariant.{Known, Control, Rooms, Working, HalfBy, Resumes, Clearing, EvaluatesTo, TargetsTo, StoringIn, HalfFollows, NamesTo, BegunTo, EndsTo, CopiesBehind, TreatsBy, EndingBy, BackingBy, ReadyBy, RaisesBy, ReadyIn, Ready}
 use Rattle.ada_meaning.specs.declared.event.Cause.TheVariants.{Leaving, Freeing, Assigning, Undoing}
 
@@ -158,7 +160,9 @@ module _ (known : Known) where
   frame_stored (FreesIn access c) k heap places operands ms r = (_, r.stored)
   frame_stored (Declares x) k heap places operands ms r = (_, r.stored)
   frame_stored (DeclaresRecord x t) k heap places operands ms r = (_, r.stored)
-  frame_stored (Treats v treatment tasks) k heap places operands ms r = treats_stored v treatment k heap places operands ms r.0
+  frame_stored (Treats v treatment tasks) k heap places operands ms (inl r) = treats_stored v treatment k heap places operands ms r.0
+  frame_stored (Treats v treatment tasks) k heap places operands ms (inr r) =
+      (_, stored_shown heap ms (hiding known.program.types r.record_type r.first r.o) r.adjusted.works.stored)
   frame_stored (frame.Awaits v by done of part tasks) k heap places operands ms r = begun_stored v by k heap places operands ms r.1.0
   frame_stored frame.Confines k heap places operands ms (v, cause, tasks, behind, is, r, of) = treats_stored v (ends cause) behind heap places operands ms r
   frame_stored (frame.Resumes mode) k heap places operands ms r = (_, r.stored)

@@ -30,7 +30,7 @@ use Rattle.ada_sound.proofs.Bodies.{IsBody}
 use Rattle.ada_sound.proofs.Callers.{Suspension, known_in, Stands, callers_of}
 use Rattle.ada_sound.proofs.Fits.{Fit, Outsiders, IsPlace, IsRelied, IsSaid, IsUnreferred, none_spared, outer_hold, outer_value, place_at, Reference, IsReferred}
 use Rattle.ada_sound.proofs.FrugalControl.{Frugally}
-use Rattle.ada_sound.proofs.Invariant.{body_among, Control, Rooms, Roomed, RunsOn, Known, IsNewest, Ready, Spares, StartsTo, Unaliased, below, innermost, outers, BeginsWell, CameOut, To, By, ways, IsAwaited, under_in, AssignsWell, IsCopied, LiesAmong, RunsBehind}
+use Rattle.ada_sound.proofs.Invariant.{body_among, Control, Rooms, Roomed, RunsOn, Known, IsNewest, Ready, Spares, StartsTo, Unaliased, below, innermost, outers, BeginsWell, CameOut, To, By, ways, IsAwaited, under_in, AssignsWell, IsCopied, LiesAmong, RunsBehind, AdjustedBehind}
 use Rattle.ada_sound.proofs.Operating.{WaitsFor, IsCalm, lets_out}
 use Rattle.ada_sound.proofs.Stored.{Stored}
 use Rattle.ada_sound.specs.Agreement.{running_procedure}
@@ -84,14 +84,16 @@ pub record Undoes (known : Known) (object : Id) (access : ℕ) (home : Home) (pl
   pub unreferred : IsUnreferred (outers known) object
   pub untreated : NothingTreated rest
 
--- The components of a record in the object get those of another one, which are Integers and Booleans, and then what is left goes on (5.2).
-abbrev pub StoresInto : Known → (object : Id) → (access : ℕ) → Control → Rooms → Holds → Type 0
-StoresInto known object access [] rooms holds = ⊥
-StoresInto known object access (StoresRecord v first count ∷ k) rooms holds =
+-- The components of a record of this type in the object get those of another one, which are Integers and Booleans, or an Adjust sees to them, and then what is
+-- left goes on (5.2).
+abbrev pub StoresInto : Known → (object : Id) → (access record_type : ℕ) → Control → Rooms → Holds → Type 0
+StoresInto known object access t [] rooms holds = ⊥
+StoresInto known object access t (StoresRecord v first count ∷ k) rooms holds =
     (v ≡ Names object)
-    × ((components : List ComponentKind) → reached_components known.program.types access ≡ Some components → list_any is_owning (take count (drop first components)) ≡ false)
-    × RunsBehind known k rooms holds
-StoresInto known object access (f ∷ k) rooms holds = ⊥
+    × ((((components : List ComponentKind) → reached_components known.program.types access ≡ Some components → list_any is_owning (take count (drop first components)) ≡ false)
+    × RunsBehind known k rooms holds)
+    ⊎ AdjustedBehind known (Names object) access t first count k rooms holds)
+StoresInto known object access t (f ∷ k) rooms holds = ⊥
 
 -- What is behind the finalization of the value of a record that is assigned to (5.2, 7.6): another record of its type is copied to it, to whose object the
 -- activation that waits refers, too.
@@ -105,7 +107,7 @@ pub record Overwrites (known : Known) (object : Id) (access : ℕ) (operands : L
   pub named : first_or Null operands ≡ Names source.object
   pub refers : also ≡ source ∷ []
   pub lies : LiesAmong known source.access record_type
-  pub into : StoresInto known object access stores rooms holds
+  pub into : StoresInto known object access record_type stores rooms holds
   pub well : AssignsWell known record_type holds
 
 -- What is behind a finalization, by its cause.

@@ -2,7 +2,7 @@
 -- what it may free no suspended activation has an alias.
 
 use Rattle.ada_meaning.specs.declared.state.Mode.TheVariants.{Running}
-use Rattle.std.proofs.Common.{◌⊎◌, ◌≡◌, ◌≢◌, ◌≤◌, ℕ, zero, suc, true, List, [], ◌∷◌, ◌++◌, length, map, take, refl, sym, ap, subst, ◌∙◌, inl, inr}
+use Rattle.std.proofs.Common.{◌⊎◌, ◌≡◌, ◌≢◌, ◌≤◌, ℕ, zero, suc, true, List, [], ◌∷◌, ◌++◌, length, map, take, refl, sym, ap, subst, ◌∙◌, inl, inr, false}
 use Rattle.std.specs.Prelude.{Some}
 use Rattle.std.specs.List.{slice_get}
 use Rattle.ada_deeds.specs.Implicit.{implicit_of}
@@ -47,7 +47,9 @@ use Rattle.ada_sound.proofs.Invariant.{Control, CoveredIn, Known, RunsOn, Spares
 use Rattle.ada_sound.proofs.Operating.{IsCalm, WaitsFor, behind_operation, lets_out}
 use Rattle.ada_sound.proofs.Orderings.{as_good}
 use Rattle.ada_sound.proofs.Returns.{same_types}
-use Rattle.ada_sound.proofs.Starts.{Obeys, body_obeys, lost_first, none_out, none_on}
+use Rattle.ada_sound.proofs.Starts.{Obeys, untracked_body_obeys, lost_first, none_out, none_on}
+use Rattle.ada_sound.proofs.Trackers.{untracked_by}
+use Rattle.ada_quiet.specs.Apart.{is_tracker}
 use Rattle.ada_sound.proofs.Stored.{stored_entered, IsUnder}
 use Rattle.ada_sound.proofs.Waiting.{stands_kept}
 use Rattle.ada_program.specs.declared.program.Exception.{Exception}
@@ -90,7 +92,7 @@ referred_split [] others o t is = inr is
 referred_split (r ∷ first) others o t (inl same) = inl (inl same)
 referred_split (r ∷ first) others o t (inr is) = elim (referred_split first others o t is) [ inl one ↦ inl (inr one) | inr other ↦ inr other ]
 
-module _ (program : Program) (well : IsWellFormed (program_form program)) (obeys : Obeys program) (number : ℕ) (b : BodyForm) (there : slice_get (body_forms program) number ≡ Some b) (may : may_be_frugal (program_form program) ≡ true) (frugal : is_frugal_body (frugal_procedures (program_form program)) b ≡ true) (lone : IsAlone b) (a : Activation Value) (rest : List (Activation Value)) (gs : List Suspension) (s : State) (k : Control) (o : Id) (x : Object) (heap : List Object) (found : object_at heap o ≡ Some x) (exists : is_there x.stage ≡ true) (place : Place)
+module _ (program : Program) (well : IsWellFormed (program_form program)) (obeys : Obeys program) (number : ℕ) (apart : is_tracker (program_form program) number ≡ false) (b : BodyForm) (there : slice_get (body_forms program) number ≡ Some b) (may : may_be_frugal (program_form program) ≡ true) (frugal : is_frugal_body (frugal_procedures (program_form program)) b ≡ true) (lone : IsAlone b) (a : Activation Value) (rest : List (Activation Value)) (gs : List Suspension) (s : State) (k : Control) (o : Id) (x : Object) (heap : List Object) (found : object_at heap o ≡ Some x) (exists : is_there x.stage ≡ true) (place : Place)
     (within : IsWithin (program_form program).types (variable_kind b.variables 0) x.cell.access place.component) (treatment : Treatment) (at : Enters (known_in program a.procedure gs) treatment o x k heap a.places a.operands s.masters) (behind : Control) where
   abbrev p : ProgramForm
   p = program_form program
@@ -182,7 +184,7 @@ module _ (program : Program) (well : IsWellFormed (program_form program)) (obeys
     runs : RunsOn body (Elaborates b.declarations b.statements b.handlers ∷ Returns [] [] ∷ behind) (gone_with b.declarations ∷ []) first
     runs =
         subst (λ (c : BodyForm). RunsOn body (Elaborates c.declarations c.statements c.handlers ∷ Returns [] [] ∷ behind) (gone_with c.declarations ∷ []) (first_holds c.formals c.variables)) same_body
-        (body_runs program (Some number) (waiting ∷ gs) (body_obeys program (Some number) is_body obeys) (none_out program (Some number) well) (none_on program (Some number) well) spares refl)
+        (body_runs program (Some number) (waiting ∷ gs) (untracked_body_obeys program number b there (untracked_by (program_form program) number b apart) obeys.1) (none_out program (Some number) well) (none_on program (Some number) well) spares refl)
 
     -- What the waiting activation relies on lies in masters that were entered before.
     variables_low : (y : ℕ) (q : Id) → IsRelied (hold_at at.holds y) → place_at a.places y ≡ Names q → (object : Object) × (object_at heap q ≡ Some object) × (suc object.cell.home.item ≤ height s.masters)

@@ -291,11 +291,13 @@ module _ (program : Program) (well : IsWellFormed (program_form program)) (s : S
       ∙ (ap (λ (inner : List Suspension). operands_of (drop (suc (length inner)) s.activations)) none
       ∙ ap (λ (all : List (Activation Value)). operands_of (drop 1 all)) acts_so)
 
-  stores_next : (k : Control) (rooms : Rooms) (holds : Holds) → StoresInto own f.object f.access k rooms holds → StoresBehind own s.heap k rooms holds
-  stores_next [] rooms holds r = absurd r
-  stores_next (StoresRecord v first count ∷ k) rooms holds (is, plain, behind) =
-      (rw is (f.x, f.found, rw exists_still refl, λ components reached. plain components (rw (← f.of_access) reached)), behind)
-  stores_next (f' ∷ k) rooms holds r = absurd r
+  stores_next : (t : ℕ) (k : Control) (rooms : Rooms) (holds : Holds) → StoresInto own f.object f.access t k rooms holds → StoresBehind own s.heap t k rooms holds
+  stores_next t [] rooms holds r = absurd r
+  stores_next t (StoresRecord v first count ∷ k) rooms holds (is, inl (plain, behind)) =
+      inl (rw is (f.x, f.found, rw exists_still refl, λ components reached. plain components (rw (← f.of_access) reached)), behind)
+  stores_next t (StoresRecord v first count ∷ k) rooms holds (is, inr adjusted) =
+      inr (rw is (f.x, f.found, rw exists_still refl, rw f.of_access adjusted))
+  stores_next t (f' ∷ k) rooms holds r = absurd r
 
   copies_next : (number : ℕ) → f.treatment ≡ ends (Assigning number) → Overwrites own f.object f.access f.operands f.also f.after f.rooms f.holds → CopiesBehind own f.after s.heap f.places b.operands f.lower
   copies_next number is r =
@@ -311,7 +313,7 @@ module _ (program : Program) (well : IsWellFormed (program_form program)) (s : S
           stored = own_stored (ends (Assigning number)) is;
           roomed = f.waits.roomed;
           fit = own_fit;
-          rest = (rw named lies, stores_next r.stores f.rooms f.holds r.into, r.well);
+          rest = (rw named lies, stores_next r.record_type r.stores f.rooms f.holds r.into, r.well);
         },
       )
 

@@ -296,10 +296,13 @@ module _ (known : Known) (o : Id) (x : Object) (heap : List Object) (found : obj
     one_other source there of p t (inr none) = absurd none
 
     -- Where the copy goes.
-    into_here : (first count : ℕ) (k : Control) (rooms : Rooms) (holds : Holds) → StoresBehind known heap (StoresRecord (Names o) first count ∷ k) rooms holds → StoresInto known o x.cell.access (StoresRecord (Names o) first count ∷ k) rooms holds
-    into_here first count k rooms holds ((y, at, there, plain), behind) =
+    into_here : (t first count : ℕ) (k : Control) (rooms : Rooms) (holds : Holds) → StoresBehind known heap t (StoresRecord (Names o) first count ∷ k) rooms holds → StoresInto known o x.cell.access t (StoresRecord (Names o) first count ∷ k) rooms holds
+    into_here t first count k rooms holds (inl ((y, at, there, plain), behind)) =
         let one : y ≡ x = cc (at, found) in
-        (refl, rw one at plain, behind)
+        (refl, inl (rw one at plain, behind))
+    into_here t first count k rooms holds (inr (y, at, there, adjusted)) =
+        let one : y ≡ x = cc (at, found) in
+        (refl, inr (rw one at adjusted))
 
     assigned_here : (first t : ℕ) (k : Control) → AdjustsAlone (Names o) k → CopiesBehind known (Copies first t ∷ k) heap places operands masters
         → Enters known (ends (Assigning number)) o x (Copies first t ∷ k) heap places operands masters
@@ -311,8 +314,8 @@ module _ (known : Known) (o : Id) (x : Object) (heap : List Object) (found : obj
         k_is : k ≡ StoresRecord (Names o) alone.to alone.width ∷ treating (Names o) (begins (Adjustment alone.number) []) alone.tasks alone.behind
         k_is = rw (adjusted) (alone.is)
 
-        into : StoresInto known o x.cell.access k w.rooms w.holds
-        into = rw k_is (into_here alone.to alone.width (treating (Names o) (begins (Adjustment alone.number) []) alone.tasks alone.behind) w.rooms w.holds (rw k_is at w.rest.1))
+        into : StoresInto known o x.cell.access t k w.rooms w.holds
+        into = rw k_is (into_here t alone.to alone.width (treating (Names o) (begins (Adjustment alone.number) []) alone.tasks alone.behind) w.rooms w.holds (rw k_is at w.rest.1))
 
         others : (v : Value) → v ≢ Names o → NothingBegins v k
         others v ne = rw k_is (treating_others v o (Adjustment alone.number) alone.tasks alone.behind ne (nothing_begins v alone.behind alone.untreated))

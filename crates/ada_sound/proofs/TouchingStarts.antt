@@ -45,6 +45,7 @@ use Rattle.ada_typed.proofs.Overridings.{OperationFor, beginning_for, ending_for
 use Rattle.ada_sound.proofs.Alters.{Alters}
 use Rattle.ada_sound.proofs.Callers.{Suspension, known_in, Stands, callers_of}
 use Rattle.ada_sound.proofs.Touching.{Enters, Touching}
+use Rattle.ada_sound.proofs.Trackers.{touches_apart}
 use Rattle.ada_sound.proofs.TouchingBegins.{IsAlone, alone, touching_begins}
 use Rattle.ada_sound.proofs.TouchingRests.{assigns_by, at_start, ends_by}
 use Rattle.ada_sound.proofs.Fits.{IsWithin}
@@ -187,5 +188,5 @@ module _ (program : Program) (a : Activation Value) (rest : List (Activation Val
         λ t covered. at.includes t (treated_frees_of program sound.well c.x.cell.access c.of operated.1 c.number c.b (rw of_type operated.3) c.treatment k (rw (c.operated.0) (c.operated.2)) (copied_behind (Names c.o) c.treatment k c.heap c.treats) touches c.called c.there t covered) in
         let lets : (raised : Exception) → body_among (implicit_of p) (seen_in (Some c.number) p) raised ≡ true → lets_out (implicit_of p) c.x.cell.access c.treatment raised ≡ true =
         touches_let program sound.well may c.x.cell.access c.of operated.1 c.number c.b (rw of_type operated.3) c.treatment touches silent c.called c.there frugal in
-        rw c.is (touching_begins program sound.well sound.obeys c.number c.b c.there may frugal lone a rest gs s k c.o c.x c.heap c.found (live_there c.x.stage c.live) c.place within c.treatment at c.behind frees lets e c.of c.alters waits (is_awaited p.types c.o c.of c.treatment k c.behind waits) stands
+        rw c.is (touching_begins program sound.well sound.obeys c.number (touches_apart program sound.obeys.0 c.of c.number c.treatment touches c.called) c.b c.there may frugal lone a rest gs s k c.o c.x c.heap c.found (live_there c.x.stage c.live) c.place within c.treatment at c.behind frees lets e c.of c.alters waits (is_awaited p.types c.o c.of c.treatment k c.behind waits) stands
         (calm_behind p.types c.o c.of c.treatment k c.behind waits calm) settled)

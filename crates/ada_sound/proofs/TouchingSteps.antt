@@ -40,6 +40,7 @@ use Rattle.ada_sound.proofs.Operating.{IsCalm, WaitsFor}
 use Rattle.ada_sound.proofs.Ready.{at_work}
 use Rattle.ada_sound.proofs.Returns.{Crosses, CrossesTo, crosses_to, same_types, same_control, left_to, resumed_in, behind_call as behind_mode, behind_frames, behind_body}
 use Rattle.ada_sound.proofs.Sees.{reaches_in, may_call}
+use Rattle.ada_sound.proofs.TracksWell.{copies_at, allocates_at, called_apart}
 use Rattle.ada_sound.proofs.Starts.{Sound}
 use Rattle.ada_sound.proofs.Steps as inside
 use Rattle.ada_sound.proofs.Stored.{IsUnder}
@@ -215,8 +216,8 @@ module _ (program : Program) (s : State) (f : Touching program s) where
         let running = running_procedure s in
         let known = known_in program running (waiting_for program s f) in
         stays_next (next program.types.items (body_forms program) s) same
-        (inside.fine known program.types.items (reaches_in program running (waiting_for program s f)) (body_forms program) (may_call program running (waiting_for program s f) sound.well sound.obeys.0) s
-        none sound.typed.inside (own_bodies p sound.frees_own running) (collect_two p s sound.nested)
+        (inside.fine known (copies_at program running (waiting_for program s f) sound.well sound.obeys.0) program.types.items (reaches_in program running (waiting_for program s f)) (body_forms program) (may_call program running (waiting_for program s f) sound.well) s
+        (allocates_at program running (waiting_for program s f) s sound.obeys.0 sound.apart) none sound.typed.inside (own_bodies p sound.frees_own running) (collect_two p s sound.nested)
         (touching_stands program sound.well s sound.reached f known.program.types (same_types running p)) none_is_under
         (λ left behind runs at. (
         let leaves = touching_leaves program s f runs left behind at in
@@ -360,7 +361,7 @@ module _ (program : Program) (a : Activation Value) (k : Control) (s : State) wh
         f.computed
         (goes_on program (whole Running (Calls number b given)) f sound refl)
         (calls_to program number b given k a rest gs s w ready.rest.1 (inside.heap_typed (seen_in a.procedure (program_form program)) (whole Running (Calls number b given)) sound.typed.inside).1 stands
-        (runs_called program number b given k a gs s sound.well sound.obeys w stands.body ready.rest.1 rest stands)))
+        (runs_called program number b given k a gs s sound.well sound.obeys (called_apart program (whole Running (Calls number b given)) number b given k refl sound.obeys.0 sound.apart) w stands.body ready.rest.1 rest stands)))
       where
         calls_back : (ms : List Master) → Frugal (frugal_procedures (program_form program)) f.behind Running (Calls number b given ∷ k) ms → IsAwaited k → ⊥
         calls_back ms (inl q) awaited = never_awaited (frugal_procedures (program_form program)) f.behind k ms awaited q.1

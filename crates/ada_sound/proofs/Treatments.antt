@@ -1,12 +1,14 @@
 -- The controlled parts of an object are initialized or finalized (7.6, 7.6.1): what is relied on stays as it is, and so does what is behind.
 
-use Rattle.std.proofs.Common.{◌≡◌, ◌≢◌, ℕ, suc, ◌≤◌, Bool, true, false, List, [], ◌∷◌, refl, sym, ap, subst, ◌∙◌, ◌⊎◌, inl, inr}
+use Rattle.std.proofs.Common.{◌≡◌, ◌≢◌, ℕ, suc, ◌≤◌, Bool, true, false, List, [], ◌∷◌, ◌++◌, refl, sym, ap, subst, ◌∙◌, ◌⊎◌, inl, inr, arith, append-nil}
 use Rattle.std.specs.Prelude.{◌==◌, if◌then◌else◌, Option, Some, None}
 use Rattle.std.specs.List.{slice_get, slice_set}
 use Rattle.ada_parts.specs.declared.tasks.Next.{Next as Follows}
 use Rattle.ada_parts.specs.declared.tasks.Next.TheVariants.{Done, Pick, Perform}
 use Rattle.ada_parts.specs.Part as parts
-use Rattle.ada_parts.specs.Task.{Task, performed}
+use Rattle.ada_parts.specs.declared.tasks.Component.{Component}
+use Rattle.ada_parts.specs.declared.tasks.Direction.TheVariants.{PartsFirst}
+use Rattle.ada_parts.specs.Task.{Task, treats, opened, performed, next as task_next}
 use Rattle.ada_program.specs.declared.program.TypeDefinition.{TypeDefinition}
 use Rattle.ada_program.specs.Controlled.{operations_of, procedure_number, shapes_of}
 use Rattle.ada_program.specs.ProgramForm.{BodyForm, TypeForm}
@@ -39,8 +41,11 @@ use Rattle.ada_sound.proofs.Objects.{set_here, set_twice}
 use Rattle.ada_sound.proofs.Stored.{stored_treated}
 use Rattle.ada_sound.proofs.Fits.{Fit, treated_fit, same_unnamed, gone_fit}
 use Rattle.ada_sound.proofs.Alters.{Alters, alters_same, alters_set}
-use Rattle.ada_sound.proofs.Invariant.{outers, Known, Control, Rooms, RunsOn, Working, IsHolder, IsPlainIn, IsLive, NamesTo, BeginsBy, BegunTo, EndsTo, StoresBehind, CopiesBehind, TreatsBy, ThenBack, Ending, ConfinesBy, EndsWell, Stepped, Fine, IsOfAssigned, IsOfCopied, LiesIn}
-use Rattle.ada_sound.proofs.Ready.{running, at_work, stays, treats_ready}
+use Rattle.ada_owners.specs.Places.{is_there}
+use Rattle.ada_typed.proofs.Parts.{shown_shapes}
+use Rattle.ada_sound.proofs.CopiedOwners.{BeginsCopy, SeesToOwners, Leads, now, later}
+use Rattle.ada_sound.proofs.Invariant.{outers, Adjusted, AdjustsTo, Known, Control, Rooms, RunsOn, Working, IsHolder, IsPlainIn, IsAdjustedIn, IsLive, NamesTo, BeginsBy, BegunTo, EndsTo, StoresBehind, CopiesBehind, TreatsBy, ThenBack, Ending, ConfinesBy, EndsWell, Stepped, Fine, IsOfAssigned, IsOfCopied, LiesIn}
+use Rattle.ada_sound.proofs.Ready.{running, at_work, stays, treats_ready, adjusts_ready}
 use Rattle.ada_sound.proofs.Endings.{swapped, gone_still, under_set, behind_set}
 use Rattle.ada_sound.proofs.Undone.{beginning_set, collected_set, undo_set}
 use Rattle.ada_sound.proofs.Operating.{StaysLive, WaitsFor, IsCalled}
@@ -204,15 +209,28 @@ module _ (change : PartState → PartState) (part : ℕ) where
             let one : p.0 ≡ x = let at_q = p.1 in cc (rw same at at_q, found) in
             (treated change part x, rw same (set_here heap o.0 x (treated change part x) found), rw one at p.2, rw one at p.3)
 
-    stores_set : (k : Control) (rooms : Rooms) (holds : Holds) → StoresBehind known heap k rooms holds → StoresBehind known (slice_set heap o.0 (treated change part x)) k rooms holds
-    stores_set [] rooms holds r = absurd r
-    stores_set (StoresRecord p first count ∷ k) rooms holds r = (plain_set p first count r.0, r.1)
-    stores_set (f ∷ k) rooms holds r = absurd r
+    adjusted_set : (v : Value) (t first count : ℕ) (k : Control) (rooms : Rooms) (holds : Holds) → IsAdjustedIn known heap v t first count k rooms holds → IsAdjustedIn known (slice_set heap o.0 (treated change part x)) v t first count k rooms holds
+    adjusted_set Null t first count k rooms holds r = absurd r
+    adjusted_set (Scalar n) t first count k rooms holds r = absurd r
+    adjusted_set (Part q place) t first count k rooms holds r = absurd r
+    adjusted_set (Names q) t first count k rooms holds r = by (same_id q o)
+      where
+        by : (q ≡ o) ⊎ (q ≢ o) → IsAdjustedIn known (slice_set heap o.0 (treated change part x)) (Names q) t first count k rooms holds
+        by (inr ne) = (r.0, at_other heap o q (treated change part x) ne ∙ r.1, r.2, r.3)
+        by (inl same) =
+            let one : r.0 ≡ x = let at_q = r.1 in cc (rw same at at_q, found) in
+            (treated change part x, rw same (set_here heap o.0 x (treated change part x) found), rw one at r.2, rw one at r.3)
+
+    stores_set : (t : ℕ) (k : Control) (rooms : Rooms) (holds : Holds) → StoresBehind known heap t k rooms holds → StoresBehind known (slice_set heap o.0 (treated change part x)) t k rooms holds
+    stores_set t [] rooms holds r = absurd r
+    stores_set t (StoresRecord p first count ∷ k) rooms holds (inl r) = inl (plain_set p first count r.0, r.1)
+    stores_set t (StoresRecord p first count ∷ k) rooms holds (inr r) = inr (adjusted_set p t first count k rooms holds r)
+    stores_set t (f ∷ k) rooms holds r = absurd r
 
     copies_set : (places operands : List Value) (k : Control) → CopiesBehind known k heap places operands ms → CopiesBehind known k (slice_set heap o.0 (treated change part x)) places operands ms
     copies_set places operands [] r = absurd r
     copies_set places operands (Copies first t ∷ k) (copied, w) =
-        (copied, works_set heap o x found known ms (at_work w (lies_set t (first_or Null operands) w.rest.0, stores_set k w.rooms w.holds w.rest.1, w.rest.2)))
+        (copied, works_set heap o x found known ms (at_work w (lies_set t (first_or Null operands) w.rest.0, stores_set t k w.rooms w.holds w.rest.1, w.rest.2)))
     copies_set places operands (f ∷ k) r = absurd r
 
     treats_set : (v : Value) (treatment : Treatment) (places operands : List Value) (k : Control) → v ≡ Names o → TreatsBy known v treatment k heap places operands ms → TreatsBy known v treatment k (slice_set heap o.0 (treated change part x)) places operands ms
@@ -311,6 +329,38 @@ pub record Begins (known : Known) (a : Activation Value) (rest : List (Activatio
   pub tells : TellsNothing e
   pub is : after ≡ operating named number b (Part o place) behind (record (running k a rest s) { heap = heap })
 
+-- The body of an Adjust begins, after a copy, that sees to the components of access types of the only controlled part of an object. These count as null until
+-- it has ended. The part begins with the component `p.first`, and nothing is left of the treatment behind it.
+pub record BeginsAdjust (known : Known) (a : Activation Value) (rest : List (Activation Value)) (s : State) (types : List TypeDefinition) (bodies : List BodyForm) (v : Value) (k : Control) (IsOperated : Treatment → Id → ℕ → Type 0) (e : Event) (after : State) : Type 0 where
+  pub number : ℕ
+  pub b : BodyForm
+  pub there : slice_get bodies number ≡ Some b
+  pub by : Birth
+  pub done : List parts.Part
+  pub copies : BeginsCopy by
+  pub o : Id
+  pub names : v ≡ Names o
+  pub record_type : ℕ
+  pub of : ℕ
+  pub first : ℕ
+  pub part : ℕ
+  pub adjusted : Adjusted known o record_type of first k s.heap a.places s.masters
+  pub p : PartState
+  pub state : slice_get adjusted.x.cell.parts part ≡ Some p
+  pub operated : IsOperated (begins by done) o of
+  pub called : IsCalled (operations_of types of) (begins by done) number
+  pub quiet : e ≡ Quiet
+  pub is : after ≡ operating named number b (Part o (record { component = p.first; part = part })) (frame.Awaits (Names o) by done of part [] ∷ k) (running k a rest s)
+
+-- An object that is there is found.
+looks_there : (heap : List Object) (o : Id) (x : Object) → object_at heap o ≡ Some x → is_there x.stage ≡ true → look heap (Names o) ≡ finds x.cell
+looks_there heap o x found there = rw found (by x.stage there)
+  where
+    by : (stage : Stage) → is_there stage ≡ true → existing x stage ≡ finds x.cell
+    by Building there' = refl
+    by Existing there' = refl
+    by Gone there' = absurd (cc there')
+
 -- The next step of a treatment: one of some components is picked, or a part comes to have a value, or its value is finalized; or nothing is left; or the body
 -- of an operation begins.
 module _ (known : Known) (a : Activation Value) (rest : List (Activation Value)) (s : State) (types : List TypeDefinition) (bodies : List BodyForm) (k : Control) (IsOperated : Treatment → Id → ℕ → Type 0) where
@@ -318,18 +368,23 @@ module _ (known : Known) (a : Activation Value) (rest : List (Activation Value))
   abbrev pub StaysHere : State → Type 0
   StaysHere after = (after.activations ≡ a ∷ rest) × (behind_call after.control ≡ behind_call k)
 
-  abbrev pub Goes : Event → State → Type 0
-  Goes e after = (Stepped known s.heap e after × StaysHere after) ⊎ Begins known a rest s types bodies k IsOperated e after
+  abbrev pub Goes : Value → Event → State → Type 0
+  Goes v e after =
+      (Stepped known s.heap e after × StaysHere after)
+      ⊎ (Begins known a rest s types bodies k IsOperated e after ⊎ BeginsAdjust known a rest s types bodies v k IsOperated e after)
 
-  -- What comes next is known.
-  abbrev pub Treated : Next → Type 0
-  Treated (halts halt) = EndsWell halt s.heap s.masters
-  Treated (moves e after) = Goes e after
-  Treated (tells request e after) = ⊥
-  Treated (asks request answered) = ⊥
-  Treated (picks n taken) = (i : ℕ) → suc i ≤ n → Stepped known s.heap Quiet (taken i) × StaysHere (taken i)
+  -- What comes next is known, where the object of this value is treated.
+  abbrev pub TreatedIn : Value → Next → Type 0
+  TreatedIn v (halts halt) = EndsWell halt s.heap s.masters
+  TreatedIn v (moves e after) = Goes v e after
+  TreatedIn v (tells request e after) = ⊥
+  TreatedIn v (asks request answered) = ⊥
+  TreatedIn v (picks n taken) = (i : ℕ) → suc i ≤ n → Stepped known s.heap Quiet (taken i) × StaysHere (taken i)
 
   module _ (v : Value) where
+    abbrev pub Treated : Next → Type 0
+    Treated n = TreatedIn v n
+
     -- What is left goes on.
     goes_on : (treatment : Treatment) (tasks : List Task) → TreatsBy known v treatment k s.heap a.places a.operands s.masters → IsOfAssigned known.program.types treatment tasks k → Stepped known s.heap Quiet (treated_on named v treatment tasks (running k a rest s))
     goes_on treatment tasks r of =
@@ -368,7 +423,7 @@ module _ (known : Known) (a : Activation Value) (rest : List (Activation Value))
       calls_first : (by : Birth) (done : List parts.Part) (of part : ℕ) (tasks : List Task) (p : PartState) (number : ℕ) → ((o : Id) → v ≡ Names o → IsOperated (begins by done) o of) × (beginning by (operations_of types of) ≡ Some number) → TreatsBy known v (begins by done) k s.heap a.places a.operands s.masters
           → (found : Option BodyForm) → slice_get bodies number ≡ found → Treated (operation_next named number found (part_reference named v part p) (frame.Awaits v by done of part tasks ∷ k) Quiet (running k a rest s))
       calls_first by done of part tasks p number called r None at = tt
-      calls_first by done of part tasks p number called r (Some b) at = inr (record {
+      calls_first by done of part tasks p number called r (Some b) at = inr (inl (record {
         of = of;
         number = number;
         b = b;
@@ -388,7 +443,7 @@ module _ (known : Known) (a : Activation Value) (rest : List (Activation Value))
         alters = alters_same s.heap Quiet;
         tells = tt;
         is = ap (λ (u : Value). operating named number b (part_reference named u part p) (frame.Awaits v by done of part tasks ∷ k) (running k a rest s)) (there.names);
-      })
+      }))
 
       begun_fine : (by : Birth) (done : List parts.Part) (of part : ℕ) (tasks : List Task) (operation : Option ℕ) → ((number : ℕ) → operation ≡ Some number → ((o : Id) → v ≡ Names o → IsOperated (begins by done) o of) × (beginning by (operations_of types of) ≡ Some number)) → (state : Option PartState) → TreatsBy known v (begins by done) k s.heap a.places a.operands s.masters
           → Treated (begun_next named bodies v by done of part tasks operation state (running k a rest s))
@@ -411,7 +466,7 @@ module _ (known : Known) (a : Activation Value) (rest : List (Activation Value))
           → (found : Option BodyForm) → slice_get bodies number ≡ found
           → Treated (operation_next named number found (part_reference named v part p) (frame.Confines ∷ treating v (ends cause) tasks k) (Finalized v part p.turn of p.number cause) (record (running k a rest s) { heap = on_object (treated finalized_part part) s.heap v }))
       calls_last cause of part tasks p number called r inside None at = tt
-      calls_last cause of part tasks p number called r inside (Some b) at = inr (record {
+      calls_last cause of part tasks p number called r inside (Some b) at = inr (inl (record {
         of = of;
         number = number;
         b = b;
@@ -431,7 +486,7 @@ module _ (known : Known) (a : Activation Value) (rest : List (Activation Value))
         alters = alters_treated finalized_part part s.heap _ v;
         tells = tt;
         is = ap (λ (u : Value). operating named number b (part_reference named u part p) (frame.Confines ∷ treating v (ends cause) tasks k) (record (running k a rest s) { heap = on_object (treated finalized_part part) s.heap v })) (there.names);
-      })
+      }))
 
       ended_fine : (cause : Cause) (of part : ℕ) (tasks : List Task) (p : PartState) (operation : Option ℕ) → ((number : ℕ) → operation ≡ Some number → ((o : Id) → v ≡ Names o → IsOperated (ends cause) o of) × (procedure_number (operations_of types of).finalize ≡ Some number)) → TreatsBy known v (ends cause) k s.heap a.places a.operands s.masters → IsOfCopied known.program.types cause tasks k
           → Treated (ended_next named bodies v part p (treating v (ends cause) tasks k) operation (Finalized v part p.turn of p.number cause) (record (running k a rest s) { heap = on_object (treated finalized_part part) s.heap v }))
@@ -476,6 +531,101 @@ module _ (known : Known) (a : Activation Value) (rest : List (Activation Value))
         by true = tt
         by false = λ i lt.
             (goes_on treatment (picked_task (shapes_of types) (direction_of treatment) tasks i) r (inside_left known.program.types treatment tasks (picked_task (shapes_of types) (direction_of treatment) tasks i) k inside (λ t. chosen t (direction_of treatment) tasks i)), (refl, behind_treating v treatment (picked_task (shapes_of types) (direction_of treatment) tasks i) k))
+
+    -- An adjustment that comes to one Adjust alone: that is called next, or what leads to it is picked.
+    adjusts_on : (treatment : Treatment) (tasks : List Task) → AdjustsTo known v treatment tasks k s.heap a.places s.masters → Stepped known s.heap Quiet (treated_on named v treatment tasks (running k a rest s)) × StaysHere (treated_on named v treatment tasks (running k a rest s))
+    adjusts_on treatment tasks to = (
+      stays known Quiet (treated_on named v treatment tasks (running k a rest s)) (tt, adjusts_ready known v treatment tasks k s.heap a.places a.operands s.masters to) tt,
+      (refl, behind_treating v treatment tasks k),
+    )
+
+    module _ (shapes : shown_shapes known.program.types ≡ shapes_of types)
+        (overrides : (r of : ℕ) → SeesToOwners known.program.types r of → (number : ℕ) × (procedure_number (operations_of types of).adjust ≡ Some number)) where
+      adjust_begins : (by : Birth) → BeginsCopy by → (r of : ℕ) → SeesToOwners known.program.types r of → beginning by (operations_of types of) ≡ None → ⊥
+      adjust_begins Creation copies r of sees none = copies
+      adjust_begins Copy copies r of sees none = let o = overrides r of sees in cc (o.1, none)
+      adjust_begins (Adjustment number) copies r of sees none = let o = overrides r of sees in cc (o.1, none)
+
+      module _ (o : Id) (names : v ≡ Names o) (by : Birth) (done : List parts.Part) (copies : BeginsCopy by) (r of first part : ℕ) (adjusted : Adjusted known o r of first k s.heap a.places s.masters) (operated : IsOperated (begins by done) o of) where
+        adjust_called : (p : PartState) → slice_get adjusted.x.cell.parts part ≡ Some p → (number : ℕ) → beginning by (operations_of types of) ≡ Some number → (found : Option BodyForm) → slice_get bodies number ≡ found
+            → Treated (operation_next named number found (part_reference named (Names o) part p) (frame.Awaits (Names o) by done of part [] ∷ k) Quiet (running k a rest s))
+        adjust_called p state number called None at = tt
+        adjust_called p state number called (Some b) at = inr (inr (record {
+          number = number;
+          b = b;
+          there = at;
+          by = by;
+          done = done;
+          copies = copies;
+          o = o;
+          names = names;
+          record_type = r;
+          of = of;
+          first = first;
+          part = part;
+          adjusted = adjusted;
+          p = p;
+          state = state;
+          operated = operated;
+          called = called;
+          quiet = refl;
+          is = refl;
+        }))
+
+        adjust_by : (operation : Option ℕ) → beginning by (operations_of types of) ≡ operation → (state : Option PartState) → slice_get adjusted.x.cell.parts part ≡ state
+            → Treated (begun_next named bodies (Names o) by done of part [] operation state (running k a rest s))
+        adjust_by operation called None at = tt
+        adjust_by None called (Some p) at = absurd (adjust_begins by copies r of adjusted.only.sees called)
+        adjust_by (Some number) called (Some p) at = adjust_called p at number called (slice_get bodies number) refl
+
+        adjust_performed : Treated (performed_next named types bodies (Names o) (begins by done) of part [] (look s.heap (Names o)) (running k a rest s))
+        adjust_performed =
+            rw (looks_there s.heap o adjusted.x adjusted.found adjusted.there)
+            (adjust_by (beginning by (operations_of types of)) refl (slice_get adjusted.x.cell.parts part) refl)
+
+      module _ (treatment : Treatment) (tasks : List Task) (to : AdjustsTo known v treatment tasks k s.heap a.places s.masters) where
+        leads_on : (left : List Task) → Leads (shown_shapes known.program.types) left to.of to.part → AdjustsTo known v treatment left k s.heap a.places s.masters
+        leads_on left more = record {
+          by = to.by;
+          done = to.done;
+          begun = to.begun;
+          copies = to.copies;
+          o = to.o;
+          is = to.is;
+          record_type = to.record_type;
+          of = to.of;
+          first = to.first;
+          part = to.part;
+          adjusted = to.adjusted;
+          leads = more;
+        }
+
+        picked : (c : Component) → Leads (shown_shapes known.program.types) (opened (shown_shapes known.program.types) PartsFirst c.of c.first) to.of to.part
+            → (i : ℕ) → i ≡ 0 → Stepped known s.heap Quiet (treated_on named v treatment (picked_task (shapes_of types) (direction_of treatment) (treats (c ∷ []) ∷ []) i) (running k a rest s)) × StaysHere (treated_on named v treatment (picked_task (shapes_of types) (direction_of treatment) (treats (c ∷ []) ∷ []) i) (running k a rest s))
+        picked c more i none =
+            let left = opened (shapes_of types) PartsFirst c.of c.first in
+            let all : left ++ [] ≡ left = append-nil left in
+            let next : AdjustsTo known v treatment left k s.heap a.places s.masters = rw shapes at (leads_on (opened (shown_shapes known.program.types) PartsFirst c.of c.first) more) in
+            let on = adjusts_on treatment left next in
+            rw (none, ap direction_of (to.begun), all) on
+
+        performs_now : (calls : IsOperated (begins to.by to.done) to.o to.of) → Treated (performed_next named types bodies v treatment to.of to.part [] (look s.heap v) (running k a rest s))
+        performs_now calls =
+            let now' = adjust_performed to.o to.is to.by to.done to.copies to.record_type to.of to.first to.part to.adjusted calls in
+            let at_name : TreatedIn v (performed_next named types bodies (Names to.o) treatment to.of to.part [] (look s.heap (Names to.o)) (running k a rest s)) =
+            subst (λ (by : Treatment). TreatedIn v (performed_next named types bodies (Names to.o) by to.of to.part [] (look s.heap (Names to.o)) (running k a rest s))) (sym to.begun) now' in
+            subst (λ (u : Value). TreatedIn v (performed_next named types bodies u treatment to.of to.part [] (look s.heap u) (running k a rest s))) (sym to.is) at_name
+
+        by_leads : (left : List Task) → Leads (shown_shapes known.program.types) left to.of to.part → ((of part : ℕ) → task_next left ≡ Perform of part → (o : Id) → v ≡ Names o → IsOperated treatment o of)
+            → Treated (treats_next named types bodies v treatment left (task_next left) (running k a rest s))
+        by_leads left (now is) operated =
+            let calls : IsOperated treatment to.o to.of = operated to.of to.part (rw is refl) to.o to.is in
+            let own : IsOperated (begins to.by to.done) to.o to.of = rw (to.begun) at calls in
+            rw is (performs_now own)
+        by_leads left (later c is more) operated = rw is (λ i lt. picked c more i (omega (arith, lt)))
+
+      pub adjusts_fine : (treatment : Treatment) (tasks : List Task) → ((of part : ℕ) → task_next tasks ≡ Perform of part → (o : Id) → v ≡ Names o → IsOperated treatment o of) → AdjustsTo known v treatment tasks k s.heap a.places s.masters → Treated (treats_next named types bodies v treatment tasks (task_next tasks) (running k a rest s))
+      adjusts_fine treatment tasks operated to = by_leads treatment tasks to tasks to.leads operated
 
 -- Behind the body of a Finalize.
 pub confines_fine : (known : Known) (a : Activation Value) (rest : List (Activation Value)) (s : State) (k : Control) → ConfinesBy known k s.heap a.places a.operands s.masters → Stepped known s.heap Quiet (running k a rest s)

@@ -1,20 +1,17 @@
 -- Where no Adjust is of a type that declares components of access types, no body tracks any, and a record with one leaves two owners when it is copied.
 
-use Rattle.std.proofs.Common.{◌≡◌, ℕ, zero, suc, ◌+◌, Bool, true, false, ◌&&◌, ◌||◌, not, List, [], ◌∷◌, map, length, refl, sym, ◌∙◌}
-use Rattle.std.specs.Prelude.{Option, Some, None, is_some}
+use Rattle.std.proofs.Common.{◌≡◌, ℕ, zero, suc, Bool, true, false, ◌&&◌, ◌||◌, not, List, [], ◌∷◌, length, refl}
+use Rattle.std.specs.Prelude.{Option, Some, None}
 use Rattle.std.specs.Prelude.{if◌then◌else◌}
-use Rattle.std.specs.List.{list_all, list_any, slice_get}
-use Rattle.std.proofs.lemmas.Bool.{and_parts}
+use Rattle.std.specs.List.{list_any, slice_get}
 use Rattle.ada_program.specs.declared.program.ComponentKind.{ComponentKind}
 use Rattle.ada_program.specs.declared.program.ComponentKind.TheVariants as component
 use Rattle.ada_program.specs.declared.program.Finalization.{Finalization}
 use Rattle.ada_program.specs.declared.program.PartKind.{PartKind}
 use Rattle.ada_program.specs.declared.program.PartKind.TheVariants as part
 use Rattle.ada_program.specs.declared.program.ProcedureNo.{ProcedureNo}
-use Rattle.ada_program.specs.ProgramForm.{PartForm, TypeForm, record_of, access_to, object_of, BodyForm, ProgramForm}
-use Rattle.ada_program.specs.WellFormed.{profile_of, is_inherited, overrides_rightly, variable_kind, is_operation, has_operations, have_operations, callable_in, finalization_in, IsWellFormed}
-use Rattle.ada_quiet.specs.Quiet.{is_of_access, adjusts_access}
-use Rattle.ada_quiet.specs.InUse.{uses_operations, operations_are_in_use}
+use Rattle.ada_program.specs.ProgramForm.{PartForm, TypeForm, record_of, access_to, object_of, BodyForm}
+use Rattle.ada_program.specs.WellFormed.{is_inherited, variable_kind}
 use Rattle.ada_flow.specs.Parts.{is_record_among, has_component_among}
 use Rattle.ada_flow.specs.Flow.{is_owning_part, is_owning_record, leaves_copies, leaves_own, owns_within, declares_owner, leaves_within, leaves_owners, object_record, is_procedure, tracked_of, tracked_by_adjust, tracks_of}
 use Rattle.ada_flow.specs.Tracking.{no_tracks, tracks_behind, number_within, access_numbers}
@@ -118,53 +115,3 @@ module _ (types : List TypeForm) (none : AdjustsNoOwners types) where
       by : (o : Option ℕ) → tracks_behind (length b.variables) (tracked_by_adjust types q o) ≡ no_tracks
       by None = refl
       by (Some r) = rw (tracks_at q r (slice_get types r) refl) refl
-
--- Where the operations of a program are in use, no Adjust is of such a type.
-module _ (p : ProgramForm) where
-  body_there : (bs : List BodyForm) (n t : ℕ) → is_operation p.types t (slice_get (map profile_of bs) n) ≡ true → is_some (slice_get bs n) ≡ true
-  body_there [] n t is = absurd (cc is)
-  body_there (b ∷ bs) zero t is = refl
-  body_there (b ∷ bs) (suc n) t is = body_there bs n t is
-
-  of_access : (kind : PartKind) → is_owning_part kind ≡ is_of_access kind
-  of_access (part.Elementary (component.Integer initial)) = refl
-  of_access (part.Elementary (component.Boolean initial)) = refl
-  of_access (part.Elementary (component.Access access)) = refl
-  of_access (part.Record t) = refl
-  of_access part.Parent = refl
-
-  have_access : (ps : List PartForm) → list_any (λ c. is_owning_part c.kind) ps ≡ list_any (λ c. is_of_access c.kind) ps
-  have_access [] = refl
-  have_access (q ∷ ps) = rw (of_access q.kind, have_access ps) refl
-
-  inherits : (n : ℕ) (name : List ℕ) (parts : List PartForm) (components : List ComponentKind) (f : Finalization) (adjust : Option ProcedureNo) → f.operations.adjust ≡ adjust
-      → has_operations p.types (callable_in p) n (Some f) ≡ true → not (adjusts_access p (record_of name parts components (Some f))) ≡ true
-      → list_any (λ c. is_owning_part c.kind) parts ≡ true → is_inherited adjust ≡ true
-  inherits n name parts components f None same right uses owns = refl
-  inherits n name parts components f (Some procedure) same right uses owns =
-      let callable = callable_in p in
-      let initialize = overrides_rightly p.types callable n f.operations.initialize in
-      let adjusts = overrides_rightly p.types callable n f.operations.adjust in
-      let both : (initialize && adjusts) ≡ true = (and_parts (initialize && adjusts) (overrides_rightly p.types callable n f.operations.finalize) right).0 in
-      let rightly : overrides_rightly p.types callable n f.operations.adjust ≡ true = (and_parts initialize adjusts both).1 in
-      let here = rw same at rightly in
-      let there = body_there p.bodies procedure.0 n here in
-      let access = sym (have_access parts) ∙ owns in
-      absurd (cc (rw (access, same, there) at uses))
-
-  inherits_at : (ts : List TypeForm) (n t : ℕ) (name : List ℕ) (parts : List PartForm) (components : List ComponentKind) (f : Finalization)
-      → have_operations p.types (callable_in p) n ts ≡ true → list_all (λ d. uses_operations p (finalization_in (Some d)) && not (adjusts_access p d)) ts ≡ true
-      → slice_get ts t ≡ Some (record_of name parts components (Some f)) → list_any (λ c. is_owning_part c.kind) parts ≡ true → is_inherited f.operations.adjust ≡ true
-  inherits_at [] n t name parts components f right uses at owns = absurd (cc at)
-  inherits_at (d ∷ ts) n zero name parts components f right uses at owns =
-      let same : d ≡ record_of name parts components (Some f) = cc at in
-      let first = (and_parts (has_operations p.types (callable_in p) n (finalization_in (Some d))) (have_operations p.types (callable_in p) (1 + n) ts) right).0 in
-      let all = and_parts (uses_operations p (finalization_in (Some d)) && not (adjusts_access p d)) (list_all (λ t. uses_operations p (finalization_in (Some t)) && not (adjusts_access p t)) ts) uses in
-      let here = rw same at first in
-      let used = rw same at (and_parts (uses_operations p (finalization_in (Some d))) (not (adjusts_access p d)) all.0).1 in
-      inherits n name parts components f f.operations.adjust refl here used owns
-  inherits_at (d ∷ ts) n (suc t) name parts components f right uses at owns =
-      inherits_at ts (1 + n) t name parts components f (and_parts _ _ right).1 (and_parts _ _ uses).1 at owns
-
-  pub adjusts_no_owners : IsWellFormed p → operations_are_in_use p ≡ true → AdjustsNoOwners p.types
-  adjusts_no_owners well uses t name parts components f at owns = inherits_at p.types 0 t name parts components f well.operations_fit uses at owns

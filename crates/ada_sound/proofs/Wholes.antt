@@ -1,6 +1,6 @@
 -- Records as wholes: they are copied and assigned to, where their components are Integers and Booleans.
 
-use Rattle.std.proofs.Common.{◌≡◌, ℕ, ◌+◌, Bool, true, false, ◌||◌, ◌&&◌, List, [], ◌∷◌, ◌++◌, length, take, drop, reverse, refl, ap, ◌∙◌, inl}
+use Rattle.std.proofs.Common.{◌≡◌, ℕ, ◌+◌, Bool, true, false, ◌||◌, ◌&&◌, List, [], ◌∷◌, ◌++◌, length, take, drop, reverse, refl, sym, ap, ◌∙◌, inl, inr}
 use Rattle.std.proofs.lemmas.Bool.{eqb-true}
 use Rattle.std.specs.Prelude.{Option, Some, None, ◌==◌, if◌then◌else◌}
 use Rattle.std.specs.List.{list_any}
@@ -20,9 +20,11 @@ use Rattle.ada_flow.specs.Tracking.{no_tracks}
 use Rattle.ada_meaning.specs.declared.state.Id.{Id}
 use Rattle.ada_meaning.specs.declared.state.Value.{Value}
 use Rattle.ada_meaning.specs.declared.state.Value.TheVariants.{Null, Names, Scalar, Part}
-use Rattle.ada_meaning.specs.declared.state.Mode.TheVariants.{Raising}
+use Rattle.ada_meaning.specs.declared.event.Birth.TheVariants.{Adjustment}
+use Rattle.ada_meaning.specs.declared.state.Mode.TheVariants.{Raising, Running}
 use Rattle.ada_meaning.specs.Event.{Followed}
 use Rattle.ada_meaning.specs.Frame.{Does, Fills, TargetsRecord, StoresRecord}
+use Rattle.ada_meaning.specs.Frame as frame
 use Rattle.ada_meaning.specs.Heap.{finds}
 use Rattle.ada_meaning.specs.State.{Activation, Master}
 use Rattle.ada_meaning.specs.Step.{in_front, if_whole, record_in, copied_next, copies_next, record_target_next, stored_from, record_stored_next, store_record_next, place_in, record_holder_next}
@@ -38,24 +40,27 @@ use Rattle.ada_sound.proofs.Stored.{Stored, stored_filled}
 use Rattle.ada_sound.proofs.Fits.{Fit, MayFollow, none_spared, place_at, store_blank}
 use Rattle.ada_sound.proofs.Alters.{Alters, alters_same, alters_set, alters_then}
 use Rattle.ada_sound.proofs.Begins.{root_follows}
-use Rattle.ada_sound.proofs.Invariant.{outers, Known, Control, Goes, To, Raised, RunsOn, RunsBehind, RaisesAt, IsPlainIn, CopiesTo, RecordIn, Working, Fine, ways, begun, along}
-use Rattle.ada_sound.proofs.Ready.{running, at_work, stays, runs_behind, behind_ready, jumps_less}
+use Rattle.ada_sound.proofs.CopiedOwners.{NameThere, names_drop, names_take, names_reverse, names_in_front, names_all, part_owners, hiding, IsHidden, Covered, CopiesWell}
+use Rattle.ada_sound.proofs.HiddenOwners.{names_hidden, hide_set, components_there, stored_hidden, StoresWell, covered_stores, Hides, hide_all}
+use Rattle.ada_tracked.specs.Frames.{View, blanked}
+use Rattle.ada_typed.proofs.Parts.{shown_number}
+use Rattle.ada_sound.proofs.Invariant.{outers, Known, Control, Rooms, Goes, To, Raised, RunsOn, RunsBehind, RaisesAt, IsPlainIn, AdjustedBehind, IsAdjustedIn, StoresSo, StoresFrom, AdjustsTo, ReadyIn, CopiesTo, RecordIn, Working, Fine, ways, begun, along}
+use Rattle.ada_sound.proofs.Ready.{running, at_work, at_less, stays, runs_behind, behind_ready, jumps_less}
 use Rattle.ada_sound.proofs.Outcomes.{raised_before, using_goes, ends_goes, loses_to}
 use Rattle.ada_sound.proofs.Followings.{first_kept, kept_apart}
 use Rattle.ada_sound.proofs.Handings.{passed_safe}
 use Rattle.ada_sound.proofs.Raising.{or_left, or_right}
 use Rattle.ada_sound.proofs.Roots.{root_object, object_there, record_raises, selected_raises}
 use Rattle.ada_sound.proofs.Assigned.{kind_names}
-use Rattle.ada_sound.proofs.Gathered.{gathered_plain}
+use Rattle.ada_sound.proofs.Gathered.{gathered_bare}
 use Rattle.ada_sound.proofs.Copied.{items_keep, copied_plain, RecordThere}
 use Rattle.ada_sound.proofs.Defaults.{Reaches}
 use Rattle.ada_sound.proofs.Records.{NameNothing, plain_names_nothing}
 use Rattle.ada_sound.proofs.Targets.{followed}
 use Rattle.ada_sound.proofs.Walks.{finds_fine}
-use Rattle.ada_sound.specs.Untracked.{AdjustsNoOwners}
 
 -- What typing says of a record in an object: the object has its components, from one on.
-begins_some : (found : Option (List ComponentKind)) (first : ℕ) (kinds : List ComponentKind) → has_record_at found first (Some kinds) ≡ true → (components : List ComponentKind) × (found ≡ Some components) × (begins_with (drop first components) kinds ≡ true)
+pub begins_some : (found : Option (List ComponentKind)) (first : ℕ) (kinds : List ComponentKind) → has_record_at found first (Some kinds) ≡ true → (components : List ComponentKind) × (found ≡ Some components) × (begins_with (drop first components) kinds ≡ true)
 begins_some None first kinds e = absurd (cc e)
 begins_some (Some components) first kinds e = (components, refl, e)
 
@@ -95,6 +100,24 @@ from_object (c ∷ components) (kind ∷ kinds) begins plain =
     let p = neither (is_owning c) (list_any is_owning (take (length kinds) components)) plain in
     rw (← alike_owns c kind b.0, p.0) (from_object components kinds b.1 p.1)
 
+-- Where the components of one of the two lists are covered, those of the other are.
+covers_same : (c kind : ComponentKind) → is_alike c kind ≡ true → (X : Type 0) → (is_owning c ≡ true → X) → is_owning kind ≡ true → X
+covers_same c kind e X covers owns = covers (alike_owns c kind e ∙ owns)
+
+pub covered_to : (hidden : List ℕ) (first : ℕ) (components kinds : List ComponentKind) → begins_with components kinds ≡ true → Covered hidden first (take (length kinds) components) → Covered hidden first kinds
+covered_to hidden first components [] begins covers = tt
+covered_to hidden first [] (kind ∷ kinds) begins covers = absurd (cc begins)
+covered_to hidden first (c ∷ components) (kind ∷ kinds) begins covers =
+    let b = both (is_alike c kind) (begins_with components kinds) begins in
+    (covers_same c kind b.0 (IsHidden hidden first) covers.0, covered_to hidden (first + 1) components kinds b.1 covers.1)
+
+pub covered_from : (hidden : List ℕ) (first : ℕ) (components kinds : List ComponentKind) → begins_with components kinds ≡ true → Covered hidden first kinds → Covered hidden first (take (length kinds) components)
+covered_from hidden first components [] begins covers = tt
+covered_from hidden first [] (kind ∷ kinds) begins covers = absurd (cc begins)
+covered_from hidden first (c ∷ components) (kind ∷ kinds) begins covers =
+    let b = both (is_alike c kind) (begins_with components kinds) begins in
+    ((λ owns. covers.0 (sym (alike_owns c kind b.0) ∙ owns)), covered_from hidden (first + 1) components kinds b.1 covers.1)
+
 -- As many values as are copied.
 whole_length : (count : ℕ) (values vs : List Value) → if_whole count values ≡ Some vs → length vs ≡ count
 whole_length count values vs e = go (length values == count) refl e
@@ -102,6 +125,13 @@ whole_length count values vs e = go (length values == count) refl e
     go : (b : Bool) → (length values == count) ≡ b → (if b then Some values else None) ≡ Some vs → length vs ≡ count
     go true is e' = let one : values ≡ vs = cc e' in rw (← one) (eqb-true (length values) count is)
     go false is e' = absurd (cc e')
+
+whole_is : (count : ℕ) (values vs : List Value) → if_whole count values ≡ Some vs → values ≡ vs
+whole_is count values vs e = go (length values == count) e
+  where
+    go : (b : Bool) → (if b then Some values else None) ≡ Some vs → values ≡ vs
+    go true e' = cc e'
+    go false e' = absurd (cc e')
 
 -- An object of which components get values that name nothing is still there, objects are stored, and all places are as they are relied on to be.
 pub record Stores (known : Known) (heap : List Object) (places : List Value) (ms : List Master) (holds : Holds) (o : Id) (after : List Object) : Type 0 where
@@ -125,24 +155,41 @@ module _ (known : Known) (types : List TypeDefinition) (reaches : Reaches known 
   pub width_is : (t : ℕ) (kinds : List ComponentKind) → record_components known.program.types t ≡ Some kinds → width_of types t ≡ length kinds
   width_is t kinds is = ap count_of (reaches.1 t ∙ is)
 
+  -- What is copied goes into components of an object.
+  copied_from : (p : Value) (t first count : ℕ) (vs below : List Value) (next : Control) (rooms : Rooms) (holds : Holds) → length vs ≡ width_of types t → NameThere s.heap vs → IsAdjustedIn known s.heap p t first count next rooms holds → NameThere s.heap (take count (in_front vs below))
+  copied_from Null t first count vs below next rooms holds many names r = absurd r
+  copied_from (Scalar n) t first count vs below next rooms holds many names r = absurd r
+  copied_from (Part q place) t first count vs below next rooms holds many names r = absurd r
+  copied_from (Names q) t first count vs below next rooms holds many names r =
+      let to = r.3 in
+      let as_many : count ≡ length vs = to.counted ∙ sym (many ∙ width_is t to.kinds to.components) in
+      rw as_many (names_in_front s.heap vs below names)
+
+  copied_in : (p : Value) (t first count : ℕ) (vs below : List Value) (next : Control) (rooms : Rooms) (holds : Holds) → length vs ≡ width_of types t → NameThere s.heap vs → StoresSo known s.heap p t first count next rooms holds → StoresFrom known s.heap (in_front vs below) p first count next rooms holds
+  copied_in p t first count vs below next rooms holds many names (inl r) = inl r
+  copied_in p t first count vs below next rooms holds many names (inr r) = inr (t, r, copied_from p t first count vs below next rooms holds many names r)
+
   -- A record is copied: null raises Constraint_Error.
-  copied_on : (next : Control) (o : Id) (there : IsThere s.heap o) (t : ℕ) (below : List Value) (found : Option (List Value)) → ((vs : List Value) → found ≡ Some vs → length vs ≡ width_of types t) → Working known s.heap a.places s.masters (CopiesTo known s.heap a.places t below next) → Fine known s.heap s.masters (copied_next named (Names o) found (running next (record a { operands = below }) rest s))
-  copied_on next o there t below None many w = tt
-  copied_on [] o there t below (Some vs) many w = absurd w.rest
-  copied_on (Fills items ∷ k') o there t below (Some vs) many w =
+  copied_on : (next : Control) (o : Id) (there : IsThere s.heap o) (t : ℕ) (below : List Value) (found : Option (List Value)) → ((vs : List Value) → found ≡ Some vs → length vs ≡ width_of types t) → ((vs : List Value) → found ≡ Some vs → NameThere s.heap vs) → Working known s.heap a.places s.masters (CopiesTo known s.heap a.places t below next) → Fine known s.heap s.masters (copied_next named (Names o) found (running next (record a { operands = below }) rest s))
+  copied_on next o there t below None many names w = tt
+  copied_on [] o there t below (Some vs) many names w = absurd w.rest
+  copied_on (Fills items ∷ k') o there t below (Some vs) many names w =
       stays known (Followed (Names o)) (running (Fills items ∷ k') (record a { operands = in_front vs below }) rest s)
-      (tt, at_work w (w.rest.2 vs (many vs refl ∙ width_is t w.rest.0 w.rest.1))) (followed o there w.stored)
-  copied_on (StoresRecord p first count ∷ k') o there t below (Some vs) many w =
+      (tt, at_work w (w.rest.2 vs (many vs refl ∙ width_is t w.rest.0 w.rest.1) (names vs refl))) (followed o there w.stored)
+  copied_on (StoresRecord p first count ∷ k') o there t below (Some vs) many names w =
       stays known (Followed (Names o)) (running (StoresRecord p first count ∷ k') (record a { operands = in_front vs below }) rest s)
-      (tt, w) (followed o there w.stored)
-  copied_on (f ∷ k') o there t below (Some vs) many w = absurd w.rest
+      (tt, at_work w (copied_in p t first count vs below k' w.rooms w.holds (many vs refl) (names vs refl) w.rest)) (followed o there w.stored)
+  copied_on (f ∷ k') o there t below (Some vs) many names w = absurd w.rest
 
   pub copies_fine : (first t : ℕ) (v : Value) (below : List Value) → Working known s.heap a.places s.masters (λ rooms holds. MayFollow s.heap v × RaisesAt known v [] k rooms holds × CopiesTo known s.heap a.places t below k rooms holds) → Fine known s.heap s.masters (copies_next named v first (width_of types t) (look s.heap v) (running k (record a { operands = below }) rest s))
   copies_fine first t Null below w = jumps_less known k (record a { operands = below }) rest s (Raising ConstraintError) (at_work w (w.rest.1 refl))
   copies_fine first t (Names o) below w =
       let there : IsThere s.heap o = w.rest.0 in
       let looks : look s.heap (Names o) ≡ finds there.0.cell = rw (there.1, (w.stored.sane o there.0 there.1).there_exists there.2) refl in
-      rw looks (copied_on k o there t below (record_in there.0.cell.values first (width_of types t)) (λ vs is. whole_length (width_of types t) (take (width_of types t) (drop first there.0.cell.values)) vs is) (at_work w w.rest.2))
+      rw looks (copied_on k o there t below (record_in there.0.cell.values first (width_of types t)) (λ vs is. whole_length (width_of types t) (take (width_of types t) (drop first there.0.cell.values)) vs is)
+      (λ vs is. rw (← whole_is (width_of types t) (take (width_of types t) (drop first there.0.cell.values)) vs is)
+      (names_take s.heap (width_of types t) (drop first there.0.cell.values) (names_drop s.heap first there.0.cell.values (names_all s.heap there.0.cell.values (components_there s.heap o there.0 there.1 w.fit there.2)))))
+      (at_work w w.rest.2))
   copies_fine first t (Scalar n) below w = tt
   copies_fine first t (Part object_id base) below w = tt
 
@@ -196,19 +243,97 @@ module _ (known : Known) (types : List TypeDefinition) (reaches : Reaches known 
         says = followed o (object, found, listed) w.stored;
       }
 
-  pub store_record_fine : (o : Value) (first count : ℕ) (kinds : List OperandKind) → typed.Fits known.program (cells_of s.heap) kinds (StoresRecord o first count ∷ k) → AreComputed known.program.types (cells_of s.heap) kinds a.operands → Working known s.heap a.places s.masters (λ rooms holds. IsPlainIn known s.heap o first count × RunsBehind known k rooms holds) → Fine known s.heap s.masters (store_record_next named o first count (look s.heap o) (running k a rest s))
-  store_record_fine Null first count kinds fits computed w = absurd w.rest.0
-  store_record_fine (Names o) first count kinds fits computed w =
-      let p = w.rest.0 in
-      let none = named_nothing o first count kinds fits computed p in
-      let looks : look s.heap (Names o) ≡ finds p.0.cell = rw (p.1, (w.stored.sane o p.0 p.1).there_exists p.2) refl in
-      rw looks (stored_whole o p.0 first count (record_in p.0.cell.values first count) p.1 p.2 none (at_work w w.rest.1))
-  store_record_fine (Scalar n) first count kinds fits computed w = absurd w.rest.0
-  store_record_fine (Part object_id base) first count kinds fits computed w = absurd w.rest.0
+  -- Where an Adjust sees to components of access types, these count as null until it has ended.
+  module _ (o : Id) (object : Object) (t first count : ℕ) (found : object_at s.heap o ≡ Some object) (listed : is_there object.stage ≡ true) {more : Rooms → Holds → Type 0} (w : Working known s.heap a.places s.masters more) (to : AdjustedBehind known (Names o) object.cell.access t first count k w.rooms w.holds) where
+    abbrev hidden : List ℕ
+    hidden = part_owners known.program.types to.part_type to.owns
+
+    abbrev view : View
+    view = hiding known.program.types to.part_type to.owns o
+
+    abbrev values : List Value
+    values = reverse (take count a.operands)
+
+    abbrev stores : List Object
+    stores = stored_from named s.heap (Names o) first values
+
+    well_stored : (kinds : List OperandKind) → typed.Fits known.program (cells_of s.heap) kinds (StoresRecord (Names o) first count ∷ k) → AreComputed known.program.types (cells_of s.heap) kinds a.operands → StoresWell hidden first values
+    well_stored kinds (ks, access, rs, is, counted, name, designates, lies, rest') computed =
+        let have = (typed.split known.program.types (cells_of s.heap) rs ks a.operands (rw is at computed)).0 in
+        let of : Some access.0 ≡ Some object.cell.access = kind_names known.program.types s.heap (variable.Access access) o object designates found in
+        let same : access.0 ≡ object.cell.access = cc of in
+        let b = begins_some (reached_components known.program.types object.cell.access) first rs (rw same at lies) in
+        let covers : Covered hidden first (take (length rs) (drop first b.0)) = rw counted at (to.covers b.0 b.1) in
+        rw counted (covered_stores known.program.types (cells_of s.heap) hidden first rs (reverse (take (length rs) a.operands)) (covered_to hidden first (drop first b.0) rs b.2 covers) have)
+
+    fits_hidden : Fit known.program.types known.program.variables (outers known) none_spared (blanked view s.heap) a.places w.holds
+    fits_hidden = rw found (hide_set s.heap o object found w.fit hidden)
+
+    hides : StoresWell hidden first values → NameThere s.heap (take count a.operands) → Hides (outers known) known.program.types known.program.variables s.heap a.places s.masters w.holds view object stores
+    hides well names =
+        hide_all (outers known) known.program.types known.program.variables a.places s.masters w.holds view refl s.heap object first values found well
+        (names_reverse s.heap (take count a.operands) names) (names_hidden s.heap hidden object.cell.values (components_there s.heap o object found w.fit listed)) w.stored fits_hidden
+
+    hidden_works : Hides (outers known) known.program.types known.program.variables s.heap a.places s.masters w.holds view object stores → Working known (blanked view stores) a.places s.masters (λ rooms holds. To (RunsOn known to.behind rooms) holds)
+    hidden_works h = record { rooms = w.rooms; holds = w.holds; stored = stored_hidden view h.object h.found h.stored; roomed = w.roomed; fit = h.fit; rest = to.runs }
+
+    adjusts_next : Hides (outers known) known.program.types known.program.variables s.heap a.places s.masters w.holds view object stores → AdjustsTo known (Names o) (frame.begins (Adjustment to.number) []) to.tasks to.behind stores a.places s.masters
+    adjusts_next h =
+        let works = hidden_works h in
+        record {
+          by = Adjustment to.number;
+          done = [];
+          begun = refl;
+          copies = tt;
+          o = o;
+          is = refl;
+          record_type = to.part_type;
+          of = to.of;
+          first = to.owns;
+          part = to.part;
+          adjusted = record {
+            x = h.object;
+            found = h.found;
+            there = rw (h.stage) listed;
+            only = rw (h.access) (to.only);
+            named = h.named;
+            works = at_less works works.rest;
+          };
+          leads = to.leads;
+        }
+
+    adjusts_ready : Hides (outers known) known.program.types known.program.variables s.heap a.places s.masters w.holds view object stores → ReadyIn known Running k stores a.places (drop count a.operands) s.masters
+    adjusts_ready h = let next = inr (adjusts_next h) in rw (to.is) next
+
+    stored_adjusted : (before : Option (List Value)) → StoresWell hidden first values → NameThere s.heap (take count a.operands) → Fine known s.heap s.masters (record_stored_next named (Names o) first values before (running k (record a { operands = drop count a.operands }) rest s))
+    stored_adjusted None well names = tt
+    stored_adjusted (Some before) well names =
+        let h = hides well names in
+        record { ready = (tt, adjusts_ready h); alters = h.alters; says = followed o (object, found, listed) w.stored }
+
+  pub store_record_fine : (o : Value) (first count : ℕ) (kinds : List OperandKind) → typed.Fits known.program (cells_of s.heap) kinds (StoresRecord o first count ∷ k) → AreComputed known.program.types (cells_of s.heap) kinds a.operands → Working known s.heap a.places s.masters (StoresFrom known s.heap a.operands o first count k) → Fine known s.heap s.masters (store_record_next named o first count (look s.heap o) (running k a rest s))
+  store_record_fine v first count kinds fits computed w = by v fits w.rest
+    where
+      by : (v : Value) → typed.Fits known.program (cells_of s.heap) kinds (StoresRecord v first count ∷ k) → StoresFrom known s.heap a.operands v first count k w.rooms w.holds → Fine known s.heap s.masters (store_record_next named v first count (look s.heap v) (running k a rest s))
+      by Null fits' (inl r) = absurd r.0
+      by (Scalar n) fits' (inl r) = absurd r.0
+      by (Part q place) fits' (inl r) = absurd r.0
+      by Null fits' (inr r) = absurd r.1
+      by (Scalar n) fits' (inr r) = absurd r.1
+      by (Part q place) fits' (inr r) = absurd r.1
+      by (Names o) fits' (inl r) =
+          let p = r.0 in
+          let none = named_nothing o first count kinds fits' computed p in
+          let looks : look s.heap (Names o) ≡ finds p.0.cell = rw (p.1, (w.stored.sane o p.0 p.1).there_exists p.2) refl in
+          rw looks (stored_whole o p.0 first count (record_in p.0.cell.values first count) p.1 p.2 none (at_work w r.1))
+      by (Names o) fits' (inr r) =
+          let p = r.1 in
+          let looks : look s.heap (Names o) ≡ finds p.0.cell = rw (p.1, (w.stored.sane o p.0 p.1).there_exists p.2) refl in
+          rw looks (stored_adjusted o p.0 r.0 first count p.1 p.2 w p.3 (record_in p.0.cell.values first count) (well_stored o p.0 r.0 first count p.1 p.2 w p.3 kinds fits' computed) r.2)
 
 -- A record is assigned to: its object is found first.
-pub record_begins : (known : Known) (a : Activation Value) (rest : List (Activation Value)) (s : State) → AdjustsNoOwners known.program.types → (target : RecordPathForm) (items : List ItemForm) (fs : StmtsForm) (k : Control) → RecordThere known.program.types known.program.variables target → Working known s.heap a.places s.masters (λ rooms holds. Goes (gives_record known.program.types known.program.variables no_tracks (λ u. assignment_frees known.implicit u target.record_type) target items holds) (RunsOn known (Does fs ∷ k) rooms) (Raised (λ e. stmt_raises (effects_of known.implicit known.program) (is_same e) (assigns_record target items)) (ways known k rooms))) → Fine known s.heap s.masters (record_holder_next named target (λ place. TargetsRecord place.component target.record_type items) (running (Does fs ∷ k) a rest s))
-record_begins known a rest s adjusts target items fs k there w =
+pub record_begins : (known : Known) (a : Activation Value) (rest : List (Activation Value)) (s : State) → CopiesWell known.program.types → (target : RecordPathForm) (items : List ItemForm) (fs : StmtsForm) (k : Control) → shown_number known.program.types (Some target.record_type) ≡ None → RecordThere known.program.types known.program.variables target → Working known s.heap a.places s.masters (λ rooms holds. Goes (gives_record known.program.types known.program.variables no_tracks (λ u. assignment_frees known.implicit u target.record_type) target items holds) (RunsOn known (Does fs ∷ k) rooms) (Raised (λ e. stmt_raises (effects_of known.implicit known.program) (is_same e) (assigns_record target items)) (ways known k rooms))) → Fine known s.heap s.masters (record_holder_next named target (λ place. TargetsRecord place.component target.record_type items) (running (Does fs ∷ k) a rest s))
+record_begins known a rest s well target items fs k bare there w =
     let program = known.program in
     let path = target.object in
     let v = begun a.places path in
@@ -237,7 +362,7 @@ record_begins known a rest s adjusts target items fs k there w =
           (λ whole. object_there path.root path.spot reached.1 (root_object program.types program.variables path there.to there.leads whole) w.fit)
           (λ raises. (let either = or_left (record_path_raises target) (items_raise items) raises in n.1 either ConstraintError either))),
       (
-        gathered_plain program.types adjusts path.spot w.holds target.record_type items (copied_plain owning path.spot copied.0) copied.1,
+        gathered_bare program.types well path.spot w.holds target.record_type items bare (copied_plain owning path.spot copied.0) copied.1,
         record {
           spot = path.spot;
           earlier = [];

@@ -20,7 +20,7 @@ use Rattle.ada_owners.proofs.Changes.{store_is}
 use Rattle.ada_sound.proofs.Objects.{set_here, set_twice}
 use Rattle.ada_sound.proofs.Stored.{stored_filled}
 use Rattle.ada_sound.proofs.Fits.{Fit, none_spared, store_blank, wrote_unnamed, gone_fit}
-use Rattle.ada_sound.proofs.Invariant.{outers, Known, Control, Rooms, RunsOn, Working, IsHolder, IsPlainIn, NamesTo, BeginsBy, BegunTo, EndsTo, StoresBehind, CopiesBehind, TreatsBy, ThenBack, Ending, LiesIn}
+use Rattle.ada_sound.proofs.Invariant.{outers, Known, Control, Rooms, RunsOn, Working, IsHolder, IsPlainIn, IsAdjustedIn, NamesTo, BeginsBy, BegunTo, EndsTo, StoresBehind, CopiesBehind, TreatsBy, ThenBack, Ending, LiesIn}
 use Rattle.ada_sound.proofs.Ready.{at_work}
 use Rattle.ada_sound.proofs.Endings.{KeepsFit, swapped, gone_still, under_set, behind_set}
 use Rattle.ada_sound.proofs.Undone.{beginning_set, collected_set, undo_set}
@@ -192,15 +192,28 @@ module _ (c : ℕ) (v : Value) (nameless : (p : Id) → v ≡ Names p → ⊥) w
             let one : p.0 ≡ x = let at_q = p.1 in cc (rw same at at_q, found) in
             (wrote x, rw same (set_here heap o.0 x (wrote x) found), rw one at p.2, rw one at p.3)
 
-    stores_set : (k : Control) (rooms : Rooms) (holds : Holds) → StoresBehind known heap k rooms holds → StoresBehind known (slice_set heap o.0 (wrote x)) k rooms holds
-    stores_set [] rooms holds r = absurd r
-    stores_set (StoresRecord p first count ∷ k) rooms holds r = (plain_set p first count r.0, r.1)
-    stores_set (f ∷ k) rooms holds r = absurd r
+    adjusted_set : (u : Value) (t first count : ℕ) (k : Control) (rooms : Rooms) (holds : Holds) → IsAdjustedIn known heap u t first count k rooms holds → IsAdjustedIn known (slice_set heap o.0 (wrote x)) u t first count k rooms holds
+    adjusted_set Null t first count k rooms holds r = absurd r
+    adjusted_set (Scalar n) t first count k rooms holds r = absurd r
+    adjusted_set (Part q place) t first count k rooms holds r = absurd r
+    adjusted_set (Names q) t first count k rooms holds r = by (same_id q o)
+      where
+        by : (q ≡ o) ⊎ (q ≢ o) → IsAdjustedIn known (slice_set heap o.0 (wrote x)) (Names q) t first count k rooms holds
+        by (inr ne) = (r.0, at_other heap o q (wrote x) ne ∙ r.1, r.2, r.3)
+        by (inl same) =
+            let one : r.0 ≡ x = let at_q = r.1 in cc (rw same at at_q, found) in
+            (wrote x, rw same (set_here heap o.0 x (wrote x) found), rw one at r.2, rw one at r.3)
+
+    stores_set : (t : ℕ) (k : Control) (rooms : Rooms) (holds : Holds) → StoresBehind known heap t k rooms holds → StoresBehind known (slice_set heap o.0 (wrote x)) t k rooms holds
+    stores_set t [] rooms holds r = absurd r
+    stores_set t (StoresRecord p first count ∷ k) rooms holds (inl r) = inl (plain_set p first count r.0, r.1)
+    stores_set t (StoresRecord p first count ∷ k) rooms holds (inr r) = inr (adjusted_set p t first count k rooms holds r)
+    stores_set t (f ∷ k) rooms holds r = absurd r
 
     copies_set : (places operands : List Value) (k : Control) → CopiesBehind known k heap places operands ms → CopiesBehind known k (slice_set heap o.0 (wrote x)) places operands ms
     copies_set places operands [] r = absurd r
     copies_set places operands (Copies first t ∷ k) (copied, w) =
-        (copied, works_set heap o x found known ms (at_work w (lies_set t (first_or Null operands) w.rest.0, stores_set k w.rooms w.holds w.rest.1, w.rest.2)))
+        (copied, works_set heap o x found known ms (at_work w (lies_set t (first_or Null operands) w.rest.0, stores_set t k w.rooms w.holds w.rest.1, w.rest.2)))
     copies_set places operands (f ∷ k) r = absurd r
 
     -- Whatever is behind the treatment of the object.

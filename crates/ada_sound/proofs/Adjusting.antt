@@ -1,0 +1,100 @@
+-- The body of an Adjust runs that tracks components of its formal parameter (7.6), after a copy of a record: what holds of the state that stands for the real one,
+-- which has a variable for each of them.
+
+use Rattle.std.proofs.Common.{◌≡◌, ℕ, true, List, [], ◌∷◌, length}
+use Rattle.std.specs.Prelude.{Option, Some}
+use Rattle.std.specs.List.{slice_get}
+use Rattle.ada_parts.specs.Part as parts
+use Rattle.ada_program.specs.declared.program.Exception.{Exception}
+use Rattle.ada_program.specs.declared.program.Program.{Program}
+use Rattle.ada_program.specs.ProgramForm.{BodyForm, program_form}
+use Rattle.ada_deeds.specs.Implicit.{implicit_of}
+use Rattle.ada_flow.specs.Flow.{Holds, Keeping, tracks_of}
+use Rattle.ada_meaning.specs.declared.event.Birth.{Birth}
+use Rattle.ada_meaning.specs.declared.event.Birth.TheVariants.{Copy, Adjustment}
+use Rattle.ada_meaning.specs.declared.state.Id.{Id}
+use Rattle.ada_meaning.specs.declared.state.Place.{Place}
+use Rattle.ada_meaning.specs.declared.state.Value.{Value}
+use Rattle.ada_meaning.specs.declared.state.Value.TheVariants.{Part}
+use Rattle.ada_meaning.specs.Frame.{begins}
+use Rattle.ada_meaning.specs.Named.{Object, State, object_at}
+use Rattle.ada_meaning.specs.State.{Master}
+use Rattle.ada_meaning.specs.Step.{older}
+use Rattle.ada_meaning.specs.Step as step
+use Rattle.ada_quiet.specs.Apart.{is_tracker}
+use Rattle.ada_quiet.specs.InUse.{may_be_frugal}
+use Rattle.ada_tracked.specs.Frames.{View}
+use Rattle.ada_tracked.specs.Seen.{Seen}
+use Rattle.ada_tracked.specs.Staying.{BodyIsSimple}
+use Rattle.ada_typed.proofs.Control as typed
+use Rattle.ada_typed.proofs.Kept.{behind_call}
+use Rattle.ada_sound.proofs.CallsApart.{CallApart}
+use Rattle.ada_sound.proofs.Callers.{Suspension, AreOf, callers_of, known_in}
+use Rattle.ada_sound.proofs.FrugalControl.{Frugally}
+use Rattle.ada_sound.proofs.Invariant.{Control, Ready, Rooms, RunsOn, Standing, body_among, under_in}
+use Rattle.ada_sound.proofs.Judged.{known_judged}
+use Rattle.ada_sound.proofs.Operating.{IsCalm, WaitsFor}
+use Rattle.ada_sound.proofs.Touching.{Paused, resting}
+use Rattle.ada_sound.specs.Agreement.{running_procedure}
+
+-- A copy of a record is adjusted: an object that is declared gets its initial value so, or a record that is assigned to (3.3.1, 5.2).
+pub data IsOfCopy : Birth → Type 0 where
+  copied : IsOfCopy Copy
+  assigned : (number : ℕ) → IsOfCopy (Adjustment number)
+
+-- The body of such an Adjust runs.
+pub record Adjusting (program : Program) (s : State) : Type 0 where
+  -- the procedure, its body, and what that tracks
+  pub number : ℕ
+  pub b : BodyForm
+  pub there : slice_get (program_form program).bodies number ≡ Some b
+  pub runs : running_procedure s ≡ Some number
+  pub w : View
+  pub tracks_so : tracks_of (program_form program).types number b ≡ w.tracks
+  -- the state that stands for this one
+  pub t : State
+  pub seen : Seen program.types.items (program_form program).bodies w s t
+  pub simple : BodyIsSimple w.tracks.first s.control
+  -- the activation that waits, and what is behind the body
+  pub procedure : Option ℕ
+  pub places : List Value
+  pub suspensions : List Suspension
+  pub object : Id
+  pub object_so : w.object ≡ object
+  pub place : Place
+  pub based : place.component ≡ w.base
+  pub formal : slice_get (step.places s) 0 ≡ Some (Part object place)
+  pub count : length (step.places s) ≡ length b.variables
+  pub x : Object
+  pub found : object_at s.heap object ≡ Some x
+  pub access : ℕ
+  pub of_access : x.cell.access ≡ access
+  pub by : Birth
+  pub copies : IsOfCopy by
+  pub done : List parts.Part
+  pub of : ℕ
+  pub behind : Control
+  pub ends : behind_call s.control ≡ Some (record { actuals = []; references = []; left = behind })
+  pub after : Control
+  pub awaited : WaitsFor (program_form program).types object of (begins by done) after behind
+  pub lower : List Master
+  pub kept : Keeping
+  pub rooms : Rooms
+  pub holds : Holds
+  pub frugal : Frugally [] lower behind t
+  pub waits : Paused (known_in program procedure suspensions) object access places after lower rooms holds
+  pub rests : RunsOn (known_in program procedure suspensions) after rooms holds
+  pub calm : IsCalm (behind_call behind)
+  pub settled : under_in (callers_of program suspensions) ≡ []
+  pub may : may_be_frugal (program_form program) ≡ true
+  pub silent : (e : Exception) → body_among (implicit_of (program_form program)) (known_judged program number w.tracks []).program e ≡ true → ⊥
+  -- what holds of the state that stands for it
+  pub bodies : AreOf program (older s.activations) (resting procedure places (begins by done) object access [] place behind lower kept rooms holds ∷ suspensions)
+  pub standing : Standing (known_judged program number w.tracks (resting procedure places (begins by done) object access [] place behind lower kept rooms holds ∷ suspensions)) t
+  pub typed : typed.TypedIn (known_judged program number w.tracks []).program t
+  pub apart : CallApart (is_tracker (program_form program)) t.control
+  pub ready : Ready (known_judged program number w.tracks (resting procedure places (begins by done) object access [] place behind lower kept rooms holds ∷ suspensions)) t
+
+-- The activation that waits for the body.
+abbrev pub waiting : (program : Program) (s : State) → Adjusting program s → Suspension
+waiting program s f = resting f.procedure f.places (begins f.by f.done) f.object f.access [] f.place f.behind f.lower f.kept f.rooms f.holds

@@ -1,0 +1,367 @@
+-- Each step of the body of an Adjust that tracks components of its formal parameter (7.6), but its end: the state that stands for the real one takes a step, too, or
+-- stays as it is, and keeps what is known of it.
+
+use Rattle.std.proofs.Common.{◌≡◌, ◌≢◌, ℕ, Bool, true, false, List, [], ◌∷◌, refl, sym, ◌∙◌, subst, inl, inr}
+use Rattle.std.specs.Prelude.{Option, Some}
+use Rattle.std.specs.List.{AllPairs}
+use Rattle.ada_deeds.specs.Implicit.{implicit_of}
+use Rattle.ada_finalized.proofs.Standing.{listed_stand}
+use Rattle.ada_finalized.specs.Law.{NothingBegins}
+use Rattle.ada_meaning.specs.declared.state.Id.{Id}
+use Rattle.ada_meaning.specs.declared.state.Mode.{Mode}
+use Rattle.ada_meaning.specs.declared.state.Mode.TheVariants.{Running, Raising, Exiting, Returning}
+use Rattle.ada_meaning.specs.declared.state.Value.{Value}
+use Rattle.ada_meaning.specs.declared.state.Value.TheVariants.{Names}
+use Rattle.ada_meaning.specs.Event.{Quiet}
+use Rattle.ada_meaning.specs.Frame as frame
+use Rattle.ada_meaning.specs.Frame.{Frame, Leaves}
+use Rattle.ada_meaning.specs.Law.{items_of}
+use Rattle.ada_meaning.specs.Named.{Object, State, Next, next, object_at}
+use Rattle.ada_meaning.specs.Run.{Event}
+use Rattle.ada_meaning.specs.State.{Activation, Master}
+use Rattle.ada_meaning.specs.Step.{halts, moves, tells, asks, picks, older, places}
+use Rattle.ada_program.specs.declared.program.Program.{Program}
+use Rattle.ada_program.specs.declared.program.TypeDefinition.{TypeDefinition}
+use Rattle.ada_program.specs.ProgramForm.{BodyForm, ProgramForm, TypeForm, body_forms, program_form, seen_in}
+use Rattle.ada_program.specs.WellFormed.{IsWellFormed, is_access}
+use Rattle.ada_scopes.proofs.Components.{collect_two}
+use Rattle.ada_scopes.proofs.Runs.{Scoped}
+use Rattle.ada_scopes.specs.Scopes.{CollectTwoTypes}
+use Rattle.ada_tracked.proofs.Law.{runs_as_variables}
+use Rattle.ada_tracked.proofs.Staying.{stay_simple}
+use Rattle.ada_tracked.specs.Frames.{blanked}
+use Rattle.ada_tracked.specs.Law.{InnermostHousesNone, IsSilent, Matches, Shown, both, alone}
+use Rattle.ada_tracked.specs.Law as matching
+use Rattle.ada_tracked.specs.Seen.{IsWatched, Seen}
+use Rattle.ada_tracked.specs.Staying.{AllStaySimple, StaysSimple}
+use Rattle.ada_typed.proofs.Control as typed
+use Rattle.ada_typed.proofs.Kept.{Each, behind_call}
+use Rattle.ada_sound.specs.Agreement.{running_procedure}
+use Rattle.ada_program.specs.Form.{allocates}
+use Rattle.ada_quiet.specs.Apart.{is_tracker}
+use Rattle.ada_sound.proofs.CallsApart.{CallApart, AllCallApart}
+use Rattle.ada_sound.proofs.CallsApartRuns.{no_record_allocated}
+use Rattle.ada_sound.proofs.CallsApartSteps.{calls_stay_apart}
+use Rattle.ada_sound.proofs.FormalStays.{SamePlaces, AllSamePlaces, places_stay}
+use Rattle.ada_sound.proofs.Gathered.{AllocatesBare, allocates_plain}
+use Rattle.ada_sound.proofs.Adjusting.{Adjusting, waiting}
+use Rattle.ada_sound.proofs.AdjustingBlanked.{alters_unblanked, ends_unblanked, says_covered, says_unblanked, stored_unblanked, unblanked_at}
+use Rattle.ada_sound.proofs.AdjustingKept.{IsJudged, apart_each, each_both, places_each, alters_matched, says_matched, says_silent, standing_kept}
+use Rattle.ada_sound.proofs.AdjustingLeaves.{held_in_none, innermost_houses_none, leaves_own}
+use Rattle.ada_sound.proofs.AdjustingSeen.{SameRun, StandsFor, calls_or_copies, each_runs_on, frugal_alone, next_simple, seen_leaves, seen_within, simple_begins, simple_crosses, simple_still, stands_for, within}
+use Rattle.ada_sound.proofs.Alters.{Alters, alters_same}
+use Rattle.ada_sound.proofs.Below.{named_below}
+use Rattle.ada_sound.proofs.Callers.{AreOf}
+use Rattle.ada_sound.proofs.Finalization.{parts_alive}
+use Rattle.ada_sound.proofs.FrugalControl.{Frugal, Frugally, GoesFrugally, is_return_first}
+use Rattle.ada_sound.proofs.FrugalFrees.{AccessIsBare, bare_by}
+use Rattle.ada_sound.proofs.FrugalSteps.{is_call_first, frugal_crosses, frugal_steps, none_ends}
+use Rattle.ada_sound.proofs.FrugalUseParts.{no_access_to_parts}
+use Rattle.ada_sound.proofs.Homes.{NoneIsUnder}
+use Rattle.ada_sound.proofs.InOrder.{in_order}
+use Rattle.ada_sound.proofs.Invariant.{Control, EndsWell, Fine, IsFollowed, Known, Parting, Ready, RunsOn, Says, Standing, Stepped, innermost, outers}
+use Rattle.ada_sound.proofs.Judged.{known_judged}
+use Rattle.ada_sound.proofs.Leavings.{AreInOrder, HeldIn, NamedBelow}
+use Rattle.ada_sound.proofs.Operating.{AreVariables}
+use Rattle.ada_sound.proofs.Returns.{same_types}
+use Rattle.ada_sound.proofs.Standing.{AllStand, FinalizesBy, FinalizesIn}
+use Rattle.ada_sound.proofs.Starts.{IsReached}
+use Rattle.ada_sound.proofs.Steps as inside
+use Rattle.ada_sound.proofs.Stored.{IsUnder, Stored}
+use Rattle.ada_sound.proofs.StoredStates.{ready_stored}
+
+-- This is left to do behind the body that runs, which gives nothing back.
+abbrev pub EndsBefore : (left k : Control) → Type 0
+EndsBefore left k = behind_call k ≡ Some (record { actuals = []; references = []; left = left })
+
+-- The body runs behind a step; and what that does to objects.
+pub record InAdjusting (program : Program) (before : List Object) (e : Event) (after : State) : Type 0 where
+  pub adjusting : Adjusting program after
+  pub ends : EndsBefore adjusting.behind after.control
+  pub alters : Alters before e after.heap
+  pub says : Says (implicit_of (program_form program)) (seen_in (running_procedure after) (program_form program)) e before after
+
+-- So it does whatever comes next, if the run does not end.
+abbrev pub GoesAdjusting : Program → State → Next → Type 0
+GoesAdjusting program s (halts halt) = EndsWell halt s.heap s.masters
+GoesAdjusting program s (moves e after) = InAdjusting program s.heap e after
+GoesAdjusting program s (tells request e after) = InAdjusting program s.heap e after
+GoesAdjusting program s (asks request answered) = (granted : Bool) → InAdjusting program s.heap Quiet (answered granted)
+GoesAdjusting program s (picks n taken) = ⊥
+
+module _
+    (program : Program) (well : IsWellFormed (program_form program)) (s : State) (reached : IsReached program s) (nested : Scoped (program_form program) s) (f : Adjusting program s)
+    (judged : IsJudged program f.number f.w.tracks) (watched : IsWatched f.w (places s) s.heap) (ends : EndsBefore f.behind s.control)
+    (inner : is_return_first s.control ≡ false) where
+  abbrev p : ProgramForm
+  p = program_form program
+
+  abbrev tds : List TypeDefinition
+  tds = program.types.items
+
+  abbrev bodies : List BodyForm
+  bodies = body_forms program
+
+  abbrev known : Known
+  known = known_judged program f.number f.w.tracks (waiting program s f ∷ f.suspensions)
+
+  abbrev own : ProgramForm
+  own = seen_in (Some f.number) p
+
+  types_are : known.program.types ≡ p.types
+  types_are = same_types (Some f.number) p
+
+  of_t : StandsFor f.w s f.t
+  of_t = stands_for tds bodies f.w s f.t f.seen
+
+  -- Something waits for the body.
+  some_waits : older s.activations ≡ [] → ⊥
+  some_waits none = let of : AreOf program [] (waiting program s f ∷ f.suspensions) = subst (λ (all : List (Activation Value)). AreOf program all (waiting program s f ∷ f.suspensions)) none f.bodies in of
+
+  firsts : (is_return_first f.t.control ≡ false) × (is_call_first f.t.control ≡ false)
+  firsts = seen_within tds bodies f.w s f.t f.seen f.simple inner some_waits
+
+  none_crosses : inside.crosses f.t.mode f.t.control ≡ false
+  none_crosses = frugal_crosses [] f.behind f.t.mode f.t.control f.frugal.upper f.frugal.frugal firsts.0 (λ runs. firsts.1)
+
+  alone_there : calls_or_copies f.t.control ≡ false
+  alone_there = frugal_alone f.behind f.t.mode f.t.control f.frugal.upper f.frugal.frugal
+
+  -- In the real state, nothing begins of another object.
+  begins_nothing : (v : Value) → (v ≢ Names f.object) → NothingBegins v s.control
+  begins_nothing v ne =
+      let behind : NothingBegins v f.behind = subst (NothingBegins v) (sym f.awaited.2) ((λ same. ne (sym same)), f.waits.untreated v ne) in
+      simple_begins f.w.tracks.first v s.control f.behind f.simple ends behind
+
+  -- The object that is adjusted is of no access type.
+  other_object : (o : Id) (x : Object) → object_at s.heap o ≡ Some x → is_access p.types x.cell.access ≡ true → Names o ≡ Names f.object → ⊥
+  other_object o x found of same =
+      let one : o ≡ f.object = cc same in
+      let x_is : x ≡ f.x = let here = f.found in let there = found in cc (one, here, there) in
+      let declared = f.waits.declared in
+      let object : is_access p.types f.access ≡ false = rw (same_types f.procedure p) at declared in
+      let access : is_access p.types f.access ≡ true = rw (x_is, f.of_access) at of in
+      cc (object, access)
+
+  stand : AllStand p.types s.heap
+  stand o x found listed of =
+      parts_alive program well s reached o x found
+      (listed_stand program reached.0 reached.1 s reached.2 o x found listed (begins_nothing (Names o) (other_object o x found of)))
+
+  -- So each object that may be freed stands in the other one, too.
+  alive : AllStand known.program.types f.t.heap
+  alive o y found listed of =
+      let x = unblanked_at f.w s.heap o y (subst (λ (heap : List Object). object_at heap o ≡ Some y) of_t.heap found) in
+      let access : is_access p.types x.0.cell.access ≡ true = subst (λ (t : ℕ). is_access p.types t ≡ true) x.2.access (subst (λ (all : List TypeForm). is_access all y.cell.access ≡ true) types_are of) in
+      rw (x.2.parts) (stand o x.0 x.1 (sym x.2.listed ∙ listed) access)
+
+  finalizes : FinalizesIn known.program.types tds bodies f.t.mode f.t.control f.t
+  finalizes = by f.t.mode f.t.control f.frugal.upper f.frugal.frugal
+    where
+      by_frame : (g : Frame Value) (k : Control) (mode : Mode) (ms : List Master) → Frugal [] f.behind mode (g ∷ k) ms → FinalizesBy known.program.types tds bodies g (record f.t { mode = Running; control = k })
+      by_frame (frame.Does fs) k mode ms q = alive
+      by_frame (frame.FreesIn access c) k mode ms q = alive
+      by_frame (frame.Treats v treatment tasks) k mode ms (inl q) = absurd q.0
+      by_frame (frame.Treats v treatment tasks) k mode ms (inr (runs, leaving)) = absurd leaving
+      by_frame g k mode ms q = tt
+
+      by : (mode : Mode) (k : Control) (ms : List Master) → Frugal [] f.behind mode k ms → FinalizesIn known.program.types tds bodies mode k f.t
+      by Running [] ms q = tt
+      by Running (g ∷ k) ms q = by_frame g k Running ms q
+      by (Raising e) k ms q = tt
+      by Exiting k ms q = tt
+      by Returning k ms q = tt
+
+  -- Where the other one leaves a master, no object has its home there, and what callers rely on lies in outer ones.
+  own_masters : (left : Mode) (k : Control) → f.t.control ≡ Leaves left ∷ k → AreVariables (innermost f.t.masters)
+  own_masters left k at =
+      let owned = leaves_own [] f.behind f.t.mode left k f.frugal.upper f.lower (rw at at f.frugal.frugal) f.frugal.own in
+      subst (λ (ms : List Master). AreVariables (innermost ms)) (sym f.frugal.masters) owned
+
+  low : (left : Mode) (k : Control) → f.t.mode ≡ Running → f.t.control ≡ Leaves left ∷ k → HeldIn f.t.heap f.t.masters × NamedBelow (outers known) f.t.heap f.t.masters × AreInOrder known.program.types (innermost f.t.masters)
+  low left k runs at =
+      let parting : Parting known f.t.heap (places f.t) f.t.masters (RunsOn known (Leaves left ∷ k)) = rw (runs, at) at f.ready.1 in (
+        held_in_none known f.t.heap (places f.t) f.t.masters (RunsOn known (Leaves left ∷ k)) parting (own_masters left k at),
+        named_below known f.t.heap f.standing.waiting f.standing.low left k f.t.masters parting,
+        rw of_t.masters (in_order program well s nested known.program.types types_are s.masters refl),
+      )
+
+  none_is_under : NoneIsUnder known.program.types (outers known).under f.t.heap
+  none_is_under o x under found = let none : IsUnder [] o = subst (λ (all : List Id). IsUnder all o) f.settled under in absurd none
+
+  -- No allocator copies a record.
+  bare_there : AllocatesBare known.program.types f.t.control
+  bare_there =
+      allocates_plain known.program.types f.t.control
+      (λ access items k is. no_record_allocated (is_tracker p) f.t (allocates access items) k is f.apart)
+
+  places_on : AllSamePlaces s (next tds bodies s)
+  places_on = places_stay tds bodies f.w.tracks.first s (within f.w.tracks.first s.control f.simple inner)
+
+  apart_on : AllCallApart (is_tracker p) (next tds bodies f.t)
+  apart_on = calls_stay_apart tds bodies (is_tracker p) judged.apart f.t f.apart
+
+  -- So the other one takes its step well.
+  fine_on : Fine known f.t.heap f.t.masters (next tds bodies f.t)
+  fine_on =
+      judged.keeps (waiting program s f ∷ f.suspensions) f.t alone_there none_crosses f.typed bare_there
+      (subst (λ (ms : List Master). AllPairs CollectTwoTypes (items_of ms)) (sym of_t.masters) (collect_two p s nested)) finalizes none_is_under low f.ready
+
+  frugal_on : GoesFrugally [] f.lower f.behind (next tds bodies f.t)
+  frugal_on =
+      frugal_steps known tds bodies judged.fits (subst (λ (all : List TypeForm). AccessIsBare all tds) (sym types_are) (bare_by program (no_access_to_parts p f.may)))
+      [] (λ number b there told. absurd (cc told)) f.behind f.lower f.t f.frugal (λ actuals references k is. absurd (let first = firsts.0 in cc (rw is at first))) f.typed f.ready
+
+  typed_on : Each (typed.TypedIn known.program) (next tds bodies f.t)
+  typed_on = judged.stays f.t f.typed alone_there none_crosses (none_ends [] f.behind f.t.mode f.t.control f.frugal.upper f.frugal.frugal)
+
+  -- And the real one takes a step to which it does.
+  real_on : Each (SameRun s) (next tds bodies s)
+  real_on = each_runs_on tds bodies s (simple_crosses f.w.tracks.first s.mode s.control f.simple inner)
+
+  -- Where the real one leaves a master, the other one does.
+  houses_none : (left : Mode) (k : Control) → s.control ≡ Leaves left ∷ k → InnermostHousesNone s.masters
+  houses_none left k at =
+      let there = seen_leaves tds bodies f.w s f.t left k f.seen at in
+      rw (← of_t.masters) (innermost_houses_none f.t.masters (own_masters left there.0 there.1))
+
+  shown : Shown tds bodies f.w f.t (next tds bodies s) (next tds bodies f.t)
+  shown = runs_as_variables tds bodies f.w s f.t f.seen watched (next_simple f.w s.control s.masters f.simple inner houses_none)
+
+  simple_on : AllStaySimple f.w.tracks.first (next tds bodies s)
+  simple_on = stay_simple tds bodies f.w.tracks.first s (within f.w.tracks.first s.control f.simple inner)
+
+  -- The words of the object are out: it exists.
+  out_there : watched.object.out ≡ true
+  out_there = go watched.object.out refl
+    where
+      go : (b : Bool) → watched.object.out ≡ b → b ≡ true
+      go true is = refl
+      go false is =
+          let stored = ready_stored known f.t f.ready in
+          let here : Stored stored.0 (blanked f.w s.heap) f.t.masters = subst (λ (heap : List Object). Stored stored.0 heap f.t.masters) of_t.heap stored.1 in
+          let sane = (stored_unblanked f.w s.heap stored.0 f.t.masters here).sane f.w.object watched.object watched.at_object in
+          let gone = sane.back_gone is in
+          let exists = watched.existing in
+          absurd (cc (gone, exists))
+
+  followed : IsFollowed (Names f.w.object) s.heap
+  followed = record { id = f.w.object; object = watched.object; is = refl; found = watched.at_object; out = out_there }
+
+  -- The real run goes on in the same body, whose formal parameter stays; and the other one is typed still, and calls nothing that tracks.
+  abbrev Runs : State → Type 0
+  Runs after = SameRun s after × SamePlaces s after
+
+  abbrev Kept : State → Type 0
+  Kept stands = typed.TypedIn known.program stands × CallApart (is_tracker p) stands.control
+
+  -- What holds behind a step.
+  adjusting_by :
+      (e : Event) (after stands : State) → Seen tds bodies f.w after stands → Runs after → Alters s.heap e after.heap → StaysSimple f.w.tracks.first after.control → Standing known stands
+      → Kept stands → Ready known stands → Frugally [] f.lower f.behind stands → Says known.implicit own e s.heap after → InAdjusting program s.heap e after
+  adjusting_by e after stands seen same a simple standing typing ready frugal says =
+      let y = a.kept f.object f.x f.found in
+      let runs : running_procedure after ≡ Some f.number = same.0.procedure ∙ f.runs in
+      record {
+        adjusting = record {
+          number = f.number;
+          b = f.b;
+          there = f.there;
+          runs = runs;
+          w = f.w;
+          tracks_so = f.tracks_so;
+          t = stands;
+          seen = seen;
+          simple = simple_still tds bodies f.w [] f.behind after stands frugal.upper seen frugal.frugal simple;
+          procedure = f.procedure;
+          places = f.places;
+          suspensions = f.suspensions;
+          object = f.object;
+          object_so = f.object_so;
+          place = f.place;
+          based = f.based;
+          formal = same.1.first ∙ f.formal;
+          count = same.1.count ∙ f.count;
+          x = y.0;
+          found = y.1;
+          access = f.access;
+          of_access = y.2.0 ∙ f.of_access;
+          by = f.by;
+          copies = f.copies;
+          done = f.done;
+          of = f.of;
+          behind = f.behind;
+          ends = same.0.behind ∙ f.ends;
+          after = f.after;
+          awaited = f.awaited;
+          lower = f.lower;
+          kept = f.kept;
+          rooms = f.rooms;
+          holds = f.holds;
+          frugal = frugal;
+          waits = f.waits;
+          rests = f.rests;
+          calm = f.calm;
+          settled = f.settled;
+          may = f.may;
+          silent = f.silent;
+          bodies = subst (λ (all : List (Activation Value)). AreOf program all (waiting program s f ∷ f.suspensions)) (sym same.0.suspended) f.bodies;
+          standing = standing;
+          typed = typing.0;
+          apart = typing.1;
+          ready = ready;
+        };
+        ends = same.0.behind ∙ f.ends;
+        alters = a;
+        says = subst (λ (procedure : Option ℕ). Says (implicit_of p) (seen_in procedure p) e s.heap after) (sym runs) says;
+      }
+
+  -- Both take a step.
+  both_on :
+      (e g : Event) (after stands : State) → Matches f.w e g → Seen tds bodies f.w after stands → Runs after → StaysSimple f.w.tracks.first after.control → Stepped known f.t.heap g stands
+      → Kept stands → Frugally [] f.lower f.behind stands → InAdjusting program s.heap e after
+  both_on e g after stands matches seen same simple step typing frugal =
+      let of_after = stands_for tds bodies f.w after stands seen in
+      let before : Alters f.t.heap g (blanked f.w after.heap) = subst (Alters f.t.heap g) of_after.heap step.alters in
+      let a : Alters s.heap g after.heap = alters_unblanked f.w s.heap g after.heap (subst (λ (heap : List Object). Alters heap g (blanked f.w after.heap)) of_t.heap before) in
+      let says : Says known.implicit known.program g s.heap after =
+      says_unblanked f.w known.implicit known.program g s.heap after stands of_after.heap (subst (λ (heap : List Object). Says known.implicit known.program g heap stands) of_t.heap step.says) in
+      adjusting_by e after stands seen same (alters_matched f.w e g s.heap after.heap matches a) simple
+      (standing_kept known f.t g stands (of_after.suspended ∙ (same.0.suspended ∙ sym of_t.suspended)) step.alters f.standing) typing step.ready frugal
+      (says_matched f.w known.implicit own e g s.heap after followed matches (says_covered known.implicit known.program own refl judged.covered g s.heap after says))
+
+  -- The real one takes a step alone.
+  alone_on : (e : Event) (after : State) → IsSilent f.w e → Seen tds bodies f.w after f.t → Runs after → StaysSimple f.w.tracks.first after.control → InAdjusting program s.heap e after
+  alone_on e after silent seen same simple =
+      let of_after = stands_for tds bodies f.w after f.t seen in
+      let a : Alters s.heap e after.heap =
+      alters_unblanked f.w s.heap e after.heap (subst (Alters (blanked f.w s.heap) e) (sym of_t.heap ∙ of_after.heap) (alters_same (blanked f.w s.heap) e)) in
+      adjusting_by e after f.t seen same a simple f.standing (f.typed, f.apart) f.ready f.frugal (says_silent f.w known.implicit own e s.heap after followed silent)
+
+  next_on : (n m : Next) → Shown tds bodies f.w f.t n m → Each Runs n → AllStaySimple f.w.tracks.first n → Fine known f.t.heap f.t.masters m → GoesFrugally [] f.lower f.behind m → Each Kept m → GoesAdjusting program s n
+  next_on (halts halt) m is same simple fine goes typing =
+      let well_ends : EndsWell halt f.t.heap f.t.masters = subst (Fine known f.t.heap f.t.masters) is fine in
+      ends_unblanked f.w s.heap halt s.masters (subst (λ (heap : List Object). EndsWell halt heap s.masters) of_t.heap (subst (EndsWell halt f.t.heap) of_t.masters well_ends))
+  next_on (moves e after) m (both g stands is matches seen) same simple fine goes typing =
+      both_on e g after stands matches seen same simple (subst (Fine known f.t.heap f.t.masters) is fine) (subst (Each Kept) is typing) (subst (GoesFrugally [] f.lower f.behind) is goes)
+  next_on (moves e after) m (alone silent seen) same simple fine goes typing = alone_on e after silent seen same simple
+  next_on (tells request e after) m (stands, is, seen) same simple fine goes typing =
+      both_on e e after stands (matching.same refl) seen same simple (subst (Fine known f.t.heap f.t.masters) is fine) (subst (Each Kept) is typing) (subst (GoesFrugally [] f.lower f.behind) is goes)
+  next_on (asks request answered) m (answers, is, seen) same simple fine goes typing = λ granted.
+      (let steps : Fine known f.t.heap f.t.masters (asks request answers) = subst (Fine known f.t.heap f.t.masters) is fine in
+      let types : Each Kept (asks request answers) = subst (Each Kept) is typing in
+      let runs : GoesFrugally [] f.lower f.behind (asks request answers) = subst (GoesFrugally [] f.lower f.behind) is goes in
+      both_on Quiet Quiet (answered granted) (answers granted) (matching.same refl) (seen granted) (same granted) (simple granted) (steps granted) (types granted) (runs granted))
+  next_on (picks n taken) m none same simple fine goes typing = none
+
+  pub step_on : GoesAdjusting program s (next tds bodies s)
+  step_on =
+      next_on (next tds bodies s) (next tds bodies f.t) shown (each_both (SameRun s) (SamePlaces s) (next tds bodies s) real_on (places_each s (next tds bodies s) places_on)) simple_on fine_on frugal_on
+      (each_both (typed.TypedIn known.program) (λ stands. CallApart (is_tracker p) stands.control) (next tds bodies f.t) typed_on (apart_each (is_tracker p) (next tds bodies f.t) apart_on))
+
+-- Each step of the body but its end keeps all that is known while it runs.
+pub adjusting_step :
+    (program : Program) → IsWellFormed (program_form program) → (s : State) → IsReached program s → Scoped (program_form program) s → (f : Adjusting program s)
+    → IsJudged program f.number f.w.tracks → IsWatched f.w (places s) s.heap → EndsBefore f.behind s.control
+    → is_return_first s.control ≡ false → GoesAdjusting program s (next program.types.items (body_forms program) s)
+adjusting_step program well s reached nested f judged watched ends inner = step_on program well s reached nested f judged watched ends inner
