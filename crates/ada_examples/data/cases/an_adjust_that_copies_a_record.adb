@@ -1,0 +1,16 @@
+with Ada.Finalization;
+procedure Main is
+   type Spot is record X : Integer := 0; Y : Integer := 0; end record;
+   type Pen is access Spot;
+   type Line is new Ada.Finalization.Controlled with record From : Spot; To : Spot; Drawn : Pen; end record;
+   overriding procedure Adjust (Object : in out Line);
+   overriding procedure Adjust (Object : in out Line) is
+   begin
+      Object.Drawn := null;
+      Object.From := Object.To;
+   end Adjust;
+   One : Line;
+   Two : Line;
+begin
+   Two := One;
+end Main;
