@@ -1,7 +1,7 @@
 -- The first place of a body that overrides an operation and is not in use.
 
 use Rattle.std.proofs.Common.{◌≡◌, ℕ, zero, suc, ◌+◌, ◌<◌, Bool, true, false, ◌&&◌, ◌||◌, ◌==◌, nat_lt, List, [], ◌∷◌, length, ◌⊎◌, inl, inr, refl, sym, ap, ◌∙◌, subst, arith}
-use Rattle.std.specs.Prelude.{◌↔◌, Option, Some, None, is_some, not}
+use Rattle.std.specs.Prelude.{◌↔◌, if◌then◌else◌, Option, Some, None, is_some, not}
 use Rattle.std.specs.List.{list_all, slice_get}
 use Rattle.std.specs.Option.{option_map}
 use Rattle.std.proofs.lemmas.Bool.{cases_lt}
@@ -12,10 +12,11 @@ use Rattle.ada_program.specs.declared.program.Operations.{Operations}
 use Rattle.ada_program.specs.declared.program.ProcedureNo.{ProcedureNo}
 use Rattle.ada_program.specs.ProgramForm.{TypeForm, BodyForm, ProgramForm}
 use Rattle.ada_program.specs.WellFormed.{finalization_in, finalization_of}
-use Rattle.ada_quiet.specs.First.{initializes_in_use, finalizes_in_use, IsUnused, HasUnused, stands_before, IsFirst, first_of, start_unless, unused_in}
+use Rattle.ada_quiet.specs.First.{initializes_in_use, adjusts_in_use, finalizes_in_use, IsUnused, HasUnused, stands_before, IsFirst, first_of, start_unless, unused_in}
 use Rattle.ada_quiet.specs.Frugal.{is_frugal_operation, own_effects, is_silent_procedure}
-use Rattle.ada_quiet.specs.InUse.{may_be_frugal, uses_initialize, uses_finalize, uses_operations, operations_are_in_use}
-use Rattle.ada_quiet.specs.Quiet.{is_quiet_body, is_plain_procedure, is_quiet_procedure, is_quiet_operation, has_quiet_operations, has_access, operation_body, adjust_body, adjusts_access, operations_are_quiet}
+use Rattle.ada_quiet.specs.Simple.{is_simple_procedure}
+use Rattle.ada_quiet.specs.InUse.{may_be_frugal, may_track, uses_initialize, uses_adjust, uses_finalize, uses_operations, operations_are_in_use}
+use Rattle.ada_quiet.specs.Quiet.{is_quiet_body, is_plain_procedure, is_quiet_procedure, is_quiet_operation, has_quiet_operations, has_access, operation_body, adjust_body, operations_are_quiet}
 use Rattle.ada_quiet.proofs.Firsts.{IsOrder, either_first, same_first, AnyBelow, any_none, any_more}
 
 -- Places in the text.
@@ -81,6 +82,19 @@ begun_as : (p : ProgramForm) (o : Option ProcedureNo) (procedure : ProcedureNo) 
     uses_initialize p o ≡ initializes_in_use p procedure b
 begun_as p o procedure b is at = ap (uses_initialize p) is ∙ ap (begun_procedure p procedure) at
 
+-- An Adjust is in use as its body is.
+abbrev adjusted_procedure : ProgramForm → (owns : Bool) → Option BodyForm → Bool
+adjusted_procedure p owns o =
+    if owns && is_some o then may_track p && is_simple_procedure o && is_silent_procedure (own_effects p) o else is_quiet_procedure p.types o
+
+adjusted_body : (p : ProgramForm) (owns : Bool) (b : BodyForm) → adjusted_procedure p owns (Some b) ≡ adjusts_in_use p owns b
+adjusted_body p true b = refl
+adjusted_body p false b = refl
+
+adjusted_as : (p : ProgramForm) (owns : Bool) (o : Option ProcedureNo) (procedure : ProcedureNo) (b : BodyForm) → o ≡ Some procedure →
+    slice_get p.bodies procedure.0 ≡ Some b → uses_adjust p owns o ≡ adjusts_in_use p owns b
+adjusted_as p owns o procedure b is at = ap (uses_adjust p owns) is ∙ ap (adjusted_procedure p owns) at ∙ adjusted_body p owns b
+
 -- A Finalize is in use as its body is.
 abbrev used_procedure : ProgramForm → (procedure : ProcedureNo) → Option BodyForm → Bool
 used_procedure p procedure o =
@@ -93,22 +107,22 @@ used_as p o procedure b is at = ap (uses_finalize p) is ∙ ap (used_procedure p
 -- One type.
 
 -- One of the three operations.
-abbrev UnusedOf : ProgramForm → (leaves : Bool) → Finalization → Spot → Type 0
-UnusedOf p leaves f spot =
+abbrev UnusedOf : ProgramForm → (owns : Bool) → Finalization → Spot → Type 0
+UnusedOf p owns f spot =
     Begins p (uses_initialize p f.operations.initialize) f.operations.initialize spot
-    ⊎ (Begins p (is_quiet_operation p f.operations.adjust && not leaves) f.operations.adjust spot
+    ⊎ (Begins p (uses_adjust p owns f.operations.adjust) f.operations.adjust spot
     ⊎ Begins p (uses_finalize p f.operations.finalize) f.operations.finalize spot)
 
 -- One of what overrides the operations of a type.
-abbrev UnusedIn : ProgramForm → (leaves : Bool) → Option Finalization → Spot → Type 0
-UnusedIn p leaves o spot = (f : Finalization) × (o ≡ Some f) × UnusedOf p leaves f spot
+abbrev UnusedIn : ProgramForm → (owns : Bool) → Option Finalization → Spot → Type 0
+UnusedIn p owns o spot = (f : Finalization) × (o ≡ Some f) × UnusedOf p owns f spot
 
-type_first : (p : ProgramForm) (leaves : Bool) (o : Option Finalization) → IsFirst (UnusedIn p leaves o) (unused_in p (may_be_frugal p) leaves o)
-type_first p leaves None = λ spot h. absurd (cc h.1)
-type_first p leaves (Some f) =
-    same_first stands_before (UnusedOf p leaves f) (UnusedIn p leaves (Some f)) (λ s h. (f, refl, h))
-    (λ s h. subst (λ (g : Finalization). UnusedOf p leaves g s) (sym (some_same h.1)) h.2)
-    (unused_in p (may_be_frugal p) leaves (Some f))
+type_first : (p : ProgramForm) (owns : Bool) (o : Option Finalization) → IsFirst (UnusedIn p owns o) (unused_in p (may_be_frugal p) (may_track p) owns o)
+type_first p owns None = λ spot h. absurd (cc h.1)
+type_first p owns (Some f) =
+    same_first stands_before (UnusedOf p owns f) (UnusedIn p owns (Some f)) (λ s h. (f, refl, h))
+    (λ s h. subst (λ (g : Finalization). UnusedOf p owns g s) (sym (some_same h.1)) h.2)
+    (unused_in p (may_be_frugal p) (may_track p) owns (Some f))
     (either_first stands_before text_order initialize (λ s. adjust s ⊎ finalize s)
     (start_unless begins (operation_body p f.operations.initialize))
     (first_of (start_unless adjusts (operation_body p f.operations.adjust)) (start_unless ends (operation_body p f.operations.finalize)))
@@ -121,7 +135,7 @@ type_first p leaves (Some f) =
     begins = uses_initialize p f.operations.initialize
 
     adjusts : Bool
-    adjusts = is_quiet_operation p f.operations.adjust && not leaves
+    adjusts = uses_adjust p owns f.operations.adjust
 
     ends : Bool
     ends = uses_finalize p f.operations.finalize
@@ -149,7 +163,7 @@ pub below_none : (p : ProgramForm) → IsFirst (Below p 0) None
 below_none p = any_none stands_before (UnusedAt p)
 
 pub below_more : (p : ProgramForm) (count : ℕ) (a b : Option Spot) → IsFirst (Below p count) a →
-    b ≡ unused_in p (may_be_frugal p) (has_access (slice_get p.types count)) (finalization_of p.types count) → IsFirst (Below p (count + 1)) (first_of a b)
+    b ≡ unused_in p (may_be_frugal p) (may_track p) (has_access (slice_get p.types count)) (finalization_of p.types count) → IsFirst (Below p (count + 1)) (first_of a b)
 below_more p count a b f is =
     any_more stands_before text_order (UnusedAt p) count a b f
     (subst (IsFirst (UnusedAt p count)) (sym is) (type_first p (has_access (slice_get p.types count)) (finalization_of p.types count)))
@@ -160,70 +174,39 @@ within types t f is = elim (cases_lt t (length types)) [
   | inr more ↦ absurd (cc (sym (ap finalization_in (slice_get_past types t more)) ∙ is))
 ]
 
--- An Adjust that is quiet may leave a component.
-which_fits : (quiet leaves : Bool) → (quiet && not leaves) ≡ false → (quiet ≡ false) ⊎ (leaves ≡ true)
-which_fits false leaves h = inl refl
-which_fits true true h = inr refl
-which_fits true false h = absurd (cc h)
-
-none_fits : (quiet leaves : Bool) → quiet ≡ false → (quiet && not leaves) ≡ false
-none_fits true leaves is = absurd (cc is)
-none_fits false leaves is = refl
-
-left_fits : (quiet leaves : Bool) → leaves ≡ true → (quiet && not leaves) ≡ false
-left_fits true true is = refl
-left_fits false true is = refl
-left_fits quiet false is = absurd (cc is)
-
-split : (p : ProgramForm) (t : ℕ) (f : Finalization) (leaves : Bool) (s : Spot) → finalization_of p.types t ≡ Some f → has_access (slice_get p.types t) ≡ leaves →
-    UnusedOf p leaves f s → HasUnused p s
-split p t f leaves s at has (inl h) =
+split : (p : ProgramForm) (t : ℕ) (f : Finalization) (owns : Bool) (s : Spot) → finalization_of p.types t ≡ Some f → has_access (slice_get p.types t) ≡ owns →
+    UnusedOf p owns f s → HasUnused p s
+split p t f owns s at has (inl h) =
     let (b, found, begins) = h.1 in
     let (procedure, is, there) = overriding_there p f.operations.initialize b found in
     (procedure, b, there, inl ((t, f, at, is), sym (begun_as p f.operations.initialize procedure b is there) ∙ h.0), begins)
-split p t f leaves s at has (inr (inl h)) =
+split p t f owns s at has (inr (inl h)) =
     let (b, found, begins) = h.1 in
     let (procedure, is, there) = overriding_there p f.operations.adjust b found in
-    elim (which_fits (is_quiet_operation p f.operations.adjust) leaves h.0) [
-      | inl loud ↦ (procedure, b, there, inr (inl ((t, f, at, is), sym (quiet_as p f.operations.adjust procedure b is there) ∙ loud)), begins)
-      | inr left ↦ (procedure, b, there, inr (inr (inr (t, f, at, is, has ∙ left))), begins)
-    ]
-split p t f leaves s at has (inr (inr h)) =
+    (procedure, b, there, inr (inl (owns, (t, f, at, is, has), sym (adjusted_as p owns f.operations.adjust procedure b is there) ∙ h.0)), begins)
+split p t f owns s at has (inr (inr h)) =
     let (b, found, begins) = h.1 in
     let (procedure, is, there) = overriding_there p f.operations.finalize b found in
-    (procedure, b, there, inr (inr (inl ((t, f, at, is), sym (used_as p f.operations.finalize procedure b is there) ∙ h.0))), begins)
+    (procedure, b, there, inr (inr ((t, f, at, is), sym (used_as p f.operations.finalize procedure b is there) ∙ h.0)), begins)
 
 join : (p : ProgramForm) (procedure : ProcedureNo) (b : BodyForm) (s : Spot) → slice_get p.bodies procedure.0 ≡ Some b → b.start_spot ≡ s → IsUnused p procedure b →
     Below p (length p.types) s
 join p procedure b s there begins (inl ((t, f, at, is), loud)) =
     (t, within p.types t f at, (f, at, inl (begun_as p f.operations.initialize procedure b is there ∙ loud, (b, body_there p f.operations.initialize procedure b is there, begins))))
-join p procedure b s there begins (inr (inl ((t, f, at, is), loud))) =
-    let quiet = is_quiet_operation p f.operations.adjust in (
-      t,
-      within p.types t f at,
-      (
-        f,
-        at,
-        inr (inl (
-          none_fits quiet (has_access (slice_get p.types t)) (quiet_as p f.operations.adjust procedure b is there ∙ loud),
-          (b, body_there p f.operations.adjust procedure b is there, begins),
-        )),
-      ),
-    )
-join p procedure b s there begins (inr (inr (inl ((t, f, at, is), loud)))) =
-    (t, within p.types t f at, (f, at, inr (inr (used_as p f.operations.finalize procedure b is there ∙ loud, (b, body_there p f.operations.finalize procedure b is there, begins)))))
-join p procedure b s there begins (inr (inr (inr (t, f, at, is, has)))) = (
+join p procedure b s there begins (inr (inl (owns, (t, f, at, is, has), loud))) = (
   t,
   within p.types t f at,
   (
     f,
     at,
     inr (inl (
-      left_fits (is_quiet_operation p f.operations.adjust) (has_access (slice_get p.types t)) has,
+      ap (λ (o : Bool). uses_adjust p o f.operations.adjust) has ∙ adjusted_as p owns f.operations.adjust procedure b is there ∙ loud,
       (b, body_there p f.operations.adjust procedure b is there, begins),
     )),
   ),
 )
+join p procedure b s there begins (inr (inr ((t, f, at, is), loud))) =
+    (t, within p.types t f at, (f, at, inr (inr (used_as p f.operations.finalize procedure b is there ∙ loud, (b, body_there p f.operations.finalize procedure b is there, begins)))))
 
 pub below_all : (p : ProgramForm) (a : Option Spot) → IsFirst (Below p (length p.types)) a → IsFirst (HasUnused p) a
 below_all p a f =
@@ -254,24 +237,30 @@ both : (a b : Bool) → (a && b) ≡ true → (a ≡ true) × (b ≡ true)
 both true b h = (refl, h)
 both false b h = absurd (cc h)
 
-not_true : (b : Bool) → not b ≡ true → b ≡ false
-not_true true h = absurd (cc h)
-not_true false h = refl
+-- What holds of all types holds of one that stands at a number, and has controlled parts.
+found_type : (p : ProgramForm) (fits : Option TypeForm → Bool) (t : ℕ) (f : Finalization) → finalization_of p.types t ≡ Some f → (o : Option TypeForm) →
+    slice_get p.types t ≡ o → list_all (λ d. fits (Some d)) p.types ≡ true → fits o ≡ true
+found_type p fits t f at None is all = absurd (cc (sym (ap finalization_in is) ∙ at))
+found_type p fits t f at (Some d) is all = all_at (λ (d : TypeForm). fits (Some d)) p.types t d all is
 
--- What holds of a type that stands at a number.
-abbrev Passes : ProgramForm → (uses : Option Finalization → Bool) → Finalization → Option TypeForm → Type 0
-Passes p uses f o = (uses (Some f) ≡ true) × ((has_access o && is_some (adjust_body p (Some f))) ≡ false)
+-- Where all operations are quiet, those of a type are, and no body overrides its Adjust, if it declares a component of an access type.
+abbrev is_quiet_type : ProgramForm → Option TypeForm → Bool
+is_quiet_type p o = has_quiet_operations p (finalization_in o) && not (has_access o && is_some (adjust_body p (finalization_in o)))
 
-found_type : (p : ProgramForm) (uses : Option Finalization → Bool) (t : ℕ) (f : Finalization) → finalization_of p.types t ≡ Some f → (o : Option TypeForm) →
-    slice_get p.types t ≡ o → list_all (λ d. uses (finalization_in (Some d)) && not (adjusts_access p d)) p.types ≡ true → Passes p uses f o
-found_type p uses t f at None is all = absurd (cc (sym (ap finalization_in is) ∙ at))
-found_type p uses t f at (Some d) is all =
-    let fine = all_at (λ (d : TypeForm). uses (finalization_in (Some d)) && not (adjusts_access p d)) p.types t d all is in
-    let (used, leaves) = both (uses (finalization_in (Some d))) (not (adjusts_access p d)) fine in
-    let same : finalization_in (Some d) ≡ Some f = sym (ap finalization_in is) ∙ at in (
-      ap uses (sym same) ∙ used,
-      ap (λ (g : Option Finalization). has_access (Some d) && is_some (adjust_body p g)) (sym same) ∙ not_true (adjusts_access p d) leaves,
-    )
+quiet_found : (p : ProgramForm) → operations_are_quiet p ≡ true → (t : ℕ) (f : Finalization) → finalization_of p.types t ≡ Some f → has_quiet_operations p (Some f) ≡ true
+quiet_found p all t f at =
+    let type = slice_get p.types t in
+    let fine = found_type p (is_quiet_type p) t f at type refl all in
+    ap (has_quiet_operations p) (sym at) ∙ (both (has_quiet_operations p (finalization_in type)) (not (has_access type && is_some (adjust_body p (finalization_in type)))) fine).0
+
+-- Where all are in use, those of a type are.
+abbrev is_used_type : ProgramForm → Option TypeForm → Bool
+is_used_type p o = uses_operations p (has_access o) (finalization_in o)
+
+used_found : (p : ProgramForm) → operations_are_in_use p ≡ true → (t : ℕ) (f : Finalization) → finalization_of p.types t ≡ Some f →
+    uses_operations p (has_access (slice_get p.types t)) (Some f) ≡ true
+used_found p all t f at =
+    ap (uses_operations p (has_access (slice_get p.types t))) (sym at) ∙ found_type p (is_used_type p) t f at (slice_get p.types t) refl all
 
 -- A procedure is one of those that override the operations of a type (7.6).
 abbrev pub IsAmong : Operations → (procedure : ProcedureNo) → Type 0
@@ -283,7 +272,7 @@ pub quiet_among : (p : ProgramForm) → operations_are_quiet p ≡ true → (t :
 quiet_among p all t f procedure b at is there = go is
   where
     quiet : (is_quiet_operation p f.operations.initialize && is_quiet_operation p f.operations.adjust && is_quiet_operation p f.operations.finalize) ≡ true
-    quiet = (found_type p (has_quiet_operations p) t f at (slice_get p.types t) refl all).0
+    quiet = quiet_found p all t f at
 
     two : ((is_quiet_operation p f.operations.initialize && is_quiet_operation p f.operations.adjust) ≡ true) × (is_quiet_operation p f.operations.finalize ≡ true)
     two = both (is_quiet_operation p f.operations.initialize && is_quiet_operation p f.operations.adjust) (is_quiet_operation p f.operations.finalize) quiet
@@ -297,31 +286,26 @@ quiet_among p all t f procedure b at is there = go is
     go (inr (inr one)) = sym (quiet_as p f.operations.finalize procedure b one there) ∙ two.1
 
 -- Where all are in use, none begins that is not.
-none_begins : (p : ProgramForm) (leaves : Bool) (f : Finalization) → uses_operations p (Some f) ≡ true → (leaves && is_some (adjust_body p (Some f))) ≡ false → (s : Spot) →
-    ¬ (UnusedOf p leaves f s)
-none_begins p leaves f used left s = go
+none_begins : (p : ProgramForm) (owns : Bool) (f : Finalization) → uses_operations p owns (Some f) ≡ true → (s : Spot) → ¬ (UnusedOf p owns f s)
+none_begins p owns f used s = go
   where
-    two : ((uses_initialize p f.operations.initialize && is_quiet_operation p f.operations.adjust) ≡ true) × (uses_finalize p f.operations.finalize ≡ true)
-    two = both (uses_initialize p f.operations.initialize && is_quiet_operation p f.operations.adjust) (uses_finalize p f.operations.finalize) used
+    two : ((uses_initialize p f.operations.initialize && uses_adjust p owns f.operations.adjust) ≡ true) × (uses_finalize p f.operations.finalize ≡ true)
+    two = both (uses_initialize p f.operations.initialize && uses_adjust p owns f.operations.adjust) (uses_finalize p f.operations.finalize) used
 
-    first : (uses_initialize p f.operations.initialize ≡ true) × (is_quiet_operation p f.operations.adjust ≡ true)
-    first = both (uses_initialize p f.operations.initialize) (is_quiet_operation p f.operations.adjust) two.0
+    first : (uses_initialize p f.operations.initialize ≡ true) × (uses_adjust p owns f.operations.adjust ≡ true)
+    first = both (uses_initialize p f.operations.initialize) (uses_adjust p owns f.operations.adjust) two.0
 
-    go : ¬ (UnusedOf p leaves f s)
+    go : ¬ (UnusedOf p owns f s)
     go (inl h) = absurd (cc (sym first.0 ∙ h.0))
-    go (inr (inl h)) = elim (which_fits (is_quiet_operation p f.operations.adjust) leaves h.0) [
-      | inl loud ↦ absurd (cc (sym first.1 ∙ loud))
-      | inr has ↦ absurd (cc (sym (ap (λ (l : Bool). l && is_some (adjust_body p (Some f))) has ∙ ap is_some h.1.1) ∙ left))
-    ]
+    go (inr (inl h)) = absurd (cc (sym first.1 ∙ h.0))
     go (inr (inr h)) = absurd (cc (sym two.1 ∙ h.0))
 
 none_below : (p : ProgramForm) → operations_are_in_use p ≡ true → (s : Spot) → ¬ (Below p (length p.types) s)
 none_below p all s h =
     let (f, at, one) = h.2 in
-    let (used, left) = found_type p (uses_operations p) h.0 f at (slice_get p.types h.0) refl all in
-    none_begins p (has_access (slice_get p.types h.0)) f used left s one
+    none_begins p (has_access (slice_get p.types h.0)) f (used_found p all h.0 f at) s one
 
--- Where one is not in use, or not quiet, it is there.
+-- Where one is not in use, it is there.
 body_of : (p : ProgramForm) (o : Option BodyForm) → (fits : Option BodyForm → Bool) → fits None ≡ true → fits o ≡ false → (b : BodyForm) × (o ≡ Some b)
 body_of p None fits fine h = absurd (cc (sym fine ∙ h))
 body_of p (Some b) fits fine h = (b, refl)
@@ -330,48 +314,34 @@ loud_begun : (p : ProgramForm) (o : Option ProcedureNo) → uses_initialize p o 
 loud_begun p None h = absurd (cc h)
 loud_begun p (Some procedure) h = body_of p (slice_get p.bodies procedure.0) (begun_procedure p procedure) refl h
 
-loud_quiet : (p : ProgramForm) (o : Option ProcedureNo) → is_quiet_operation p o ≡ false → (b : BodyForm) × (operation_body p o ≡ Some b)
-loud_quiet p None h = absurd (cc h)
-loud_quiet p (Some procedure) h = body_of p (slice_get p.bodies procedure.0) (is_quiet_procedure p.types) refl h
+none_adjusted : (p : ProgramForm) (owns : Bool) → adjusted_procedure p owns None ≡ true
+none_adjusted p true = refl
+none_adjusted p false = refl
+
+loud_adjusted : (p : ProgramForm) (owns : Bool) (o : Option ProcedureNo) → uses_adjust p owns o ≡ false → (b : BodyForm) × (operation_body p o ≡ Some b)
+loud_adjusted p true None h = absurd (cc h)
+loud_adjusted p false None h = absurd (cc h)
+loud_adjusted p owns (Some procedure) h = body_of p (slice_get p.bodies procedure.0) (adjusted_procedure p owns) (none_adjusted p owns) h
 
 loud_used : (p : ProgramForm) (o : Option ProcedureNo) → uses_finalize p o ≡ false → (b : BodyForm) × (operation_body p o ≡ Some b)
 loud_used p None h = absurd (cc h)
 loud_used p (Some procedure) h = body_of p (slice_get p.bodies procedure.0) (used_procedure p procedure) refl h
 
-body_some : (o : Option BodyForm) → is_some o ≡ true → (b : BodyForm) × (o ≡ Some b)
-body_some None h = absurd (cc h)
-body_some (Some b) h = (b, refl)
-
--- Of three that are not all in use, or leave something, one is not in use or leaves something.
-unused_type : (p : ProgramForm) (leaves : Bool) (o : Option Finalization) → (uses_operations p o && not (leaves && is_some (adjust_body p o))) ≡ false →
-    (s : Spot) × UnusedIn p leaves o s
-unused_type p true None h = absurd (cc h)
-unused_type p false None h = absurd (cc h)
-unused_type p leaves (Some f) h =
-    go (uses_initialize p f.operations.initialize) (quiet f.operations.adjust) (uses_finalize p f.operations.finalize) left refl refl refl refl h
+-- Of three that are not all in use one is not.
+unused_type : (p : ProgramForm) (owns : Bool) (o : Option Finalization) → uses_operations p owns o ≡ false → (s : Spot) × UnusedIn p owns o s
+unused_type p owns None h = absurd (cc h)
+unused_type p owns (Some f) h = go (uses_initialize p f.operations.initialize) (uses_adjust p owns f.operations.adjust) (uses_finalize p f.operations.finalize) refl refl refl h
   where
-    quiet : Option ProcedureNo → Bool
-    quiet o = is_quiet_operation p o
-
-    left : Bool
-    left = leaves && is_some (operation_body p f.operations.adjust)
-
-    go : (i a z l : Bool) → uses_initialize p f.operations.initialize ≡ i → quiet f.operations.adjust ≡ a → uses_finalize p f.operations.finalize ≡ z → left ≡ l →
-        (i && a && z && not l) ≡ false → (s : Spot) × UnusedIn p leaves (Some f) s
-    go false a z l is _ _ _ h = let (b, at) = loud_begun p f.operations.initialize is in (b.start_spot, (f, refl, inl (is, (b, at, refl))))
-    go true false z l _ is _ _ h =
-        let (b, at) = loud_quiet p f.operations.adjust is in
-        (b.start_spot, (f, refl, inr (inl (none_fits (quiet f.operations.adjust) leaves is, (b, at, refl)))))
-    go true true false l _ _ is _ h = let (b, at) = loud_used p f.operations.finalize is in (b.start_spot, (f, refl, inr (inr (is, (b, at, refl)))))
-    go true true true true _ _ _ is h =
-        let (has, there) = both leaves (is_some (operation_body p f.operations.adjust)) is in
-        let (b, at) = body_some (operation_body p f.operations.adjust) there in
-        (b.start_spot, (f, refl, inr (inl (left_fits (quiet f.operations.adjust) leaves has, (b, at, refl)))))
-    go true true true false _ _ _ _ h = absurd (cc h)
+    go : (i a z : Bool) → uses_initialize p f.operations.initialize ≡ i → uses_adjust p owns f.operations.adjust ≡ a → uses_finalize p f.operations.finalize ≡ z →
+        (i && a && z) ≡ false → (s : Spot) × UnusedIn p owns (Some f) s
+    go false a z is _ _ h = let (b, at) = loud_begun p f.operations.initialize is in (b.start_spot, (f, refl, inl (is, (b, at, refl))))
+    go true false z _ is _ h = let (b, at) = loud_adjusted p owns f.operations.adjust is in (b.start_spot, (f, refl, inr (inl (is, (b, at, refl)))))
+    go true true false _ _ is h = let (b, at) = loud_used p f.operations.finalize is in (b.start_spot, (f, refl, inr (inr (is, (b, at, refl)))))
+    go true true true _ _ _ h = absurd (cc h)
 
 some_unused : (p : ProgramForm) → operations_are_in_use p ≡ false → (s : Spot) × HasUnused p s
 some_unused p h =
-    let (t, d, at, wrong) = not_all (λ (d : TypeForm). uses_operations p (finalization_in (Some d)) && not (adjusts_access p d)) p.types h in
+    let (t, d, at, wrong) = not_all (λ (d : TypeForm). uses_operations p (has_access (Some d)) (finalization_in (Some d))) p.types h in
     let (s, own) = unused_type p (has_access (Some d)) (finalization_in (Some d)) wrong in
     (s, split p t own.0 (has_access (Some d)) s (ap finalization_in at ∙ own.1) (ap has_access at) own.2)
 

@@ -1,15 +1,14 @@
 -- Procedures that override an Adjust which tracks components stand apart: nothing calls them, and they override no other operation (7.6); and no allocator
--- copies a record, which no Adjust would see to (4.8).
+-- copies a record with controlled parts, to which no Adjust would see there (4.8).
 
-use Rattle.std.specs.Prelude.{ℕ, Bool, true, false, ◌&&◌, ◌||◌, not, ◌==◌, List, Option, Some, None}
+use Rattle.std.specs.Prelude.{ℕ, Bool, true, false, ◌&&◌, ◌||◌, not, ◌==◌, List, Option, Some, None, is_some}
 use Rattle.std.specs.List.{list_all, list_any}
 use Rattle.ada_program.specs.declared.program.Finalization.{Finalization}
 use Rattle.ada_program.specs.declared.program.ProcedureNo.{ProcedureNo}
-use Rattle.ada_program.specs.Form.{StmtForm, skips, assigns, assigns_record, frees, gets, writes, writes_text, chooses, repeats, counts, exits, calls, returns, raises, encloses, StmtsForm, no_stmts, a_stmt, BranchesForm, otherwise, a_branch, HandlersForm, no_handlers, a_handler, DeclarationForm, creates_pool, collects, declares, declares_record}
-use Rattle.ada_program.specs.ProgramForm.{BodyForm, ProgramForm, main_body}
-use Rattle.ada_program.specs.WellFormed.{finalization_in}
+use Rattle.ada_program.specs.Form.{ItemForm, null_item, item_of_path, item_of_value, item_of_record, RightForm, nothing, value_of, allocates, allocates_default, computes, StmtForm, skips, assigns, assigns_record, frees, gets, writes, writes_text, chooses, repeats, counts, exits, calls, returns, raises, encloses, StmtsForm, no_stmts, a_stmt, BranchesForm, otherwise, a_branch, HandlersForm, no_handlers, a_handler, DeclarationForm, creates_pool, collects, declares, declares_record}
+use Rattle.ada_program.specs.ProgramForm.{TypeForm, BodyForm, ProgramForm, main_body}
+use Rattle.ada_program.specs.WellFormed.{finalization_in, finalization_of}
 use Rattle.ada_quiet.specs.Quiet.{has_access}
-use Rattle.ada_quiet.specs.Simple.{is_simple_right}
 
 -- What overrides an operation, if one is overridden, is this procedure.
 abbrev pub is_this_one : (procedure : ℕ) → Option ProcedureNo → Bool
@@ -25,24 +24,39 @@ is_adjust_of n (Some f) = is_this_one n f.operations.adjust
 abbrev pub is_tracker : ProgramForm → (procedure : ℕ) → Bool
 is_tracker p n = list_any (λ t. has_access (Some t) && is_adjust_of n (finalization_in (Some t))) p.types
 
--- What is given to a variable at first copies no record in an allocator (3.3.1, 4.8).
-abbrev pub declares_apart : DeclarationForm → Bool
-declares_apart (creates_pool pool) = true
-declares_apart (collects access) = true
-declares_apart (declares x right) = is_simple_right right
-declares_apart (declares_record x t initial) = true
+-- An item of an aggregate copies no record with controlled parts (4.3.1, 7.6).
+abbrev pub is_bare_item : List TypeForm → ItemForm → Bool
+is_bare_item types null_item = true
+is_bare_item types (item_of_path path) = true
+is_bare_item types (item_of_value e) = true
+is_bare_item types (item_of_record path) = not (is_some (finalization_of types path.record_type))
+
+-- Nor does what is assigned (5.2), where it is a new object with items for its components (4.8).
+abbrev pub is_bare_right : List TypeForm → RightForm → Bool
+is_bare_right types nothing = true
+is_bare_right types (value_of path) = true
+is_bare_right types (allocates access items) = list_all (is_bare_item types) items
+is_bare_right types (allocates_default access) = true
+is_bare_right types (computes e) = true
+
+-- What is given to a variable at first copies no such record in an allocator (3.3.1, 4.8).
+abbrev pub declares_apart : List TypeForm → DeclarationForm → Bool
+declares_apart types (creates_pool pool) = true
+declares_apart types (collects access) = true
+declares_apart types (declares x right) = is_bare_right types right
+declares_apart types (declares_record x t initial) = true
 
 -- So it is with each of these declarations.
-abbrev pub declare_apart : List DeclarationForm → Bool
-declare_apart ds = list_all declares_apart ds
+abbrev pub declare_apart : List TypeForm → List DeclarationForm → Bool
+declare_apart types ds = list_all (declares_apart types) ds
 
 -- Of each procedure, by its number, whether it tracks.
-module _ (tracks : ℕ → Bool) where
+module _ (types : List TypeForm) (tracks : ℕ → Bool) where
   abbrev mutual
-    -- A statement calls no procedure that tracks (6.4), and copies no record in an allocator (4.8).
+    -- A statement calls no procedure that tracks (6.4), and copies no record with controlled parts in an allocator (4.8).
     pub calls_apart : StmtForm → Bool
     calls_apart skips = true
-    calls_apart (assigns target right) = is_simple_right right
+    calls_apart (assigns target right) = is_bare_right types right
     calls_apart (assigns_record target items) = true
     calls_apart (frees access path) = true
     calls_apart (gets target) = true
@@ -55,7 +69,7 @@ module _ (tracks : ℕ → Bool) where
     calls_apart (calls procedure actuals) = not (tracks procedure)
     calls_apart (returns spot) = true
     calls_apart (raises e) = true
-    calls_apart (encloses ds fs hs) = declare_apart ds && all_call_apart fs && handlers_call_apart hs
+    calls_apart (encloses ds fs hs) = declare_apart types ds && all_call_apart fs && handlers_call_apart hs
 
     -- So it is with statements.
     pub all_call_apart : StmtsForm → Bool
@@ -73,8 +87,9 @@ module _ (tracks : ℕ → Bool) where
     handlers_call_apart (a_handler choices fs hs) = all_call_apart fs && handlers_call_apart hs
 
 -- So it is with a body.
-abbrev pub body_calls_apart : (tracks : ℕ → Bool) → BodyForm → Bool
-body_calls_apart tracks b = declare_apart b.declarations && all_call_apart tracks b.statements && handlers_call_apart tracks b.handlers
+abbrev pub body_calls_apart : List TypeForm → (tracks : ℕ → Bool) → BodyForm → Bool
+body_calls_apart types tracks b =
+    declare_apart types b.declarations && all_call_apart types tracks b.statements && handlers_call_apart types tracks b.handlers
 
 -- What overrides an operation, if one is overridden, does not track.
 abbrev pub overrides_apart : (tracks : ℕ → Bool) → Option ProcedureNo → Bool
@@ -87,8 +102,8 @@ operations_apart tracks owns None = true
 operations_apart tracks owns (Some f) =
     overrides_apart tracks f.operations.initialize && (owns || overrides_apart tracks f.operations.adjust) && overrides_apart tracks f.operations.finalize
 
--- What tracks stands apart in a program: no body calls it, and it overrides nothing else; and no allocator copies a record.
+-- What tracks stands apart in a program: no body calls it, and it overrides nothing else; and no allocator copies a record with controlled parts.
 abbrev pub trackers_stand_apart : ProgramForm → Bool
 trackers_stand_apart p =
-    body_calls_apart (is_tracker p) (main_body p) && list_all (body_calls_apart (is_tracker p)) p.bodies
+    body_calls_apart p.types (is_tracker p) (main_body p) && list_all (body_calls_apart p.types (is_tracker p)) p.bodies
     && list_all (λ t. operations_apart (is_tracker p) (has_access (Some t)) (finalization_in (Some t))) p.types

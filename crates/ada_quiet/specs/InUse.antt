@@ -1,13 +1,17 @@
 -- Which operations of controlled types are in use.
 
-use Rattle.std.specs.Prelude.{Bool, true, not, ◌&&◌, ◌||◌, List, Option, Some, None, is_some}
-use Rattle.std.specs.List.{list_all}
+use Rattle.std.specs.Prelude.{ℕ, ◌+◌, Bool, true, not, ◌&&◌, ◌||◌, ◌==◌, if◌then◌else◌, List, [], ◌∷◌, length, Option, Some, None, is_some}
+use Rattle.std.specs.List.{list_all, list_any}
+use Rattle.ada_program.specs.declared.program.ComponentKind.{ComponentKind}
 use Rattle.ada_program.specs.declared.program.Finalization.{Finalization}
+use Rattle.ada_program.specs.declared.program.PartKind.{PartKind}
 use Rattle.ada_program.specs.declared.program.ProcedureNo.{ProcedureNo}
-use Rattle.ada_program.specs.ProgramForm.{TypeForm, record_of, access_to, object_of, ProgramForm}
-use Rattle.ada_program.specs.WellFormed.{finalization_in, finalization_of}
-use Rattle.ada_quiet.specs.Quiet.{is_quiet_operation, is_plain_operation, adjusts_access}
+use Rattle.ada_program.specs.ProgramForm.{PartForm, TypeForm, record_of, access_to, object_of, ProgramForm}
+use Rattle.ada_program.specs.WellFormed.{finalization_in, finalization_of, components_within, is_parent, is_inherited}
+use Rattle.ada_quiet.specs.Quiet.{is_quiet_operation, is_plain_operation, has_access, operation_body}
 use Rattle.ada_quiet.specs.Frugal.{is_frugal_operation, is_silent_operation}
+use Rattle.ada_quiet.specs.Simple.{is_simple_operation}
+use Rattle.ada_quiet.specs.Apart.{trackers_stand_apart}
 
 -- A type designates no record type with controlled parts (3.10, 7.6), if it is an access type.
 abbrev pub designates_no_parts : List TypeForm → TypeForm → Bool
@@ -21,6 +25,45 @@ designates_no_parts types (object_of record_type) = true
 abbrev pub may_be_frugal : ProgramForm → Bool
 may_be_frugal p = list_all (designates_no_parts p.types) p.types
 
+-- How many components there are, if they are those of something.
+abbrev pub count_found : Option (List ComponentKind) → ℕ
+count_found None = 0
+count_found (Some components) = length components
+
+-- How many elementary components a declared component has (3.8): one, or as many as its record type. The parent part has none (7.6).
+abbrev pub size_of_part : List TypeForm → PartKind → ℕ
+size_of_part types kind = count_found (components_within types kind)
+
+-- The elementary components of declared components stand one behind another, from a number on, up to their count (3.8). The parent part has none, wherever it
+-- stands.
+abbrev pub stand_in_a_row : List TypeForm → (from : ℕ) → List PartForm → (count : ℕ) → Bool
+stand_in_a_row types from [] count = from == count
+stand_in_a_row types from (p ∷ ps) count =
+    (is_parent p.kind || (p.first == from)) && stand_in_a_row types (from + size_of_part types p.kind) ps count
+
+-- A record has at most one controlled part, at any depth and itself included: where it is copied, that is the first one that is adjusted, and the last one (7.6).
+abbrev pub adjusts_at_most_one : Option Finalization → Bool
+adjusts_at_most_one None = true
+adjusts_at_most_one (Some f) = f.parts == 1
+
+-- A type overrides no Adjust, or it is controlled itself: it has the parent part (7.6).
+abbrev pub adjusts_itself : List PartForm → Option Finalization → Bool
+adjusts_itself parts None = true
+adjusts_itself parts (Some f) = is_inherited f.operations.adjust || list_any (λ c. is_parent c.kind) parts
+
+-- All elementary components of a record are those of its declared components, and where it is copied, at most one part is adjusted, the record itself where its
+-- type overrides Adjust (7.6).
+abbrev pub is_copied_alone : List TypeForm → TypeForm → Bool
+is_copied_alone types (record_of name parts components finalization) =
+    stand_in_a_row types 0 parts (length components) && adjusts_at_most_one finalization && adjusts_itself parts finalization
+is_copied_alone types (access_to name designated pool) = true
+is_copied_alone types (object_of record_type) = true
+
+-- An Adjust may track its components in a program in which operations may be frugal, no copy of a record has two parts that are adjusted (7.6), and no
+-- procedure that tracks is called or overrides another operation, and no allocator copies a record with controlled parts (4.8).
+abbrev pub may_track : ProgramForm → Bool
+may_track p = may_be_frugal p && list_all (is_copied_alone p.types) p.types && trackers_stand_apart p
+
 -- Finalize is quiet, or frugal and silent, where it may be.
 abbrev pub uses_finalize : ProgramForm → Option ProcedureNo → Bool
 uses_finalize p finalize = is_quiet_operation p finalize || (may_be_frugal p && is_frugal_operation p finalize && is_silent_operation p finalize)
@@ -29,12 +72,20 @@ uses_finalize p finalize = is_quiet_operation p finalize || (may_be_frugal p && 
 abbrev pub uses_initialize : ProgramForm → Option ProcedureNo → Bool
 uses_initialize p initialize = is_plain_operation p initialize || (may_be_frugal p && is_frugal_operation p initialize)
 
--- Of a type Initialize and Finalize are in use, and Adjust is quiet (7.6, 7.6.1).
-abbrev pub uses_operations : ProgramForm → Option Finalization → Bool
-uses_operations p None = true
-uses_operations p (Some f) =
-    uses_initialize p f.operations.initialize && is_quiet_operation p f.operations.adjust && uses_finalize p f.operations.finalize
+-- Adjust is simple and silent, where it may track, if a body overrides it of a type that declares a component of an access type directly (3.10, 7.6): behind it
+-- that component of a copy holds a value of its own, or null. Of another type it is quiet.
+abbrev pub uses_adjust : ProgramForm → (owns : Bool) → Option ProcedureNo → Bool
+uses_adjust p owns adjust =
+    if owns && is_some (operation_body p adjust)
+    then may_track p && is_simple_operation p adjust && is_silent_operation p adjust
+    else is_quiet_operation p adjust
 
--- All that overrides an operation of a controlled type is in use, and no body overrides Adjust of a type with a component of an access type.
+-- The operations of a type, which declares such a component or does not, are in use (7.6, 7.6.1).
+abbrev pub uses_operations : ProgramForm → (owns : Bool) → Option Finalization → Bool
+uses_operations p owns None = true
+uses_operations p owns (Some f) =
+    uses_initialize p f.operations.initialize && uses_adjust p owns f.operations.adjust && uses_finalize p f.operations.finalize
+
+-- All that overrides an operation of a controlled type is in use.
 abbrev pub operations_are_in_use : ProgramForm → Bool
-operations_are_in_use p = list_all (λ t. uses_operations p (finalization_in (Some t)) && not (adjusts_access p t)) p.types
+operations_are_in_use p = list_all (λ t. uses_operations p (has_access (Some t)) (finalization_in (Some t))) p.types

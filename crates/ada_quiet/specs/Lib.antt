@@ -10,8 +10,6 @@ pub mod Simple
 pub mod Apart
 -- what is in use
 pub mod InUse
--- where an Adjust may track components
-pub mod Tracking
 -- what is known of all bodies, as the code holds it
 pub mod Known
 -- the first one in the text that is not in use

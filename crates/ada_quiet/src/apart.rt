@@ -1,35 +1,23 @@
 //! Where the procedures that override an Adjust which tracks components stand apart (7.6): no body calls them (6.4), and they override
-//! no other operation; and no allocator copies a record (4.8), which no Adjust would see to.
+//! no other operation; and no allocator copies a record with controlled parts (4.8), to which no Adjust would see there.
 
 ghost use Rattle.std.specs.Prelude.{◌≡◌, ◌&&◌, ◌||◌, ◌==◌, ℕ, Some, IfOk, OnOk, map};
-ghost use Rattle.std.specs.List.{list_all, list_any};
-ghost use Rattle.ada_program.specs.Form.{StmtsForm, branches_form, declaration_form, handlers_form, stmt_form, stmts_form};
+ghost use Rattle.std.specs.List.{list_all};
+ghost use Rattle.ada_program.specs.Form.{StmtsForm, branches_form, declaration_form, handlers_form, initial_form, item_form, right_form, stmt_form, stmts_form};
 ghost use Rattle.ada_program.specs.Kept.{types_in};
-ghost use Rattle.ada_program.specs.ProgramForm.{body_form, main_body, part_form, program_form, type_form};
+ghost use Rattle.ada_program.specs.ProgramForm.{body_form, main_body, program_form, type_form};
 ghost use Rattle.ada_program.specs.WellFormed.{finalization_in};
 ghost use Rattle.ada_quiet.specs.Apart as rules;
 ghost use Rattle.ada_quiet.specs.Known.{is_marked};
-ghost use Rattle.ada_quiet.specs.Quiet.{has_access, is_of_access};
+ghost use Rattle.ada_quiet.specs.Quiet.{has_access};
 
-use crate::simple::{is_simple_initial, is_simple_right};
+use crate::operations::have_access;
+use ada_program::parts::finalization_of;
 use ada_program::program::{
-    Branch, ComponentKind, Declaration, Finalization, Handler, Part, PartKind, Procedure,
-    TypeDefinition,
+    Branch, Declaration, Finalization, Handler, Item, Procedure, Right, TypeDefinition,
 };
 use ada_program::{ProcedureNo, Program, Stmt};
 use std::alloc::{AllocError, Global};
-
-/// Whether one of these declared components is of an access type (3.8, 3.10).
-fn declare_access(parts: &[Part]) -> bool
-    ensures { result ≡ list_any (λ c. is_of_access c.kind) (map part_form parts.now) }
-{
-    'parts: for part in parts {
-        if matches!(part.kind, PartKind::Elementary(ComponentKind::Access(_))) {
-            return true;
-        }
-    }
-    false
-}
 
 /// What overrides Adjust of a type that has operations, if something does.
 fn adjust_of(finalization: Option<Finalization>) -> Option<ProcedureNo>
@@ -52,7 +40,7 @@ fn tracker_in(definition: &TypeDefinition) -> Option<ProcedureNo>
     else {
         return None;
     };
-    if !declare_access(parts) {
+    if !have_access(parts) {
         return None;
     }
     adjust_of(*finalization)
@@ -107,36 +95,78 @@ fn tracks(marks: &[bool], procedure: ProcedureNo) -> bool
     }
 }
 
-/// Whether what a declaration gives to a variable at first, if it gives something, copies no record in an allocator (3.3.1, 4.8).
-fn declares_apart(declaration: &Declaration) -> bool
-    ensures { result ≡ rules.declares_apart (declaration_form declaration.now) }
+/// Whether an item of an aggregate copies no record with controlled parts (4.3.1, 7.6).
+fn is_bare_item(types: &[TypeDefinition], item: &Item) -> bool
+    ensures { result ≡ rules.is_bare_item (types_in types.now) (item_form item.now) }
 {
-    match declaration {
-        Declaration::Variable {
-            variable: _,
-            initial,
-        } => is_simple_initial(initial),
-        Declaration::Pool(_) | Declaration::Collection(_) | Declaration::Record { .. } => true,
+    match item {
+        Item::Null | Item::Path(_) | Item::Value(_) => true,
+        Item::Record(path) => finalization_of(types, path.record.0).is_none(),
     }
 }
 
-/// Whether that is so with each of these declarations.
-fn declare_apart(declarations: &[Declaration]) -> bool
-    ensures { result ≡ rules.declare_apart (map declaration_form declarations.now) }
+/// Whether that is so with each of these items.
+fn are_bare_items(types: &[TypeDefinition], items: &[Item]) -> bool
+    ensures { result ≡ list_all (rules.is_bare_item (types_in types.now)) (map item_form items.now) }
 {
-    'declarations: for declaration in declarations {
-        if !declares_apart(declaration) {
+    'items: for item in items {
+        if !is_bare_item(types, item) {
             return false;
         }
     }
     true
 }
 
-/// Whether a statement calls no procedure that is marked (6.4), and copies no record in an allocator (4.8).
+/// Whether what is assigned copies none (5.2), where it is a new object with items for its components (4.8).
+fn is_bare_right(types: &[TypeDefinition], right: &Right) -> bool
+    ensures { result ≡ rules.is_bare_right (types_in types.now) (right_form right.now) }
+{
+    match right {
+        Right::Null | Right::Path(_) | Right::Default(_) | Right::Value(_) => true,
+        Right::Allocator { access: _, items } => are_bare_items(types, items),
+    }
+}
+
+/// Whether what a variable is given at first copies none, if it is given something (3.3.1).
+fn is_bare_initial(types: &[TypeDefinition], initial: &Option<Right>) -> bool
+    ensures { result ≡ rules.is_bare_right (types_in types.now) (initial_form initial.now) }
+{
+    match initial {
+        None => true,
+        Some(right) => is_bare_right(types, right),
+    }
+}
+
+/// Whether what a declaration gives to a variable at first, if it gives something, copies none in an allocator (3.3.1, 4.8).
+fn declares_apart(types: &[TypeDefinition], declaration: &Declaration) -> bool
+    ensures { result ≡ rules.declares_apart (types_in types.now) (declaration_form declaration.now) }
+{
+    match declaration {
+        Declaration::Variable {
+            variable: _,
+            initial,
+        } => is_bare_initial(types, initial),
+        Declaration::Pool(_) | Declaration::Collection(_) | Declaration::Record { .. } => true,
+    }
+}
+
+/// Whether that is so with each of these declarations.
+fn declare_apart(types: &[TypeDefinition], declarations: &[Declaration]) -> bool
+    ensures { result ≡ rules.declare_apart (types_in types.now) (map declaration_form declarations.now) }
+{
+    'declarations: for declaration in declarations {
+        if !declares_apart(types, declaration) {
+            return false;
+        }
+    }
+    true
+}
+
+/// Whether a statement calls no procedure that is marked (6.4), and copies no record with controlled parts in an allocator (4.8).
 #[cycle(statements)]
 #[tactic(auto, using(std::proofs::lemmas::Grind::common_steps, ada_program::specs::Form::statement_rules))]
-fn calls_apart(marks: &[bool], statement: &Stmt) -> bool
-    ensures { result ≡ rules.calls_apart (is_marked marks.now) (stmt_form statement.now) }
+fn calls_apart(types: &[TypeDefinition], marks: &[bool], statement: &Stmt) -> bool
+    ensures { result ≡ rules.calls_apart (types_in types.now) (is_marked marks.now) (stmt_form statement.now) }
 {
     match statement {
         Stmt::Null
@@ -148,7 +178,7 @@ fn calls_apart(marks: &[bool], statement: &Stmt) -> bool
         | Stmt::Exit { .. }
         | Stmt::Return(_)
         | Stmt::Raise(_) => true,
-        Stmt::Assign { target: _, value } => is_simple_right(value),
+        Stmt::Assign { target: _, value } => is_bare_right(types, value),
         Stmt::Call {
             procedure,
             actuals: _,
@@ -156,36 +186,36 @@ fn calls_apart(marks: &[bool], statement: &Stmt) -> bool
         Stmt::If {
             branches,
             otherwise,
-        } => branches_call_apart(marks, branches) && all_call_apart(marks, otherwise),
+        } => branches_call_apart(types, marks, branches) && all_call_apart(types, marks, otherwise),
         Stmt::Loop {
             condition: _,
             statements,
             end: _,
-        } => all_call_apart(marks, statements),
+        } => all_call_apart(types, marks, statements),
         Stmt::For {
             parameter: _,
             first: _,
             last: _,
             statements,
             end: _,
-        } => all_call_apart(marks, statements),
+        } => all_call_apart(types, marks, statements),
         Stmt::Block {
             declarations,
             statements,
             handlers,
-        } => declare_apart(declarations)
-            && all_call_apart(marks, statements)
-            && handlers_call_apart(marks, handlers),
+        } => declare_apart(types, declarations)
+            && all_call_apart(types, marks, statements)
+            && handlers_call_apart(types, marks, handlers),
     }
 }
 
 /// Whether that is so with statements.
 #[cycle(statements)]
-fn all_call_apart(marks: &[bool], statements: &[Stmt]) -> bool
-    ensures { result ≡ rules.all_call_apart (is_marked marks.now) (stmts_form statements.now) }
+fn all_call_apart(types: &[TypeDefinition], marks: &[bool], statements: &[Stmt]) -> bool
+    ensures { result ≡ rules.all_call_apart (types_in types.now) (is_marked marks.now) (stmts_form statements.now) }
 {
     'statements: for statement in statements {
-        if !calls_apart(marks, statement) {
+        if !calls_apart(types, marks, statement) {
             return false;
         }
     }
@@ -194,12 +224,12 @@ fn all_call_apart(marks: &[bool], statements: &[Stmt]) -> bool
 
 /// Whether that is so with branches (5.3).
 #[cycle(statements)]
-fn branches_call_apart(marks: &[bool], branches: &[Branch]) -> bool
-    ensures { (others : StmtsForm) → rules.branches_call_apart (is_marked marks.now) (branches_form branches.now others)
-        ≡ (result && rules.all_call_apart (is_marked marks.now) others) }
+fn branches_call_apart(types: &[TypeDefinition], marks: &[bool], branches: &[Branch]) -> bool
+    ensures { (others : StmtsForm) → rules.branches_call_apart (types_in types.now) (is_marked marks.now) (branches_form branches.now others)
+        ≡ (result && rules.all_call_apart (types_in types.now) (is_marked marks.now) others) }
 {
     'branches: for branch in branches {
-        if !all_call_apart(marks, &branch.statements) {
+        if !all_call_apart(types, marks, &branch.statements) {
             return false;
         }
     }
@@ -208,11 +238,11 @@ fn branches_call_apart(marks: &[bool], branches: &[Branch]) -> bool
 
 /// Whether that is so with handlers (11.2).
 #[cycle(statements)]
-fn handlers_call_apart(marks: &[bool], handlers: &[Handler]) -> bool
-    ensures { result ≡ rules.handlers_call_apart (is_marked marks.now) (handlers_form handlers.now) }
+fn handlers_call_apart(types: &[TypeDefinition], marks: &[bool], handlers: &[Handler]) -> bool
+    ensures { result ≡ rules.handlers_call_apart (types_in types.now) (is_marked marks.now) (handlers_form handlers.now) }
 {
     'handlers: for handler in handlers {
-        if !all_call_apart(marks, &handler.statements) {
+        if !all_call_apart(types, marks, &handler.statements) {
             return false;
         }
     }
@@ -220,17 +250,17 @@ fn handlers_call_apart(marks: &[bool], handlers: &[Handler]) -> bool
 }
 
 /// Whether that is so with the bodies of these procedures. Linear in the bodies.
-fn bodies_call_apart(marks: &[bool], procedures: &[Procedure]) -> bool
-    ensures { result ≡ list_all (rules.body_calls_apart (is_marked marks.now)) (map body_form procedures.now) }
+fn bodies_call_apart(types: &[TypeDefinition], marks: &[bool], procedures: &[Procedure]) -> bool
+    ensures { result ≡ list_all (rules.body_calls_apart (types_in types.now) (is_marked marks.now)) (map body_form procedures.now) }
 {
     'procedures: for procedure in procedures {
-        if !declare_apart(&procedure.declarations) {
+        if !declare_apart(types, &procedure.declarations) {
             return false;
         }
-        if !all_call_apart(marks, &procedure.statements) {
+        if !all_call_apart(types, marks, &procedure.statements) {
             return false;
         }
-        if !handlers_call_apart(marks, &procedure.handlers) {
+        if !handlers_call_apart(types, marks, &procedure.handlers) {
             return false;
         }
     }
@@ -239,11 +269,11 @@ fn bodies_call_apart(marks: &[bool], procedures: &[Procedure]) -> bool
 
 /// Whether that is so with the main procedure's body. Linear in the body.
 fn main_calls_apart(marks: &[bool], program: &Program) -> bool
-    ensures { result ≡ rules.body_calls_apart (is_marked marks.now) (main_body (program_form program.now)) }
+    ensures { let p = program_form program.now in result ≡ rules.body_calls_apart p.types (is_marked marks.now) (main_body p) }
 {
-    declare_apart(&program.declarations)
-        && all_call_apart(marks, &program.statements)
-        && handlers_call_apart(marks, &program.handlers)
+    declare_apart(&program.types, &program.declarations)
+        && all_call_apart(&program.types, marks, &program.statements)
+        && handlers_call_apart(&program.types, marks, &program.handlers)
 }
 
 /// Whether what overrides an operation is not marked, if one is overridden.
@@ -280,7 +310,7 @@ fn is_apart(marks: &[bool], definition: &TypeDefinition) -> bool
             parts,
             components: _,
             finalization,
-        } => operations_apart(marks, declare_access(parts), *finalization),
+        } => operations_apart(marks, have_access(parts), *finalization),
         TypeDefinition::Access { .. } | TypeDefinition::Object { .. } => true,
     }
 }
@@ -299,20 +329,20 @@ fn are_apart(marks: &[bool], types: &[TypeDefinition]) -> bool
 }
 
 /// Whether what is marked stands apart in a program: no body calls it, and it overrides nothing but Adjust of types that declare such a
-/// component; and no allocator copies a record.
+/// component; and no allocator copies a record with controlled parts.
 fn marked_stand_apart(marks: &[bool], program: &Program) -> bool
     ensures { let p = program_form program.now in
         let tracks = is_marked marks.now in
-        result ≡ (rules.body_calls_apart tracks (main_body p) && list_all (rules.body_calls_apart tracks) p.bodies
+        result ≡ (rules.body_calls_apart p.types tracks (main_body p) && list_all (rules.body_calls_apart p.types tracks) p.bodies
         && list_all (λ t. rules.operations_apart tracks (has_access (Some t)) (finalization_in (Some t))) p.types) }
 {
     main_calls_apart(marks, program)
-        && bodies_call_apart(marks, &program.procedures)
+        && bodies_call_apart(&program.types, marks, &program.procedures)
         && are_apart(marks, &program.types)
 }
 
-/// Whether what tracks stands apart in a program: no body calls it, and it overrides nothing else; and no allocator copies a record.
-/// Linear in the types, their components, and all bodies.
+/// Whether what tracks stands apart in a program: no body calls it, and it overrides nothing else; and no allocator copies a record
+/// with controlled parts. Linear in the types, their components, and all bodies.
 ///
 /// # Errors
 /// `AllocError` where memory was refused.

@@ -1,6 +1,6 @@
 //! The first body in the text that overrides an operation of a controlled type and is not in use: Initialize is neither plain nor
-//! frugal, where it may be, Adjust is not quiet, Finalize is neither quiet nor, where it may be, frugal and silent, or Adjust leaves
-//! a component that it must change.
+//! frugal, where it may be, Adjust is not quiet, or, of a type with a component of an access type, not simple and silent, or may not
+//! track, or Finalize is neither quiet nor, where it may be, frugal and silent.
 
 ghost use Rattle.std.specs.Prelude.{◌≡◌, ◌↔◌, None, true, IfOk};
 ghost use Rattle.ada_program.specs.ProgramForm.{program_form};
@@ -11,8 +11,9 @@ ghost use Rattle.ada_quiet.specs.Known.{IsKnown};
 ghost use Rattle.ada_quiet.specs.Quiet as quiet;
 
 use crate::known::{Known, frugal_procedures, known_calls};
-use crate::operations::{has_access, is_quiet_operation};
-use crate::uses::{may_be_frugal, uses_finalize, uses_initialize};
+use crate::operations::has_access;
+use crate::tracking::may_track;
+use crate::uses::{may_be_frugal, uses_adjust, uses_finalize, uses_initialize};
 use ada_effects::{Effects, Implicit};
 use ada_program::parts::finalization_of;
 use ada_program::program::Finalization;
@@ -53,41 +54,42 @@ fn start_unless(program: &Program, fits: bool, operation: Option<ProcedureNo>) -
     Some(procedure.start)
 }
 
-/// The first one of those that override the operations of a type and are not in use, where operations may be frugal or not, and its
-/// Adjust leaves such a component or not.
+/// The first one of those that override the operations of a type and are not in use, where operations may be frugal or not, an Adjust
+/// may track or not, and the type has such a component or not.
 fn unused_in(
     alloc: Global,
     program: &Program,
     known: Known<'_>,
     frugal: bool,
-    leaves: bool,
+    tracks: bool,
+    owns: bool,
     finalization: Option<Finalization>,
 ) -> Result<Option<Spot>, AllocError>
     requires { IsKnown (program_form program.now) known }
-    ensures { IfOk result (λ first. first ≡ rules.unused_in (program_form program.now) frugal leaves finalization) }
+    ensures { IfOk result (λ first. first ≡ rules.unused_in (program_form program.now) frugal tracks owns finalization) }
 {
     let Some(finalization) = finalization else {
         return Ok(None);
     };
     let operations = finalization.operations;
     let begins = uses_initialize(program, known, frugal, operations.initialize);
-    let adjusts = is_quiet_operation(alloc, program, operations.adjust)?;
+    let adjusts = uses_adjust(alloc, program, known, tracks, owns, operations.adjust)?;
     let ends = uses_finalize(alloc, program, known, frugal, operations.finalize)?;
     let initialize = start_unless(program, begins, operations.initialize);
-    let adjust = start_unless(program, adjusts && !leaves, operations.adjust);
+    let adjust = start_unless(program, adjusts, operations.adjust);
     let finalize = start_unless(program, ends, operations.finalize);
     Ok(first_of(initialize, first_of(adjust, finalize)))
 }
 
 /// Where the first body in the text begins that overrides an operation of a controlled type (7.6) and is not in use: one that
 /// overrides Initialize and is not plain, since it touches storage or calls, nor frugal in a program in which operations may be; one
-/// that overrides Adjust and is not quiet, since it is not plain or lets an exception out; one that overrides Finalize and is
-/// neither quiet nor, in such a program, frugal and silent; or one that overrides Adjust of a type with a component of an access
-/// type, declared in it directly, which a quiet one leaves as it is. Linear in the types, their components, and all bodies; a call
-/// costs the size of what is known of it.
+/// that overrides Adjust and is not quiet, since it is not plain or lets an exception out, or, of a type with a component of an access
+/// type, declared in it directly, is not simple and silent, or stands in a program in which an Adjust may not track; or one that
+/// overrides Finalize and is neither quiet nor, where operations may be frugal, frugal and silent. Linear in the types, their
+/// components, and all bodies; a call costs the size of what is known of it.
 ///
 /// # Errors
-/// `AllocError` where memory for what bodies raise and free was refused.
+/// `AllocError` where memory for what is known of procedures was refused.
 #[tactic(auto, using(std::proofs::lemmas::Grind::common_steps, crate::proofs::Unused::first_steps))]
 pub fn first_unused(alloc: Global, program: &Program) -> Result<Option<Spot>, AllocError>
     ensures first { IfOk result (IsFirstUnused (program_form program.now)) }
@@ -104,15 +106,17 @@ pub fn first_unused(alloc: Global, program: &Program) -> Result<Option<Spot>, Al
         },
     };
     let frugal = may_be_frugal(program);
+    let tracks = may_track(alloc, program)?;
     let mut first = None;
     'types: for number in 0..program.types.len() {
-        let leaves = has_access(&program.types, number);
+        let owns = has_access(&program.types, number);
         let found = unused_in(
             alloc,
             program,
             known,
             frugal,
-            leaves,
+            tracks,
+            owns,
             finalization_of(&program.types, number),
         )?;
         first = first_of(first, found);

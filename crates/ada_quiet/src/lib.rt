@@ -6,18 +6,23 @@
 //! call each other.
 //!
 //! `first_unused` finds the first body in the text that overrides an operation and is not in use: Initialize is to be plain or, where
-//! it may be, frugal, Adjust is to be quiet, Finalize is to be quiet or, where it may be, frugal and silent, and no Adjust is to be
-//! overridden of a type with a component of an access type. Operations may be frugal in a program in which no access type designates
-//! a record type with controlled parts: then each part is initialized at a declaration (7.6), and finalized where its object's master
-//! is left, an exception comes out of the initialization of its object (7.6.1), or another record is assigned to it (7.6), and nowhere
-//! else. A program with another body is refused (F23): an Adjust that touches storage, an Initialize or a Finalize that touches
-//! storage in another program, operations that call procedures that are not frugal, and an Adjust or a Finalize that lets an exception
-//! out, are not in use yet, since no theorem covers them so far. Nor is an Adjust of a type with such a component: flow follows what it
-//! does to that (`ada_flow`), but no theorem covers it so far.
+//! it may be, frugal, Finalize is to be quiet or, where it may be, frugal and silent, and Adjust is to be quiet; but of a type with a
+//! component of an access type, declared in it directly, Adjust is to be simple and silent, where it may track that component: a
+//! quiet one would leave it as it is. A simple body allocates, moves and follows, frees and calls nothing, copies no record, and
+//! declares variables alone.
 //!
-//! Whether an Adjust may track components of its formal parameter is answered by `may_track` for a program, and by `is_simple_body` for
-//! the body that is to do it: that allocates, moves, follows and frees, calls nothing, copies no record, and declares variables alone.
-//! Nothing uses them yet.
+//! Operations may be frugal in a program in which no access type designates a record type with controlled parts: then each part is
+//! initialized at a declaration (7.6), and finalized where its object's master is left, an exception comes out of the initialization
+//! of its object (7.6.1), or another record is assigned to it (7.6), and nowhere else. An Adjust may track in such a program, if also
+//! no record type has two controlled parts, and the elementary components of each stand in the order of its declared ones, as they do
+//! in each program that is resolved: then no other part of a copy is adjusted before or behind it; and if no procedure that overrides
+//! such an Adjust is called or overrides another operation: then it runs nowhere else; and if no allocator copies a record with
+//! controlled parts, to which no Adjust would see there.
+//!
+//! A program with another body is refused (F23), since no theorem covers it so far: an Initialize, an Adjust or a Finalize that
+//! touches storage in another program, an Adjust that touches storage of a type without such a component, operations that call
+//! procedures that are not frugal, an Adjust that frees or calls, or copies records, and an Adjust or a Finalize that lets an
+//! exception out.
 #![tactic(auto)]
 
 mod apart;
@@ -35,5 +40,3 @@ mod values;
 
 pub use crate::first::first_unused;
 pub use crate::operations::operations_are_quiet;
-pub use crate::simple::is_simple_body;
-pub use crate::tracking::may_track;

@@ -8,10 +8,12 @@ ghost use Rattle.ada_program.specs.WellFormed.{finalization_in};
 ghost use Rattle.ada_quiet.specs.Frugal as frugal;
 ghost use Rattle.ada_quiet.specs.Known.{IsKnown};
 ghost use Rattle.ada_quiet.specs.Quiet as rules;
+ghost use Rattle.ada_quiet.specs.Simple as simple;
 
 use crate::bodies::{is_plain_body, is_quiet_body, is_silent_body};
 use crate::frugal::is_frugal_call;
 use crate::known::Known;
+use crate::simple::is_simple_body;
 use ada_program::program::{ComponentKind, Finalization, Part, PartKind, TypeDefinition};
 use ada_program::{ProcedureNo, Program};
 use std::alloc::{AllocError, Global};
@@ -57,6 +59,19 @@ pub(crate) fn is_frugal_operation(known: Known<'_>, operation: Option<ProcedureN
         None => true,
         Some(procedure) => is_frugal_call(known.frugal, procedure),
     }
+}
+
+/// Whether it has a simple one.
+pub(crate) fn is_simple_operation(program: &Program, operation: Option<ProcedureNo>) -> bool
+    ensures { result ≡ simple.is_simple_operation (program_form program.now) operation }
+{
+    let Some(number) = operation else {
+        return true;
+    };
+    let Some(procedure) = program.procedures.get(number.0) else {
+        return true;
+    };
+    is_simple_body(procedure)
 }
 
 /// Whether it has a silent one: no exception comes out of it.
@@ -108,7 +123,7 @@ fn is_of_access(kind: PartKind) -> bool
 }
 
 /// Whether one of these is.
-fn have_access(parts: &[Part]) -> bool
+pub(crate) fn have_access(parts: &[Part]) -> bool
     ensures { result ≡ list_any (λ c. rules.is_of_access c.kind) (map part_form parts.now) }
 {
     'parts: for part in parts {
@@ -144,17 +159,24 @@ pub(crate) fn has_access(types: &[TypeDefinition], number: usize) -> bool
     }
 }
 
+/// Whether a body overrides an operation.
+pub(crate) fn is_overridden(program: &Program, operation: Option<ProcedureNo>) -> bool
+    ensures { result ≡ is_some (rules.operation_body (program_form program.now) operation) }
+{
+    match operation {
+        None => false,
+        Some(number) => program.procedures.get(number.0).is_some(),
+    }
+}
+
 /// Whether a body overrides Adjust of a type.
 fn is_adjusted(program: &Program, finalization: Option<Finalization>) -> bool
     ensures { result ≡ is_some (rules.adjust_body (program_form program.now) finalization) }
 {
-    let Some(finalization) = finalization else {
-        return false;
-    };
-    let Some(number) = finalization.operations.adjust else {
-        return false;
-    };
-    program.procedures.get(number.0).is_some()
+    match finalization {
+        None => false,
+        Some(finalization) => is_overridden(program, finalization.operations.adjust),
+    }
 }
 
 /// Whether the operations of a type are quiet, and none overrides its Adjust where it has a component of an access type.

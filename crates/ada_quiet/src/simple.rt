@@ -1,5 +1,5 @@
-//! Declarations, statements and bodies, where they are simple: they allocate, move, follow and free (7.6, 4.8, 13.11.2), call nothing
-//! (6.4), copy no record (5.2), and declare no more than variables.
+//! Declarations, statements and bodies, where they are simple: they allocate, move and follow (7.6, 4.8), free nothing (13.11.2), call
+//! nothing (6.4), copy no record (5.2), and declare no more than variables.
 
 ghost use Rattle.std.specs.Prelude.{◌≡◌, ◌&&◌, drop, map, not};
 ghost use Rattle.std.specs.List.{list_all};
@@ -26,7 +26,7 @@ fn are_plain_items(items: &[Item]) -> bool
 }
 
 /// Whether what is assigned copies none (5.2), where it is a new object with items for its components (4.8).
-pub(crate) fn is_simple_right(right: &Right) -> bool
+fn is_simple_right(right: &Right) -> bool
     ensures { result ≡ rules.is_simple_right (right_form right.now) }
 {
     match right {
@@ -36,7 +36,7 @@ pub(crate) fn is_simple_right(right: &Right) -> bool
 }
 
 /// Whether what a variable is given at first copies none, if it is given something (3.3.1).
-pub(crate) fn is_simple_initial(initial: &Option<Right>) -> bool
+fn is_simple_initial(initial: &Option<Right>) -> bool
     ensures { result ≡ rules.is_simple_right (initial_form initial.now) }
 {
     match initial {
@@ -70,7 +70,7 @@ fn are_simple_declarations(declarations: &[Declaration]) -> bool
     true
 }
 
-/// Whether a statement copies no record (5.2), and calls nothing (6.4).
+/// Whether a statement copies no record (5.2), frees nothing (13.11.2), and calls nothing (6.4).
 #[cycle(statements)]
 #[tactic(auto, using(std::proofs::lemmas::Grind::common_steps, ada_program::specs::Form::statement_rules))]
 fn is_simple_stmt(statement: &Stmt) -> bool
@@ -78,14 +78,13 @@ fn is_simple_stmt(statement: &Stmt) -> bool
 {
     match statement {
         Stmt::Null
-        | Stmt::Free { .. }
         | Stmt::Get(_)
         | Stmt::PutImage(_)
         | Stmt::PutText(_)
         | Stmt::Exit { .. }
         | Stmt::Return(_)
         | Stmt::Raise(_) => true,
-        Stmt::AssignRecord { .. } | Stmt::Call { .. } => false,
+        Stmt::AssignRecord { .. } | Stmt::Free { .. } | Stmt::Call { .. } => false,
         Stmt::Assign { target: _, value } => is_simple_right(value),
         Stmt::If {
             branches,
@@ -175,9 +174,9 @@ fn has_no_record(variables: &[Variable]) -> bool
     }
 }
 
-/// Whether a body is simple: it allocates, moves, follows and frees; it calls nothing, copies no record, and declares variables alone,
-/// none of them a record. An exception may come out of it. Linear in the body.
-pub fn is_simple_body(procedure: &Procedure) -> bool
+/// Whether a body is simple: it allocates, moves and follows; it frees and calls nothing, copies no record, and declares variables
+/// alone, none of them a record. An exception may come out of it. Linear in the body.
+pub(crate) fn is_simple_body(procedure: &Procedure) -> bool
     ensures { result ≡ rules.is_simple_body (body_form procedure.now) }
 {
     has_no_record(&procedure.variables)

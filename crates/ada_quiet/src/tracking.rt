@@ -7,7 +7,7 @@ ghost use Rattle.std.specs.Option.{option_copied};
 ghost use Rattle.ada_program.specs.Kept.{types_in};
 ghost use Rattle.ada_program.specs.ProgramForm.{part_form, program_form, type_form};
 ghost use Rattle.ada_program.specs.WellFormed as fits;
-ghost use Rattle.ada_quiet.specs.Tracking as rules;
+ghost use Rattle.ada_quiet.specs.InUse as rules;
 
 use crate::apart::trackers_stand_apart;
 use crate::uses::may_be_frugal;
@@ -125,13 +125,13 @@ fn are_copied_alone(types: &[TypeDefinition]) -> bool
     true
 }
 
-/// Where an Adjust may track the components of access types of its formal parameter (7.6): in a program in which operations may be frugal,
-/// each record is copied alone, procedures that track are called by no body and override nothing but Adjust of types that declare such
-/// a component, and no allocator copies a record (4.8). Linear in the types, their components, and all bodies.
+/// Whether an Adjust may track its components in a program: operations may be frugal, no copy of a record has two parts that are
+/// adjusted, and no procedure that tracks is called or overrides another operation. Linear in the types, their components, and all
+/// bodies.
 ///
 /// # Errors
 /// `AllocError` where memory was refused.
-pub fn may_track(alloc: Global, program: &Program) -> Result<bool, AllocError>
+pub(crate) fn may_track(alloc: Global, program: &Program) -> Result<bool, AllocError>
     ensures { IfOk result (λ answer. answer ≡ rules.may_track (program_form program.now)) }
 {
     Ok(

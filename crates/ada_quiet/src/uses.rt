@@ -1,4 +1,4 @@
-//! Where an Initialize and a Finalize may be frugal, and where they are in use (7.6, 7.6.1).
+//! Where an Initialize and a Finalize may be frugal, and where these and an Adjust are in use (7.6, 7.6.1).
 
 ghost use Rattle.std.specs.Prelude.{◌≡◌, Some, IfOk};
 ghost use Rattle.ada_program.specs.ProgramForm.{program_form, type_form};
@@ -8,7 +8,8 @@ ghost use Rattle.ada_quiet.specs.Known.{IsKnown};
 
 use crate::known::Known;
 use crate::operations::{
-    is_frugal_operation, is_plain_operation, is_quiet_operation, is_silent_operation,
+    is_frugal_operation, is_overridden, is_plain_operation, is_quiet_operation,
+    is_silent_operation, is_simple_operation,
 };
 use ada_program::parts::finalization_of;
 use ada_program::program::TypeDefinition;
@@ -53,6 +54,32 @@ pub(crate) fn uses_initialize(
     ensures { result ≡ first.initializes (program_form program.now) frugal operation }
 {
     is_plain_operation(program, operation) || frugal && is_frugal_operation(known, operation)
+}
+
+/// Whether what overrides Adjust is simple and silent, where it may track, if it is a body, and its type has a component of an access
+/// type, declared in it directly; of another type, whether it is quiet.
+///
+/// # Errors
+/// `AllocError` where memory for the exceptions that it raises was refused.
+pub(crate) fn uses_adjust(
+    alloc: Global,
+    program: &Program,
+    known: Known<'_>,
+    tracks: bool,
+    owns: bool,
+    operation: Option<ProcedureNo>,
+) -> Result<bool, AllocError>
+    requires { IsKnown (program_form program.now) known }
+    ensures { IfOk result (λ answer. answer ≡ first.adjusts (program_form program.now) tracks owns operation) }
+{
+    if !(owns && is_overridden(program, operation)) {
+        return is_quiet_operation(alloc, program, operation);
+    }
+    Ok(
+        tracks
+            && is_simple_operation(program, operation)
+            && is_silent_operation(alloc, program, known, operation)?,
+    )
 }
 
 /// Whether what overrides Finalize is quiet, or frugal and silent, where it may be.

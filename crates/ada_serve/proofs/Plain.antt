@@ -1,7 +1,7 @@
--- Operations that are in use create nothing with controlled parts in their declarations (7.6): a frugal one may allocate there, but no access type designates what
--- has some.
+-- Operations that are in use create nothing with controlled parts in their declarations (7.6): a frugal one or a simple one may allocate there, but no access type
+-- designates what has some.
 
-use Rattle.std.proofs.Common.{◌≡◌, ℕ, Bool, true, false, not, ◌&&◌, ◌||◌, if◌then◌else◌, List, [], ◌∷◌, map, Option, Some, None, refl, sym, ap, ◌∙◌}
+use Rattle.std.proofs.Common.{◌≡◌, ℕ, Bool, true, false, ◌&&◌, ◌||◌, if◌then◌else◌, List, [], ◌∷◌, map, Option, Some, None, refl, sym, ap, ◌∙◌}
 use Rattle.std.specs.Prelude.{find, drop, is_some}
 use Rattle.std.specs.List.{list_all, slice_get, slice_index_or}
 use Rattle.ada_program.specs.declared.program.Finalization.{Finalization}
@@ -16,9 +16,10 @@ use Rattle.ada_program.specs.Form.{RightForm, nothing, value_of, allocates, allo
 use Rattle.ada_program.specs.ProgramForm.{TypeForm, type_form, VariableForm, BodyForm, body_forms, ProgramForm, program_form}
 use Rattle.ada_program.specs.WellFormed.{finalization_in, is_access, variable_kind, variable_fits, right_fits, initial_fits, body_fits, Profile, IsWellFormed}
 use Rattle.ada_meaning.specs.Pace.{right_creates, declaration_creates, declarations_create, body_creates, operation_creates, OperationsDeclareNoParts}
-use Rattle.ada_quiet.specs.Quiet.{is_elementary, holds_elementary, is_quiet_right, is_quiet_declaration, are_quiet_declarations, are_quiet, are_quiet_handlers, is_plain_body, is_plain_procedure, is_plain_operation, is_quiet_operation, adjusts_access}
-use Rattle.ada_quiet.specs.InUse.{may_be_frugal, uses_initialize, uses_finalize, uses_operations, operations_are_in_use}
+use Rattle.ada_quiet.specs.Quiet.{is_elementary, holds_elementary, is_quiet_right, is_quiet_declaration, are_quiet_declarations, are_quiet, are_quiet_handlers, is_plain_body, is_plain_procedure, is_plain_operation, is_quiet_operation, has_access, operation_body}
+use Rattle.ada_quiet.specs.InUse.{may_be_frugal, may_track, uses_initialize, uses_adjust, uses_finalize, uses_operations, operations_are_in_use}
 use Rattle.ada_quiet.specs.Frugal.{is_frugal_declaration, are_frugal_declarations, are_frugal, are_frugal_handlers, is_frugal_body, frugal_procedures, is_frugal_operation, is_silent_operation}
+use Rattle.ada_quiet.specs.Simple.{is_simple_procedure, is_simple_operation}
 use Rattle.ada_quiet.proofs.InUse.{plain_operation}
 use Rattle.ada_quiet.proofs.FrugalAt.{frugal_at}
 use Rattle.ada_deeds.proofs.Naming.{KindFits, allocates_access, default_access, variable_fits_kind}
@@ -26,6 +27,7 @@ use Rattle.ada_typed.proofs.Bodies.{body_at}
 use Rattle.ada_typed.proofs.Parts.{known_number}
 use Rattle.ada_sound.proofs.FrugalFrees.{bare_number}
 use Rattle.ada_sound.proofs.FrugalUseParts.{no_access_to_parts}
+use Rattle.ada_sound.proofs.SimpleBodies.{simple_frugal}
 
 -- Both tests are passed where their conjunction is.
 left_of : (a b : Bool) → (a && b) ≡ true → a ≡ true
@@ -91,9 +93,9 @@ abbrev DeclareNone : List TypeDefinition → List BodyForm → Operations → Ty
 DeclareNone types bodies o =
     (operation_creates types bodies o.initialize ≡ false) × (operation_creates types bodies o.adjust ≡ false) × (operation_creates types bodies o.finalize ≡ false)
 
--- Whether the operations of a type are in use, and no Adjust leaves a component of an access type as it is.
+-- Whether the operations of a type are in use.
 abbrev is_used_type : ProgramForm → TypeForm → Bool
-is_used_type p t = uses_operations p (finalization_in (Some t)) && not (adjusts_access p t)
+is_used_type p t = uses_operations p (has_access (Some t)) (finalization_in (Some t))
 
 -- So it is with the first of some types that is found.
 found_here : (types : List TypeDefinition) (bodies : List BodyForm) (passes : Bool) (t : TypeDefinition) (found : Option TypeDefinition)
@@ -160,6 +162,16 @@ module _ (program : Program) (well : IsWellFormed (program_form program)) where
     operation_frugal None frugal = refl
     operation_frugal (Some procedure) frugal = procedure_frugal procedure.0 (slice_get p.bodies procedure.0) frugal refl
 
+    -- Nor does one of a simple body, which is frugal, whatever is known of procedures.
+    procedure_simple : (n : ℕ) (found : Option BodyForm) → is_simple_procedure found ≡ true → slice_get p.bodies n ≡ found → body_creates tds found ≡ false
+    procedure_simple n None simple at = refl
+    procedure_simple n (Some b) simple at =
+        body_frugal [] b _ (simple_frugal [] b simple) (body_at p.types p.texts p.exceptions [] p.bodies n b well.bodies_fit at)
+
+    operation_simple : (o : Option ProcedureNo) → is_simple_operation p o ≡ true → operation_creates tds p.bodies o ≡ false
+    operation_simple None simple = refl
+    operation_simple (Some procedure) simple = procedure_simple procedure.0 (slice_get p.bodies procedure.0) simple refl
+
   -- So it is with an operation that is frugal, where it may be.
   frugal_used : (o : Option ProcedureNo) → (may_be_frugal p && is_frugal_operation p o) ≡ true → operation_creates tds p.bodies o ≡ false
   frugal_used o both = operation_frugal (left_of (may_be_frugal p) (is_frugal_operation p o) both) o (right_of (may_be_frugal p) (is_frugal_operation p o) both)
@@ -175,20 +187,32 @@ module _ (program : Program) (well : IsWellFormed (program_form program)) where
       operation_either p tds o (is_quiet_operation p o) (frugal && is_silent_operation p o) (λ quiet. operation_plain p tds o (plain_operation p o quiet))
       (λ both. frugal_used o (left_of frugal (is_silent_operation p o) both)) used
 
-  none_in : (f : Option Finalization) → uses_operations p f ≡ true → DeclareNone tds p.bodies (operations_in f)
-  none_in None used = (refl, refl, refl)
-  none_in (Some f) used =
+  -- So it is with an Adjust that is in use: it is simple, where it may track, or quiet.
+  adjust_used : (owns : Bool) (o : Option ProcedureNo) → uses_adjust p owns o ≡ true → operation_creates tds p.bodies o ≡ false
+  adjust_used owns o used = by (owns && is_some (operation_body p o)) used
+    where
+      by : (tracks : Bool) → (if tracks then may_track p && is_simple_operation p o && is_silent_operation p o else is_quiet_operation p o) ≡ true
+          → operation_creates tds p.bodies o ≡ false
+      by true simple =
+          let both = left_of (may_track p && is_simple_operation p o) (is_silent_operation p o) simple in
+          let may = left_of _ _ (left_of _ _ (left_of (may_track p) (is_simple_operation p o) both)) in
+          operation_simple may o (right_of (may_track p) (is_simple_operation p o) both)
+      by false quiet = operation_plain p tds o (plain_operation p o quiet)
+
+  none_in : (owns : Bool) (f : Option Finalization) → uses_operations p owns f ≡ true → DeclareNone tds p.bodies (operations_in f)
+  none_in owns None used = (refl, refl, refl)
+  none_in owns (Some f) used =
       let initialize = uses_initialize p f.operations.initialize in
-      let adjust = is_quiet_operation p f.operations.adjust in
+      let adjust = uses_adjust p owns f.operations.adjust in
       let finalize = uses_finalize p f.operations.finalize in
       let both = left_of (initialize && adjust) finalize used in (
         initialize_used f.operations.initialize (left_of initialize adjust both),
-        operation_plain p tds f.operations.adjust (plain_operation p f.operations.adjust (right_of initialize adjust both)),
+        adjust_used owns f.operations.adjust (right_of initialize adjust both),
         finalize_used f.operations.finalize (right_of (initialize && adjust) finalize used),
       )
 
-  none_by : (t : TypeDefinition) → uses_operations p (finalization_in (Some (type_form t))) ≡ true → DeclareNone tds p.bodies (operations_by (Some t))
-  none_by (definition.Record name parts components finalization) used = none_in finalization used
+  none_by : (t : TypeDefinition) → is_used_type p (type_form t) ≡ true → DeclareNone tds p.bodies (operations_by (Some t))
+  none_by (definition.Record name parts components finalization) used = none_in (has_access (Some (type_form (definition.Record name parts components finalization)))) finalization used
   none_by (definition.Access name designated pool) used = (refl, refl, refl)
   none_by (definition.Object record_type) used = (refl, refl, refl)
 
@@ -199,8 +223,8 @@ none_found program well test (t ∷ ts) used =
     let p = program_form program in
     let here = is_used_type p (type_form t) in
     let later = list_all (is_used_type p) (map type_form ts) in
-    let own = left_of (uses_operations p (finalization_in (Some (type_form t)))) (not (adjusts_access p (type_form t))) (left_of here later used) in
-    found_here program.types.items p.bodies (test t) t (find test ts) (none_by program well t own) (none_found program well test ts (right_of here later used))
+    found_here program.types.items p.bodies (test t) t (find test ts) (none_by program well t (left_of here later used))
+    (none_found program well test ts (right_of here later used))
 
 -- Where the operations of a well-formed program are in use, none creates controlled parts in its declarations.
 pub used_declare_none : (program : Program) → IsWellFormed (program_form program) → operations_are_in_use (program_form program) ≡ true

@@ -1,13 +1,13 @@
 -- The body of an Adjust runs that tracks components of its formal parameter (7.6), after a copy of a record: what holds of the state that stands for the real one,
 -- which has a variable for each of them.
 
-use Rattle.std.proofs.Common.{◌≡◌, ℕ, true, List, [], ◌∷◌, length}
+use Rattle.std.proofs.Common.{◌≡◌, ℕ, true, List, [], ◌∷◌, length, drop}
 use Rattle.std.specs.Prelude.{Option, Some}
-use Rattle.std.specs.List.{slice_get}
+use Rattle.std.specs.List.{list_all, slice_get}
 use Rattle.ada_parts.specs.Part as parts
 use Rattle.ada_program.specs.declared.program.Exception.{Exception}
 use Rattle.ada_program.specs.declared.program.Program.{Program}
-use Rattle.ada_program.specs.ProgramForm.{BodyForm, program_form}
+use Rattle.ada_program.specs.ProgramForm.{BodyForm, program_form, seen_in}
 use Rattle.ada_deeds.specs.Implicit.{implicit_of}
 use Rattle.ada_flow.specs.Flow.{Holds, Keeping, tracks_of}
 use Rattle.ada_meaning.specs.declared.event.Birth.{Birth}
@@ -22,7 +22,9 @@ use Rattle.ada_meaning.specs.State.{Master}
 use Rattle.ada_meaning.specs.Step.{older}
 use Rattle.ada_meaning.specs.Step as step
 use Rattle.ada_quiet.specs.Apart.{is_tracker}
-use Rattle.ada_quiet.specs.InUse.{may_be_frugal}
+use Rattle.ada_judged.specs.Fitting.{TracksComponents}
+use Rattle.ada_judged.specs.Obeying.{BodyIsOrderly}
+use Rattle.ada_quiet.specs.InUse.{may_be_frugal, may_track}
 use Rattle.ada_tracked.specs.Frames.{View}
 use Rattle.ada_tracked.specs.Seen.{Seen}
 use Rattle.ada_tracked.specs.Staying.{BodyIsSimple}
@@ -31,10 +33,11 @@ use Rattle.ada_typed.proofs.Kept.{behind_call}
 use Rattle.ada_sound.proofs.CallsApart.{CallApart}
 use Rattle.ada_sound.proofs.Callers.{Suspension, AreOf, callers_of, known_in}
 use Rattle.ada_sound.proofs.FrugalControl.{Frugally}
-use Rattle.ada_sound.proofs.Invariant.{Control, Ready, Rooms, RunsOn, Standing, body_among, under_in}
+use Rattle.ada_sound.proofs.Invariant.{Control, CoveredIn, Ready, Rooms, RunsOn, Standing, body_among, under_in}
 use Rattle.ada_sound.proofs.Judged.{known_judged}
 use Rattle.ada_sound.proofs.Operating.{IsCalm, WaitsFor}
 use Rattle.ada_sound.proofs.Touching.{Paused, resting}
+use Rattle.ada_sound.proofs.WatchedBy.{holds_no_record}
 use Rattle.ada_sound.specs.Agreement.{running_procedure}
 
 -- A copy of a record is adjusted: an object that is declared gets its initial value so, or a record that is assigned to (3.3.1, 5.2).
@@ -51,6 +54,11 @@ pub record Adjusting (program : Program) (s : State) : Type 0 where
   pub runs : running_procedure s ≡ Some number
   pub w : View
   pub tracks_so : tracks_of (program_form program).types number b ≡ w.tracks
+  pub tracker : is_tracker (program_form program) number ≡ true
+  pub components : TracksComponents (program_form program).types w.tracks b.variables
+  pub orderly : BodyIsOrderly w.tracks b
+  pub lone : list_all holds_no_record (drop 1 b.variables) ≡ true
+  pub frees_none : (t : ℕ) → CoveredIn (implicit_of (program_form program)) (seen_in (Some number) (program_form program)) t → ⊥
   -- the state that stands for this one
   pub t : State
   pub seen : Seen program.types.items (program_form program).bodies w s t
@@ -86,13 +94,14 @@ pub record Adjusting (program : Program) (s : State) : Type 0 where
   pub rests : RunsOn (known_in program procedure suspensions) after rooms holds
   pub calm : IsCalm (behind_call behind)
   pub settled : under_in (callers_of program suspensions) ≡ []
+  pub tracking : may_track (program_form program) ≡ true
   pub may : may_be_frugal (program_form program) ≡ true
   pub silent : (e : Exception) → body_among (implicit_of (program_form program)) (known_judged program number w.tracks []).program e ≡ true → ⊥
   -- what holds of the state that stands for it
   pub bodies : AreOf program (older s.activations) (resting procedure places (begins by done) object access [] place behind lower kept rooms holds ∷ suspensions)
   pub standing : Standing (known_judged program number w.tracks (resting procedure places (begins by done) object access [] place behind lower kept rooms holds ∷ suspensions)) t
   pub typed : typed.TypedIn (known_judged program number w.tracks []).program t
-  pub apart : CallApart (is_tracker (program_form program)) t.control
+  pub apart : CallApart (program_form program).types (is_tracker (program_form program)) t.control
   pub ready : Ready (known_judged program number w.tracks (resting procedure places (begins by done) object access [] place behind lower kept rooms holds ∷ suspensions)) t
 
 -- The activation that waits for the body.

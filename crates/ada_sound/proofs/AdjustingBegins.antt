@@ -1,9 +1,9 @@
 -- The body of an Adjust that tracks components begins, after a copy of a record (7.6): the state that stands for the real one, which has a variable for each of
 -- them, is a sound one.
 
-use Rattle.std.proofs.Common.{◌≡◌, ◌≢◌, ◌≤◌, ℕ, ◌+◌, zero, suc, Bool, true, false, List, [], ◌∷◌, ◌++◌, length, map, refl, sym, ap, ◌∙◌, subst, inl, inr, ◌<◌, arith}
+use Rattle.std.proofs.Common.{◌≡◌, ◌≢◌, ◌≤◌, ℕ, ◌+◌, zero, suc, Bool, true, false, List, [], ◌∷◌, ◌++◌, length, drop, refl, sym, ap, ◌∙◌, subst, inl, inr}
 use Rattle.std.specs.Prelude.{Option, Some}
-use Rattle.std.specs.List.{slice_get, slice_index_or}
+use Rattle.std.specs.List.{list_all, slice_get, slice_index_or}
 use Rattle.ada_deeds.specs.Implicit.{implicit_of}
 use Rattle.ada_effects.specs.Effects.{body_frees, effects_of}
 use Rattle.ada_parts.specs.Part as parts
@@ -17,11 +17,12 @@ use Rattle.ada_program.specs.Form.{StmtForm, skips, assigns, assigns_record, fre
 use Rattle.ada_program.specs.ProgramForm.{TypeForm, VariableForm, BodyForm, ProgramForm, program_form, main_body, seen_in, seen_by}
 use Rattle.ada_program.specs.WellFormed.{access_of, is_access, selected_kind, variable_kind}
 use Rattle.ada_quiet.specs.Frugal.{are_frugal_declarations, is_frugal_stmt, are_frugal, are_frugal_branches, are_frugal_handlers, is_frugal_body}
-use Rattle.ada_quiet.specs.InUse.{may_be_frugal}
+use Rattle.ada_quiet.specs.InUse.{may_be_frugal, may_track}
 use Rattle.ada_finalized.specs.Law.{NothingBegins}
 use Rattle.ada_flow.specs.declared.rule.Hold.TheVariants as hold
-use Rattle.ada_flow.specs.Flow.{Holds, Keeping, first_holds, gone_with, hold_at, holds_at_first, tracked_hold, tracks_of, variable_access}
-use Rattle.ada_flow.specs.Tracking.{Tracks, judged, with_tracked}
+use Rattle.ada_flow.specs.Flow.{Holds, Keeping, first_holds, gone_with, hold_at, holds_at_first, tracks_of, variable_access}
+use Rattle.ada_flow.specs.Tracking.{Tracks}
+use Rattle.ada_judged.specs.Obeying.{BodyIsOrderly}
 use Rattle.ada_judged.specs.Fitting.{AreOfAccess, IsOfAccess, TracksComponents}
 use Rattle.ada_meaning.specs.declared.event.Birth.{Birth}
 use Rattle.ada_meaning.specs.declared.state.Id.{Id}
@@ -46,13 +47,14 @@ use Rattle.ada_typed.proofs.Control as typed
 use Rattle.ada_typed.proofs.Kept.{behind_call}
 use Rattle.ada_quiet.specs.Apart.{is_tracker}
 use Rattle.ada_sound.proofs.CallsApart.{CallApart}
-use Rattle.ada_sound.proofs.WatchedBy.{given_count}
+use Rattle.ada_sound.proofs.WatchedBy.{given_count, holds_no_record, some_variable}
 use Rattle.ada_sound.proofs.Activations.{called_fit}
 use Rattle.ada_sound.proofs.Adjusting.{Adjusting, IsOfCopy}
 use Rattle.ada_sound.proofs.Alters.{Alters, alters_set, alters_then}
+use Rattle.ada_sound.proofs.BlankedBegins.{MayBeNamed, judged_begins, kind_of_access}
 use Rattle.ada_sound.proofs.Calls.{home_low, relied_says}
 use Rattle.ada_sound.proofs.Callers.{Suspension, Stands, caller_of, callers_of, known_in}
-use Rattle.ada_sound.proofs.Fits.{Fit, IsPlace, IsReferred, IsRelied, IsSaid, IsWithin, MayName, NoOuterAlias, Outsiders, component_access, none_spared, outer_access, outer_hold, place_at, there_by}
+use Rattle.ada_sound.proofs.Fits.{Fit, IsPlace, IsReferred, IsRelied, IsSaid, IsWithin, MayName, NoOuterAlias, component_access, none_spared, outer_access, outer_hold, place_at, there_by}
 use Rattle.ada_sound.proofs.Invariant.{Control, CoveredIn, IsAwaited, Known, RunsOn, Spares, Unaliased, Working, body_among, outer_of, outers, under_in}
 use Rattle.ada_sound.proofs.Judged.{known_judged}
 use Rattle.ada_sound.proofs.Operating.{IsCalm, WaitsFor, behind_operation}
@@ -115,20 +117,11 @@ abbrev pub AllName : List TypeForm → List Object → Object → (components : 
 AllName types heap x [] = Unit {0}
 AllName types heap x (c ∷ cs) = MayName heap (component_access types x c) (slice_index_or x.cell.values c Null) × AllName types heap x cs
 
--- So it is of each of these numbers.
-abbrev pub EachNumber : (ℕ → Type 0) → List ℕ → Type 0
-EachNumber P [] = Unit {0}
-EachNumber P (c ∷ cs) = P c × EachNumber P cs
-
--- What each of these components of a formal parameter of this kind holds may be named by a variable of its access type. It lies in an object with these values,
--- from the component `base` on.
-abbrev pub MayBeNamed : List TypeForm → (formal : Option VariableKind) → List Object → (base : ℕ) → (values : List Value) → (cs : List ℕ) → Type 0
-MayBeNamed types formal heap base values cs = EachNumber (λ (c : ℕ). MayName heap (access_of (selected_kind types formal c)) (slice_index_or values (base + c) Null)) cs
-
+-- So it may be named by a variable of this access type, as such a component of a formal parameter.
 module _ (types : List TypeForm) (formal : Option VariableKind) (object : TypeNo) (is : formal ≡ Some (variable_kinds.Record object)) (heap : List Object) (x : Object) (base : ℕ) (within : IsWithin types formal x.cell.access base) where
   same_access : (c : ℕ) → IsOfAccess types object c → component_access types x (base + c) ≡ access_of (selected_kind types formal c)
   same_access c of =
-      let kind : selected_kind types formal c ≡ Some (variable_kinds.Access of.0) = ap (λ (of : Option VariableKind). selected_kind types of c) is ∙ of.1 in
+      let kind = kind_of_access types formal object is c of in
       ap access_of (within c (variable_kinds.Access of.0) kind) ∙ sym (ap access_of kind)
 
   named_within : (cs : List ℕ) → AreOfAccess types object cs → AllName types heap x (shifted base cs) → MayBeNamed types formal heap base x.cell.values cs
@@ -138,25 +131,11 @@ module _ (types : List TypeForm) (formal : Option VariableKind) (object : TypeNo
     named_within cs of.1 names.1,
   )
 
--- There is a variable that is of a kind.
-some_variable : (variables : List VariableForm) (object : TypeNo) → variable_kind variables 0 ≡ Some (variable_kinds.Record object) → 0 < length variables
-some_variable [] object is = absurd (cc is)
-some_variable (v ∷ vs) object is = omega arith
-
 -- Of each variable it is known what it holds.
 first_length : (modes : List FormalMode) (variables : List VariableForm) → length (first_holds modes variables) ≡ length variables
 first_length modes [] = refl
 first_length [] (v ∷ vs) = ap suc (first_length [] vs)
 first_length (m ∷ ms) (v ∷ vs) = ap suc (first_length ms vs)
-
--- Where variables fit on a blanked heap, so do those that stand for tracked components, as aliases of what these hold.
-abbrev pub JudgedBegin : Type 0
-JudgedBegin =
-    (types : List TypeForm) (variables : List VariableForm) (outer : Outsiders) (places : List Value) (holds : Holds) (w : View) (h : List Object) (watches : IsWatched w places h)
-    → TracksComponents types w.tracks variables → length holds ≡ length variables
-    → MayBeNamed types (variable_kind variables 0) h w.base watches.object.cell.values w.tracks.components
-    → Fit types variables outer none_spared (blanked w h) places holds
-    → Fit types (judged types w.tracks variables) outer none_spared (blanked w h) (places ++ tracked_values w h) (with_tracked holds (map tracked_hold w.tracks.components))
 
 -- A record was copied into an object, of no access type, and its Adjust is to be called: each tracked component shares what it names with the source of the
 -- copy. But for them the waiting activation goes on, and of what the Adjust may free, as `may` says, it has no alias.
@@ -269,10 +248,10 @@ module _ (program : Program) (number : ℕ) (b : BodyForm) (there : slice_get (p
       → Fit judging.program.types judging.program.variables (outers judging) none_spared blank_heap (begins_with ++ tracked_values w heap) (holds_at_first w.tracks b.formals b.variables)
 
   -- So they are where the object is watched.
-  pub begins_as_judged : JudgedBegin → IsWatched w begins_with heap → BeginsAsJudged
-  begins_as_judged fits watches fit names =
+  pub begins_as_judged : IsWatched w begins_with heap → BeginsAsJudged
+  begins_as_judged watches fit names =
       let same : x ≡ watches.object = let found = rw at.object_so at watches.at_object in let there = at.found in cc (found, there) in
-      fits own.types own.variables (outers judging) begins_with first w heap watches own_components own_length
+      judged_begins w heap watches own_components own_length
       (subst (λ (y : Object). MayBeNamed own.types (variable_kind own.variables 0) heap w.base y.cell.values w.tracks.components) same names) fit
     where
       own_components : TracksComponents own.types w.tracks own.variables
@@ -322,13 +301,13 @@ module _ (program : Program) (number : ℕ) (b : BodyForm) (there : slice_get (p
     referred_low q t (inr other) = absurd other
 
     -- The body begins.
-    pub adjusting_begins : IsOfCopy by → tracks_of p.types number b ≡ w.tracks → may_be_frugal p ≡ true → is_frugal_body [] b ≡ true → FrameIsSimple w.tracks.first (Elaborates b.declarations b.statements b.handlers)
+    pub adjusting_begins : IsOfCopy by → tracks_of p.types number b ≡ w.tracks → is_tracker p number ≡ true → BodyIsOrderly w.tracks b → list_all holds_no_record (drop 1 b.variables) ≡ true → ((t : ℕ) → CoveredIn (implicit_of p) own t → ⊥) → may_track p ≡ true → may_be_frugal p ≡ true → is_frugal_body [] b ≡ true → FrameIsSimple w.tracks.first (Elaborates b.declarations b.statements b.handlers)
         → ((e : Exception) → body_among (implicit_of p) (known_judged program number w.tracks []).program e ≡ true → ⊥)
-        → CallApart (is_tracker p) (seen_state w begun).control → RunsAsJudged → BeginsAsJudged → TypedAsJudged
+        → CallApart p.types (is_tracker p) (seen_state w begun).control → RunsAsJudged → BeginsAsJudged → TypedAsJudged
         → (e : Event) (of : ℕ) → Alters s.heap e heap → WaitsFor p.types o of (begins by done) k behind → Stands program gs (record s { activations = a ∷ rest }) → IsCalm (behind_call behind) → under_in (callers_of program gs) ≡ []
         → ((v : Value) → v ≢ Names o → NothingBegins v k)
         → Adjusting program begun
-    adjusting_begins copies tracks_so may frugal simple silent calls_apart runs_judged begins_judged typed_judged e of alters awaited stands calm settled untreated =
+    adjusting_begins copies tracks_so tracker orderly alone_there frees_none tracking may frugal simple silent calls_apart runs_judged begins_judged typed_judged e of alters awaited stands calm settled untreated =
         let still = stands_kept program (record s { activations = a ∷ rest }) (behind_operation (a ∷ rest) behind s.masters (record s { heap = blank_heap })) gs stands e (record { procedure = refl; suspended = refl }) (alters_then s.heap heap blank_heap e alters (alters_blank e)) in
         record {
           number = number;
@@ -337,6 +316,11 @@ module _ (program : Program) (number : ℕ) (b : BodyForm) (there : slice_get (p
           runs = refl;
           w = w;
           tracks_so = tracks_so;
+          tracker = tracker;
+          components = components;
+          orderly = orderly;
+          lone = alone_there;
+          frees_none = frees_none;
           t = seen_state w begun;
           seen = plainly tt refl;
           simple = (simple, tt);
@@ -348,7 +332,7 @@ module _ (program : Program) (number : ℕ) (b : BodyForm) (there : slice_get (p
           place = place;
           based = based;
           formal = refl;
-          count = given_count (Part o place) b.variables (some_variable b.variables lone.object lone.is);
+          count = given_count (Part o place) b.variables (some_variable b.variables (variable_kinds.Record lone.object) lone.is);
           x = x;
           found = at.found;
           access = x.cell.access;
@@ -381,6 +365,7 @@ module _ (program : Program) (number : ℕ) (b : BodyForm) (there : slice_get (p
           rests = at.works.rest;
           calm = calm;
           settled = settled;
+          tracking = tracking;
           may = may;
           silent = silent;
           bodies = (refl, stands.body, stands.behind, stands.bodies);

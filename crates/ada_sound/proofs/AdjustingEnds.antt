@@ -1,19 +1,15 @@
 -- The body of an Adjust that tracks components comes to its end (7.6): each of them gets back what its variable holds, and what waits for the body goes on.
 
 use Rattle.std.proofs.Common.{◌≡◌, ℕ, true, List, [], ◌∷◌, ◌++◌, refl, sym, ap, ◌∙◌, subst, inl, inr}
-use Rattle.std.specs.Prelude.{Option, Some, None}
+use Rattle.std.specs.Prelude.{Some, None}
 use Rattle.ada_program.specs.declared.program.Exception.{Exception}
 use Rattle.ada_program.specs.declared.program.Program.{Program}
-use Rattle.ada_program.specs.declared.program.TypeNo.{TypeNo}
-use Rattle.ada_program.specs.declared.program.VariableKind.{VariableKind}
-use Rattle.ada_program.specs.declared.program.VariableKind.TheVariants as variable_kinds
 use Rattle.ada_program.specs.ProgramForm.{BodyForm, ProgramForm, TypeForm, VariableForm, program_form, body_forms, seen_by, seen_in}
 use Rattle.ada_program.specs.WellFormed.{variable_kind}
 use Rattle.ada_flow.specs.Flow.{Holds, all_give_back, gives_back, hold_at}
 use Rattle.ada_flow.specs.Tracking.{judged, with_tracked, tracked_numbers}
 use Rattle.ada_judged.specs.Fitting.{TracksComponents}
 use Rattle.ada_meaning.specs.declared.event.Birth.{Birth}
-use Rattle.ada_meaning.specs.declared.state.Id.{Id}
 use Rattle.ada_meaning.specs.declared.state.Mode.{Mode}
 use Rattle.ada_meaning.specs.declared.state.Mode.TheVariants.{Running, Raising, Exiting, Returning}
 use Rattle.ada_meaning.specs.declared.state.Place.{Place}
@@ -24,10 +20,10 @@ use Rattle.ada_meaning.specs.Event.{Quiet}
 use Rattle.ada_meaning.specs.Frame.{Returns, begins}
 use Rattle.ada_meaning.specs.State.{Activation, Master}
 use Rattle.ada_meaning.specs.Step.{moves, places, mode_next, places_of, older}
-use Rattle.ada_meaning.specs.Named.{Object, State, named, next, object_at}
+use Rattle.ada_meaning.specs.Named.{Object, State, named, next}
 use Rattle.ada_owners.specs.Places.{access_at}
 use Rattle.ada_owners.proofs.Objects.{present_at}
-use Rattle.ada_tracked.specs.Frames.{View, watched, blanked, blank_object, tracked_values}
+use Rattle.ada_tracked.specs.Frames.{View, blanked, tracked_values}
 use Rattle.ada_tracked.specs.Seen.{ArePlaces, IsWatched, seen_state}
 use Rattle.ada_tracked.proofs.Law.{plainly_at_end}
 use Rattle.ada_typed.proofs.Bodies.{seen_as}
@@ -37,42 +33,18 @@ use Rattle.ada_sound.specs.Agreement.{running_procedure}
 use Rattle.ada_sound.proofs.Activations.{returned_fit}
 use Rattle.ada_sound.proofs.Adjusting.{Adjusting, IsOfCopy, copied, assigned, waiting}
 use Rattle.ada_sound.proofs.Alters.{alters_same}
+use Rattle.ada_sound.proofs.Blanked.{stored_unblanked, unblanked}
+use Rattle.ada_sound.proofs.BlankedEnds.{all_lost, judged_ends}
 use Rattle.ada_sound.proofs.Callers.{AreOf, Stands, Suspension, caller_of, callers_of, known_in}
 use Rattle.ada_sound.proofs.Fits.{Fit, IsWithin, Outsiders, none_spared}
-use Rattle.ada_sound.proofs.Invariant.{Caller, Control, GoesOn, Known, LieBelow, Ready, ReadyIn, Rooms, RunsOn, Standing, TreatsBy, Working, outer_of, outers, owed_in}
+use Rattle.ada_sound.proofs.Invariant.{Control, GoesOn, Known, Ready, ReadyIn, Rooms, RunsOn, Standing, TreatsBy, Working, outer_of, outers, owed_in}
 use Rattle.ada_sound.proofs.Judged.{known_judged}
-use Rattle.ada_sound.proofs.Objects.{set_get}
-use Rattle.ada_sound.proofs.OperationBegins.{formal_holds}
+use Rattle.ada_sound.proofs.OperationBegins.{formal_holds, formal_within}
 use Rattle.ada_sound.proofs.OperationCalls.{is_live, ready_for}
 use Rattle.ada_sound.proofs.Operating.{WaitsFor, behind_operation}
 use Rattle.ada_sound.proofs.Returns.{CrossesTo, same_types}
 use Rattle.ada_sound.proofs.Stored.{Stored}
-
--- Each object of a blanked heap lies where it does.
-home_there : (w : View) (h : List Object) (x : Object) → object_at h w.object ≡ Some x → (o : Id) (y : Object) → object_at (blanked w h) o ≡ Some y → (z : Object) × (object_at h o ≡ Some z) × (z.cell.home ≡ y.cell.home)
-home_there w h x there o y is = elim (set_get h w.object.0 o.0 (blank_object (watched w) x) y (rw there at is)) [
-  | inl here ↦ (x, rw here.0 there, rw here.1 refl)
-  | inr other ↦ (y, other.1, refl)
-]
-
--- So what callers rely on lies below them.
-pub low_there : (w : View) (h : List Object) (x : Object) → object_at h w.object ≡ Some x → (callers : List Caller) → LieBelow (blanked w h) callers → LieBelow h callers
-low_there w h x there [] low = tt
-low_there w h x there (c ∷ cs) low = (
-  (λ v o relied names.
-      let lies = low.0 v o relied names in
-      let z = home_there w h x there o lies.0 lies.1 in
-      (z.0, z.1, rw z.2 lies.2)),
-  (λ o t refers.
-      let lies = low.1 o t refers in
-      let z = home_there w h x there o lies.0 lies.1 in
-      (z.0, z.1, rw z.2 lies.2)),
-  (λ o is.
-      let lies = low.2 o is in
-      let z = home_there w h x there o lies.0 lies.1 in
-      (z.0, z.1, rw z.2 lies.2)),
-  low_there w h x there cs low.3,
-)
+use Rattle.ada_sound.proofs.Waiting.{low_by}
 
 -- What is given back by all is given back by those that stand behind others.
 give_behind : (xs ys : List ℕ) (holds : Holds) → all_give_back (xs ++ ys) holds ≡ true → all_give_back ys holds ≡ true
@@ -102,15 +74,6 @@ GetBack program s f =
     → all_give_back (tracked_numbers f.w.tracks) holds ≡ true
     → FitsOn (judged_of program s f).program.types (outers (judged_of program s f)) s.heap
 
--- So they do of an object that is watched, which lies where its formal parameter says: each component is of the access type of its variable.
-abbrev pub JudgedEnd : Type 0
-JudgedEnd =
-    (types : List TypeForm) (variables : List VariableForm) (outer : Outsiders) (places : List Value) (holds : Holds) (w : View) (h : List Object) (watches : IsWatched w places h)
-    → TracksComponents types w.tracks variables → IsWithin types (variable_kind variables 0) watches.object.cell.access w.base
-    → all_give_back (tracked_numbers w.tracks) holds ≡ true
-    → Fit types (judged types w.tracks variables) outer none_spared (blanked w h) (places ++ tracked_values w h) holds
-    → FitsOn types outer h
-
 -- The formal parameter is the first variable.
 formal_first : (w : View) (vs : List Value) → ArePlaces w vs → (place : Place) × (more : List Value) × (vs ≡ Part w.object place ∷ more) × (place.component ≡ w.base)
 formal_first w [] places = absurd places
@@ -118,12 +81,6 @@ formal_first w (Null ∷ vs) places = absurd places.0
 formal_first w (Names o ∷ vs) places = absurd places.0
 formal_first w (Scalar v ∷ vs) places = absurd places.0
 formal_first w (Part o place ∷ vs) ((same, based), others) = (place, vs, rw same refl, based)
-
-formal_within : (types : List TypeForm) (kind : Option VariableKind) (o : Id) (access : ℕ) (place : Place) (object : TypeNo) → kind ≡ Some (variable_kinds.Record object)
-    → ((at : Place) × (Part o place ≡ Part o at) × IsWithin types (Some (variable_kinds.Record object)) access at.component) → IsWithin types kind access place.component
-formal_within types kind o access place object is (at, same, within) =
-    let one : at ≡ place = cc same in
-    rw (is, ← one) within
 
 -- What that refers to, where the real state is typed.
 module _ (program : Program) (number : ℕ) (b : BodyForm) (w : View) (s : State) (watches : IsWatched w (places s) s.heap) (components : TracksComponents (program_form program).types w.tracks b.variables) (inside : typed.TypedIn (seen_by number b (program_form program)) s) where
@@ -155,14 +112,15 @@ module _ (program : Program) (s : State) (f : Adjusting program s) (watches : Is
       watched_within program f.number f.b f.w s watches components inside_body in
       rw (seen_as p f.number f.b f.there) now
 
-  pub gets_back : JudgedEnd → GetBack program s f
-  gets_back ends holds fit gave = ends sees.types sees.variables (outers (judged_of program s f)) (places s) holds f.w s.heap watches own_components own_within gave fit
+  pub gets_back : GetBack program s f
+  gets_back holds fit gave = record {
+    variables = judged sees.types f.w.tracks sees.variables;
+    places = places s ++ tracked_values f.w s.heap;
+    holds = all_lost (tracked_numbers f.w.tracks) holds;
+    fit = judged_ends sees.variables (places s) f.w s.heap watches own_components own_within gave fit;
+  }
 
--- Objects are stored, whatever the tracked components hold.
-abbrev pub StoredThere : (program : Program) (s : State) → Adjusting program s → Type 0
-StoredThere program s f = Stored (outers (judged_of program s f)).under (blanked f.w s.heap) f.lower → Stored (outers (judged_of program s f)).under s.heap f.lower
-
-module _ (program : Program) (s : State) (f : Adjusting program s) (a b : Activation Value) (rest : List (Activation Value)) (acts_so : s.activations ≡ a ∷ b ∷ rest) (ends_now : s.control ≡ Returns [] [] ∷ f.behind) (masters_are : s.masters ≡ f.lower) (get_back : GetBack program s f) (stored_there : StoredThere program s f) where
+module _ (program : Program) (s : State) (f : Adjusting program s) (a b : Activation Value) (rest : List (Activation Value)) (acts_so : s.activations ≡ a ∷ b ∷ rest) (ends_now : s.control ≡ Returns [] [] ∷ f.behind) (masters_are : s.masters ≡ f.lower) (get_back : GetBack program s f) where
   abbrev own : Known
   own = known_in program f.procedure f.suspensions
 
@@ -250,7 +208,7 @@ module _ (program : Program) (s : State) (f : Adjusting program s) (a b : Activa
       works.rest
 
   own_stored : Stored (outers own).under s.heap f.lower
-  own_stored = stored_there works.stored
+  own_stored = stored_unblanked f.w s.heap works.stored
 
   -- What the activation that waits relies on.
   same_here : running.program.types ≡ own.program.types
@@ -298,7 +256,9 @@ module _ (program : Program) (s : State) (f : Adjusting program s) (a b : Activa
     standing = record {
       suspended = standing_there.suspended.1;
       waiting = rw bodies_there.0 standing_there.waiting.1;
-      low = low_there f.w s.heap f.x (rw f.object_so f.found) (callers_of program f.suspensions) standing_there.low.3;
+      low =
+          low_by (blanked f.w s.heap) s.heap (λ o y is. let x = unblanked f.w s.heap o y is in (x.object, x.found, x.alike.home)) (callers_of program f.suspensions)
+          standing_there.low.3;
     };
   }
 
@@ -314,11 +274,11 @@ module _ (program : Program) (s : State) (f : Adjusting program s) (a b : Activa
 -- When the end of the body is next, what waits for it goes on.
 pub adjusting_ends :
     (program : Program) (s : State) (f : Adjusting program s) (a b : Activation Value) (rest : List (Activation Value)) → s.activations ≡ a ∷ b ∷ rest → s.control ≡ Returns [] [] ∷ f.behind → s.masters ≡ f.lower
-    → GetBack program s f → StoredThere program s f
+    → GetBack program s f
     → (after : State) × (next program.types.items (body_forms program) s ≡ moves Quiet after) × CrossesTo program f.suspensions s.heap Quiet after × (after.control ≡ f.behind)
-adjusting_ends program s f a b rest acts_so ends_now masters_are get_back stored_there = (
-  left program s f a b rest acts_so ends_now masters_are get_back stored_there,
-  goes_now program s f a b rest acts_so ends_now masters_are get_back stored_there,
-  crosses_back program s f a b rest acts_so ends_now masters_are get_back stored_there,
+adjusting_ends program s f a b rest acts_so ends_now masters_are get_back = (
+  left program s f a b rest acts_so ends_now masters_are get_back,
+  goes_now program s f a b rest acts_so ends_now masters_are get_back,
+  crosses_back program s f a b rest acts_so ends_now masters_are get_back,
   refl,
 )

@@ -1,9 +1,9 @@
 -- Where the Adjust of a copy is called that tracks components (7.6): where its part begins in the object, which components it tracks, and what waits for it.
 
-use Rattle.std.proofs.Common.{◌≡◌, ℕ, zero, suc, Bool, true, false, ◌&&◌, List, [], ◌∷◌, length, map, take, refl, sym, ap, ◌∙◌, subst, arith}
+use Rattle.std.proofs.Common.{◌≡◌, ℕ, zero, suc, Bool, true, false, List, [], ◌∷◌, length, map, take, refl, sym, ap, ◌∙◌, subst, arith}
 use Rattle.std.specs.Prelude.{Option, Some, None, if◌then◌else◌}
 use Rattle.std.specs.Option.{option_map}
-use Rattle.std.specs.List.{slice_get, slice_index_or, list_all}
+use Rattle.std.specs.List.{slice_get, slice_index_or}
 use Rattle.std.proofs.lemmas.Bool.{eq-eqb}
 use Rattle.std.proofs.lemmas.Option.{slice_get-map, slice_get_within}
 use Rattle.ada_flow.specs.Flow.{adjusts, is_procedure, object_record, tracked_by_adjust, tracked_of, tracks_of}
@@ -34,20 +34,19 @@ use Rattle.ada_program.specs.declared.program.VariableKind.{VariableKind}
 use Rattle.ada_program.specs.declared.program.VariableKind.TheVariants as variable
 use Rattle.ada_program.specs.ProgramForm.{BodyForm, ProgramForm, TypeForm, VariableForm, body_forms, program_form, seen_in}
 use Rattle.ada_program.specs.WellFormed.{IsWellFormed, access_of, component_kind, finalization_in, held_kind, is_access, kind_among, object_named, variable_kind}
-use Rattle.ada_quiet.specs.Apart.{trackers_stand_apart}
-use Rattle.ada_quiet.specs.InUse.{may_be_frugal}
-use Rattle.ada_quiet.specs.Tracking.{is_copied_alone, may_track}
+use Rattle.ada_quiet.specs.InUse.{may_be_frugal, may_track}
 use Rattle.ada_sound.proofs.AdjustingBegins.{AllName, Copied}
 use Rattle.ada_sound.proofs.AssignedParts.{copied_in_object}
 use Rattle.ada_sound.proofs.Callers.{Suspension, known_in}
+use Rattle.ada_sound.proofs.Calm.{filled_in}
 use Rattle.ada_sound.proofs.CopiedOwners.{BeginsCopy, NameThere, OnlyPart, SeesToOwners, declared_owners, hiding, part_owners}
 use Rattle.ada_sound.proofs.Fits.{MayName, component_access}
 use Rattle.ada_sound.proofs.FrugalUseParts.{no_access_to_parts}
 use Rattle.ada_sound.proofs.Invariant.{Control, Known, RunsOn, Working}
 use Rattle.ada_sound.proofs.OnlyParts.{IsControlled, controlled_counts}
 use Rattle.ada_sound.proofs.OnlyPlaces.{controlled_as_shown, one_place_to}
-use Rattle.ada_sound.proofs.OperationStarts.{apart}
 use Rattle.ada_sound.proofs.Returns.{same_types}
+use Rattle.ada_sound.proofs.Trackers.{frugal_too}
 use Rattle.ada_sound.proofs.Treatments.{BeginsAdjust}
 use Rattle.ada_tracked.specs.Frames.{View, blank_object, blanked, shifted, values_at, watched}
 use Rattle.ada_typed.proofs.Calls.{same_filled}
@@ -60,16 +59,9 @@ use Rattle.ada_typed.proofs.Parts.{firsts_known, parts_counted, shown_parts}
 use Rattle.ada_typed.proofs.Values.{AreFilled, filled_at, parts_at}
 use Rattle.ada_typed.specs.Holding.{Cells, Designates, HasKind, HaveKinds, PartsLie, cells_of}
 
--- In a typed state each object is filled and has its parts, as the body that runs sees the types.
-pub filled_now : (p : ProgramForm) (s : State) → typed.TypedIn p s → AreFilled p.types (cells_of s.heap) (cells_of s.heap)
-filled_now p s (typed.running kinds r fits) = r.filled
-filled_now p s (typed.on_jump mode j goes) = j.filled
-filled_now p s (typed.operated kinds r ended) = r.filled
-filled_now p s (typed.out_of_operation e kinds j ended) = j.filled
-
--- So it is as the program has them.
+-- In a typed state each object is filled and has its parts, as the program has the types.
 pub filled_in_program : (p : ProgramForm) (procedure : Option ℕ) (s : State) → typed.TypedIn (seen_in procedure p) s → AreFilled p.types (cells_of s.heap) (cells_of s.heap)
-filled_in_program p procedure s typing = same_filled p procedure (cells_of s.heap) (filled_now (seen_in procedure p) s typing)
+filled_in_program p procedure s typing = same_filled p procedure (cells_of s.heap) (filled_in (seen_in procedure p) s typing)
 
 -- The kind of the first variable is that of the only formal parameter.
 first_kind : (variables : List VariableForm) (n : ℕ) (kind : VariableKind) → map (λ (v : VariableForm). v.kind) (take n variables) ≡ kind ∷ [] → variable_kind variables 0 ≡ Some kind
@@ -129,6 +121,23 @@ module _ (program : Program) (well : IsWellFormed (program_form program)) where
   abbrev p : ProgramForm
   p = program_form program
 
+  -- What an adjustment calls is the Adjust that the record's type overrides.
+  module _ (r of : ℕ) (s : SeesToOwners p.types r of) where
+    own_number : of ≡ s.finalization.number.0
+    own_number =
+        let said : Some of ≡ Some s.finalization.number.0 = sym s.numbered ∙ ap (λ (o : Option TypeForm). number_in (finalization_in o)) s.at in
+        cc said
+
+    own : operations_of program.types.items of ≡ s.finalization.operations
+    own =
+        let known : number_of program.types.items (Some r) ≡ Some s.finalization.number.0 = same_number program.types.items r ∙ ap (λ (o : Option TypeForm). number_in (finalization_in o)) s.at in
+        ap (operations_of program.types.items) own_number
+        ∙ types_have_their_operations program r s.parts s.finalization (s.name, s.components, s.at) (λ u is. numbers_are_alone program u r s.finalization.number.0 well is known)
+
+    pub own_adjust : (by : Birth) → BeginsCopy by → (number : ℕ) → beginning by (operations_of program.types.items of) ≡ Some number → procedure_number s.finalization.operations.adjust ≡ Some number
+    own_adjust by copies number called =
+        sym (ap (λ (operations : Operations). procedure_number operations.adjust) own) ∙ adjust_called by (operations_of program.types.items of) number copies called
+
   -- An Adjust that sees to the components of access types of a record tracks all that are declared in it.
   pub tracks_declared :
       (r of : ℕ) (by : Birth) (number : ℕ) (b : BodyForm) → SeesToOwners p.types r of → BeginsCopy by → slice_get p.bodies number ≡ Some b
@@ -144,21 +153,8 @@ module _ (program : Program) (well : IsWellFormed (program_form program)) where
       components_behind (length b.variables) (tracked_by_adjust p.types number (object_record p.types (variable_kind b.variables 0)))
       ∙ ap (tracked_by_adjust p.types number) record_is ∙ tracked
     where
-      own_number : of ≡ s.finalization.number.0
-      own_number =
-          let said : Some of ≡ Some s.finalization.number.0 = sym s.numbered ∙ ap (λ (o : Option TypeForm). number_in (finalization_in o)) s.at in
-          cc said
-
-      own : operations_of program.types.items of ≡ s.finalization.operations
-      own =
-          let known : number_of program.types.items (Some r) ≡ Some s.finalization.number.0 = same_number program.types.items r ∙ ap (λ (o : Option TypeForm). number_in (finalization_in o)) s.at in
-          ap (operations_of program.types.items) own_number
-          ∙ types_have_their_operations program r s.parts s.finalization (s.name, s.components, s.at) (λ u is. numbers_are_alone program u r s.finalization.number.0 well is known)
-
       overrides : adjusts number (Some s.finalization) ≡ true
-      overrides =
-          procedure_is number s.finalization.operations.adjust
-          (sym (ap (λ (operations : Operations). procedure_number operations.adjust) own) ∙ adjust_called by (operations_of program.types.items of) number copies called)
+      overrides = procedure_is number s.finalization.operations.adjust (own_adjust r of s by copies number called)
 
       tracked : tracked_of number (slice_get p.types r) ≡ declared_owners p.types r
       tracked =
@@ -256,8 +252,7 @@ module _ (program : Program) (well : IsWellFormed (program_form program)) where
 
       pub copy_declared : is_access p.types x.cell.access ≡ false
       copy_declared =
-          let frugal : may_be_frugal p ≡ true = (apart (may_be_frugal p) (list_all (is_copied_alone p.types) p.types) (apart (may_be_frugal p && list_all (is_copied_alone p.types) p.types) (trackers_stand_apart p) may).0).0 in
-          is_declared_object s.heap filled c.o x c.adjusted.found c.record_type c.of c.first only frugal c.part c.p c.state
+          is_declared_object s.heap filled c.o x c.adjusted.found c.record_type c.of c.first only (frugal_too p may) c.part c.p c.state
 
       -- The waiting activation goes on but for them.
       pub copy_works : Working known (blanked copy_view s.heap) a.places s.masters (RunsOn known k)

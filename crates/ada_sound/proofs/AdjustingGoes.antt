@@ -5,14 +5,13 @@ use Rattle.std.proofs.lemmas.Bool.{and_parts}
 use Rattle.std.specs.Prelude.{Option, Some}
 use Rattle.std.specs.List.{list_all, slice_get}
 use Rattle.ada_deeds.specs.Implicit.{implicit_of}
-use Rattle.ada_flow.specs.Tracking.{Tracks, judged, tracked_numbers}
+use Rattle.ada_flow.specs.Tracking.{Tracks}
 use Rattle.ada_finalized.proofs.Doings.{Of, doings}
 use Rattle.ada_finalized.proofs.Invariant.{IsThere}
 use Rattle.ada_finalized.proofs.Runs.{last_holds}
 use Rattle.ada_judged.proofs.FittingBodies.{tracked_fit_as_variables}
 use Rattle.ada_judged.specs.Fitting.{TracksComponents}
 use Rattle.ada_meaning.specs.declared.state.Stage.TheVariants.{Existing}
-use Rattle.ada_meaning.specs.Event.{Quiet}
 use Rattle.ada_meaning.specs.Frame as frame
 use Rattle.ada_meaning.specs.Frame.{Returns}
 use Rattle.ada_meaning.specs.Named.{Object, State, Next, next}
@@ -21,14 +20,17 @@ use Rattle.ada_meaning.specs.State.{Activation, Master}
 use Rattle.ada_meaning.specs.declared.state.Id.{Id}
 use Rattle.ada_meaning.specs.declared.state.Value.{Value}
 use Rattle.ada_meaning.specs.declared.state.Value.TheVariants.{Names}
-use Rattle.ada_meaning.specs.Step.{halts, moves, tells, asks, picks, older, places}
+use Rattle.ada_meaning.specs.Step.{halts, moves, tells, asks, picks, older, operands, places}
 use Rattle.ada_program.specs.declared.program.Program.{Program}
 use Rattle.ada_program.specs.Freed.{FreesItsOwn}
-use Rattle.ada_program.specs.ProgramForm.{BodyForm, ProgramForm, TypeForm, body_forms, main_body, program_form, seen_in}
+use Rattle.ada_program.specs.ProgramForm.{BodyForm, ProgramForm, TypeForm, body_forms, main_body, program_form, seen_in, record_of}
 use Rattle.ada_program.specs.WellFormed.{IsWellFormed, is_access}
 use Rattle.ada_scopes.proofs.Runs.{Scoped}
 use Rattle.ada_tracked.proofs.Law.{plainly_at_end}
-use Rattle.ada_tracked.specs.Frames.{seen_control, tracked_values}
+use Rattle.ada_program.specs.declared.program.Exception.{Exception}
+use Rattle.ada_flow.specs.Flow.{Holds}
+use Rattle.ada_meaning.specs.declared.state.Mode.TheVariants.{Raising}
+use Rattle.ada_tracked.specs.Frames.{blanked, seen_control}
 use Rattle.ada_tracked.specs.Seen.{AreApart, IsWatched, seen_state}
 use Rattle.ada_typed.proofs.Bodies.{own_bodies, seen_as, seen_fits, tables_in}
 use Rattle.ada_typed.proofs.Control as typed
@@ -36,23 +38,25 @@ use Rattle.ada_typed.proofs.Control.{OwnBody}
 use Rattle.ada_typed.proofs.Evaluations as evaluated
 use Rattle.ada_typed.proofs.Kept.{Behind, Each, behind_call}
 use Rattle.ada_judged.specs.Obeying.{BodyIsOrderly}
-use Rattle.ada_quiet.specs.Tracking.{is_copied_alone, stand_in_a_row, adjusts_at_most_one, adjusts_itself, may_track}
-use Rattle.ada_program.specs.ProgramForm.{record_of}
+use Rattle.ada_quiet.specs.InUse.{is_copied_alone, stand_in_a_row, adjusts_at_most_one, adjusts_itself, may_track}
 use Rattle.ada_sound.proofs.Adjusting.{Adjusting, waiting}
-use Rattle.ada_sound.proofs.AdjustingBlanked.{stored_unblanked}
 use Rattle.ada_sound.proofs.AdjustingCore.{judged_keeps}
-use Rattle.ada_sound.proofs.AdjustingEnds.{GetBack, JudgedEnd, StoredThere, adjusting_ends, gets_back, judged_of}
+use Rattle.ada_sound.proofs.AdjustingEnds.{GetBack, adjusting_ends, gets_back, judged_of}
 use Rattle.ada_sound.proofs.AdjustingKept.{IsJudged}
 use Rattle.ada_sound.proofs.AdjustingSteps.{GoesAdjusting, InAdjusting, adjusting_step}
-use Rattle.ada_sound.proofs.BlankedEnds.{all_lost, judged_ends}
+use Rattle.ada_sound.proofs.Blanked.{stored_unblanked}
 use Rattle.ada_sound.proofs.Callers.{AreOf}
 use Rattle.ada_sound.proofs.CopiedOwners.{CopiesWell}
 use Rattle.ada_sound.proofs.FrugalControl.{Frugal, Frugally, frugal_ends, is_return_first}
-use Rattle.ada_sound.proofs.Invariant.{Control, EndsWell, IsAwaited, outers}
+use Rattle.ada_sound.proofs.Invariant.{Control, GoesOn, IsAwaited, Ready, ReadyIn, Rooms}
+use Rattle.ada_sound.proofs.AdjustingSeen.{stands_for}
+use Rattle.ada_sound.proofs.Stored.{Stored}
+use Rattle.ada_sound.proofs.StoredStates.{IsStored, ready_stored}
 use Rattle.ada_sound.proofs.Judged.{judged_in}
 use Rattle.ada_sound.proofs.JudgedForms.{judged_covers, orderly_of_record, orderly_seen, orderly_simple, tracks_seen}
 use Rattle.ada_sound.proofs.JudgedTyped.{judged_stays, judged_tables}
 use Rattle.ada_sound.proofs.OnlyParts.{passed_at}
+use Rattle.ada_sound.proofs.Operating.{StepsTo}
 use Rattle.ada_sound.proofs.Returns.{CrossesTo, same_types}
 use Rattle.ada_sound.proofs.TracksApart.{AreInARow, tracks_apart}
 use Rattle.ada_sound.proofs.TracksWell.{copied_alone, tracked_well}
@@ -109,15 +113,6 @@ in_a_row p well may r name ps components finalization at =
     let alone = passed_at (is_copied_alone p.types) p.types r (record_of name ps components finalization) (copied_alone p well may).copied_alone at in
     let two = and_parts (stand_in_a_row p.types 0 ps (length components) && adjusts_at_most_one finalization) (adjusts_itself ps finalization) alone in
     (and_parts (stand_in_a_row p.types 0 ps (length components)) (adjusts_at_most_one finalization) two.0).0
-
--- The components get back what the variables hold that stand for them.
-pub each_gets_back : JudgedEnd
-each_gets_back types variables outer places holds w h watches tracks within give fit = record {
-  variables = judged types w.tracks variables;
-  places = places ++ tracked_values w h;
-  holds = all_lost (tracked_numbers w.tracks) holds;
-  fit = judged_ends variables places w h watches tracks within give fit;
-}
 
 module _ (program : Program) (well : IsWellFormed (program_form program)) (may : may_track (program_form program) ≡ true) (s : State) (typing : typed.Typed (program_form program) s) (f : Adjusting program s) where
   abbrev p : ProgramForm
@@ -212,44 +207,60 @@ two_active program s f [] of = absurd of
 two_active program s f (a ∷ []) of = absurd of
 two_active program s f (a ∷ b ∷ rest) of = record { a = a; b = b; rest = rest; is = refl }
 
+-- No exception comes out of the body.
+pub none_comes_out : (program : Program) (s : State) (f : Adjusting program s) (e : Exception) → s.mode ≡ Raising e → is_return_first s.control ≡ true → ⊥
+none_comes_out program s f e raises first =
+    let ends_now = own_end f.behind s.control f.ends first in
+    let t = seen_state f.w s in
+    let there : Ready (judged_of program s f) t = subst (Ready (judged_of program s f)) (stands_so program s f ends_now) f.ready in
+    let now : ReadyIn (judged_of program s f) (Raising e) (Returns [] [] ∷ f.behind) t.heap (places t) (operands t) t.masters = rw (raises, ends_now) at there.1 in
+    by now.rooms now.holds now.rest
+  where
+    by : (rooms : Rooms) (holds : Holds) → GoesOn (judged_of program s f) (Raising e) (Returns [] [] ∷ f.behind) rooms holds → ⊥
+    by [] holds is = f.silent e is.0
+    by (gone ∷ rooms) holds is = is
+
+-- Objects are stored as they are in the state that stands for it.
+pub adjusting_stored : (program : Program) (s : State) → Adjusting program s → IsStored s.heap s.masters
+adjusting_stored program s f =
+    let of_t = stands_for program.types.items (body_forms program) f.w s f.t f.seen in
+    let stored = ready_stored (judged_of program s f) f.t f.ready in
+    let there : Stored stored.0 (blanked f.w s.heap) s.masters =
+    subst (λ (ms : List Master). Stored stored.0 (blanked f.w s.heap) ms) of_t.masters (subst (λ (heap : List Object). Stored stored.0 heap f.t.masters) of_t.heap stored.1) in
+    (stored.0, stored_unblanked f.w s.heap there)
+
 -- The body runs behind a step, or what waits for it goes on.
 abbrev pub WentOn : (program : Program) (s : State) → Adjusting program s → Event → State → Type 0
 WentOn program s f e after = InAdjusting program s.heap e after ⊎ (CrossesTo program f.suspensions s.heap e after × (after.control ≡ f.behind))
 
 -- So it does whatever comes next, if the run does not end.
 abbrev pub GoesOrEnds : (program : Program) (s : State) → Adjusting program s → Next → Type 0
-GoesOrEnds program s f (halts halt) = EndsWell halt s.heap s.masters
-GoesOrEnds program s f (moves e after) = WentOn program s f e after
-GoesOrEnds program s f (tells request e after) = InAdjusting program s.heap e after
-GoesOrEnds program s f (asks request answered) = (granted : Bool) → InAdjusting program s.heap Quiet (answered granted)
-GoesOrEnds program s f (picks n taken) = ⊥
+GoesOrEnds program s f n = StepsTo (WentOn program s f) s n
 
 goes_or : (program : Program) (s : State) (f : Adjusting program s) (n : Next) → GoesAdjusting program s n → GoesOrEnds program s f n
 goes_or program s f (halts halt) goes = goes
 goes_or program s f (moves e after) goes = inl goes
-goes_or program s f (tells request e after) goes = goes
-goes_or program s f (asks request answered) goes = goes
+goes_or program s f (tells request e after) goes = inl goes
+goes_or program s f (asks request answered) goes = λ granted. inl (goes granted)
 goes_or program s f (picks n taken) goes = goes
 
 -- Each step of the body, its end included.
 pub adjusting_goes :
     (program : Program) → IsWellFormed (program_form program) → may_track (program_form program) ≡ true → FreesItsOwn (program_form program)
     → (s : State) → IsReached program s → Scoped (program_form program) s → typed.Typed (program_form program) s → (f : Adjusting program s)
-    → TracksComponents (program_form program).types f.w.tracks f.b.variables → BodyIsOrderly f.w.tracks f.b → list_all holds_no_record (drop 1 f.b.variables) ≡ true
     → GoesOrEnds program s f (next program.types.items (body_forms program) s)
-adjusting_goes program well may frees s reached nested typing f components orderly none = go (is_return_first s.control) refl
+adjusting_goes program well may frees s reached nested typing f = go (is_return_first s.control) refl
   where
     watched : IsWatched f.w (places s) s.heap
-    watched = is_watched program well may s typing f (adjusted_exists program s reached f) components none
+    watched = is_watched program well may s typing f (adjusted_exists program s reached f) f.components f.lone
 
     go : (b : Bool) → is_return_first s.control ≡ b → GoesOrEnds program s f (next program.types.items (body_forms program) s)
     go false inner =
         goes_or program s f (next program.types.items (body_forms program) s)
-        (adjusting_step program well s reached nested f (is_judged program well may frees f.number f.b f.w.tracks f.there components orderly) watched f.ends inner)
+        (adjusting_step program well s reached nested f (is_judged program well may frees f.number f.b f.w.tracks f.there f.components f.orderly) watched inner)
     go true first =
         let ends_now = own_end f.behind s.control f.ends first in
         let two = two_active program s f s.activations f.bodies in
-        let back : GetBack program s f = gets_back program s f watched components (inside program well may s typing f) each_gets_back in
-        let stored : StoredThere program s f = λ there. stored_unblanked f.w s.heap (outers (judged_of program s f)).under f.lower there in
-        let (after, is, crosses, behind) = adjusting_ends program s f two.a two.b two.rest two.is ends_now (lower_left program s f ends_now) back stored in
+        let back : GetBack program s f = gets_back program s f watched f.components (inside program well may s typing f) in
+        let (after, is, crosses, behind) = adjusting_ends program s f two.a two.b two.rest two.is ends_now (lower_left program s f ends_now) back in
         subst (GoesOrEnds program s f) (sym is) (inr (crosses, behind))

@@ -1,14 +1,17 @@
 -- What is taken of the body of a procedure that tracks components (7.6), as it is judged; and what a step keeps of what waits for it, and tells.
 
-use Rattle.std.proofs.Common.{◌≡◌, ℕ, false, List, [], ◌∷◌, sym, subst, inl, inr, Bool, true}
+use Rattle.std.proofs.Common.{◌≡◌, ℕ, false, List, ◌∷◌, sym, subst, inl, inr, Bool, true}
 use Rattle.std.specs.Prelude.{Some}
 use Rattle.std.specs.List.{AllPairs, list_all}
 use Rattle.ada_deeds.specs.Implicit.{implicit_of}
 use Rattle.ada_effects.specs.Effects.{Implicit}
 use Rattle.ada_flow.specs.Tracking.{Tracks}
+use Rattle.ada_meaning.specs.declared.event.Cause.{Cause}
+use Rattle.ada_meaning.specs.declared.event.Cause.TheVariants.{Leaving, Freeing, Assigning, Undoing}
 use Rattle.ada_meaning.specs.declared.state.Mode.{Mode}
 use Rattle.ada_meaning.specs.declared.state.Mode.TheVariants.{Running}
 use Rattle.ada_meaning.specs.declared.state.Value.TheVariants.{Names}
+use Rattle.ada_meaning.specs.Event.{Born, Finalized, Back, Followed, Left, Line, Quiet}
 use Rattle.ada_meaning.specs.Frame.{Leaves}
 use Rattle.ada_meaning.specs.Law.{items_of}
 use Rattle.ada_meaning.specs.Named.{Object, State, Next, next}
@@ -16,10 +19,11 @@ use Rattle.ada_meaning.specs.Run.{Event}
 use Rattle.ada_meaning.specs.Step.{halts, moves, tells, asks, picks, older}
 use Rattle.ada_program.specs.declared.program.Program.{Program}
 use Rattle.ada_program.specs.declared.program.TypeDefinition.{TypeDefinition}
-use Rattle.ada_program.specs.ProgramForm.{BodyForm, ProgramForm, body_forms, program_form, seen_in}
+use Rattle.ada_program.specs.ProgramForm.{BodyForm, ProgramForm, TypeForm, body_forms, program_form, seen_in}
+use Rattle.ada_program.specs.WellFormed.{is_access}
 use Rattle.ada_scopes.specs.Scopes.{CollectTwoTypes}
 use Rattle.ada_tracked.specs.Frames.{View}
-use Rattle.ada_tracked.specs.Law.{InnermostHousesNone, IsSilent, Matches, Shown, both, alone}
+use Rattle.ada_tracked.specs.Law.{IsSilent, Matches}
 use Rattle.ada_tracked.specs.Law as matching
 use Rattle.ada_typed.proofs.Bodies.{TablesFit}
 use Rattle.ada_sound.proofs.Gathered.{AllocatesBare}
@@ -33,13 +37,14 @@ use Rattle.ada_sound.proofs.Alters.{Alters}
 use Rattle.ada_sound.proofs.Calm.{ends_operation}
 use Rattle.ada_sound.proofs.Callers.{Suspension}
 use Rattle.ada_sound.proofs.Homes.{NoneIsUnder}
-use Rattle.ada_sound.proofs.Invariant.{Caller, Control, CoveredIn, Fine, IsFollowed, Known, LieBelow, Ready, Says, Standing, innermost, outers}
+use Rattle.ada_sound.proofs.Invariant.{Control, CoveredIn, Fine, IsCovered, IsFollowed, Known, Ready, Says, Standing, innermost, outers}
 use Rattle.ada_sound.proofs.Judged.{judged_in, known_judged}
 use Rattle.ada_sound.proofs.Leavings.{AreInOrder, HeldIn, NamedBelow}
 use Rattle.ada_sound.proofs.Standing.{FinalizesIn}
 use Rattle.ada_sound.proofs.Steps as inside
 use Rattle.ada_sound.proofs.Defaults.{Reaches}
 use Rattle.ada_sound.proofs.Sees.{reaches_in}
+use Rattle.ada_sound.proofs.Waiting.{low_kept}
 
 -- One step keeps the invariant of a body, where no body begins and none ends, nothing is called and no record comes to be or gets a value as a whole.
 abbrev pub StepsKeep : Known → List TypeDefinition → List BodyForm → Type 0
@@ -63,7 +68,7 @@ pub record IsJudged (program : Program) (number : ℕ) (tracks : Tracks) : Type 
   pub fits : TablesFit (judged_in tracks (seen_in (Some number) (program_form program)))
   pub covered : (t : ℕ) → CoveredIn (implicit_of (program_form program)) (judged_in tracks (seen_in (Some number) (program_form program))) t
       → CoveredIn (implicit_of (program_form program)) (seen_in (Some number) (program_form program)) t
-  pub apart : list_all (body_calls_apart (is_tracker (program_form program))) (body_forms program) ≡ true
+  pub apart : list_all (body_calls_apart (program_form program).types (is_tracker (program_form program))) (body_forms program) ≡ true
   pub stays : StepsStayTyped (judged_in tracks (seen_in (Some number) (program_form program))) program.types.items (body_forms program)
   pub keeps : (gs : List Suspension) → StepsKeep (known_judged program number tracks gs) program.types.items (body_forms program)
 
@@ -71,25 +76,7 @@ pub record IsJudged (program : Program) (number : ℕ) (tracks : Tracks) : Type 
 pub reaches_judged : (program : Program) (number : ℕ) (tracks : Tracks) (gs : List Suspension) → Reaches (known_judged program number tracks gs) program.types.items
 reaches_judged program number tracks gs = let same = reaches_in program (Some number) gs in (same.0, same.1, same.2, same.3, same.4, same.5, same.6)
 
--- What callers rely on lies where it lay.
-low_kept : (before : List Object) (e : Event) (after : List Object) → Alters before e after → (callers : List Caller) → LieBelow before callers → LieBelow after callers
-low_kept before e after a [] low = tt
-low_kept before e after a (w ∷ ws) low = (
-  (λ x o relied names.
-      let lies = low.0 x o relied names in
-      let y = a.kept o lies.0 lies.1 in
-      (y.0, y.1, rw y.2.2 lies.2)),
-  (λ o t refers.
-      let lies = low.1 o t refers in
-      let y = a.kept o lies.0 lies.1 in
-      (y.0, y.1, rw y.2.2 lies.2)),
-  (λ o is.
-      let lies = low.2 o is in
-      let y = a.kept o lies.0 lies.1 in
-      (y.0, y.1, rw y.2.2 lies.2)),
-  low_kept before e after a ws low.3,
-)
-
+-- What is known of what waits stays known.
 pub standing_kept : (known : Known) (s : State) (e : Event) (after : State) → older after.activations ≡ older s.activations → Alters s.heap e after.heap → Standing known s → Standing known after
 standing_kept known s e after same a standing = record {
   suspended = rw same standing.suspended;
@@ -110,6 +97,36 @@ pub says_silent : (w : View) (implicit : Implicit) (own : ProgramForm) (e : Even
 says_silent w implicit own e h after there (matching.quiet is) = subst (λ (told : Event). Says implicit own told h after) (sym is) tt
 says_silent w implicit own e h after there (matching.followed is) = subst (λ (told : Event). Says implicit own told h after) (sym is) there
 
+-- What an event says of a body, it says of one that may free as much.
+module _ (implicit : Implicit) (p own : ProgramForm) (types : own.types ≡ p.types) (covers : (t : ℕ) → CoveredIn implicit p t → CoveredIn implicit own t) where
+  covered_so : (cause : Cause) (access : ℕ) → IsCovered implicit p cause access → IsCovered implicit own cause access
+  covered_so (Freeing number) access c = (covers access c.0, subst (λ (all : List TypeForm). is_access all access ≡ true) (sym types) c.1)
+  covered_so (Leaving m item) access c = tt
+  covered_so (Assigning number) access c = tt
+  covered_so (Undoing number) access c = tt
+
+  pub says_covered : (e : Event) (before : List Object) (after : State) → Says implicit p e before after → Says implicit own e before after
+  says_covered (Born object part turn type number by) before after says = tt
+  says_covered (Finalized object part turn type number cause) before after says = tt
+  says_covered (Back object access number pool subpool cause) before after g = record {
+    id = g.id;
+    object = g.object;
+    is = g.is;
+    found = g.found;
+    out = g.out;
+    of_type = g.of_type;
+    numbered = g.numbered;
+    to_pool = g.to_pool;
+    to_subpool = g.to_subpool;
+    home = g.home;
+    covered = covered_so cause access g.covered;
+    back = g.back;
+  }
+  says_covered (Followed object) before after says = says
+  says_covered (Left master) before after says = tt
+  says_covered (Line line) before after says = tt
+  says_covered Quiet before after says = tt
+
 -- Whatever comes next, both of two hold.
 pub each_both : (P Q : State → Type 0) (n : Next) → Each P n → Each Q n → Each (λ (s : State). P s × Q s) n
 each_both P Q (halts halt) p q = tt
@@ -125,9 +142,9 @@ places_each s (tells request e after) all = all
 places_each s (asks request answers) all = all
 places_each s (picks n taking) all = λ i lt. all i
 
-pub apart_each : (tracks : ℕ → Bool) (n : Next) → AllCallApart tracks n → Each (λ (s : State). CallApart tracks s.control) n
-apart_each tracks (halts halt) all = tt
-apart_each tracks (moves e after) all = all
-apart_each tracks (tells request e after) all = all
-apart_each tracks (asks request answers) all = all
-apart_each tracks (picks n taking) all = λ i lt. all i
+pub apart_each : (types : List TypeForm) (tracks : ℕ → Bool) (n : Next) → AllCallApart types tracks n → Each (λ (s : State). CallApart types tracks s.control) n
+apart_each types tracks (halts halt) all = tt
+apart_each types tracks (moves e after) all = all
+apart_each types tracks (tells request e after) all = all
+apart_each types tracks (asks request answers) all = all
+apart_each types tracks (picks n taking) all = λ i lt. all i

@@ -35,7 +35,7 @@ use Rattle.ada_tracked.specs.Law as matching
 use Rattle.ada_tracked.specs.Seen.{IsWatched, Seen}
 use Rattle.ada_tracked.specs.Staying.{AllStaySimple, StaysSimple}
 use Rattle.ada_typed.proofs.Control as typed
-use Rattle.ada_typed.proofs.Kept.{Each, behind_call}
+use Rattle.ada_typed.proofs.Kept.{Each}
 use Rattle.ada_sound.specs.Agreement.{running_procedure}
 use Rattle.ada_program.specs.Form.{allocates}
 use Rattle.ada_quiet.specs.Apart.{is_tracker}
@@ -43,18 +43,18 @@ use Rattle.ada_sound.proofs.CallsApart.{CallApart, AllCallApart}
 use Rattle.ada_sound.proofs.CallsApartRuns.{no_record_allocated}
 use Rattle.ada_sound.proofs.CallsApartSteps.{calls_stay_apart}
 use Rattle.ada_sound.proofs.FormalStays.{SamePlaces, AllSamePlaces, places_stay}
-use Rattle.ada_sound.proofs.Gathered.{AllocatesBare, allocates_plain}
+use Rattle.ada_sound.proofs.Gathered.{AllocatesBare, allocates_bare}
 use Rattle.ada_sound.proofs.Adjusting.{Adjusting, waiting}
-use Rattle.ada_sound.proofs.AdjustingBlanked.{alters_unblanked, ends_unblanked, says_covered, says_unblanked, stored_unblanked, unblanked_at}
-use Rattle.ada_sound.proofs.AdjustingKept.{IsJudged, apart_each, each_both, places_each, alters_matched, says_matched, says_silent, standing_kept}
-use Rattle.ada_sound.proofs.AdjustingLeaves.{held_in_none, innermost_houses_none, leaves_own}
+use Rattle.ada_sound.proofs.AdjustingKept.{IsJudged, apart_each, each_both, places_each, alters_matched, says_covered, says_matched, says_silent, standing_kept}
 use Rattle.ada_sound.proofs.AdjustingSeen.{SameRun, StandsFor, calls_or_copies, each_runs_on, frugal_alone, next_simple, seen_leaves, seen_within, simple_begins, simple_crosses, simple_still, stands_for, within}
 use Rattle.ada_sound.proofs.Alters.{Alters, alters_same}
 use Rattle.ada_sound.proofs.Below.{named_below}
+use Rattle.ada_sound.proofs.Blanked.{alters_unblanked, ends_unblanked, says_unblanked, stored_unblanked, unblanked}
 use Rattle.ada_sound.proofs.Callers.{AreOf}
 use Rattle.ada_sound.proofs.Finalization.{parts_alive}
 use Rattle.ada_sound.proofs.FrugalControl.{Frugal, Frugally, GoesFrugally, is_return_first}
 use Rattle.ada_sound.proofs.FrugalFrees.{AccessIsBare, bare_by}
+use Rattle.ada_sound.proofs.FrugalLeaves.{held_in_none, innermost_houses_none, leaves_own}
 use Rattle.ada_sound.proofs.FrugalSteps.{is_call_first, frugal_crosses, frugal_steps, none_ends}
 use Rattle.ada_sound.proofs.FrugalUseParts.{no_access_to_parts}
 use Rattle.ada_sound.proofs.Homes.{NoneIsUnder}
@@ -62,36 +62,26 @@ use Rattle.ada_sound.proofs.InOrder.{in_order}
 use Rattle.ada_sound.proofs.Invariant.{Control, EndsWell, Fine, IsFollowed, Known, Parting, Ready, RunsOn, Says, Standing, Stepped, innermost, outers}
 use Rattle.ada_sound.proofs.Judged.{known_judged}
 use Rattle.ada_sound.proofs.Leavings.{AreInOrder, HeldIn, NamedBelow}
-use Rattle.ada_sound.proofs.Operating.{AreVariables}
+use Rattle.ada_sound.proofs.Operating.{AreVariables, InBody, StepsTo}
 use Rattle.ada_sound.proofs.Returns.{same_types}
 use Rattle.ada_sound.proofs.Standing.{AllStand, FinalizesBy, FinalizesIn}
 use Rattle.ada_sound.proofs.Starts.{IsReached}
 use Rattle.ada_sound.proofs.Steps as inside
 use Rattle.ada_sound.proofs.Stored.{IsUnder, Stored}
 use Rattle.ada_sound.proofs.StoredStates.{ready_stored}
-
--- This is left to do behind the body that runs, which gives nothing back.
-abbrev pub EndsBefore : (left k : Control) → Type 0
-EndsBefore left k = behind_call k ≡ Some (record { actuals = []; references = []; left = left })
+use Rattle.ada_sound.proofs.TracksWell.{tracked_well}
 
 -- The body runs behind a step; and what that does to objects.
-pub record InAdjusting (program : Program) (before : List Object) (e : Event) (after : State) : Type 0 where
-  pub adjusting : Adjusting program after
-  pub ends : EndsBefore adjusting.behind after.control
-  pub alters : Alters before e after.heap
-  pub says : Says (implicit_of (program_form program)) (seen_in (running_procedure after) (program_form program)) e before after
+abbrev pub InAdjusting : Program → List Object → Event → State → Type 0
+InAdjusting program before e after = InBody program (Adjusting program) before e after
 
 -- So it does whatever comes next, if the run does not end.
 abbrev pub GoesAdjusting : Program → State → Next → Type 0
-GoesAdjusting program s (halts halt) = EndsWell halt s.heap s.masters
-GoesAdjusting program s (moves e after) = InAdjusting program s.heap e after
-GoesAdjusting program s (tells request e after) = InAdjusting program s.heap e after
-GoesAdjusting program s (asks request answered) = (granted : Bool) → InAdjusting program s.heap Quiet (answered granted)
-GoesAdjusting program s (picks n taken) = ⊥
+GoesAdjusting program s n = StepsTo (InAdjusting program s.heap) s n
 
 module _
     (program : Program) (well : IsWellFormed (program_form program)) (s : State) (reached : IsReached program s) (nested : Scoped (program_form program) s) (f : Adjusting program s)
-    (judged : IsJudged program f.number f.w.tracks) (watched : IsWatched f.w (places s) s.heap) (ends : EndsBefore f.behind s.control)
+    (judged : IsJudged program f.number f.w.tracks) (watched : IsWatched f.w (places s) s.heap)
     (inner : is_return_first s.control ≡ false) where
   abbrev p : ProgramForm
   p = program_form program
@@ -131,7 +121,7 @@ module _
   begins_nothing : (v : Value) → (v ≢ Names f.object) → NothingBegins v s.control
   begins_nothing v ne =
       let behind : NothingBegins v f.behind = subst (NothingBegins v) (sym f.awaited.2) ((λ same. ne (sym same)), f.waits.untreated v ne) in
-      simple_begins f.w.tracks.first v s.control f.behind f.simple ends behind
+      simple_begins f.w.tracks.first v s.control f.behind f.simple f.ends behind
 
   -- The object that is adjusted is of no access type.
   other_object : (o : Id) (x : Object) → object_at s.heap o ≡ Some x → is_access p.types x.cell.access ≡ true → Names o ≡ Names f.object → ⊥
@@ -151,9 +141,9 @@ module _
   -- So each object that may be freed stands in the other one, too.
   alive : AllStand known.program.types f.t.heap
   alive o y found listed of =
-      let x = unblanked_at f.w s.heap o y (subst (λ (heap : List Object). object_at heap o ≡ Some y) of_t.heap found) in
-      let access : is_access p.types x.0.cell.access ≡ true = subst (λ (t : ℕ). is_access p.types t ≡ true) x.2.access (subst (λ (all : List TypeForm). is_access all y.cell.access ≡ true) types_are of) in
-      rw (x.2.parts) (stand o x.0 x.1 (sym x.2.listed ∙ listed) access)
+      let x = unblanked f.w s.heap o y (subst (λ (heap : List Object). object_at heap o ≡ Some y) of_t.heap found) in
+      let access : is_access p.types x.object.cell.access ≡ true = subst (λ (t : ℕ). is_access p.types t ≡ true) (sym x.alike.access) (subst (λ (all : List TypeForm). is_access all y.cell.access ≡ true) types_are of) in
+      rw (sym x.alike.parts) (stand o x.object x.found (x.alike.listed ∙ listed) access)
 
   finalizes : FinalizesIn known.program.types tds bodies f.t.mode f.t.control f.t
   finalizes = by f.t.mode f.t.control f.frugal.upper f.frugal.frugal
@@ -189,17 +179,18 @@ module _
   none_is_under : NoneIsUnder known.program.types (outers known).under f.t.heap
   none_is_under o x under found = let none : IsUnder [] o = subst (λ (all : List Id). IsUnder all o) f.settled under in absurd none
 
-  -- No allocator copies a record.
+  -- No allocator copies a record with controlled parts.
   bare_there : AllocatesBare known.program.types f.t.control
   bare_there =
-      allocates_plain known.program.types f.t.control
-      (λ access items k is. no_record_allocated (is_tracker p) f.t (allocates access items) k is f.apart)
+      subst (λ (types : List TypeForm). AllocatesBare types f.t.control) (sym types_are)
+      (allocates_bare p.types (tracked_well p well f.tracking) f.t.control
+      (λ access items k is. no_record_allocated p.types (is_tracker p) f.t (allocates access items) k is f.apart))
 
   places_on : AllSamePlaces s (next tds bodies s)
   places_on = places_stay tds bodies f.w.tracks.first s (within f.w.tracks.first s.control f.simple inner)
 
-  apart_on : AllCallApart (is_tracker p) (next tds bodies f.t)
-  apart_on = calls_stay_apart tds bodies (is_tracker p) judged.apart f.t f.apart
+  apart_on : AllCallApart p.types (is_tracker p) (next tds bodies f.t)
+  apart_on = calls_stay_apart tds bodies p.types (is_tracker p) judged.apart f.t f.apart
 
   -- So the other one takes its step well.
   fine_on : Fine known f.t.heap f.t.masters (next tds bodies f.t)
@@ -240,7 +231,7 @@ module _
       go false is =
           let stored = ready_stored known f.t f.ready in
           let here : Stored stored.0 (blanked f.w s.heap) f.t.masters = subst (λ (heap : List Object). Stored stored.0 heap f.t.masters) of_t.heap stored.1 in
-          let sane = (stored_unblanked f.w s.heap stored.0 f.t.masters here).sane f.w.object watched.object watched.at_object in
+          let sane = (stored_unblanked f.w s.heap here).sane f.w.object watched.object watched.at_object in
           let gone = sane.back_gone is in
           let exists = watched.existing in
           absurd (cc (gone, exists))
@@ -253,7 +244,7 @@ module _
   Runs after = SameRun s after × SamePlaces s after
 
   abbrev Kept : State → Type 0
-  Kept stands = typed.TypedIn known.program stands × CallApart (is_tracker p) stands.control
+  Kept stands = typed.TypedIn known.program stands × CallApart p.types (is_tracker p) stands.control
 
   -- What holds behind a step.
   adjusting_by :
@@ -263,13 +254,18 @@ module _
       let y = a.kept f.object f.x f.found in
       let runs : running_procedure after ≡ Some f.number = same.0.procedure ∙ f.runs in
       record {
-        adjusting = record {
+        body = record {
           number = f.number;
           b = f.b;
           there = f.there;
           runs = runs;
           w = f.w;
           tracks_so = f.tracks_so;
+          tracker = f.tracker;
+          components = f.components;
+          orderly = f.orderly;
+          lone = f.lone;
+          frees_none = f.frees_none;
           t = stands;
           seen = seen;
           simple = simple_still tds bodies f.w [] f.behind after stands frugal.upper seen frugal.frugal simple;
@@ -303,6 +299,7 @@ module _
           rests = f.rests;
           calm = f.calm;
           settled = f.settled;
+          tracking = f.tracking;
           may = f.may;
           silent = f.silent;
           bodies = subst (λ (all : List (Activation Value)). AreOf program all (waiting program s f ∷ f.suspensions)) (sym same.0.suspended) f.bodies;
@@ -311,7 +308,6 @@ module _
           apart = typing.1;
           ready = ready;
         };
-        ends = same.0.behind ∙ f.ends;
         alters = a;
         says = subst (λ (procedure : Option ℕ). Says (implicit_of p) (seen_in procedure p) e s.heap after) (sym runs) says;
       }
@@ -323,9 +319,9 @@ module _
   both_on e g after stands matches seen same simple step typing frugal =
       let of_after = stands_for tds bodies f.w after stands seen in
       let before : Alters f.t.heap g (blanked f.w after.heap) = subst (Alters f.t.heap g) of_after.heap step.alters in
-      let a : Alters s.heap g after.heap = alters_unblanked f.w s.heap g after.heap (subst (λ (heap : List Object). Alters heap g (blanked f.w after.heap)) of_t.heap before) in
+      let a : Alters s.heap g after.heap = alters_unblanked f.w s.heap after.heap g (subst (λ (heap : List Object). Alters heap g (blanked f.w after.heap)) of_t.heap before) in
       let says : Says known.implicit known.program g s.heap after =
-      says_unblanked f.w known.implicit known.program g s.heap after stands of_after.heap (subst (λ (heap : List Object). Says known.implicit known.program g heap stands) of_t.heap step.says) in
+      says_unblanked known.implicit known.program f.w s.heap g stands after of_after.heap (subst (λ (heap : List Object). Says known.implicit known.program g heap stands) of_t.heap step.says) in
       adjusting_by e after stands seen same (alters_matched f.w e g s.heap after.heap matches a) simple
       (standing_kept known f.t g stands (of_after.suspended ∙ (same.0.suspended ∙ sym of_t.suspended)) step.alters f.standing) typing step.ready frugal
       (says_matched f.w known.implicit own e g s.heap after followed matches (says_covered known.implicit known.program own refl judged.covered g s.heap after says))
@@ -335,13 +331,13 @@ module _
   alone_on e after silent seen same simple =
       let of_after = stands_for tds bodies f.w after f.t seen in
       let a : Alters s.heap e after.heap =
-      alters_unblanked f.w s.heap e after.heap (subst (Alters (blanked f.w s.heap) e) (sym of_t.heap ∙ of_after.heap) (alters_same (blanked f.w s.heap) e)) in
+      alters_unblanked f.w s.heap after.heap e (subst (Alters (blanked f.w s.heap) e) (sym of_t.heap ∙ of_after.heap) (alters_same (blanked f.w s.heap) e)) in
       adjusting_by e after f.t seen same a simple f.standing (f.typed, f.apart) f.ready f.frugal (says_silent f.w known.implicit own e s.heap after followed silent)
 
   next_on : (n m : Next) → Shown tds bodies f.w f.t n m → Each Runs n → AllStaySimple f.w.tracks.first n → Fine known f.t.heap f.t.masters m → GoesFrugally [] f.lower f.behind m → Each Kept m → GoesAdjusting program s n
   next_on (halts halt) m is same simple fine goes typing =
       let well_ends : EndsWell halt f.t.heap f.t.masters = subst (Fine known f.t.heap f.t.masters) is fine in
-      ends_unblanked f.w s.heap halt s.masters (subst (λ (heap : List Object). EndsWell halt heap s.masters) of_t.heap (subst (EndsWell halt f.t.heap) of_t.masters well_ends))
+      ends_unblanked f.w halt s.heap s.masters (subst (λ (heap : List Object). EndsWell halt heap s.masters) of_t.heap (subst (EndsWell halt f.t.heap) of_t.masters well_ends))
   next_on (moves e after) m (both g stands is matches seen) same simple fine goes typing =
       both_on e g after stands matches seen same simple (subst (Fine known f.t.heap f.t.masters) is fine) (subst (Each Kept) is typing) (subst (GoesFrugally [] f.lower f.behind) is goes)
   next_on (moves e after) m (alone silent seen) same simple fine goes typing = alone_on e after silent seen same simple
@@ -357,11 +353,11 @@ module _
   pub step_on : GoesAdjusting program s (next tds bodies s)
   step_on =
       next_on (next tds bodies s) (next tds bodies f.t) shown (each_both (SameRun s) (SamePlaces s) (next tds bodies s) real_on (places_each s (next tds bodies s) places_on)) simple_on fine_on frugal_on
-      (each_both (typed.TypedIn known.program) (λ stands. CallApart (is_tracker p) stands.control) (next tds bodies f.t) typed_on (apart_each (is_tracker p) (next tds bodies f.t) apart_on))
+      (each_both (typed.TypedIn known.program) (λ stands. CallApart p.types (is_tracker p) stands.control) (next tds bodies f.t) typed_on (apart_each p.types (is_tracker p) (next tds bodies f.t) apart_on))
 
 -- Each step of the body but its end keeps all that is known while it runs.
 pub adjusting_step :
     (program : Program) → IsWellFormed (program_form program) → (s : State) → IsReached program s → Scoped (program_form program) s → (f : Adjusting program s)
-    → IsJudged program f.number f.w.tracks → IsWatched f.w (places s) s.heap → EndsBefore f.behind s.control
+    → IsJudged program f.number f.w.tracks → IsWatched f.w (places s) s.heap
     → is_return_first s.control ≡ false → GoesAdjusting program s (next program.types.items (body_forms program) s)
-adjusting_step program well s reached nested f judged watched ends inner = step_on program well s reached nested f judged watched ends inner
+adjusting_step program well s reached nested f judged watched inner = step_on program well s reached nested f judged watched inner

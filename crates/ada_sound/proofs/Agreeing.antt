@@ -43,7 +43,7 @@ use Rattle.ada_sound.specs.Agreement as agreement
 use Rattle.ada_sound.proofs.Items as items
 use Rattle.ada_sound.proofs.Stored.{Stored, exists_out}
 use Rattle.ada_sound.proofs.Back.{stored_before}
-use Rattle.ada_sound.proofs.Calm.{filled_in}
+use Rattle.ada_sound.proofs.Calm.{behind_calm, filled_in}
 use Rattle.ada_sound.proofs.Steps.{heap_typed}
 use Rattle.ada_sound.proofs.Fits.{Outsiders, Fit, IsRelied, none_spared, hold_in, stacked, component_value, access_is, names_object}
 use Rattle.ada_sound.proofs.Scalars.{scalars_lost}
@@ -52,8 +52,10 @@ use Rattle.ada_typed.proofs.Bodies.{SeenFits, seen_fits}
 use Rattle.ada_sound.proofs.Callers.{Suspension, rest_of, known_in}
 use Rattle.ada_sound.proofs.Returns.{same_types}
 use Rattle.ada_sound.proofs.Touching.{Touching, waiting_for}
-use Rattle.ada_sound.proofs.Operating.{Sight, WaitsFor, Quietly, Comes, Body, Operates}
+use Rattle.ada_sound.proofs.Operating.{IsCalm, Sight, WaitsFor, Quietly, Comes, Body, Operates}
 use Rattle.ada_sound.proofs.Starts.{Ordinary, Sound}
+use Rattle.ada_sound.proofs.Adjusting.{Adjusting}
+use Rattle.ada_typed.proofs.Kept.{behind_call}
 
 -- What is in its collection exists, and an open collection of its type is its home.
 exists_there : {under : List Id} {heap : List Object} {masters : List Master} (o : Id) (x : Object) (access : Option ℕ) → Stored under heap masters → object_at heap o ≡ Some x → is_there x.stage ≡ true → access ≡ Some x.cell.access → Exists heap masters access o
@@ -283,7 +285,7 @@ none_waits : (types : List TypeForm) (o : Id) (of : ℕ) (treatment : Treatment)
 none_waits types o of (frame.begins by done) k behind (part, tasks, is) none = let there : NoOperationRuns (frame.Awaits (Names o) by done of part tasks ∷ k) = rw is at none in absurd (cc (there.0))
 none_waits types o of (frame.ends cause) k behind (tasks, is, inside) none = let there : NoOperationRuns (frame.Confines ∷ treating (Names o) (frame.ends cause) tasks k) = rw is at none in absurd (cc (there.0))
 
--- Wherever a statement begins, but in the body of an operation that touches Integers and Booleans alone.
+-- Wherever a statement begins, but in the body of an operation that touches Integers and Booleans alone, or of an Adjust that tracks components.
 pub agrees_at : (program : Program) (s : State) → Sound program s → BeginsStatement s → IsSpokenOf program s → AgreesThere program s
 agrees_at program s sound b spoken = by sound.goes
   where
@@ -302,11 +304,19 @@ agrees_at program s sound b spoken = by sound.goes
 
     unspoken : Operates program s → IsSpokenOf program s → ⊥
     unspoken o (inl none) = runs_apart o none
-    unspoken o (inr not_plain) = not_plain (o.procedure, o.is_body.0, ap procedure_of o.active, o.is_body.1, o.plain)
+    unspoken o (inr neither) = neither (inl (o.procedure, o.is_body.0, ap procedure_of o.active, o.is_body.1, o.plain))
 
-    by : Ordinary program s ⊎ (Operates program s ⊎ Touching program s) → AgreesThere program s
+    untold : (f : Adjusting program s) → IsSpokenOf program s → ⊥
+    untold f (inl none) =
+        let behind : IsCalm (behind_call s.control) = behind_calm s.control none in
+        let left : IsCalm (Some (record { actuals = []; references = []; left = f.behind })) = rw f.ends at behind in
+        none_waits (program_form program).types f.object f.of (frame.begins f.by f.done) f.after f.behind f.awaited left
+    untold f (inr neither) = neither (inr (f.number, f.runs, f.tracker))
+
+    by : Ordinary program s ⊎ (Operates program s ⊎ (Touching program s ⊎ Adjusting program s)) → AgreesThere program s
     by (inl o) =
         resumes_agrees program s o.suspensions (seen_fits (program_form program) sound.well (running_procedure s)) sound.typed.inside o.stands.behind b (rw (b.runs, b.first) at (o.ready.1))
-    by (inr (inr f)) =
+    by (inr (inr (inr f))) = absurd (untold f spoken)
+    by (inr (inr (inl f))) =
         resumes_agrees program s (waiting_for program s f) (seen_fits (program_form program) sound.well (running_procedure s)) sound.typed.inside f.stands.behind b (rw (b.runs, b.first) at (f.ready.1))
     by (inr (inl o)) = absurd (unspoken o spoken)

@@ -1,12 +1,11 @@
 -- Heaps in which the tracked components of an object hold null (7.6): what is so of objects there is so in the real heap.
 
-use Rattle.std.proofs.Common.{◌≡◌, ◌≢◌, ℕ, true, false, List, refl, sym, ap, ◌∙◌, ◌⊎◌, inl, inr, subst}
+use Rattle.std.proofs.Common.{◌≡◌, ◌≢◌, ℕ, false, List, refl, sym, ap, ◌∙◌, ◌⊎◌, inl, inr, subst}
 use Rattle.std.specs.Prelude.{Option, Some, None}
 use Rattle.std.specs.List.{slice_get, slice_set}
 use Rattle.ada_program.specs.ProgramForm.{ProgramForm}
 use Rattle.ada_effects.specs.Effects.{Implicit}
 use Rattle.ada_meaning.specs.declared.state.Id.{Id}
-use Rattle.ada_meaning.specs.declared.state.Value.TheVariants.{Names}
 use Rattle.ada_meaning.specs.declared.event.Halt.{Halt}
 use Rattle.ada_meaning.specs.declared.event.Halt.TheVariants.{Finished, Unhandled, Escaped, Erroneous, Stuck, Memory}
 use Rattle.ada_meaning.specs.Event.{Born, Finalized, Back, Followed, Left, Line, Quiet}
@@ -15,8 +14,7 @@ use Rattle.ada_meaning.specs.State.{Item, Master}
 use Rattle.ada_meaning.specs.Named.{Object, State, object_at, changed}
 use Rattle.ada_meaning.specs.Run.{Event}
 use Rattle.ada_meaning.specs.Law.{GivesBackOf, LeavesHome, leaving_by}
-use Rattle.ada_owners.specs.Places.{is_there, access_at}
-use Rattle.ada_owners.specs.Keeping.{IsThere}
+use Rattle.ada_owners.specs.Places.{access_at}
 use Rattle.ada_owners.proofs.Changes.{access_set}
 use Rattle.ada_tracked.specs.Frames.{View, watched, blank_object, blanked}
 use Rattle.ada_sound.proofs.Alters.{BackIn, StaysItself, Alters}
@@ -30,18 +28,19 @@ pub record Alike (x y : Object) : Type 0 where
   pub access : y.cell.access ≡ x.cell.access
   pub number : y.cell.number ≡ x.cell.number
   pub home : y.cell.home ≡ x.cell.home
+  pub parts : y.cell.parts ≡ x.cell.parts
   pub stage : y.stage ≡ x.stage
   pub listed : y.listed ≡ x.listed
   pub out : y.out ≡ x.out
 
 alike_itself : (x : Object) → Alike x x
-alike_itself x = record { access = refl; number = refl; home = refl; stage = refl; listed = refl; out = refl }
+alike_itself x = record { access = refl; number = refl; home = refl; parts = refl; stage = refl; listed = refl; out = refl }
 
 alike_blank : (bs : List ℕ) (x : Object) → Alike x (blank_object bs x)
-alike_blank bs x = record { access = refl; number = refl; home = refl; stage = refl; listed = refl; out = refl }
+alike_blank bs x = record { access = refl; number = refl; home = refl; parts = refl; stage = refl; listed = refl; out = refl }
 
 alike_back : {x y : Object} → Alike x y → Alike y x
-alike_back a = record { access = sym a.access; number = sym a.number; home = sym a.home; stage = sym a.stage; listed = sym a.listed; out = sym a.out }
+alike_back a = record { access = sym a.access; number = sym a.number; home = sym a.home; parts = sym a.parts; stage = sym a.stage; listed = sym a.listed; out = sym a.out }
 
 -- There is an object of this name that is like this one.
 pub record HasAlike (heap : List Object) (o : Id) (x : Object) : Type 0 where
@@ -99,25 +98,9 @@ access_by w h (Some x) is o = access_set h w.object x is (blank_object (watched 
 pub access_blanked : (w : View) (h : List Object) (o : Id) → access_at (blanked w h) o ≡ access_at h o
 access_blanked w h o = access_by w h (object_at h w.object) refl o
 
--- It is there in both, or in none.
-there_alike : {heap : List Object} {o : Id} {x : Object} → is_there x.stage ≡ true → HasAlike heap o x → IsThere heap o
-there_alike there a = (a.object, a.found, rw a.alike.stage there)
-
-pub there_blanked : (w : View) (h : List Object) (o : Id) → IsThere h o → IsThere (blanked w h) o
-there_blanked w h o (x, found, there) = there_alike there (blanked_at w h o x found)
-
-pub there_unblanked : (w : View) (h : List Object) (o : Id) → IsThere (blanked w h) o → IsThere h o
-there_unblanked w h o (y, found, there) = there_alike there (unblanked w h o y found)
-
--- Its words are back in both, or in none.
-back_alike : {heap : List Object} {o : Id} {x : Object} → x.out ≡ false → HasAlike heap o x → BackIn heap o
-back_alike back a = (a.object, a.found, a.alike.out ∙ back)
-
-pub back_blanked : (w : View) (h : List Object) (o : Id) → BackIn h o → BackIn (blanked w h) o
-back_blanked w h o (x, found, back) = back_alike back (blanked_at w h o x found)
-
-pub back_unblanked : (w : View) (h : List Object) (o : Id) → BackIn (blanked w h) o → BackIn h o
-back_unblanked w h o (y, found, back) = back_alike back (unblanked w h o y found)
+-- Words that are back there are back here.
+back_unblanked : (w : View) (h : List Object) (o : Id) → BackIn (blanked w h) o → BackIn h o
+back_unblanked w h o (y, found, back) = let a = unblanked w h o y found in (a.object, a.found, a.alike.out ∙ back)
 
 -- What is so of an object is so of one that is like it.
 sane_alike : {under : List Id} {items : List Item} {o : Id} {x y : Object} → Alike x y → Sane under items o x → Sane under items o y
@@ -127,12 +110,6 @@ sane_alike {under} {items} {o} {x} {y} a s = record {
   there_exists = λ there. a.stage ∙ s.there_exists (rw a.stage at there);
   housed = λ out. rw (a.home, a.access) (s.housed (sym a.out ∙ out));
   out_listed = λ out. elim (s.out_listed (sym a.out ∙ out)) [ inl listed ↦ inl (a.listed ∙ listed) | inr under ↦ inr under ];
-}
-
-pub stored_blanked : {under : List Id} {masters : List Master} (w : View) (h : List Object) → Stored under h masters → Stored under (blanked w h) masters
-stored_blanked w h s = record {
-  counted = s.counted;
-  sane = λ o y at. let a = unblanked w h o y at in sane_alike (alike_back a.alike) (s.sane o a.object a.found);
 }
 
 pub stored_unblanked : {under : List Id} {masters : List Master} (w : View) (h : List Object) → Stored under (blanked w h) masters → Stored under h masters
@@ -196,13 +173,7 @@ says_unblanked implicit p w h (Left master) after s is says = tt
 says_unblanked implicit p w h (Line line) after s is says = tt
 says_unblanked implicit p w h Quiet after s is says = tt
 
--- The object itself is followed, whose words are out.
-pub says_followed :
-    (implicit : Implicit) (p : ProgramForm) (o : Id) (h : List Object) (x : Object) (s : State) → object_at h o ≡ Some x → x.out ≡ true
-    → Says implicit p (Followed (Names o)) h s
-says_followed implicit p o h x s found out = record { id = o; object = x; is = refl; found = found; out = out }
-
--- A run ends well in both.
+-- A run ends well that does so there.
 pub ends_unblanked : (w : View) (halt : Halt) (h : List Object) (masters : List Master) → EndsWell halt (blanked w h) masters → EndsWell halt h masters
 ends_unblanked w Finished h masters ends = (stored_unblanked w h ends.0, ends.1)
 ends_unblanked w (Unhandled e) h masters ends = (stored_unblanked w h ends.0, ends.1)

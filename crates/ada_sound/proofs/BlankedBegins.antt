@@ -213,7 +213,8 @@ plain_value (Names o) none = tt
 plain_value (Scalar v) none = tt
 plain_value (Part o place) none = absurd (cc none)
 
--- What each tracked component holds may be named by a variable of its access type.
+-- What each of these components of a formal parameter of this kind holds may be named by a variable of its access type. It lies in an object with these values,
+-- from the component `base` on.
 abbrev pub MayBeNamed : List TypeForm → (formal : Option VariableKind) → List Object → (base : ℕ) → (values : List Value) → (cs : List ℕ) → Type 0
 MayBeNamed types formal heap base values cs =
     EachNumber (λ (c : ℕ). MayName heap (access_of (selected_kind types formal c)) (slice_index_or values (base + c) Null)) cs

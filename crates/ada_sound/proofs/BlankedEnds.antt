@@ -1,9 +1,9 @@
 -- The variables that stand for the tracked components of an object (7.6), where the body comes to its end: the components get back what they own.
 
-use Rattle.std.proofs.Common.{◌≡◌, ◌≢◌, ℕ, zero, suc, ◌+◌, ◌<◌, true, List, [], ◌∷◌, ◌++◌, length, map, refl, sym, ap, ◌∙◌, inl, inr, subst, arith}
+use Rattle.std.proofs.Common.{◌≡◌, ℕ, zero, suc, ◌+◌, ◌<◌, true, List, [], ◌∷◌, ◌++◌, length, map, refl, sym, ap, ◌∙◌, subst, arith}
 use Rattle.std.proofs.lemmas.Bool.{and_parts}
 use Rattle.std.proofs.lemmas.List.{append_assoc, set-set, set-get_or, get_or-set_other}
-use Rattle.std.specs.Prelude.{Option, Some, None}
+use Rattle.std.specs.Prelude.{Option, Some}
 use Rattle.std.specs.List.{slice_get, slice_set, slice_index_or}
 use Rattle.ada_program.specs.ProgramForm.{TypeForm, VariableForm}
 use Rattle.ada_program.specs.declared.program.TypeNo.{TypeNo}
@@ -23,12 +23,11 @@ use Rattle.ada_owners.proofs.Changes as changes
 use Rattle.ada_owners.proofs.Changes.{changed_is, store_is}
 use Rattle.ada_judged.specs.Fitting.{AreOfAccess, TracksComponents}
 use Rattle.ada_tracked.specs.Frames.{View, shifted, watched, blank_values, blank_object, blanked, values_at, tracked_values}
-use Rattle.ada_tracked.specs.Seen.{IsNoneOf, AreApart, refers, IsWatched}
+use Rattle.ada_tracked.specs.Seen.{IsNoneOf, AreApart, IsWatched}
 use Rattle.ada_tracked.proofs.Heaps.{values_there}
 use Rattle.ada_tracked.proofs.Lists.{is_apart}
-use Rattle.ada_sound.proofs.Activations.{pushed_by, returned_fit}
 use Rattle.ada_sound.proofs.BlankedBegins.{EachNumber, kind_access, kind_of_access, one_more, with_is}
-use Rattle.ada_sound.proofs.Fits.{Outer, Reference, Outsiders, Fit, Hand, IsPlace, IsSaid, IsWithin, IsOwn, none_spared, place_at, component_access, lose, hand_of, store_owner}
+use Rattle.ada_sound.proofs.Fits.{Outsiders, Fit, Hand, IsSaid, IsWithin, IsOwn, none_spared, place_at, component_access, lose, hand_of, store_owner}
 use Rattle.ada_sound.proofs.Objects.{set_here, set_twice}
 use Rattle.ada_sound.proofs.Values.{read_other}
 
@@ -201,18 +200,3 @@ pub judged_ends :
 judged_ends {types} {outer} {holds} variables places w h watches tracks within give f =
     given_back variables places w h watches.object watches.at_object (rw watches.existing refl) watches.apart tracks.behind (watches.count ∙ tracks.behind)
     (all_within types (variable_kind variables 0) tracks.object tracks.formal watches.object w.base w.tracks.components tracks.components within) give f
-
--- So what waits for the body is relied on again: it is as it was, and the components of the object have what the variables held.
-pub waits_again :
-    {types : List TypeForm} {outer : Outsiders} {holds : Holds} (variables : List VariableForm) (places : List Value) (w : View) (h : List Object)
-    (watches : IsWatched w places h) (given : List Value) (waiting : Outer) (refers : List Reference) (under : List Id)
-    → TracksComponents types w.tracks variables → IsWithin types (variable_kind variables 0) watches.object.cell.access w.base
-    → all_give_back (tracked_numbers w.tracks) holds ≡ true
-    → ((x : ℕ) → IsSaid (place_at outer.given x) (hold_at waiting.holds x) (place_at waiting.places x))
-    → ((x : ℕ) → hold_at waiting.holds x ≢ hold.Lost → IsPlace types outer.referenced (variable_kind waiting.variables x) (place_at waiting.places x))
-    → Fit types (judged types w.tracks variables) (pushed_by given waiting refers under outer) none_spared (blanked w h) (places ++ tracked_values w h) holds
-    → Fit types waiting.variables outer none_spared h waiting.places waiting.holds
-waits_again {types} {outer} {holds} variables places w h watches given waiting refers under tracks within give said objects f =
-    returned_fit waiting (judged types w.tracks variables) (places ++ tracked_values w h) (all_lost (tracked_numbers w.tracks) holds) (λ i. None)
-    waiting.places waiting.holds types outer given refers under none_spared h
-    (λ x. inr (inl (refl, refl))) (judged_ends variables places w h watches tracks within give f) said objects

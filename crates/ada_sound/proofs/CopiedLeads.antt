@@ -1,19 +1,18 @@
 -- What is to be done where a record is adjusted, and each record has at most one controlled part (7.6): it comes to the Adjust of the controlled record that is
 -- that part.
 
-use Rattle.std.proofs.Common.{◌≡◌, ◌≢◌, ℕ, zero, suc, ◌+◌, ◌<◌, ◌==◌, if◌then◌else◌, Bool, true, false, ◌&&◌, ◌||◌, List, [], ◌∷◌, ◌++◌, length, Option, Some, None, ◌⊎◌, inl, inr, arith, refl, sym, ap, ◌∙◌, subst}
-use Rattle.std.specs.Prelude.{nat_lt, count_by, find}
+use Rattle.std.proofs.Common.{◌≡◌, ℕ, zero, suc, ◌+◌, ◌<◌, ◌==◌, if◌then◌else◌, Bool, true, false, ◌&&◌, ◌||◌, List, [], ◌∷◌, ◌++◌, Option, Some, None, ◌⊎◌, inl, inr, arith, refl, sym, ap, ◌∙◌, subst}
+use Rattle.std.specs.Prelude.{nat_lt}
 use Rattle.std.specs.List.{list_all, slice_get, sum_by}
 use Rattle.std.proofs.lemmas.Bool.{and_parts, eqb-true, ltb-true}
 use Rattle.std.proofs.lemmas.Bool.Decides.{eqb_tells}
-use Rattle.std.proofs.lemmas.Grind.{common_steps}
 use Rattle.std.proofs.lemmas.List.Sums.{sum_by-cons}
 use Rattle.ada_parts.specs.declared.tasks.Direction.TheVariants.{PartsFirst}
 use Rattle.ada_parts.specs.Part.{in_order as numbered_in_order}
-use Rattle.ada_parts.specs.Shape.{Shape, own_parts, parts_of, shape_of}
+use Rattle.ada_parts.specs.Shape.{Shape, own_parts, parts_of}
 use Rattle.ada_parts.specs.Task.{Task, treats, treatment_of, operation_of, opened}
 use Rattle.ada_parts.proofs.Facts.{eq_self}
-use Rattle.ada_parts.proofs.Tables.{shape_newest, shape_older, parts_newest, parts_older}
+use Rattle.ada_parts.proofs.Tables.{parts_newest, parts_older}
 use Rattle.ada_program.specs.declared.program.ComponentKind.{ComponentKind}
 use Rattle.ada_program.specs.declared.program.Finalization.{Finalization}
 use Rattle.ada_program.specs.declared.program.PartKind.{PartKind}
@@ -26,48 +25,7 @@ use Rattle.ada_program.specs.WellFormed.{kind_fits, finalization_in, finalizatio
 use Rattle.ada_typed.proofs.Parts.{shows_parent, shown_number, shown_with, shown_components, shape, shown_shape, shown_parts, shown_numbered, shown_up_to, shown_shapes}
 use Rattle.ada_sound.proofs.CopiedOwners.{Leads, now, later}
 use Rattle.ada_sound.proofs.OnlyParts.{IsControlled, passed_at, counted_at, one_alone, numbered_counts, none_beside, uncounted}
-
--- What passes a test alone is what is found.
-passes_some : {X : Type 0} (test : X → Bool) (xs : List X) (t : ℕ) (x : X) → slice_get xs t ≡ Some x → test x ≡ true → 0 < count_by test xs
-passes_some test [] t x at does = absurd (cc at)
-passes_some test (y ∷ ys) zero x at does = grind (arith, common_steps)
-passes_some test (y ∷ ys) (suc t) x at does = let more = passes_some test ys t x at does in grind (arith, common_steps, more)
-
-found_one : {X : Type 0} (test : X → Bool) (xs : List X) (t : ℕ) (x : X) → count_by test xs ≡ 1 → slice_get xs t ≡ Some x → test x ≡ true
-    → find test xs ≡ Some x
-found_one test [] t x one at does = absurd (cc at)
-found_one test (y ∷ ys) zero x one at does = grind (arith, common_steps)
-found_one test (y ∷ ys) (suc t) x one at does =
-    let some = passes_some test ys t x at does in
-    let again = found_one test ys t x in
-    grind (arith, common_steps, some, again)
-
--- The shape of a type with a number is that which its declared components show.
-shown_length : (types : List TypeForm) (count : ℕ) → length (shown_up_to types count) ≡ count
-shown_length types zero = refl
-shown_length types (suc count) = ap suc (shown_length types count)
-
--- The type that has this number, as finalization sees it where those with less numbers are known.
-abbrev shape_numbered : List TypeForm → (older : List Shape) → ℕ → Shape
-shape_numbered types older n = shown_shape types older (shown_parts (shown_numbered types n))
-
-shape_at : (types : List TypeForm) (count n : ℕ) → n < count → shape_of (shown_up_to types count) n ≡ shape_numbered types (shown_up_to types n) n
-shape_at types zero n below = absurd (omega (arith, below))
-shape_at types (suc count) n below = elim (eqb_tells n count) [ inl h ↦ newest h.1 | inr h ↦ older h.1 (λ less. shape_at types count n less) ]
-  where
-    own : Shape
-    own = shape_numbered types (shown_up_to types count) count
-
-    newest : n ≡ count → shape_of (own ∷ shown_up_to types count) n ≡ shape_numbered types (shown_up_to types n) n
-    newest same =
-        ap (shape_of (own ∷ shown_up_to types count)) (same ∙ sym (shown_length types count)) ∙ shape_newest own (shown_up_to types count)
-        ∙ ap (λ (m : ℕ). shape_numbered types (shown_up_to types m) m) (sym same)
-
-    older :
-        n ≢ count → (n < count → shape_of (shown_up_to types count) n ≡ shape_numbered types (shown_up_to types n) n)
-        → shape_of (own ∷ shown_up_to types count) n ≡ shape_numbered types (shown_up_to types n) n
-    older apart more =
-        shape_older own (shown_up_to types count) n (λ e. apart (e ∙ shown_length types count)) ∙ more (omega (arith, below, apart))
+use Rattle.ada_sound.proofs.OnlyPlaces.{shape_at, shape_numbered, shown_length, alone_said, found_one}
 
 -- A record is not controlled itself, and one of its declared components alone has controlled parts, by its number among the types that have some.
 record OneWithin (types : List TypeForm) (older : List Shape) (ps : List PartForm) : Type 0 where
@@ -216,12 +174,12 @@ module _ (types : List TypeForm) (fit : list_all (type_fits types) types ≡ tru
       let fits = and_parts (kinds && parent_first ps && says_parts types (Some f) ps) (is_numbered_alone types (Some f))
       (passed_at (type_fits types) types t form fit at) in
       let said = and_parts (some && ordered) earlier (and_parts (kinds && parent_first ps) (says_parts types (Some f) ps) fits.0).1 in
-      let numbered = and_parts (nat_lt f.number.0 (numbered_types types)) (count_by is_its types == 1) fits.1 in
+      let numbered = alone_said types fit t name ps components f at in
       record {
         ordered = subst (λ (n : ℕ). parts_in_order types n 0 ps ≡ true) (ones t f (ap finalization_in at)) (and_parts some ordered said.0).1;
         earlier = said.1;
-        below = ltb-true f.number.0 (numbered_types types) numbered.0;
-        found = ap shown_parts (found_one is_its types t form (eqb-true (count_by is_its types) 1 numbered.1) at (eq_self f.number.0));
+        below = numbered.0;
+        found = ap shown_parts (found_one is_its types t form numbered.1 at (eq_self f.number.0));
       }
 
   -- Each of the types with less numbers than this has one part.

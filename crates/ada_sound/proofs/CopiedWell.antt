@@ -65,7 +65,7 @@ module _ (types : List TypeForm) (a : AreCopiedAlone types) (ones : (t : ℕ) (f
       go None is some = absurd (omega (arith, some))
       go (Some f) is some = ones t f is
 
-  named_one : (object : Option ℕ) → 0 < parts_named types object → parts_named types object ≡ 1
+  pub named_one : (object : Option ℕ) → 0 < parts_named types object → parts_named types object ≡ 1
   named_one None some = absurd (omega (arith, some))
   named_one (Some t) some = counts_one t some
 

@@ -32,6 +32,9 @@ use Rattle.ada_sound.proofs.Starts.{Ordinary, Sound, sound_first}
 use Rattle.ada_sound.proofs.Touching.{Touching, waiting_for}
 use Rattle.ada_sound.proofs.Operating.{Sight, Comes, Body, Operates}
 use Rattle.ada_sound.proofs.Uncalled.{body_called}
+use Rattle.ada_sound.proofs.Adjusting.{Adjusting}
+use Rattle.ada_sound.proofs.AdjustingGoes.{none_comes_out}
+use Rattle.ada_sound.proofs.AdjustingSteps.{InAdjusting}
 use Rattle.ada_sound.proofs.Runs.{Led}
 use Rattle.ada_sound.proofs.Runs as runs
 
@@ -81,6 +84,21 @@ module _ (program : Program) where
   covered_by (Line line) before s gs stands says depth a n at is = tt
   covered_by Quiet before s gs stands says depth a n at is = tt
 
+  -- While an Adjust runs that tracks components nothing is freed.
+  adjusting_covered : (e : Event) (before : List Object) (after : State) → InAdjusting program before e after → (number : ℕ) → IsCovered program number e
+  adjusting_covered (Born object part turn type number' by) before after c number = tt
+  adjusting_covered (Finalized object part turn type number' cause) before after c number = tt
+  adjusting_covered (Back object access number' pool subpool (Leaving m item)) before after c number = tt
+  adjusting_covered (Back object access number' pool subpool (Freeing f)) before after c number =
+      let may : CoveredIn (implicit_of (program_form program)) (seen_in (running_procedure after) (program_form program)) access = c.says.covered.0 in
+      absurd (c.body.frees_none access (subst (λ (procedure : Option ℕ). CoveredIn (implicit_of (program_form program)) (seen_in procedure (program_form program)) access) c.body.runs may))
+  adjusting_covered (Back object access number' pool subpool (Assigning b)) before after c number = tt
+  adjusting_covered (Back object access number' pool subpool (Undoing b)) before after c number = tt
+  adjusting_covered (Followed object) before after c number = tt
+  adjusting_covered (Left master) before after c number = tt
+  adjusting_covered (Line line) before after c number = tt
+  adjusting_covered Quiet before after c number = tt
+
   -- What leaves a body is among what it may raise.
   raised_by : (procedure : Option ℕ) (gs : List Suspension) (e : Exception) (actuals : List ActualForm) (references : List Value) (k : Control) (rooms : Rooms) (holds : Holds) → GoesOn (known_in program procedure gs) (Raising e) (Returns actuals references ∷ k) rooms holds → body_among (implicit_of (program_form program)) (seen_in procedure (program_form program)) e ≡ true
   raised_by procedure [] e actuals references k [] holds g = absurd g
@@ -104,13 +122,15 @@ module _ (program : Program) (accepted : IsChecked program) where
       by : Led program before.heap e after → IsCovered program number e
       by (inl (c, calm, settled)) = covered_by program e before.heap after c.suspensions c.stands c.stepped.says depth a number at is
       by (inr (inl c)) = c.covered number
-      by (inr (inr c)) = covered_by program e before.heap after (waiting_for program after c.touching) c.touching.stands c.says depth a number at is
+      by (inr (inr (inl c))) = covered_by program e before.heap after (waiting_for program after c.body) c.body.stands c.says depth a number at is
+      by (inr (inr (inr c))) = adjusting_covered program e before.heap after c number
 
-  raises_in : (s : State) → Ordinary program s ⊎ (Operates program s ⊎ Touching program s) → (procedure : Option ℕ) (number : ℕ) (e : Exception) → running_procedure s ≡ procedure → procedure ≡ Some number → EndsBody s → s.mode ≡ Raising e → call_raises (callees.effect_at program number) (is_same e) ≡ true
+  raises_in : (s : State) → Ordinary program s ⊎ (Operates program s ⊎ (Touching program s ⊎ Adjusting program s)) → (procedure : Option ℕ) (number : ℕ) (e : Exception) → running_procedure s ≡ procedure → procedure ≡ Some number → EndsBody s → s.mode ≡ Raising e → call_raises (callees.effect_at program number) (is_same e) ≡ true
   raises_in s (inl o) procedure number e runs is ends mode =
       let may = leaves_by program (running_procedure s) o.suspensions e ends.actuals ends.references ends.outer s.control s.mode s.heap _ _ s.masters (o.ready.1) mode ends.first in
       called_raises program number e (rw (runs ∙ is) at (o.stands.body)) (rw (runs ∙ is) at may)
-  raises_in s (inr (inr f)) procedure number e runs is ends mode =
+  raises_in s (inr (inr (inr f))) procedure number e runs is ends mode = absurd (none_comes_out program s f e mode (rw ends.first refl))
+  raises_in s (inr (inr (inl f))) procedure number e runs is ends mode =
       let may = leaves_by program (running_procedure s) (waiting_for program s f) e ends.actuals ends.references ends.outer s.control s.mode s.heap _ _ s.masters (f.ready.1) mode ends.first in
       called_raises program number e (rw (runs ∙ is) at (f.stands.body)) (rw (runs ∙ is) at may)
   raises_in s (inr (inl o)) procedure number e runs is ends mode =

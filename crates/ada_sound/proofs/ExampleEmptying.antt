@@ -1,8 +1,7 @@
 -- A program that meets the premises of the laws, in which a Finalize calls a procedure that frees what its object owns. With its run.
 
-use Rattle.std.proofs.Common.{◌≡◌, ℕ, true, false, List, [], ◌∷◌, ◌++◌, refl, sym, ap, subst, ◌∙◌, inr, arith}
-use Rattle.std.specs.Prelude.{Some, None}
-use Rattle.std.specs.List.{slice_get}
+use Rattle.std.proofs.Common.{◌≡◌, true, List, [], ◌∷◌, ◌++◌, refl, inr, arith, ◌⊎◌}
+use Rattle.std.specs.Prelude.{None}
 use Rattle.ada_program.specs.declared.program.Actual.TheVariants as actual
 use Rattle.ada_program.specs.declared.program.Declaration.TheVariants as declaration
 use Rattle.ada_program.specs.declared.program.Procedure.{Procedure}
@@ -14,19 +13,18 @@ use Rattle.ada_program.specs.declared.program.TypeDefinition.{TypeDefinition}
 use Rattle.ada_program.specs.declared.program.TypeDefinition.TheVariants as definition
 use Rattle.ada_program.specs.Controlled.{operations_of}
 use Rattle.ada_program.specs.Form.{declaration_forms, stmt_forms, no_handlers, statement_rules}
-use Rattle.ada_program.specs.ProgramForm.{BodyForm, program_form, body_forms}
+use Rattle.ada_program.specs.ProgramForm.{body_forms}
 use Rattle.ada_flow.specs.Flow.{uses_in}
 use Rattle.ada_meaning.specs.declared.event.Halt.TheVariants.{Finished}
 use Rattle.ada_meaning.specs.Named.{State, next}
 use Rattle.ada_meaning.specs.Run.{Choice, grants, takes}
 use Rattle.ada_meaning.proofs.Beginnings.{statements_begin}
-use Rattle.ada_quiet.specs.Quiet.{is_plain_body}
-use Rattle.ada_sound.specs.Agreement.{RunsPlainly}
+use Rattle.ada_sound.specs.Agreement.{RunsPlainly, RunsTracking}
 use Rattle.ada_sound.specs.Always.{IsChecked, InSomeRun, FinishesAfter}
 use Rattle.ada_sound.specs.OperationExamples.{tidying_declarations, tidying_stmts, emptying_operations, emptying_empty, emptying_bodies, emptying_events, IsSpokenOfInside}
 use Rattle.ada_sound.proofs.Choices.{accepted_in, run_in, last, halts_after_in}
 use Rattle.ada_sound.proofs.Example.{steps, vec}
-use Rattle.ada_sound.proofs.ExampleInside.{operates_here}
+use Rattle.ada_sound.proofs.ExampleInside.{operates_here, runs_neither}
 use Rattle.ada_sound.proofs.ExampleOwners.{record_of, access_to, an_integer}
 use Rattle.ada_sound.proofs.ExampleRecords.{object, of_object, record_at, of_object_type}
 use Rattle.ada_sound.proofs.ExampleOperations.{operation}
@@ -98,19 +96,12 @@ to_free = steps 7 ++ grants true ∷ steps 4 ++ takes 0 ∷ steps 7
 abbrev inside : State
 inside = last emptying [] emptying_bodies tidying_stmts no_handlers to_free
 
-not_plainly : RunsPlainly emptying inside → ⊥
+neither : RunsPlainly emptying inside ⊎ RunsTracking emptying inside → ⊥
 unfolding next
-not_plainly (number, b, runs, at, plain) =
-    let known : Some 0 ≡ Some number = runs in
-    let same : 0 ≡ number = cc known in
-    let here : Some emptying_empty ≡ Some b =
-    sym (ap (λ (bodies : List BodyForm). slice_get bodies 0) emptying_has) ∙ subst (λ (n : ℕ). slice_get (body_forms emptying) n ≡ Some b) (sym same) at in
-    let is : emptying_empty ≡ b = cc here in
-    let never : false ≡ true = subst (λ (c : BodyForm). is_plain_body (program_form emptying).types c ≡ true) (sym is) plain in
-    cc never
+neither = runs_neither emptying inside emptying_bodies emptying_empty emptying_has refl refl refl refl
 
 pub is_spoken_of : InSomeRun emptying (λ events s. IsSpokenOfInside emptying s)
 unfolding next
 is_spoken_of =
     run_in emptying emptying_bodies tidying_stmts no_handlers emptying_has emptying_does refl [] to_free (λ events s. IsSpokenOfInside emptying s) refl
-    ((statements_begin inside).0 refl, operates_here inside.control refl, inr not_plainly)
+    ((statements_begin inside).0 refl, operates_here inside.control refl, inr neither)

@@ -1,6 +1,6 @@
 -- Three nodes go with their collection, and Finalize of one does nothing: where its statement begins, another one's component names the node that is gone.
 
-use Rattle.std.proofs.Common.{◌≡◌, ℕ, List, [], ◌∷◌, ◌++◌, refl, ap, arith}
+use Rattle.std.proofs.Common.{◌≡◌, ℕ, List, [], ◌∷◌, ◌++◌, refl, sym, ap, ◌∙◌, subst, ◌⊎◌, inl, inr, arith}
 use Rattle.std.specs.Prelude.{Bool, true, false, ◌||◌, if◌then◌else◌, Option, Some, None}
 use Rattle.std.specs.List.{slice_get}
 use Rattle.ada_program.specs.declared.program.Path.{Path}
@@ -10,7 +10,7 @@ use Rattle.ada_program.specs.declared.program.Stmt as stmt
 use Rattle.ada_program.specs.declared.program.Program.{Program}
 use Rattle.ada_program.specs.Controlled.{operations_of}
 use Rattle.ada_program.specs.Form.{stmt_forms, no_handlers, statement_rules}
-use Rattle.ada_program.specs.ProgramForm.{BodyForm, body_forms}
+use Rattle.ada_program.specs.ProgramForm.{BodyForm, body_forms, program_form}
 use Rattle.ada_flow.specs.Flow.{uses_in}
 use Rattle.ada_meaning.specs.declared.state.Id.{Id}
 use Rattle.ada_meaning.specs.declared.state.Stage.{Stage}
@@ -22,6 +22,9 @@ use Rattle.ada_meaning.specs.Run.{Choice, grants, takes}
 use Rattle.ada_meaning.specs.Frame.{Frame}
 use Rattle.ada_meaning.proofs.Beginnings.{statements_begin}
 use Rattle.ada_finalized.specs.Law.{waits_for_operation, NoOperationRuns}
+use Rattle.ada_quiet.specs.Apart.{is_tracker}
+use Rattle.ada_quiet.specs.Quiet.{is_plain_body}
+use Rattle.ada_sound.specs.Agreement.{RunsPlainly, RunsTracking, running_procedure}
 use Rattle.ada_sound.specs.Always.{IsChecked, InSomeRun, AgreesThere}
 use Rattle.ada_sound.specs.OperationExamples.{node_operations, silent_finalize, three_nodes, DisagreesInside}
 use Rattle.ada_sound.proofs.Choices.{accepted_in, run_in, last}
@@ -29,6 +32,24 @@ use Rattle.ada_sound.proofs.Example.{steps, vec, link}
 use Rattle.ada_sound.proofs.ExampleOwners.{path, whole, part as component}
 use Rattle.ada_sound.proofs.ExampleOperations.{node_types, operation}
 use Rattle.ada_owners.specs.Places.{is_there}
+
+-- Where the body of a program's first procedure runs, which is not plain and tracks nothing, none of these kinds does.
+pub runs_neither :
+    (program : Program) (s : State) (bodies : List BodyForm) (b : BodyForm) → body_forms program ≡ bodies → slice_get bodies 0 ≡ Some b → running_procedure s ≡ Some 0
+    → is_plain_body (program_form program).types b ≡ false → is_tracker (program_form program) 0 ≡ false → RunsPlainly program s ⊎ RunsTracking program s → ⊥
+runs_neither program s bodies b has at first not_plain tracks_nothing (inl (number, c, runs, there, plain)) =
+    let known : Some 0 ≡ Some number = sym first ∙ runs in
+    let same : 0 ≡ number = cc known in
+    let here : Some b ≡ Some c =
+    sym at ∙ (sym (ap (λ (all : List BodyForm). slice_get all 0) has) ∙ subst (λ (n : ℕ). slice_get (body_forms program) n ≡ Some c) (sym same) there) in
+    let is : b ≡ c = cc here in
+    let never : is_plain_body (program_form program).types b ≡ true = subst (λ (d : BodyForm). is_plain_body (program_form program).types d ≡ true) (sym is) plain in
+    cc (not_plain, never)
+runs_neither program s bodies b has at first not_plain tracks_nothing (inr (number, runs, tracks)) =
+    let known : Some 0 ≡ Some number = sym first ∙ runs in
+    let same : 0 ≡ number = cc known in
+    let never : is_tracker (program_form program) 0 ≡ true = subst (λ (n : ℕ). is_tracker (program_form program) n ≡ true) (sym same) tracks in
+    cc (tracks_nothing, never)
 
 -- What a component of an object that is in its collection holds; and whether an object is gone.
 abbrev holds_there : Option Object → (c : ℕ) → Option Value

@@ -1,8 +1,7 @@
 -- A program that meets the premises of the laws, in which a Finalize frees what its object owns. With its run.
 
-use Rattle.std.proofs.Common.{◌≡◌, ℕ, true, false, List, [], ◌∷◌, ◌++◌, refl, sym, ap, subst, ◌∙◌, inr, arith}
+use Rattle.std.proofs.Common.{◌≡◌, true, List, [], ◌∷◌, ◌++◌, refl, inr, arith, ◌⊎◌}
 use Rattle.std.specs.Prelude.{Some, None}
-use Rattle.std.specs.List.{slice_get}
 use Rattle.ada_program.specs.declared.program.Declaration.TheVariants as declaration
 use Rattle.ada_program.specs.declared.program.Operations.{Operations}
 use Rattle.ada_program.specs.declared.program.PartKind.TheVariants as part
@@ -14,19 +13,18 @@ use Rattle.ada_program.specs.declared.program.TypeDefinition.{TypeDefinition}
 use Rattle.ada_program.specs.declared.program.TypeDefinition.TheVariants as definition
 use Rattle.ada_program.specs.Controlled.{operations_of}
 use Rattle.ada_program.specs.Form.{declaration_forms, stmt_forms, no_handlers, statement_rules}
-use Rattle.ada_program.specs.ProgramForm.{BodyForm, program_form, body_forms}
+use Rattle.ada_program.specs.ProgramForm.{body_forms}
 use Rattle.ada_flow.specs.Flow.{uses_in}
 use Rattle.ada_meaning.specs.declared.event.Halt.TheVariants.{Finished}
 use Rattle.ada_meaning.specs.Named.{State, next}
 use Rattle.ada_meaning.specs.Run.{Choice, grants, takes}
 use Rattle.ada_meaning.proofs.Beginnings.{statements_begin}
-use Rattle.ada_quiet.specs.Quiet.{is_plain_body}
-use Rattle.ada_sound.specs.Agreement.{RunsPlainly}
+use Rattle.ada_sound.specs.Agreement.{RunsPlainly, RunsTracking}
 use Rattle.ada_sound.specs.Always.{IsChecked, InSomeRun, FinishesAfter}
 use Rattle.ada_sound.specs.OperationExamples.{tidying_operations, tidying_finalize, tidying_declarations, tidying_stmts, tidying_events, IsSpokenOfInside}
 use Rattle.ada_sound.proofs.Choices.{accepted_in, run_in, last, halts_after_in}
 use Rattle.ada_sound.proofs.Example.{steps, vec, no_name}
-use Rattle.ada_sound.proofs.ExampleInside.{operates_here}
+use Rattle.ada_sound.proofs.ExampleInside.{operates_here, runs_neither}
 use Rattle.ada_sound.proofs.ExampleOwners.{record_of, access_to, an_integer, an_access}
 use Rattle.ada_sound.proofs.ExampleRecords.{of_object, of_object_type}
 use Rattle.ada_sound.proofs.ExampleOperations.{of_kind, operation}
@@ -97,19 +95,12 @@ to_free = steps 7 ++ grants true ∷ steps 4 ++ takes 0 ∷ steps 2
 abbrev inside : State
 inside = last tidying [] (tidying_finalize ∷ []) tidying_stmts no_handlers to_free
 
-not_plainly : RunsPlainly tidying inside → ⊥
+neither : RunsPlainly tidying inside ⊎ RunsTracking tidying inside → ⊥
 unfolding next
-not_plainly (number, b, runs, at, plain) =
-    let known : Some 0 ≡ Some number = runs in
-    let same : 0 ≡ number = cc known in
-    let here : Some tidying_finalize ≡ Some b =
-    sym (ap (λ (bodies : List BodyForm). slice_get bodies 0) tidying_bodies) ∙ subst (λ (n : ℕ). slice_get (body_forms tidying) n ≡ Some b) (sym same) at in
-    let is : tidying_finalize ≡ b = cc here in
-    let never : false ≡ true = subst (λ (c : BodyForm). is_plain_body (program_form tidying).types c ≡ true) (sym is) plain in
-    cc never
+neither = runs_neither tidying inside (tidying_finalize ∷ []) tidying_finalize tidying_bodies refl refl refl refl
 
 pub is_spoken_of : InSomeRun tidying (λ events s. IsSpokenOfInside tidying s)
 unfolding next
 is_spoken_of =
     run_in tidying (tidying_finalize ∷ []) tidying_stmts no_handlers tidying_bodies tidying_form refl [] to_free (λ events s. IsSpokenOfInside tidying s) refl
-    ((statements_begin inside).0 refl, operates_here inside.control refl, inr not_plainly)
+    ((statements_begin inside).0 refl, operates_here inside.control refl, inr neither)

@@ -19,6 +19,7 @@ use Rattle.ada_deeds.specs.Within.{does_by}
 use Rattle.ada_deeds.specs.declared.deed.Callee.TheVariants as callee
 use Rattle.ada_deeds.specs.declared.deed.Callee.{Callee}
 use Rattle.ada_deeds.specs.declared.deed.Deed.TheVariants.{Raises}
+use Rattle.ada_deeds.specs.declared.deed.Deed.{Deed}
 use Rattle.ada_deeds.specs.declared.deed.Operation.TheVariants.{Initialize, Finalize}
 use Rattle.ada_deeds.specs.declared.deed.Operation.{Operation}
 use Rattle.ada_effects.proofs.Calls.{Within, either}
@@ -57,27 +58,28 @@ none_among test among (x ∷ xs) none = rw (none x) (none_among test among xs no
 -- Where no access type designates what has controlled parts, a frugal body calls nothing implicitly (4.8, 7.6): what is known of implicit calls changes nothing of
 -- what it raises.
 module _ (p : ProgramForm) (types_fit : list_all (type_fits p.types) p.types ≡ true) (bare : NoAccessToParts p.types) where
-  does_nothing : (e : Exception) (operation : Operation) (r : ℕ) → is_some (finalization_of p.types r) ≡ false → does_by p (Raises e) (callee.Parts operation (record { 0 = r })) ≡ false
-  does_nothing e operation r none = by (does_by p (Raises e) c) refl
+  does_nothing : (d : Deed) (operation : Operation) (r : ℕ) → is_some (finalization_of p.types r) ≡ false → does_by p d (callee.Parts operation (record { 0 = r })) ≡ false
+  does_nothing d operation r none = by (does_by p d c) refl
     where
       c : Callee
       c = callee.Parts operation (record { 0 = r })
 
-      by : (done : Bool) → does_by p (Raises e) c ≡ done → done ≡ false
+      by : (done : Bool) → does_by p d c ≡ done → done ≡ false
       by false is = refl
-      by true is = let some = does_parted p types_fit (Raises e) operation r ((counts_are_enough p (Raises e) c).0 is) in absurd (cc (none, some))
+      by true is = let some = does_parted p types_fit d operation r ((counts_are_enough p d c).0 is) in absurd (cc (none, some))
 
-  created_nothing : (e : Exception) (access : ℕ) (o : Option TypeForm) → slice_get p.types access ≡ o → is_some (designated_in o) ≡ true → creation_does (does_by p (Raises e)) (record_in access o) ≡ false
-  created_nothing e access None at is = refl
-  created_nothing e access (Some (record_of name parts components finalization)) at is = absurd (cc is)
-  created_nothing e access (Some (access_to name designated pool)) at is =
+  -- The creation of an object that an access value designates does nothing, whatever is asked for.
+  pub created_nothing : (d : Deed) (access : ℕ) (o : Option TypeForm) → slice_get p.types access ≡ o → is_some (designated_in o) ≡ true → creation_does (does_by p d) (record_in access o) ≡ false
+  created_nothing d access None at is = refl
+  created_nothing d access (Some (record_of name parts components finalization)) at is = absurd (cc is)
+  created_nothing d access (Some (access_to name designated pool)) at is =
       let none = bare access name designated pool at in
-      rw (does_nothing e Initialize designated none, does_nothing e Finalize designated none) refl
-  created_nothing e access (Some (object_of record_type)) at is = absurd (cc is)
+      rw (does_nothing d Initialize designated none, does_nothing d Finalize designated none) refl
+  created_nothing d access (Some (object_of record_type)) at is = absurd (cc is)
 
   starts_none : (among : Exception → Bool) (access : ℕ) → is_access p.types access ≡ true → list_any among ((implicit_of p).start_raises access) ≡ false
   starts_none among access is =
-      none_among (λ e. creation_does (does_by p (Raises e)) (record_at p.types access)) among (exceptions_of p) (λ e. created_nothing e access (slice_get p.types access) refl is)
+      none_among (λ e. creation_does (does_by p (Raises e)) (record_at p.types access)) among (exceptions_of p) (λ e. created_nothing (Raises e) access (slice_get p.types access) refl is)
 
   -- The procedures that it may call are known to raise the same, as far as they are frugal: then it raises the same.
   module _ (frugal : List Bool) (first second : List Effect) (callable : List Profile)
@@ -266,12 +268,13 @@ raises_more p b among more within h =
     (declarations_stay no_implicit among more within ds) (stmts_stay es all fs (untaken hs among) (untaken hs more) (within_untaken hs among more within)))
     (handlers_stay es all hs among more within) h
 
--- So no exception comes out of a silent one.
-never : (b : Bool) → b ≡ true → b ≡ false → ⊥
+-- What is false never holds.
+pub never : (b : Bool) → b ≡ true → b ≡ false → ⊥
 never true is not_so = cc not_so
 never false is not_so = cc is
 
-silent_frugal : (p : ProgramForm) → IsWellFormed p → NoAccessToParts p.types → (number : ℕ) (b : BodyForm) → slice_get p.bodies number ≡ Some b → is_frugal_body (frugal_procedures p) b ≡ true
+-- So no exception comes out of a silent one.
+pub silent_frugal : (p : ProgramForm) → IsWellFormed p → NoAccessToParts p.types → (number : ℕ) (b : BodyForm) → slice_get p.bodies number ≡ Some b → is_frugal_body (frugal_procedures p) b ≡ true
     → body_raises (own_effects p) b (λ x. true) ≡ false → (e : Exception) → body_among (implicit_of p) (seen_in (Some number) p) e ≡ true → ⊥
 silent_frugal p well bare number b there frugal silent e among =
     let callable = [] ++ map profile_of (take number p.bodies) in

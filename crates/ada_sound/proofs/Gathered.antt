@@ -1,18 +1,18 @@
 -- Records that are copied, or get the values of items, where no Adjust is of a type that declares components of access types: they own nothing.
 
 use Rattle.std.proofs.Common.{◌≡◌, ℕ, Bool, true, false, ◌&&◌, not, List, [], ◌∷◌, refl, ap, subst, ◌⊎◌, inl, inr}
-use Rattle.std.specs.Prelude.{◌==◌, ◌++◌, Option, Some, None}
+use Rattle.std.specs.Prelude.{◌==◌, ◌++◌, Option, Some, None, is_some}
 use Rattle.std.specs.List.{slice_get, list_all}
-use Rattle.std.proofs.lemmas.Bool.{eqb-true}
+use Rattle.std.proofs.lemmas.Bool.{and_parts, eqb-true}
 use Rattle.ada_text.specs.declared.spot.Spot.{Spot}
 use Rattle.ada_program.specs.Form.{PathForm, RecordPathForm, ItemForm, null_item, item_of_path, item_of_value, item_of_record, allocates}
 use Rattle.ada_program.specs.ProgramForm.{TypeForm}
 use Rattle.ada_program.specs.declared.program.Finalization.{Finalization}
 use Rattle.ada_program.specs.Controlled.{number_in}
-use Rattle.ada_program.specs.WellFormed.{named_in, components_reached, finalization_of}
+use Rattle.ada_program.specs.WellFormed.{named_in, components_reached, count_said, finalization_of}
 use Rattle.ada_meaning.specs.Frame.{Evaluates}
 use Rattle.ada_typed.proofs.Parts.{shown_number}
-use Rattle.ada_quiet.specs.Simple.{is_plain_item}
+use Rattle.ada_quiet.specs.Apart.{is_bare_item}
 use Rattle.ada_sound.proofs.CopiedOwners.{AdjustsOwners, CopiesWell}
 use Rattle.ada_flow.specs.Flow.{Holds, is_owning_record, owns_among, leaves_owners, gathers_owners, gathers_named, gathers_at_first, copies_to, shares_it, reaches_it, named_by_item, uses_in_item, uses_in_items}
 use Rattle.ada_sound.specs.Untracked.{AdjustsNoOwners}
@@ -140,14 +140,38 @@ items_bare types none spot target holds earlier (i ∷ items) kept =
 pub allocates_none : (types : List TypeForm) (k : Control) → AdjustsNoOwners types → AllocatesBare types k
 allocates_none types k none access items behind is spot target holds kept = items_bare types none spot target holds [] items kept
 
--- Items among which no record is copied own nothing.
-pub plain_bare : (types : List TypeForm) (items : List ItemForm) → list_all is_plain_item items ≡ true → OwnNothing types items
-plain_bare types [] plain = tt
-plain_bare types (null_item ∷ items) plain = (tt, plain_bare types items plain)
-plain_bare types (item_of_path path ∷ items) plain = (tt, plain_bare types items plain)
-plain_bare types (item_of_value e ∷ items) plain = (tt, plain_bare types items plain)
-plain_bare types (item_of_record p ∷ items) plain = absurd (cc plain)
+-- A record that has no controlled parts owns nothing, where it may be copied.
+record_bare : (types : List TypeForm) → CopiesWell types → (t : ℕ) → finalization_of types t ≡ None → leaves_owners types t ≡ false → is_owning_record types t ≡ false
+record_bare types copies t bare leaves = by (copies t leaves (λ f found. absurd (cc (found, bare))))
+  where
+    by : (is_owning_record types t ≡ false) ⊎ AdjustsOwners types t → is_owning_record types t ≡ false
+    by (inl plain) = plain
+    by (inr sees) =
+        let one : count_said (finalization_of types t) ≡ 1 = sees.one in
+        let none : 0 ≡ 1 = rw bare at one in
+        absurd (cc none)
 
--- So do those of an allocator that is evaluated next, where it copies no record.
-pub allocates_plain : (types : List TypeForm) (k : Control) → ((access : ℕ) (items : List ItemForm) (behind : Control) → k ≡ Evaluates (allocates access items) ∷ behind → list_all is_plain_item items ≡ true) → AllocatesBare types k
-allocates_plain types k plain access items behind is spot target holds kept = plain_bare types items (plain access items behind is)
+none_said : (o : Option Finalization) → not (is_some o) ≡ true → o ≡ None
+none_said None bare = refl
+none_said (Some f) bare = absurd (cc bare)
+
+-- Items among which no record with controlled parts is copied own nothing.
+one_bare : (types : List TypeForm) → CopiesWell types → (spot : Spot) (target : Option PathForm) (holds : Holds) (earlier : List PathForm) (i : ItemForm) → is_bare_item types i ≡ true → NoneBroken holds (uses_in_item types spot target earlier i) → OwnsNothing types i
+one_bare types copies spot target holds earlier null_item bare kept = tt
+one_bare types copies spot target holds earlier (item_of_path path) bare kept = tt
+one_bare types copies spot target holds earlier (item_of_value e) bare kept = tt
+one_bare types copies spot target holds earlier (item_of_record p) bare kept =
+    let leaves = leaves_owners types p.record_type in
+    record_bare types copies p.record_type (none_said (finalization_of types p.record_type) bare)
+    (copied_plain leaves spot (first_kept holds (copies_to leaves spot) (shares_it p ∷ reaches_it p.object ∷ []) kept).0)
+
+all_bare : (types : List TypeForm) → CopiesWell types → (spot : Spot) (target : Option PathForm) (holds : Holds) (earlier : List PathForm) (items : List ItemForm) → list_all (is_bare_item types) items ≡ true → NoneBroken holds (uses_in_items types spot target earlier items) → OwnNothing types items
+all_bare types copies spot target holds earlier [] bare kept = tt
+all_bare types copies spot target holds earlier (i ∷ items) bare kept =
+    let each = and_parts (is_bare_item types i) (list_all (is_bare_item types) items) bare in
+    let two = kept_apart holds (uses_in_item types spot target earlier i) (uses_in_items types spot target (named_by_item i ++ earlier) items) kept in
+    (one_bare types copies spot target holds earlier i each.0 two.0, all_bare types copies spot target holds (named_by_item i ++ earlier) items each.1 two.1)
+
+-- So do those of an allocator that is evaluated next, where it copies no such record.
+pub allocates_bare : (types : List TypeForm) → CopiesWell types → (k : Control) → ((access : ℕ) (items : List ItemForm) (behind : Control) → k ≡ Evaluates (allocates access items) ∷ behind → list_all (is_bare_item types) items ≡ true) → AllocatesBare types k
+allocates_bare types copies k bare access items behind is spot target holds kept = all_bare types copies spot target holds [] items (bare access items behind is) kept

@@ -6,10 +6,9 @@ use Rattle.std.specs.List.{slice_get, list_all}
 use Rattle.std.proofs.lemmas.Bool.{and_parts}
 use Rattle.ada_program.specs.declared.program.FormalMode.{FormalMode}
 use Rattle.ada_program.specs.declared.program.Program.{Program}
-use Rattle.ada_program.specs.declared.program.VariableKind.{VariableKind}
 use Rattle.ada_program.specs.declared.program.VariableKind.TheVariants as variable
 use Rattle.ada_program.specs.ProgramForm.{TypeForm, VariableForm, BodyForm, ProgramForm, program_form, main_body, seen_by, seen_in}
-use Rattle.ada_program.specs.WellFormed.{Creation, of_pool, of_collection, of_variable, Profile, variable_kind, variable_fits, created_in, creates_from, declarations_fit, stmts_fit, handlers_fit, body_fits, bodies_fit, profile_of, IsWellFormed}
+use Rattle.ada_program.specs.WellFormed.{Creation, of_pool, of_collection, of_variable, Profile, variable_fits, created_in, creates_from, declarations_fit, stmts_fit, handlers_fit, body_fits, bodies_fit, profile_of, IsWellFormed}
 use Rattle.ada_deeds.specs.Implicit.{implicit_of}
 use Rattle.ada_effects.specs.Effects.{Effects, passes, body_frees, effects_of}
 use Rattle.ada_flow.specs.Flow.{Holds, Outcome, goes, Keeping, keeping_of, body_keeps, kept_by, body_flow, tracks_of, owed_by, owed_from, owed_at_ends, holds_at_first, gone_with, nothing_gone, then_flow, declarations_flow, handled, handlers_flow, stmts_flow, leaves_block, ends_body, have_exit, handlers_have_exit, ObeysRules}
@@ -25,10 +24,11 @@ use Rattle.ada_sound.proofs.Bodies.{IsFine, seen_is, obeys_at}
 use Rattle.ada_sound.proofs.BodyRuns.{whole_flow, any_body_runs, fine_keeps}
 use Rattle.ada_sound.proofs.Callers.{Suspension, callers_of, rest_of}
 use Rattle.ada_sound.proofs.Invariant as invariant
-use Rattle.ada_sound.proofs.Invariant.{Known, Where, around_at, Goes, KeepsAll, RunsOn, Spares}
+use Rattle.ada_sound.proofs.Invariant.{Known, around_at, Goes, KeepsAll, RunsOn, Spares}
 use Rattle.ada_sound.proofs.Judged.{judged_in, known_judged}
 use Rattle.ada_sound.proofs.JudgedForms.{judged_exits, judged_handlers_exit}
 use Rattle.ada_sound.proofs.Starts.{none_out, none_on}
+use Rattle.ada_sound.proofs.WatchedBy.{some_variable}
 
 -- What such a body keeps of its formal parameters, by what it sees.
 abbrev pub keeps_tracking : Program → (number : ℕ) → Tracks → Keeping
@@ -36,17 +36,12 @@ keeps_tracking program number tracks =
     let own = seen_in (Some number) (program_form program) in
     body_keeps own.types (effects_of (implicit_of (program_form program)) own) (keeping_of (implicit_of (program_form program)) own) tracks (main_body own)
 
--- It has a variable for its formal parameter.
-formal_there : (variables : List VariableForm) (kind : VariableKind) → variable_kind variables 0 ≡ Some kind → 0 < length variables
-formal_there [] kind is = absurd (cc is)
-formal_there (v ∷ vs) kind is = omega arith
-
 -- The variables of a body as they are judged stand for the components that it tracks.
 pub components_stand : (types : List TypeForm) (tracks : Tracks) (variables : List VariableForm) → TracksComponents types tracks variables
     → StandForTracked types (judged types tracks variables) tracks
 components_stand types tracks variables h =
     let fit = ((tracked_fit_as_variables types tracks).0 variables h).0 in
-    let some : 0 < tracks.first = rw h.behind (formal_there variables (variable.Record h.object) h.formal) in
+    let some : 0 < tracks.first = rw h.behind (some_variable variables (variable.Record h.object) h.formal) in
     record {
       object = h.object;
       formal = (fit.0 0 some).0 ∙ h.formal;

@@ -118,6 +118,10 @@ pub mod Calm
 pub mod FrugalBodies
 -- simple bodies of an Adjust
 pub mod SimpleBodies
+-- they are of the forms of which the laws on tracked components speak
+pub mod OrderlyBodies
+-- they free nothing by what they call implicitly
+pub mod SimpleEffects
 -- procedures that track stand apart
 pub mod Trackers
 -- so no copy leaves two owners
@@ -151,10 +155,11 @@ pub mod FrugalControl
 pub mod FrugalFrees
 pub mod FrugalFrames
 pub mod FrugalSteps
+-- the masters that it leaves
+pub mod FrugalLeaves
 -- where a Finalize may be frugal
 pub mod FrugalUseParts
 pub mod FrugalUseEnds
-pub mod FrugalUseFrees
 pub mod FrugalUseLets
 -- what is finalized at an assignment
 pub mod AssignedParts
@@ -186,39 +191,49 @@ pub mod Touching
 pub mod Judged
 -- the forms of such a body are of the kinds that are wanted
 pub mod JudgedKinds
+-- it may free and raise what the body may
+pub mod JudgedForms
+-- it calls no procedure that tracks
+pub mod JudgedApart
 -- it is typed where it begins, and after each step
 pub mod JudgedTyped
+-- it runs from its beginning
+pub mod JudgedRuns
 -- no two of the components that an Adjust tracks are one
 pub mod TracksApart
 -- nothing but the formal parameter leads to the object whose components it tracks
 pub mod WatchedBy
 -- its formal parameter stays
 pub mod FormalStays
+-- heaps in which the components that it tracks hold null
+pub mod Blanked
+-- the variables that stand for these, where the body begins
+pub mod BlankedBegins
+-- and where it comes to its end
+pub mod BlankedEnds
 -- such a body runs
 pub mod Adjusting
--- it may free and raise what the body may
-pub mod JudgedForms
--- it runs from its beginning
-pub mod JudgedRuns
--- it comes to its end
-pub mod AdjustingEnds
 -- it begins
 pub mod AdjustingBegins
--- what holds of objects where components of one hold null
-mod AdjustingBlanked
--- what a state that stands for another one has of it
-mod AdjustingSeen
--- the masters of a frugal body
-mod AdjustingLeaves
--- each step of a body that tracks components
-mod AdjustingSteps
--- what such a step keeps
-mod AdjustingKept
--- what holds where it is called
+-- where the Adjust of a copy is called: which components it tracks, and what waits for it
 pub mod AdjustingEnters
+-- which Adjust that is
+pub mod TracksAs
+-- what is known there where each component counts as an owner
+pub mod PlainAdjusts
+-- so its body begins in a sound state
+pub mod AdjustingStarts
+-- what the state that stands for the real one has of it
+mod AdjustingSeen
 -- the core lemma for such a body, as it is judged
 mod AdjustingCore
--- each step of such a body, its end included
+-- what a step keeps of what waits for it, and tells
+mod AdjustingKept
+-- each step but its end
+mod AdjustingSteps
+-- its end
+pub mod AdjustingEnds
+-- each step, its end included
 pub mod AdjustingGoes
 -- the first state
 pub mod Starts
@@ -228,7 +243,6 @@ pub mod Steps
 pub mod InOrder
 -- of which records a treatment speaks
 pub mod Operated
-pub mod TouchingEnds
 -- what is behind its object, where it is called
 pub mod TouchingRests
 -- where its body begins
@@ -236,12 +250,14 @@ pub mod TouchingBegins
 pub mod TouchingStarts
 -- what a body sees
 pub mod Sees
--- its steps, and its end
-pub mod TouchingSteps
+-- what stands while its body runs
+pub mod TouchingStands
 -- while it leaves a master of its own
 pub mod TouchingLeaves
--- what stands there
-pub mod TouchingStands
+-- its end
+pub mod TouchingEnds
+-- its steps, the end included
+pub mod TouchingSteps
 -- whole runs
 pub mod Runs
 -- the laws of order
@@ -308,17 +324,14 @@ pub mod ExampleOverwriting
 pub mod ExampleEmptying
 pub mod ExampleAllocating
 pub mod ExampleUndoing
+-- and those whose Adjust allocates
+pub mod ExampleDuplicating
+pub mod ExampleCopying
 -- where flow is not agreed with
 pub mod ExampleInside
 -- where a statement begins
 pub mod Agreeing
 -- what effects cover
 pub mod Covered
--- heaps in which tracked components hold null
-pub mod Blanked
--- and the variables that stand for these, where a body begins
-pub mod BlankedBegins
--- and where it comes to its end
-pub mod BlankedEnds
 -- the laws
 pub mod Headline

@@ -22,7 +22,7 @@ use Rattle.ada_flow.specs.Flow.{owns_among, is_owning_part, is_owning_record, le
 use Rattle.ada_flow.specs.Tracking.{access_numbers}
 use Rattle.ada_sound.proofs.OnlyParts.{IsControlled, passed_at, counted_at, one_alone, in_order, controlled_counts, walked_counts, none_beside, one_place}
 use Rattle.ada_sound.proofs.OnlyPlaces.{lies_within_object}
-use Rattle.ada_quiet.specs.Tracking.{size_of_part, stand_in_a_row, adjusts_at_most_one, adjusts_itself, is_copied_alone}
+use Rattle.ada_quiet.specs.InUse.{size_of_part, stand_in_a_row, adjusts_at_most_one, adjusts_itself, is_copied_alone}
 use Rattle.ada_sound.proofs.OnlyRows.{AreCopiedAlone, is_limited, some_passes, or_false, or_true, none_passes, numbered_access, kind_owns, record_owns, kind_below, kind_within, begins_self, stands_in}
 
 -- A component is one of these, behind so many others.
@@ -41,7 +41,7 @@ pub record OwnsAlone (types : List TypeForm) (t : ℕ) : Type 0 where
       → IsBehind first (access_numbers controlled.parts) c
 
 -- A declared component is the parent part.
-parent_shown : (ps : List PartForm) → list_any (λ (q : PartForm). is_parent q.kind) ps ≡ shows_parent ps
+pub parent_shown : (ps : List PartForm) → list_any (λ (q : PartForm). is_parent q.kind) ps ≡ shows_parent ps
 parent_shown [] = refl
 parent_shown (q ∷ ps) = rw (parent_shown ps) refl
 

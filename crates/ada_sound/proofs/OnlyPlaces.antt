@@ -87,31 +87,33 @@ behind_parent types count (q ∷ ps) i p v first ordered own at is = go q.kind r
         let least = (counted_at types count (0 + parts_within types q.kind) ps n p rest at).0 in
         omega (arith, one, least)
 
--- The shape of a type with a number says whether the type is controlled itself.
-shown_length : (types : List TypeForm) (count : ℕ) → length (shown_up_to types count) ≡ count
+-- There is a shape for each of so many numbers.
+pub shown_length : (types : List TypeForm) (count : ℕ) → length (shown_up_to types count) ≡ count
 shown_length types zero = refl
 shown_length types (suc count) = ap suc (shown_length types count)
 
-shape_controlled :
-    (types : List TypeForm) (count n : ℕ) → n < count → (shape_of (shown_up_to types count) n).controlled ≡ shows_parent (shown_parts (shown_numbered types n))
-shape_controlled types zero n below = absurd (omega (arith, below))
-shape_controlled types (suc count) n below = elim (eqb_tells n count) [ inl h ↦ newest h.1 | inr h ↦ older h.1 (λ less. shape_controlled types count n less) ]
+-- The type that has this number, as finalization sees it where those with less numbers are known.
+abbrev pub shape_numbered : List TypeForm → (older : List Shape) → ℕ → Shape
+shape_numbered types older n = shown_shape types older (shown_parts (shown_numbered types n))
+
+-- The shape of a type with a number is that which its declared components show.
+pub shape_at : (types : List TypeForm) (count n : ℕ) → n < count → shape_of (shown_up_to types count) n ≡ shape_numbered types (shown_up_to types n) n
+shape_at types zero n below = absurd (omega (arith, below))
+shape_at types (suc count) n below = elim (eqb_tells n count) [ inl h ↦ newest h.1 | inr h ↦ older h.1 (λ less. shape_at types count n less) ]
   where
     own : Shape
-    own = shown_shape types (shown_up_to types count) (shown_parts (shown_numbered types count))
+    own = shape_numbered types (shown_up_to types count) count
 
-    newest : n ≡ count → (shape_of (own ∷ shown_up_to types count) n).controlled ≡ shows_parent (shown_parts (shown_numbered types n))
+    newest : n ≡ count → shape_of (own ∷ shown_up_to types count) n ≡ shape_numbered types (shown_up_to types n) n
     newest same =
-        ap (λ (m : ℕ). (shape_of (own ∷ shown_up_to types count) m).controlled) (same ∙ sym (shown_length types count))
-        ∙ ap (λ (s : Shape). s.controlled) (shape_newest own (shown_up_to types count))
-        ∙ ap (λ (m : ℕ). shows_parent (shown_parts (shown_numbered types m))) (sym same)
+        ap (shape_of (own ∷ shown_up_to types count)) (same ∙ sym (shown_length types count)) ∙ shape_newest own (shown_up_to types count)
+        ∙ ap (λ (m : ℕ). shape_numbered types (shown_up_to types m) m) (sym same)
 
     older :
-        n ≢ count → (n < count → (shape_of (shown_up_to types count) n).controlled ≡ shows_parent (shown_parts (shown_numbered types n)))
-        → (shape_of (own ∷ shown_up_to types count) n).controlled ≡ shows_parent (shown_parts (shown_numbered types n))
+        n ≢ count → (n < count → shape_of (shown_up_to types count) n ≡ shape_numbered types (shown_up_to types n) n)
+        → shape_of (own ∷ shown_up_to types count) n ≡ shape_numbered types (shown_up_to types n) n
     older apart more =
-        ap (λ (s : Shape). s.controlled) (shape_older own (shown_up_to types count) n (λ e. apart (e ∙ shown_length types count)))
-        ∙ more (omega (arith, below, apart))
+        shape_older own (shown_up_to types count) n (λ e. apart (e ∙ shown_length types count)) ∙ more (omega (arith, below, apart))
 
 -- What passes a test alone is what is found.
 passes_some : {X : Type 0} (test : X → Bool) (xs : List X) (t : ℕ) (x : X) → slice_get xs t ≡ Some x → test x ≡ true → 0 < count_by test xs
@@ -119,7 +121,7 @@ passes_some test [] t x at does = absurd (cc at)
 passes_some test (y ∷ ys) zero x at does = grind (arith, common_steps)
 passes_some test (y ∷ ys) (suc t) x at does = let more = passes_some test ys t x at does in grind (arith, common_steps, more)
 
-found_one : {X : Type 0} (test : X → Bool) (xs : List X) (t : ℕ) (x : X) → count_by test xs ≡ 1 → slice_get xs t ≡ Some x → test x ≡ true
+pub found_one : {X : Type 0} (test : X → Bool) (xs : List X) (t : ℕ) (x : X) → count_by test xs ≡ 1 → slice_get xs t ≡ Some x → test x ≡ true
     → find test xs ≡ Some x
 found_one test [] t x one at does = absurd (cc at)
 found_one test (y ∷ ys) zero x one at does = grind (arith, common_steps)
@@ -130,7 +132,7 @@ found_one test (y ∷ ys) (suc t) x one at does =
 
 module _ (types : List TypeForm) (fit : list_all (type_fits types) types ≡ true) where
   -- The number of a type with controlled parts is its alone, and one of so many.
-  alone_said :
+  pub alone_said :
       (t : ℕ) (name : List ℕ) (ps : List PartForm) (components : List ComponentKind) (f : Finalization)
       → slice_get types t ≡ Some (record_of name ps components (Some f))
       → (f.number.0 < numbered_types types) × (count_by (λ u. has_number f.number.0 (finalization_in (Some u))) types ≡ 1)
@@ -159,7 +161,7 @@ module _ (types : List TypeForm) (fit : list_all (type_fits types) types ≡ tru
       let said = alone_said t name ps components f at in
       let form = record_of name ps components (Some f) in
       let found = found_one (λ u. has_number f.number.0 (finalization_in (Some u))) types t form said.1 at (eq_self f.number.0) in
-      shape_controlled types (numbered_types types) f.number.0 said.0 ∙ ap (λ (o : Option TypeForm). shows_parent (shown_parts o)) found
+      ap (λ (s : Shape). s.controlled) (shape_at types (numbered_types types) f.number.0 said.0) ∙ ap (λ (o : Option TypeForm). shows_parent (shown_parts o)) found
 
   -- So a type whose operations a treatment performs is controlled itself, and a treatment performs those of each one that is.
   pub controlled_as_shown :

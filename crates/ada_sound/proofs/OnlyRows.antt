@@ -15,7 +15,7 @@ use Rattle.ada_program.specs.declared.program.VariableKind.TheVariants as variab
 use Rattle.ada_program.specs.ProgramForm.{PartForm, TypeForm}
 use Rattle.ada_program.specs.WellFormed.{is_parent, type_fits, held_kind, component_kind, kind_among, has_record_at, components_lie, is_alike, begins_with}
 use Rattle.ada_typed.proofs.Records.{inside_kind}
-use Rattle.ada_quiet.specs.Tracking.{size_of_part, stand_in_a_row, is_copied_alone, count_found}
+use Rattle.ada_quiet.specs.InUse.{size_of_part, stand_in_a_row, is_copied_alone, count_found}
 use Rattle.ada_flow.specs.Flow.{is_owning, owns_among, is_owning_part}
 use Rattle.ada_flow.specs.Tracking.{number_within, access_numbers}
 

@@ -25,18 +25,22 @@ use Rattle.ada_meaning.specs.declared.state.Stage.{Stage}
 use Rattle.ada_meaning.specs.declared.state.Stage.TheVariants.{Building, Existing, Gone}
 use Rattle.ada_meaning.specs.declared.state.Mode.{Mode}
 use Rattle.ada_meaning.specs.declared.state.Mode.TheVariants.{Running, Raising, Exiting, Returning}
+use Rattle.ada_meaning.specs.Event.{Quiet}
 use Rattle.ada_meaning.specs.Frame.{Treatment, begins, ends, Elaborates, Does, Decides, Repeats, Turns, Ranges, Counts, Exits, Handles, Closes, Leaves, Returns, Evaluates, Computes, Continues, Applies, AppliesAlone, Stores, Targets, StoresIn, Receives, Declares, Writes}
 use Rattle.ada_meaning.specs.Frame as frame
 use Rattle.ada_meaning.specs.State.{Activation, Owned, declared, collection, record_object, storage_pool, Item, Master}
 use Rattle.ada_parts.specs.Task.{Task}
-use Rattle.ada_meaning.specs.Step.{treating, beginning}
-use Rattle.ada_meaning.specs.Named.{Object, State, object_at}
+use Rattle.ada_meaning.specs.Step.{treating, beginning, halts, moves, tells, asks, picks}
+use Rattle.ada_meaning.specs.Named.{Object, State, Next, object_at}
+use Rattle.ada_meaning.specs.Run.{Event}
 use Rattle.ada_typed.proofs.Kept.{Behind, behind_call}
 use Rattle.ada_finalized.specs.Law.{NoOperationRuns}
 use Rattle.ada_quiet.specs.Quiet.{is_elementary, holds_elementary, is_quiet_expression, are_quiet_links, is_quiet_condition, are_quiet_declarations, are_quiet, are_quiet_branches, are_quiet_handlers, is_plain_body}
+use Rattle.ada_sound.specs.Agreement.{running_procedure}
+use Rattle.ada_sound.proofs.Alters.{Alters}
 use Rattle.ada_sound.proofs.Bodies.{IsBody}
 use Rattle.ada_sound.proofs.Fits.{IsWithin, place_at}
-use Rattle.ada_sound.proofs.Invariant.{Control, TreatsBy, under_in, IsOfCopied}
+use Rattle.ada_sound.proofs.Invariant.{Control, EndsWell, Says, TreatsBy, under_in, IsOfCopied}
 use Rattle.ada_sound.proofs.Callers.{Suspension, callers_of, known_in, Stands}
 
 -- A value is an Integer or a Boolean, or null, where none has been computed: it names nothing.
@@ -292,3 +296,17 @@ pub record PlainBody (types : List TypeForm) (b : BodyForm) : Type 0 where
   pub handlers : are_quiet_handlers types b.variables b.handlers ≡ true
   pub none_out : have_exit b.statements ≡ false
   pub none_on : handlers_have_exit b.handlers ≡ false
+
+-- The body of an operation runs behind a step; what the step does to objects, and what its event says of them.
+pub record InBody (program : Program) (Runs : State → Type 0) (before : List Object) (e : Event) (after : State) : Type 0 where
+  pub body : Runs after
+  pub alters : Alters before e after.heap
+  pub says : Says (implicit_of (program_form program)) (seen_in (running_procedure after) (program_form program)) e before after
+
+-- This is so behind whatever comes next, if the run does not end: nothing is picked.
+abbrev pub StepsTo : (Event → State → Type 0) → State → Next → Type 0
+StepsTo IsSo s (halts halt) = EndsWell halt s.heap s.masters
+StepsTo IsSo s (moves e after) = IsSo e after
+StepsTo IsSo s (tells request e after) = IsSo e after
+StepsTo IsSo s (asks request answered) = (granted : Bool) → IsSo Quiet (answered granted)
+StepsTo IsSo s (picks n taken) = ⊥

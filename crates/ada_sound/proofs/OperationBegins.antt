@@ -116,6 +116,13 @@ module _ (program : Program) (number : ℕ) (b : BodyForm) (o : Id) (place : Pla
       let f = filled_at own.types (cells_of after.heap) (cells_of after.heap) o.0 x.cell (filled_in own after inside) (cell_at after.heap o.0 x found) in
       kinds_scalar own.types (cells_of after.heap) f.0 x.cell.values c v (rw f.1 at is) f.2 at
 
+-- The record that a formal parameter refers to lies in the object.
+pub formal_within : (types : List TypeForm) (kind : Option VariableKind) (o : Id) (access : ℕ) (place : Place) (object : TypeNo) → kind ≡ Some (variable.Record object)
+    → ((at : Place) × (Part o place ≡ Part o at) × IsWithin types (Some (variable.Record object)) access at.component) → IsWithin types kind access place.component
+formal_within types kind o access place object is (at, same, within) =
+    let one : at ≡ place = cc same in
+    rw (is, ← one) within
+
 -- Where the call of an operation ends that begins a part, typing says that this is a part of the object.
 module _ (p : ProgramForm) (cells : Cells) where
   abbrev BeginsPart : Control → Type 0

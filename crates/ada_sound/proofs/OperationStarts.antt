@@ -1,6 +1,6 @@
 -- The body of an operation begins (7.6).
 
-use Rattle.std.proofs.Common.{◌≡◌, ℕ, zero, suc, Bool, true, false, List, [], ◌∷◌, drop, refl, ◌⊎◌, inl, inr}
+use Rattle.std.proofs.Common.{◌≡◌, ℕ, zero, suc, Bool, true, false, List, [], ◌∷◌, drop, refl, sym, subst, ◌⊎◌, inl, inr}
 use Rattle.std.specs.Prelude.{Some, ◌||◌, ◌&&◌, not}
 use Rattle.std.specs.List.{list_all, slice_get}
 use Rattle.ada_program.specs.declared.program.Exception.{Exception}
@@ -25,13 +25,14 @@ use Rattle.ada_meaning.specs.State.{Activation, Master}
 use Rattle.ada_meaning.specs.Step.{blank, blanks, given_places, operating}
 use Rattle.ada_meaning.specs.Named.{Object, State, named, object_at, existing}
 use Rattle.ada_meaning.specs.Run.{Event}
+use Rattle.ada_owners.specs.Places.{is_there}
 use Rattle.ada_typed.proofs.Bodies.{seen_as}
 use Rattle.ada_typed.proofs.Kept.{behind_call, behind_treating}
 use Rattle.ada_quiet.specs.Quiet.{is_elementary}
 use Rattle.ada_sound.proofs.Alters.{Alters}
 use Rattle.ada_sound.proofs.Callers.{Suspension, known_in, Stands, callers_of}
 use Rattle.ada_sound.proofs.Fits.{place_at}
-use Rattle.ada_sound.proofs.Invariant.{Control, TreatsBy, under_in}
+use Rattle.ada_sound.proofs.Invariant.{Control, IsAwaited, TreatsBy, under_in}
 use Rattle.ada_sound.proofs.Raising.{or_left, or_right, both, same_is, stmts_more}
 use Rattle.ada_sound.proofs.Waiting.{stands_kept}
 use Rattle.ada_sound.proofs.Operating.{Sight, StaysLive, StaysIn, WaitsFor, Holds, HoldScalars, Quietly, Body, lets_out, Operates, PlainBody, IsCalm, behind_operation}
@@ -46,6 +47,12 @@ pub found_by : (x : Object) (stage : Stage) → StaysLive stage → existing x s
 found_by x Building live = refl
 found_by x Existing live = refl
 found_by x Gone live = absurd live
+
+-- What is looked for and found is there.
+pub live_there : (stage : Stage) → StaysLive stage → is_there stage ≡ true
+live_there Building live = refl
+live_there Existing live = refl
+live_there Gone live = absurd live
 
 -- Integers and Booleans are blank at first.
 blank_holds : (sight : Sight) (kind : VariableKind) → is_elementary kind ≡ true → Holds sight (Some kind) (blank named kind)
@@ -99,6 +106,11 @@ starts sight b same out plain behind m = (
 pub calm_behind : (types : List TypeForm) (o : Id) (of : ℕ) (treatment : Treatment) (k behind : Control) → WaitsFor types o of treatment k behind → IsCalm (behind_call k) → IsCalm (behind_call behind)
 calm_behind types o of (begins by done) k behind (part, tasks, is) calm = rw is calm
 calm_behind types o of (ends cause) k behind (tasks, is, inside) calm = rw (is, behind_treating (Names o) (ends cause) tasks k) calm
+
+-- What waits for an operation is behind the end of its body.
+pub is_awaited : (types : List TypeForm) (o : Id) (of : ℕ) (treatment : Treatment) (k behind : Control) → WaitsFor types o of treatment k behind → IsAwaited behind
+is_awaited types o of (begins by done) k behind (part, tasks, is) = subst IsAwaited (sym is) tt
+is_awaited types o of (ends cause) k behind (tasks, is, inside) = subst IsAwaited (sym is) tt
 
 -- The operation of a part of an object begins: what waits for it is behind the treatment of the object.
 module _ (program : Program) (number : ℕ) (b : BodyForm) (there : slice_get (body_forms program) number ≡ Some b) (plain : PlainBody (program_form program).types b) (caller : Activation Value) (rest : List (Activation Value)) (gs : List Suspension) (s : State) (stands : Stands program gs (record s { activations = caller ∷ rest })) (o : Id) (of : ℕ) (treatment : Treatment) (k behind : Control) (reference : Value) where

@@ -2,9 +2,10 @@
 -- Finalize lets no exception out either.
 
 use Rattle.std.proofs.Common.{◌≡◌, ℕ, zero, suc, ◌+◌, Bool, true, false, ◌&&◌, ◌||◌, if◌then◌else◌, List, [], ◌∷◌, ◌++◌, length, map, refl, sym, ap, ◌∙◌, arith, length-append, ◌⊎◌, inl, inr}
-use Rattle.std.specs.Prelude.{Option, Some, None, not, find}
+use Rattle.std.specs.Prelude.{Option, Some, None, not, find, is_some}
 use Rattle.std.specs.List.{list_all, slice_get, slice_index_or}
 use Rattle.std.specs.Option.{option_map}
+use Rattle.std.proofs.lemmas.Bool.{eq-eqb, eqb-true}
 use Rattle.std.proofs.lemmas.Option.{slice_get-map}
 use Rattle.ada_program.specs.declared.program.Finalization.{Finalization}
 use Rattle.ada_program.specs.declared.program.Operations.{Operations}
@@ -12,7 +13,7 @@ use Rattle.ada_program.specs.declared.program.ProcedureNo.{ProcedureNo}
 use Rattle.ada_program.specs.declared.program.Program.{Program}
 use Rattle.ada_program.specs.declared.program.TypeDefinition.{TypeDefinition}
 use Rattle.ada_program.specs.declared.program.TypeDefinition.TheVariants as definition
-use Rattle.ada_program.specs.Controlled.{is_number, number_by, operations_by, operations_in, operations_of, procedure_number}
+use Rattle.ada_program.specs.Controlled.{number_in, is_number, number_by, operations_by, operations_in, operations_of, procedure_number}
 use Rattle.ada_program.specs.Form.{StmtForm, skips, assigns, assigns_record, frees, gets, writes, writes_text, chooses, repeats, counts, exits, calls, returns, raises, encloses, StmtsForm, no_stmts, a_stmt, BranchesForm, otherwise, a_branch, HandlersForm, no_handlers, a_handler, DeclarationForm, creates_pool, collects, declares, declares_record}
 use Rattle.ada_program.specs.Nested.{Callees, collected, record_objects, part_nests, statement_nests, statements_nest, branches_nest, handlers_nest, body_nests, call_nests, callees_from, callees_of}
 use Rattle.ada_program.specs.ProgramForm.{TypeForm, VariableForm, BodyForm, ProgramForm, type_form, program_form, body_forms, seen_in}
@@ -21,9 +22,11 @@ use Rattle.ada_effects.specs.Effects.{no_calls, body_raises}
 use Rattle.ada_flow.specs.Flow.{have_exit, handlers_have_exit}
 use Rattle.ada_typed.proofs.Bodies.{seen_as, seen_fits}
 use Rattle.ada_scopes.specs.Scopes.{NestsAnywhere, AllNestAnywhere, OperationsNest}
-use Rattle.ada_quiet.specs.Quiet.{is_quiet_stmt, are_quiet, are_quiet_branches, are_quiet_handlers, are_quiet_declarations, is_plain_body, is_plain_procedure, is_quiet_procedure, is_plain_operation, is_quiet_operation, adjusts_access}
+use Rattle.ada_quiet.specs.Apart.{is_this_one, is_adjust_of}
+use Rattle.ada_quiet.specs.Quiet.{is_quiet_stmt, are_quiet, are_quiet_branches, are_quiet_handlers, are_quiet_declarations, is_plain_body, is_plain_procedure, is_quiet_procedure, is_plain_operation, is_quiet_operation, has_access, operation_body}
 use Rattle.ada_quiet.specs.Frugal.{is_frugal_body, frugal_procedures, is_frugal_operation, own_effects, is_silent_procedure, is_silent_operation}
-use Rattle.ada_quiet.specs.InUse.{may_be_frugal, uses_initialize, uses_finalize, uses_operations, operations_are_in_use}
+use Rattle.ada_quiet.specs.InUse.{may_be_frugal, uses_initialize, uses_finalize, uses_operations, operations_are_in_use, may_track, uses_adjust}
+use Rattle.ada_quiet.specs.Simple.{is_simple_body, is_simple_procedure, is_simple_operation}
 use Rattle.ada_quiet.proofs.FrugalAt.{frugal_at}
 use Rattle.ada_quiet.proofs.InUse.{plain_procedure, plain_operation}
 use Rattle.ada_sound.proofs.Exits.{no_exits, no_exit_handlers}
@@ -33,6 +36,7 @@ use Rattle.ada_meaning.specs.declared.event.Birth.TheVariants.{Creation, Copy, A
 use Rattle.ada_meaning.specs.declared.event.Cause.{Cause}
 use Rattle.ada_meaning.specs.Frame.{Treatment, begins, ends}
 use Rattle.ada_sound.proofs.FrugalBodies.{frugal_nests}
+use Rattle.ada_sound.proofs.SimpleBodies.{simple_nests}
 use Rattle.ada_sound.proofs.Operating.{IsCalled, PlainBody}
 
 -- Quiet statements create nothing but Integers and Booleans.
@@ -112,9 +116,14 @@ body_is types callees b around plain =
     ) refl
 
 -- A quiet body raises nothing.
-no_no : (b : Bool) → not b ≡ true → b ≡ false
+pub no_no : (b : Bool) → not b ≡ true → b ≡ false
 no_no true e = absurd (cc e)
 no_no false e = refl
+
+-- What overrides an operation is the procedure of its number.
+pub this_one : (o : Option ProcedureNo) (number : ℕ) → procedure_number o ≡ Some number → is_this_one number o ≡ true
+this_one None number is = absurd (cc is)
+this_one (Some procedure) number is = let same : procedure.0 ≡ number = cc is in eq-eqb procedure.0 number same
 
 module _ (p : ProgramForm) where
   abbrev IsPlain : ℕ → Type 0
@@ -129,10 +138,14 @@ module _ (p : ProgramForm) where
   abbrev IsSilent : ℕ → Type 0
   IsSilent number = is_silent_procedure (own_effects p) (slice_get p.bodies number) ≡ true
 
-  -- What overrides Initialize is plain or frugal, what overrides Adjust is quiet, and what overrides Finalize is quiet, or frugal and silent.
-  record AreUsed (o : Operations) (number : ℕ) : Type 0 where
+  abbrev IsSimple : ℕ → Type 0
+  IsSimple number = (may_track p ≡ true) × (is_simple_procedure (slice_get p.bodies number) ≡ true)
+
+  -- What overrides Initialize is plain or frugal, what overrides Adjust is quiet, or simple and silent and of a type that owns, and what overrides Finalize is
+  -- quiet, or frugal and silent.
+  record AreUsed (Owns : Type 0) (o : Operations) (number : ℕ) : Type 0 where
     initializes : procedure_number o.initialize ≡ Some number → IsPlain number ⊎ IsFrugal number
-    adjusts : procedure_number o.adjust ≡ Some number → IsQuiet number
+    adjusts : procedure_number o.adjust ≡ Some number → IsQuiet number ⊎ (IsSimple number × IsSilent number × Owns)
     finalizes : procedure_number o.finalize ≡ Some number → IsQuiet number ⊎ (IsFrugal number × IsSilent number)
 
   plain_one : (o : Option ProcedureNo) (number : ℕ) → is_plain_operation p o ≡ true → procedure_number o ≡ Some number → IsPlain number
@@ -161,6 +174,22 @@ module _ (p : ProgramForm) where
           let both = apart (may_be_frugal p) (is_frugal_operation p o) three.0 in
           inr ((both.0, frugal_one o number both.1 is), silent_one o number three.1 is)
 
+  simple_one : (o : Option ProcedureNo) (number : ℕ) → is_simple_operation p o ≡ true → procedure_number o ≡ Some number → is_simple_procedure (slice_get p.bodies number) ≡ true
+  simple_one None number simple is = absurd (cc is)
+  simple_one (Some procedure) number simple is = let same : procedure.0 ≡ number = cc is in rw same at simple
+
+  adjust_one : (owns : Bool) (o : Option ProcedureNo) (number : ℕ) → uses_adjust p owns o ≡ true → procedure_number o ≡ Some number → IsQuiet number ⊎ (IsSimple number × IsSilent number × (owns ≡ true))
+  adjust_one owns o number uses is = by (owns && is_some (operation_body p o)) refl uses
+    where
+      by : (tracks : Bool) → (owns && is_some (operation_body p o)) ≡ tracks
+          → (if tracks then may_track p && is_simple_operation p o && is_silent_operation p o else is_quiet_operation p o) ≡ true
+          → IsQuiet number ⊎ (IsSimple number × IsSilent number × (owns ≡ true))
+      by false so uses' = inl (quiet_one o number uses' is)
+      by true so uses' =
+          let three = apart (may_track p && is_simple_operation p o) (is_silent_operation p o) uses' in
+          let both = apart (may_track p) (is_simple_operation p o) three.0 in
+          inr ((both.0, simple_one o number both.1 is), silent_one o number three.1 is, (apart owns (is_some (operation_body p o)) so).0)
+
   initialize_one : (o : Option ProcedureNo) (number : ℕ) → uses_initialize p o ≡ true → procedure_number o ≡ Some number → IsPlain number ⊎ IsFrugal number
   initialize_one o number uses is = by (is_plain_operation p o) refl uses
     where
@@ -168,32 +197,45 @@ module _ (p : ProgramForm) where
       by true plain uses' = inl (plain_one o number plain is)
       by false plain uses' = let both = apart (may_be_frugal p) (is_frugal_operation p o) uses' in inr (both.0, frugal_one o number both.1 is)
 
-  three_used : (f : Option Finalization) (number : ℕ) → uses_operations p f ≡ true → AreUsed (operations_in f) number
-  three_used None number uses = record { initializes = λ is. absurd (cc is); adjusts = λ is. absurd (cc is); finalizes = λ is. absurd (cc is) }
-  three_used (Some f) number uses =
+  three_used : (Owns : Type 0) (owns : Bool) (f : Option Finalization) (number : ℕ) → (owns ≡ true → is_adjust_of number f ≡ true → Owns) → uses_operations p owns f ≡ true → AreUsed Owns (operations_in f) number
+  three_used Owns owns None number own uses = record { initializes = λ is. absurd (cc is); adjusts = λ is. absurd (cc is); finalizes = λ is. absurd (cc is) }
+  three_used Owns owns (Some f) number own uses =
       let three = apart _ _ uses in
       let two = apart _ _ three.0 in
       record {
         initializes = λ is. initialize_one f.operations.initialize number two.0 is;
-        adjusts = λ is. quiet_one f.operations.adjust number two.1 is;
+        adjusts = λ is. by is (adjust_one owns f.operations.adjust number two.1 is);
         finalizes = λ is. finalize_one f.operations.finalize number three.1 is;
       }
-
-  none_used : (number : ℕ) → AreUsed (operations_in None) number
-  none_used number = three_used None number refl
-
-  used_by : (t : TypeDefinition) (number : ℕ) → uses_operations p (finalization_in (Some (type_form t))) ≡ true → AreUsed (operations_by (Some t)) number
-  used_by (definition.Record name parts components finalization) number uses = three_used finalization number uses
-  used_by (definition.Access name designated pool) number uses = none_used number
-  used_by (definition.Object record_type) number uses = none_used number
-
-  used_found : (test : TypeDefinition → Bool) (types : List TypeDefinition) (number : ℕ) → list_all (λ t. uses_operations p (finalization_in (Some t)) && not (adjusts_access p t)) (map type_form types) ≡ true → AreUsed (operations_by (find test types)) number
-  used_found test [] number uses = none_used number
-  used_found test (t ∷ types) number uses = by (test t) (used_found test types number (apart _ _ uses).1)
     where
-      by : (here : Bool) → AreUsed (operations_by (find test types)) number → AreUsed (operations_by (if here then Some t else find test types)) number
-      by true later = used_by t number (apart _ _ (apart _ _ uses).0).0
-      by false later = later
+      by : procedure_number f.operations.adjust ≡ Some number → IsQuiet number ⊎ (IsSimple number × IsSilent number × (owns ≡ true)) → IsQuiet number ⊎ (IsSimple number × IsSilent number × Owns)
+      by is (inl quiet) = inl quiet
+      by is (inr simple) = inr (simple.0, simple.1, own simple.2 (this_one f.operations.adjust number is))
+
+  none_used : (Owns : Type 0) (number : ℕ) → AreUsed Owns (operations_in None) number
+  none_used Owns number = three_used Owns false None number (λ owns is. absurd (cc owns)) refl
+
+  -- A type declares a component of an access type, and the procedure overrides its Adjust.
+  abbrev OwnsIn : TypeForm → (number : ℕ) → Type 0
+  OwnsIn t number = (has_access (Some t) ≡ true) × (is_adjust_of number (finalization_in (Some t)) ≡ true)
+
+  used_by : (Owns : Type 0) (t : TypeDefinition) (number : ℕ) → (OwnsIn (type_form t) number → Owns) → uses_operations p (has_access (Some (type_form t))) (finalization_in (Some (type_form t))) ≡ true
+      → AreUsed Owns (operations_by (Some t)) number
+  used_by Owns (definition.Record name parts components finalization) number own uses =
+      three_used Owns (has_access (Some (type_form (definition.Record name parts components finalization)))) finalization number (λ owns is. own (owns, is)) uses
+  used_by Owns (definition.Access name designated pool) number own uses = none_used Owns number
+  used_by Owns (definition.Object record_type) number own uses = none_used Owns number
+
+  -- What is found is the type of some number, and passes the test.
+  used_found : (Owns : Type 0) (test : TypeDefinition → Bool) (types : List TypeDefinition) (number : ℕ)
+      → ((i : ℕ) (t : TypeDefinition) → slice_get types i ≡ Some t → test t ≡ true → OwnsIn (type_form t) number → Owns)
+      → list_all (λ t. uses_operations p (has_access (Some t)) (finalization_in (Some t))) (map type_form types) ≡ true → AreUsed Owns (operations_by (find test types)) number
+  used_found Owns test [] number own uses = none_used Owns number
+  used_found Owns test (t ∷ types) number own uses = by (test t) refl (used_found Owns test types number (λ i u at. own (suc i) u at) (apart _ _ uses).1)
+    where
+      by : (here : Bool) → test t ≡ here → AreUsed Owns (operations_by (find test types)) number → AreUsed Owns (operations_by (if here then Some t else find test types)) number
+      by true passes later = used_by Owns t number (own 0 t refl passes) (apart _ _ uses).0
+      by false fails later = later
 
   -- What overrides is there.
   there_by : (t number : ℕ) (found : Option BodyForm) → slice_get p.bodies number ≡ found → is_operation p.types t (option_map profile_of found) ≡ true → (b : BodyForm) × (slice_get p.bodies number ≡ Some b)
@@ -261,18 +303,26 @@ module _ (p : ProgramForm) where
       by (inl quiet) = plain_nests t (Some procedure) right (plain_operation p (Some procedure) quiet)
       by (inr both) = frugal_nests p procedure.0 both.0.1
 
-  nests_three : (t : ℕ) (f : Option Finalization) → has_operations p.types (callable_in p) t f ≡ true → uses_operations p f ≡ true → AllNestAnywhere (callees_of p) (operations_in f)
-  nests_three t None right uses = (tt, tt, tt)
-  nests_three t (Some f) right uses =
+  adjust_nests : (t : ℕ) (owns : Bool) (o : Option ProcedureNo) → overrides_rightly p.types (callable_in p) t o ≡ true → uses_adjust p owns o ≡ true → NestsAnywhere (callees_of p) o
+  adjust_nests t owns None right uses = tt
+  adjust_nests t owns (Some procedure) right uses = by (adjust_one owns (Some procedure) procedure.0 uses refl)
+    where
+      by : IsQuiet procedure.0 ⊎ (IsSimple procedure.0 × IsSilent procedure.0 × (owns ≡ true)) → NestsAnywhere (callees_of p) (Some procedure)
+      by (inl quiet) = plain_nests t (Some procedure) right (plain_operation p (Some procedure) quiet)
+      by (inr both) = let b = there_one t (Some procedure) procedure.0 right refl in nests_there procedure.0 b.0 b.1 (λ callees around. simple_nests p.types callees b.0 around (rw (b.1) at both.0.1))
+
+  nests_three : (t : ℕ) (owns : Bool) (f : Option Finalization) → has_operations p.types (callable_in p) t f ≡ true → uses_operations p owns f ≡ true → AllNestAnywhere (callees_of p) (operations_in f)
+  nests_three t owns None right uses = (tt, tt, tt)
+  nests_three t owns (Some f) right uses =
       let two = apart _ _ right in
       let three = apart _ _ two.0 in
       let uses_two = apart _ _ uses in
       let uses_three = apart _ _ uses_two.0 in
-      (initialize_nests t f.operations.initialize three.0 uses_three.0, plain_nests t f.operations.adjust three.1 (plain_operation p f.operations.adjust uses_three.1), finalize_nests t f.operations.finalize two.1 uses_two.1)
+      (initialize_nests t f.operations.initialize three.0 uses_three.0, adjust_nests t owns f.operations.adjust three.1 uses_three.1, finalize_nests t f.operations.finalize two.1 uses_two.1)
 
-  nests_at : (ts : List TypeForm) (n i : ℕ) → have_operations p.types (callable_in p) n ts ≡ true → list_all (λ t. uses_operations p (finalization_in (Some t)) && not (adjusts_access p t)) ts ≡ true → AllNestAnywhere (callees_of p) (operations_in (finalization_in (slice_get ts i)))
+  nests_at : (ts : List TypeForm) (n i : ℕ) → have_operations p.types (callable_in p) n ts ≡ true → list_all (λ t. uses_operations p (has_access (Some t)) (finalization_in (Some t))) ts ≡ true → AllNestAnywhere (callees_of p) (operations_in (finalization_in (slice_get ts i)))
   nests_at [] n i right uses = (tt, tt, tt)
-  nests_at (t ∷ ts) n zero right uses = nests_three n (finalization_in (Some t)) (apart _ _ right).0 (apart _ _ (apart _ _ uses).0).0
+  nests_at (t ∷ ts) n zero right uses = nests_three n (has_access (Some t)) (finalization_in (Some t)) (apart _ _ right).0 (apart _ _ uses).0
   nests_at (t ∷ ts) n (suc i) right uses = nests_at ts (1 + n) i (apart _ _ right).1 (apart _ _ uses).1
 
   pub operations_nest : IsWellFormed p → operations_are_in_use p ≡ true → OperationsNest p
@@ -297,19 +347,61 @@ abbrev pub LetsNone : ProgramForm → Treatment → BodyForm → Type 0
 LetsNone p (begins by done) b = Unit {0}
 LetsNone p (ends cause) b = body_raises (own_effects p) b (λ e. true) ≡ false
 
--- What is called is plain, or it is a frugal Initialize or Finalize.
-abbrev pub IsUsedAs : ProgramForm → Treatment → BodyForm → Type 0
-IsUsedAs p treatment b =
+-- What is called for a copy is an Adjust (7.6).
+abbrev pub AdjustsCopy : Treatment → Type 0
+AdjustsCopy (begins Creation done) = ⊥
+AdjustsCopy (begins Copy done) = Unit {0}
+AdjustsCopy (begins (Adjustment number) done) = Unit {0}
+AdjustsCopy (ends cause) = ⊥
+
+-- An Adjust may track components of its formal parameter: it is simple, and lets no exception out.
+abbrev pub MayTrack : ProgramForm → BodyForm → Type 0
+MayTrack p b = (may_track p ≡ true) × (is_simple_body b ≡ true) × (body_raises (own_effects p) b (λ e. true) ≡ false)
+
+-- A type of this number, among the controlled ones, declares a component of an access type directly, and the procedure overrides its Adjust (3.10, 7.6).
+pub record AdjustsOwn (types : List TypeForm) (of number : ℕ) : Type 0 where
+  pub record_type : ℕ
+  pub t : TypeForm
+  pub at : slice_get types record_type ≡ Some t
+  pub owns : has_access (Some t) ≡ true
+  pub numbered : number_in (finalization_in (Some t)) ≡ Some of
+  pub overrides : is_adjust_of number (finalization_in (Some t)) ≡ true
+
+-- What is called is plain, or it is a frugal Initialize or Finalize, or an Adjust that may track.
+abbrev pub IsUsedAs : ProgramForm → (of number : ℕ) → Treatment → BodyForm → Type 0
+IsUsedAs p of number treatment b =
     (PlainBody p.types b × LetsNothingOut treatment b)
-    ⊎ (MayTouch treatment × (may_be_frugal p ≡ true) × (is_frugal_body (frugal_procedures p) b ≡ true) × LetsNone p treatment b)
+    ⊎ ((MayTouch treatment × (may_be_frugal p ≡ true) × (is_frugal_body (frugal_procedures p) b ≡ true) × LetsNone p treatment b)
+    ⊎ (AdjustsCopy treatment × MayTrack p b × AdjustsOwn p.types of number))
+
+-- A type that passes the test of a number has that number among the controlled ones, as what is shown of it says.
+number_passed : (n : ℕ) (o : Option ℕ) → is_number n o ≡ true → o ≡ Some n
+number_passed n None is = absurd (cc is)
+number_passed n (Some m) is = ap (λ (k : ℕ). Some k) (eqb-true m n is)
+
+numbered_so : (n : ℕ) (t : TypeDefinition) → is_number n (number_by (Some t)) ≡ true → number_in (finalization_in (Some (type_form t))) ≡ Some n
+numbered_so n (definition.Record name parts components finalization) is = number_passed n (number_in finalization) is
+numbered_so n (definition.Access name designated pool) is = absurd (cc is)
+numbered_so n (definition.Object record_type) is = absurd (cc is)
 
 -- What overrides an operation, by the number of the type among the controlled ones.
 module _ (program : Program) (uses : operations_are_in_use (program_form program) ≡ true) (well : IsWellFormed (program_form program)) (of number : ℕ) (b : BodyForm) (there : slice_get (body_forms program) number ≡ Some b) where
   abbrev whole : ProgramForm
   whole = program_form program
 
-  used : AreUsed whole (operations_of program.types.items of) number
-  used = used_found whole (λ t. is_number of (number_by (Some t))) program.types.items number uses
+  -- The type of a number that has this one among the controlled ones, as the program's form shows it.
+  own_type : (i : ℕ) (t : TypeDefinition) → slice_get program.types.items i ≡ Some t → is_number of (number_by (Some t)) ≡ true → OwnsIn whole (type_form t) number → AdjustsOwn whole.types of number
+  own_type i t at passes own = record {
+    record_type = i;
+    t = type_form t;
+    at = slice_get-map type_form program.types.items i ∙ ap (option_map type_form) at;
+    owns = own.0;
+    numbered = numbered_so of t passes;
+    overrides = own.1;
+  }
+
+  used : AreUsed whole (AdjustsOwn whole.types of number) (operations_of program.types.items of) number
+  used = used_found whole (AdjustsOwn whole.types of number) (λ t. is_number of (number_by (Some t))) program.types.items number own_type uses
 
   plain_body : IsPlain whole number → PlainBody whole.types b
   plain_body plain =
@@ -326,16 +418,21 @@ module _ (program : Program) (uses : operations_are_in_use (program_form program
   silent_body : IsSilent whole number → body_raises (own_effects whole) b (λ e. true) ≡ false
   silent_body silent = no_no (body_raises (own_effects whole) b (λ e. true)) (rw there at silent)
 
-  finalizes_as : (cause : Cause) → IsQuiet whole number ⊎ (IsFrugal whole number × IsSilent whole number) → IsUsedAs whole (ends cause) b
+  finalizes_as : (cause : Cause) → IsQuiet whole number ⊎ (IsFrugal whole number × IsSilent whole number) → IsUsedAs whole of number (ends cause) b
   finalizes_as cause (inl quiet) = inl (quiet_body quiet)
-  finalizes_as cause (inr both) = inr (tt, both.0.0, frugal_at whole number b both.0.1 there, silent_body both.1)
+  finalizes_as cause (inr both) = inr (inl (tt, both.0.0, frugal_at whole number b both.0.1 there, silent_body both.1))
 
-  initializes_as : (done : List parts.Part) → IsPlain whole number ⊎ IsFrugal whole number → IsUsedAs whole (begins Creation done) b
+  initializes_as : (done : List parts.Part) → IsPlain whole number ⊎ IsFrugal whole number → IsUsedAs whole of number (begins Creation done) b
   initializes_as done (inl plain) = inl (plain_body plain, tt)
-  initializes_as done (inr frugal) = inr (tt, frugal.0, frugal_at whole number b frugal.1 there, tt)
+  initializes_as done (inr frugal) = inr (inl (tt, frugal.0, frugal_at whole number b frugal.1 there, tt))
 
-  pub used_as : (treatment : Treatment) → IsCalled (operations_of program.types.items of) treatment number → IsUsedAs whole treatment b
+  adjusts_as : (treatment : Treatment) → AdjustsCopy treatment → (body_raises no_calls b (λ e. true) ≡ false → LetsNothingOut treatment b)
+      → IsQuiet whole number ⊎ (IsSimple whole number × IsSilent whole number × AdjustsOwn whole.types of number) → IsUsedAs whole of number treatment b
+  adjusts_as treatment copies lets (inl quiet) = let q = quiet_body quiet in inl (q.0, lets q.1)
+  adjusts_as treatment copies lets (inr both) = inr (inr (copies, (both.0.0, rw there at both.0.1, silent_body both.1), both.2))
+
+  pub used_as : (treatment : Treatment) → IsCalled (operations_of program.types.items of) treatment number → IsUsedAs whole of number treatment b
   used_as (begins Creation done) called = initializes_as done (used.initializes called)
-  used_as (begins Copy done) called = inl (quiet_body (used.adjusts called))
-  used_as (begins (Adjustment n) done) called = inl (quiet_body (used.adjusts called))
+  used_as (begins Copy done) called = adjusts_as (begins Copy done) tt (λ none. none) (used.adjusts called)
+  used_as (begins (Adjustment n) done) called = adjusts_as (begins (Adjustment n) done) tt (λ none. none) (used.adjusts called)
   used_as (ends cause) called = finalizes_as cause (used.finalizes called)

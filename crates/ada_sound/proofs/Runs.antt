@@ -43,7 +43,7 @@ use Rattle.ada_typed.proofs.Kept.{behind_call, crosses, is_treatment, Keeps, Eac
 use Rattle.ada_typed.proofs.KeptSteps.{step_keeps, pass_keeps}
 use Rattle.ada_typed.proofs.Runs.{step_typed}
 use Rattle.ada_scopes.specs.Scopes.{InnermostHeldInside, is_innermost, Holds as HoldsName}
-use Rattle.ada_scopes.proofs.Components.{AreOfKinds, collect_two, held_outside, held_inside}
+use Rattle.ada_scopes.proofs.Components.{AreOfKinds, collect_two, held_outside, held_inside, items_fit}
 use Rattle.ada_scopes.proofs.Runs.{step_nested}
 use Rattle.ada_sound.proofs.Items.{NoMaster, HasItem, has_after, items_fall}
 use Rattle.ada_sound.proofs.Stored.{IsUnder, Stored, there_listed}
@@ -51,12 +51,20 @@ use Rattle.ada_sound.proofs.Leavings.{HeldIn}
 use Rattle.ada_sound.proofs.InOrder.{in_order}
 use Rattle.ada_sound.proofs.Sees.{reaches_in, may_call, adjust_overridden}
 use Rattle.ada_sound.proofs.TracksWell.{copies_at, allocates_at, called_apart}
-use Rattle.ada_sound.proofs.Trackers.{none_tracks, nothing_adjusts, calls_stand_apart}
+use Rattle.ada_sound.proofs.Trackers.{calls_stand_apart}
+use Rattle.ada_sound.proofs.TracksAs.{tracks_as}
+use Rattle.ada_sound.proofs.PlainAdjusts.{plain_adjusts}
+use Rattle.ada_sound.proofs.Adjusting.{Adjusting}
+use Rattle.ada_sound.proofs.AdjustingEnters.{filled_in_program}
+use Rattle.ada_sound.proofs.AdjustingStarts.{adjusting_starts}
+use Rattle.ada_sound.proofs.AdjustingSteps.{InAdjusting}
+use Rattle.ada_sound.proofs.AdjustingGoes.{WentOn, adjusting_goes, adjusting_stored}
+use Rattle.ada_finalized.proofs.Standing.{nothing_begins, untreated_start}
 use Rattle.ada_sound.proofs.CallsApartRuns.{step_apart}
 use Rattle.ada_quiet.specs.Apart.{is_tracker}
 use Rattle.ada_sound.proofs.QuietOperations.{IsUsedAs, used_as}
 use Rattle.ada_sound.proofs.TouchingStarts.{touching_starts}
-use Rattle.ada_sound.proofs.TouchingSteps.{InTouching, Went, GoesTouching, touching_step}
+use Rattle.ada_sound.proofs.TouchingSteps.{InTouching, Went, touching_step}
 use Rattle.ada_sound.proofs.Touching.{Touching, waiting_for}
 use Rattle.ada_sound.proofs.Operated.{OperatedOn, operated_by, OperatedAs}
 use Rattle.ada_parts.specs.declared.tasks.Next.TheVariants.{Perform}
@@ -73,13 +81,12 @@ use Rattle.ada_sound.proofs.StoredStates.{IsStored, ready_stored}
 use Rattle.ada_sound.proofs.Finalization.{finalizes_in}
 use Rattle.ada_sound.proofs.Starts.{IsReached, Ordinary, Sound}
 use Rattle.ada_sound.proofs.Calm.{filled_in, typed_calm, behind_calm}
-use Rattle.ada_sound.proofs.Treatments.{inside_left, TellsNothing, Begins, StaysHere, TreatedIn, treats_fine, adjusts_fine}
+use Rattle.ada_sound.proofs.Treatments.{inside_left, TellsNothing, Begins, BeginsAdjust, StaysHere, TreatedIn, treats_fine, adjusts_fine}
 use Rattle.ada_sound.proofs.CopiedOwners.{SeesToOwners}
-use Rattle.ada_sound.specs.Untracked.{AdjustsNoOwners}
 use Rattle.ada_typed.proofs.Parts.{shown_shapes, shapes_shown}
 use Rattle.ada_parts.specs.Part as parts
 use Rattle.ada_meaning.specs.declared.event.Birth.{Birth}
-use Rattle.ada_sound.proofs.Operating.{Sight, StaysLive, IsCalm, Operates, behind_operation}
+use Rattle.ada_sound.proofs.Operating.{Sight, StaysLive, IsCalm, Operates, StepsTo, behind_operation}
 use Rattle.ada_sound.proofs.OperationBegins.{begins_operation}
 use Rattle.ada_sound.proofs.OperationSteps.{acting, Wrote, IsMild}
 use Rattle.ada_sound.proofs.OperationLaw.{operates_on, operation_ends, operation_raises, StepsOn, steps_on}
@@ -207,7 +214,7 @@ pub record InOperation (program : Program) (before : List Object) (e : Event) (a
 -- What a step leads to: the ordinary invariant, or the body of an operation runs.
 abbrev pub Led : Program → List Object → Event → State → Type 0
 Led program before e after =
-    ((c : Crosses program before e after) × IsCalm (behind_call after.control) × (under_in (callers_of program c.suspensions) ≡ [])) ⊎ (InOperation program before e after ⊎ InTouching program before e after)
+    ((c : Crosses program before e after) × IsCalm (behind_call after.control) × (under_in (callers_of program c.suspensions) ≡ [])) ⊎ (InOperation program before e after ⊎ (InTouching program before e after ⊎ InAdjusting program before e after))
 
 -- What tells of no storage says nothing of objects, and covers nothing.
 told_says : (e : Event) (before : List Object) (after : State) → TellsNothing e → (implicit : Implicit) (p : ProgramForm) → Says implicit p e before after
@@ -289,7 +296,7 @@ unfolding next
 ordinary program s sound o inner n is same =
     let known = known_in program (running_procedure s) o.suspensions in
     fine_in program s o.suspensions o.stands o.calm o.settled n same
-    (subst (λ (coming : Next). Fine known s.heap s.masters coming) is (inside.fine known (copies_at program (running_procedure s) o.suspensions sound.well sound.obeys.0) program.types.items (reaches_in program (running_procedure s) o.suspensions) (body_forms program) (may_call program (running_procedure s) o.suspensions sound.well) s (allocates_at program (running_procedure s) o.suspensions s sound.obeys.0 sound.apart) inner sound.typed.inside (own_bodies (program_form program) sound.frees_own (running_procedure s)) (collect_two (program_form program) s sound.nested) (finalizes_in program sound.well s sound.reached sound.typed o.calm known.program.types)
+    (subst (λ (coming : Next). Fine known s.heap s.masters coming) is (inside.fine known (copies_at program (running_procedure s) o.suspensions sound.well sound.obeys.0) program.types.items (reaches_in program (running_procedure s) o.suspensions) (body_forms program) (may_call program (running_procedure s) o.suspensions sound.well) s (allocates_at program (running_procedure s) o.suspensions s sound.well sound.obeys.0 sound.apart) inner sound.typed.inside (own_bodies (program_form program) sound.frees_own (running_procedure s)) (collect_two (program_form program) s sound.nested) (finalizes_in program sound.well s sound.reached sound.typed o.calm known.program.types)
     (λ p x under found. absurd (none_is_under program (running_procedure s) o.suspensions o.settled p under))
     (λ left behind runs at_leaving.
     let parting = rw (runs, at_leaving) at (o.ready.1) in (
@@ -358,7 +365,23 @@ module _ (program : Program) (a : Activation Value) (rest : List (Activation Val
     calm_here : NoOperationRuns whole.control
     calm_here = typed_calm (seen_in a.procedure (program_form program)) whole sound.typed.inside refl o.calm
 
-    begun_as : (e : Event) (after : State) → next program.types.items (body_forms program) whole ≡ moves e after → (c : Begins treater a rest s program.types.items (body_forms program) k IsOperated e after) → IsUsedAs (program_form program) c.treatment c.b → Led program s.heap e after
+    -- The Adjust is called that tracks the components of a copy.
+    begins_adjusting : (e : Event) (after : State) → next program.types.items (body_forms program) whole ≡ moves e after → BeginsAdjust treater a rest s program.types.items (body_forms program) v k IsOperated e after → Led program s.heap e after
+    begins_adjusting e after is c =
+        let sees = subst (λ (types : List TypeForm). SeesToOwners types c.record_type c.of) (same_types a.procedure (program_form program)) c.adjusted.only.sees in
+        let tracks = tracks_as program sound.well sound.in_use c.record_type c.of sees c.by c.copies c.done c.number c.b c.there c.called in
+        let untreated = untreated_start program sound.reached.0 sound.reached.1 whole calm_here sound.reached.2 v c.by c.done tasks k (ap (λ (by : Treatment). Treats v by tasks ∷ k) (sym c.operated.0)) in
+        let adjusting = adjusting_starts program sound.well sound.obeys a rest s o.suspensions v k IsOperated e after c tracks.0 tracks.1
+        (filled_in_program (program_form program) a.procedure whole sound.typed.inside)
+        (step_typed program sound.well whole after settled e sound.typed (rw is (refl, refl)))
+        (restand Running (Treats v treatment tasks) o.suspensions o.stands) o.calm o.settled (sound.apart tracks.0.0).1 (λ u ne. nothing_begins u k untreated) in
+        inr (inr (inr (record {
+          body = adjusting;
+          alters = rw c.is (alters_same s.heap e);
+          says = told_says e s.heap after (rw c.quiet tt) _ _;
+        })))
+
+    begun_as : (e : Event) (after : State) → next program.types.items (body_forms program) whole ≡ moves e after → (c : Begins treater a rest s program.types.items (body_forms program) k IsOperated e after) → IsUsedAs (program_form program) c.of c.number c.treatment c.b → Led program s.heap e after
     begun_as e after is c (inl plain) = inr (inl (record {
       operates = begins_operation program sound.well a rest o.suspensions s k IsOperated e after (restand Running (Treats v treatment tasks) o.suspensions o.stands) o.calm o.settled
           (step_typed program sound.well whole after settled e sound.typed (rw is (refl, refl))) c plain;
@@ -366,29 +389,23 @@ module _ (program : Program) (a : Activation Value) (rest : List (Activation Val
       says = told_says e s.heap after c.tells;
       covered = told_covered program e c.tells;
     }))
-    begun_as e after is c (inr (touches, may, frugal, silent)) = inr (inr (record {
-      touching = touching_starts program a rest s k v treatment tasks o.suspensions may whole refl refl sound calm_here o.calm o.settled (restand Running (Treats v treatment tasks) o.suspensions o.stands) e after c touches silent frugal
+    begun_as e after is c (inr (inr (copies, tracks, own))) =
+        begins_adjusting e after is (plain_adjusts program sound.well tracks.0 a rest s k v treatment o.suspensions (items_fit (program_form program) whole sound.nested) e after c copies own)
+    begun_as e after is c (inr (inl (touches, may, frugal, silent))) = inr (inr (inl (record {
+      body = touching_starts program a rest s k v treatment tasks o.suspensions may whole refl refl sound calm_here o.calm o.settled (restand Running (Treats v treatment tasks) o.suspensions o.stands) e after c touches silent frugal
           (step_typed program sound.well whole after settled e sound.typed (rw is (refl, refl)));
       alters = rw c.is c.alters;
       says = told_says e s.heap after c.tells _ _;
-    }))
+    })))
 
     begins_there : (e : Event) (after : State) → next program.types.items (body_forms program) whole ≡ moves e after → Begins treater a rest s program.types.items (body_forms program) k IsOperated e after → Led program s.heap e after
     begins_there e after is c = begun_as e after is c (used_as program sound.in_use sound.well c.of c.number c.b c.there c.treatment c.called)
-
-    -- No Adjust sees to components of access types yet.
-    adjusts_nothing : (r of : ℕ) → SeesToOwners treater.program.types r of → ⊥
-    adjusts_nothing r of sees =
-        let none : AdjustsNoOwners treater.program.types = subst AdjustsNoOwners (sym (same_types a.procedure (program_form program))) (nothing_adjusts (program_form program) (none_tracks (program_form program) sound.well sound.in_use)) in
-        let inherits = none r sees.name sees.parts sees.components sees.finalization sees.at sees.declares in
-        let overrides = sees.overridden in
-        cc (inherits, overrides)
 
     treated_led : (n : Next) → next program.types.items (body_forms program) whole ≡ n → TreatedIn treater a rest s program.types.items (body_forms program) k IsOperated v n → FineIn program whole n
     treated_led (halts halt) is t = t
     treated_led (moves e after) is (inl st) = goes_here e after st
     treated_led (moves e after) is (inr (inl c)) = begins_there e after is c
-    treated_led (moves e after) is (inr (inr c)) = absurd (adjusts_nothing c.record_type c.of c.adjusted.only.sees)
+    treated_led (moves e after) is (inr (inr c)) = begins_adjusting e after is c
     treated_led (tells request e after) is t = absurd t
     treated_led (asks request answered) is t = absurd t
     treated_led (picks n taken) is t = λ i lt. goes_here Quiet (taken i) (t i lt)
@@ -547,25 +564,34 @@ module _ (program : Program) (s : State) (o : Operates program s) where
 
 -- A step of the body of an operation that touches storage.
 led_went : (program : Program) (before : List Object) (e : Event) (after : State) → Went program before e after → Led program before e after
-led_went program before e after (inl f) = inr (inr f)
+led_went program before e after (inl f) = inr (inr (inl f))
 led_went program before e after (inr o) = inl o
 
-led_touching : (program : Program) (s : State) (n : Next) → GoesTouching program s n → FineIn program s n
-led_touching program s (halts halt) g = g
-led_touching program s (moves e after) g = led_went program s.heap e after g
-led_touching program s (tells request e after) g = led_went program s.heap e after g
-led_touching program s (asks request answered) g = λ granted. led_went program s.heap Quiet (answered granted) (g granted)
-led_touching program s (picks n taken) g = absurd g
+-- A step of the body of an Adjust that tracks components.
+led_adjusting : (program : Program) (s : State) (f : Adjusting program s) (e : Event) (after : State) → WentOn program s f e after → Led program s.heap e after
+led_adjusting program s f e after (inl c) = inr (inr (inr c))
+led_adjusting program s f e after (inr (crosses, behind)) = inl (crosses_to crosses, rw behind f.calm, f.settled)
+
+-- So what comes next is known.
+led_next : (program : Program) (s : State) (IsSo : Event → State → Type 0) → ((e : Event) (after : State) → IsSo e after → Led program s.heap e after) → (n : Next) → StepsTo IsSo s n → FineIn program s n
+led_next program s IsSo leads (halts halt) g = g
+led_next program s IsSo leads (moves e after) g = leads e after g
+led_next program s IsSo leads (tells request e after) g = leads e after g
+led_next program s IsSo leads (asks request answered) g = λ granted. leads Quiet (answered granted) (g granted)
+led_next program s IsSo leads (picks n taken) g = absurd g
 
 -- So what comes next keeps the invariant, and each state that a sound one steps to is sound.
 step_fine : (program : Program) (s : State) → Sound program s → FineIn program s (next program.types.items (body_forms program) s)
 unfolding next
 step_fine program s sound = by sound.goes
   where
-    by : Ordinary program s ⊎ (Operates program s ⊎ Touching program s) → FineIn program s (next program.types.items (body_forms program) s)
+    by : Ordinary program s ⊎ (Operates program s ⊎ (Touching program s ⊎ Adjusting program s)) → FineIn program s (next program.types.items (body_forms program) s)
     by (inl o) = step_by program s.mode s.control s.activations s sound o
     by (inr (inl o)) = operating_step program s o
-    by (inr (inr f)) = led_touching program s (next program.types.items (body_forms program) s) (touching_step program s sound f)
+    by (inr (inr (inl f))) = led_next program s (Went program s.heap) (led_went program s.heap) (next program.types.items (body_forms program) s) (touching_step program s sound f)
+    by (inr (inr (inr f))) =
+        led_next program s (WentOn program s f) (led_adjusting program s f) (next program.types.items (body_forms program) s)
+        (adjusting_goes program sound.well f.tracking sound.frees_own s sound.reached sound.nested sound.typed f)
 
 -- Where a choice leads, the invariant holds.
 leads_fine : (program : Program) (s : State) (n : Next) (choice : Choice) (e : Event) (after : State) → FineIn program s n → Leads n choice e after → Led program s.heap e after
@@ -588,16 +614,18 @@ led program s choice e after r step = leads_fine program s (next program.types.i
 
 does_so : (program : Program) (before : List Object) (e : Event) (after : State) → Led program before e after → Does before e after
 does_so program before e after (inl (c, calm, none)) = record { implicit = implicit_of (program_form program); body = (known_in program (running_procedure after) c.suspensions).program; alters = c.stepped.alters; says = c.stepped.says }
-does_so program before e after (inr (inr c)) = record { implicit = implicit_of (program_form program); body = seen_in (running_procedure after) (program_form program); alters = c.alters; says = c.says }
+does_so program before e after (inr (inr (inl c))) = record { implicit = implicit_of (program_form program); body = seen_in (running_procedure after) (program_form program); alters = c.alters; says = c.says }
+does_so program before e after (inr (inr (inr c))) = record { implicit = implicit_of (program_form program); body = seen_in (running_procedure after) (program_form program); alters = c.alters; says = c.says }
 does_so program before e after (inr (inl c)) = record { implicit = implicit_of (program_form program); body = program_form program; alters = c.alters; says = c.says (implicit_of (program_form program)) (program_form program) }
 
 pub stepped : (program : Program) (s : State) (choice : Choice) (e : Event) (after : State) → Sound program s → Step program s choice e after → Does s.heap e after
 stepped program s choice e after r step = does_so program s.heap e after (led program s choice e after r step)
 
-goes_so : (program : Program) (before : List Object) (e : Event) (after : State) → Led program before e after → Ordinary program after ⊎ (Operates program after ⊎ Touching program after)
+goes_so : (program : Program) (before : List Object) (e : Event) (after : State) → Led program before e after → Ordinary program after ⊎ (Operates program after ⊎ (Touching program after ⊎ Adjusting program after))
 goes_so program before e after (inl (c, calm, none)) = inl (record { suspensions = c.suspensions; ready = c.stepped.ready; stands = c.stands; calm = calm; settled = none })
 goes_so program before e after (inr (inl c)) = inr (inl c.operates)
-goes_so program before e after (inr (inr c)) = inr (inr c.touching)
+goes_so program before e after (inr (inr (inl c))) = inr (inr (inl c.body))
+goes_so program before e after (inr (inr (inr c))) = inr (inr (inr c.body))
 
 reached_then : (program : Program) (s : State) (choice : Choice) (e : Event) (after : State) → IsReached program s → Step program s choice e after → IsReached program after
 reached_then program s choice e after (input, events, run) step = (input, events ++ e ∷ [], run_more e choice after run step)
@@ -610,7 +638,7 @@ sound_step program s choice e after r step = record {
   frees_own = r.frees_own;
   obeys = r.obeys;
   goes = goes_so program s.heap e after (led program s choice e after r step);
-  apart = λ may. step_apart (is_tracker (program_form program)) program (calls_stand_apart (program_form program) may).1 s after choice e (r.apart may) step;
+  apart = λ may. step_apart (program_form program).types (is_tracker (program_form program)) program (calls_stand_apart (program_form program) may).1 s after choice e (r.apart may) step;
   typed = step_typed program r.well s after choice e r.typed step;
   nested = step_nested program s after choice e r.nested step;
 }
@@ -627,9 +655,10 @@ below_has n access pool (m ∷ upper) lower has = has_after n access pool m.item
 pub housed : (program : Program) (s : State) → Sound program s → (o : Id) (x : Object) → object_at s.heap o ≡ Some x → x.out ≡ true → HasItem x.cell.home.item x.cell.access x.cell.home.pool (items_of s.masters)
 housed program s sound o x found out = by sound.goes
   where
-    by : Ordinary program s ⊎ (Operates program s ⊎ Touching program s) → HasItem x.cell.home.item x.cell.access x.cell.home.pool (items_of s.masters)
+    by : Ordinary program s ⊎ (Operates program s ⊎ (Touching program s ⊎ Adjusting program s)) → HasItem x.cell.home.item x.cell.access x.cell.home.pool (items_of s.masters)
     by (inl n) = ((stored_in program s n).1.sane o x found).housed out
-    by (inr (inr f)) = ((ready_stored (known_in program (running_procedure s) (waiting_for program s f)) s f.ready).1.sane o x found).housed out
+    by (inr (inr (inl f))) = ((ready_stored (known_in program (running_procedure s) (waiting_for program s f)) s f.ready).1.sane o x found).housed out
+    by (inr (inr (inr f))) = ((adjusting_stored program s f).1.sane o x found).housed out
     by (inr (inl n)) =
         let c = operation_ends program s n in
         let stored = ready_stored (known_in program n.caller.procedure n.suspended.suspensions) (behind_operation (n.caller ∷ n.rest) n.behind n.lower s) c.stepped.ready in

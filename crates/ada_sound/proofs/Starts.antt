@@ -19,23 +19,23 @@ use Rattle.ada_meaning.specs.Named.{State, named}
 use Rattle.ada_meaning.specs.Run.{Event, Run, here, first_state}
 use Rattle.ada_typed.proofs.Kept.{behind_call}
 use Rattle.ada_sound.specs.Agreement.{running_procedure}
-use Rattle.ada_quiet.specs.InUse.{operations_are_in_use}
+use Rattle.ada_quiet.specs.InUse.{operations_are_in_use, may_track}
 use Rattle.ada_typed.proofs.Bodies.{seen_fits}
 use Rattle.ada_typed.proofs.Control as typed
 use Rattle.ada_typed.proofs.Runs.{first_typed}
 use Rattle.ada_scopes.proofs.Runs.{Scoped, first_nested}
 use Rattle.ada_sound.proofs.Fits.{first_fit}
 use Rattle.ada_quiet.specs.Apart.{is_tracker}
-use Rattle.ada_quiet.specs.Tracking.{may_track}
 use Rattle.ada_sound.proofs.CallsApart.{CallApart}
 use Rattle.ada_sound.proofs.CallsApartRuns.{first_apart}
-use Rattle.ada_sound.proofs.Trackers.{TracksSafely, none_tracks, calls_stand_apart}
+use Rattle.ada_sound.proofs.Trackers.{TracksSafely, tracks_safely, calls_stand_apart}
 use Rattle.ada_sound.proofs.Bodies.{IsBody, IsFine, seen_is, tracks_in, obeys_in}
 use Rattle.ada_sound.proofs.BodyRuns.{body_runs, none_suspended}
 use Rattle.ada_sound.proofs.Exits.{no_exits, no_exit_handlers}
 use Rattle.ada_sound.proofs.Invariant.{Ready, under_in}
 use Rattle.ada_sound.proofs.Callers.{Suspension, known_in, Stands, callers_of}
 use Rattle.ada_sound.proofs.Touching.{Touching}
+use Rattle.ada_sound.proofs.Adjusting.{Adjusting}
 use Rattle.ada_sound.proofs.Operating.{IsCalm, Operates}
 use Rattle.ada_sound.proofs.QuietOperations.{operations_nest}
 use Rattle.ada_sound.proofs.Returns.{same_types}
@@ -57,16 +57,16 @@ pub record Ordinary (program : Program) (s : State) : Type 0 where
 abbrev pub Obeys : Program → Type 0
 Obeys program = TracksSafely (program_form program) × ObeysRules program
 
--- What every state of a run keeps: that invariant, or the body of an operation runs, one that touches no storage or a Finalize that does; values are of
--- their kinds, and collections nest.
+-- What every state of a run keeps: that invariant, or the body of an operation runs, one that touches no storage, an Initialize or a Finalize that does, or an
+-- Adjust that tracks components; values are of their kinds, and collections nest.
 pub record Sound (program : Program) (s : State) : Type 0 where
   pub reached : IsReached program s
   pub well : IsWellFormed (program_form program)
   pub in_use : operations_are_in_use (program_form program) ≡ true
   pub frees_own : FreesItsOwn (program_form program)
   pub obeys : Obeys program
-  pub goes : Ordinary program s ⊎ (Operates program s ⊎ Touching program s)
-  pub apart : may_track (program_form program) ≡ true → CallApart (is_tracker (program_form program)) s.control
+  pub goes : Ordinary program s ⊎ (Operates program s ⊎ (Touching program s ⊎ Adjusting program s))
+  pub apart : may_track (program_form program) ≡ true → CallApart (program_form program).types (is_tracker (program_form program)) s.control
   pub typed : typed.Typed (program_form program) s
   pub nested : Scoped (program_form program) s
 
@@ -118,7 +118,7 @@ ready_first program input well obeys =
     )
 
 pub sound_first : (program : Program) (input : List ℤ) → IsWellFormed (program_form program) → operations_are_in_use (program_form program) ≡ true → CollectionsNest (program_form program) → FreesItsOwn (program_form program) → ObeysRules program → Sound program (first_state program input)
-sound_first program input well uses nest own obeys = let obeys_so : Obeys program = (inl (none_tracks (program_form program) well uses), obeys) in record {
+sound_first program input well uses nest own obeys = let obeys_so : Obeys program = (tracks_safely (program_form program) well uses, obeys) in record {
   reached = (input, [], here);
   well = well;
   in_use = uses;
@@ -131,7 +131,7 @@ sound_first program input well uses nest own obeys = let obeys_so : Obeys progra
     calm = tt;
     settled = refl;
   });
-  apart = λ may. first_apart (is_tracker (program_form program)) program (calls_stand_apart (program_form program) may).1 (calls_stand_apart (program_form program) may).0 input;
+  apart = λ may. first_apart (program_form program).types (is_tracker (program_form program)) program (calls_stand_apart (program_form program) may).1 (calls_stand_apart (program_form program) may).0 input;
   typed = first_typed program input well;
   nested = first_nested program well nest (operations_nest (program_form program) well uses) input;
 }

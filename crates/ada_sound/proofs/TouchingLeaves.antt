@@ -1,73 +1,24 @@
 -- The body of a Finalize that touches storage leaves a master of its own, which owns variables alone (7.6.1): no object has its home there.
 
-use Rattle.std.proofs.Common.{◌≡◌, ℕ, Bool, true, false, List, [], ◌∷◌, ◌++◌, refl, inl, inr, arith}
-use Rattle.std.proofs.lemmas.Bool.{eqb-true}
-use Rattle.std.specs.Prelude.{Option, Some, ◌==◌}
-use Rattle.ada_flow.specs.Flow.{Holds}
+use Rattle.std.proofs.Common.{◌≡◌, ◌∷◌}
 use Rattle.ada_program.specs.declared.program.Program.{Program}
 use Rattle.ada_program.specs.ProgramForm.{program_form}
-use Rattle.ada_meaning.specs.declared.state.Id.{Id}
 use Rattle.ada_meaning.specs.declared.state.Mode.{Mode}
 use Rattle.ada_meaning.specs.declared.state.Mode.TheVariants.{Running}
-use Rattle.ada_meaning.specs.declared.state.Value.{Value}
 use Rattle.ada_meaning.specs.Frame.{Leaves}
-use Rattle.ada_meaning.specs.Law.{items_of}
-use Rattle.ada_meaning.specs.State.{Owned, declared, collection, record_object, storage_pool, Item, Master}
-use Rattle.ada_meaning.specs.Named.{Object, State, object_at}
-use Rattle.ada_owners.specs.Places.{is_there}
-use Rattle.ada_scopes.specs.Scopes.{is_number_of, is_innermost}
+use Rattle.ada_meaning.specs.Named.{State}
 use Rattle.ada_sound.proofs.Callers.{known_in}
 use Rattle.ada_sound.proofs.Touching.{Touching, waiting_for}
-use Rattle.ada_sound.proofs.FrugalControl.{Frugal}
-use Rattle.ada_sound.proofs.Invariant.{Control, Known, Parting, Rooms, RunsOn, innermost, outers}
-use Rattle.ada_sound.proofs.Items.{Counted, HasItem, Houses, item_below}
+use Rattle.ada_sound.proofs.FrugalLeaves.{held_in_none, leaves_own}
+use Rattle.ada_sound.proofs.Invariant.{Control, RunsOn, innermost, outers}
 use Rattle.ada_sound.proofs.Leavings.{HeldIn, NamedBelow}
-use Rattle.ada_sound.proofs.Operating.{AreVariables, IsVariable, OwnVariables}
-use Rattle.ada_sound.proofs.Stored.{Stored, exists_out}
+use Rattle.ada_sound.proofs.Operating.{AreVariables}
 use Rattle.ada_sound.specs.Agreement.{running_procedure}
 use Rattle.ada_quiet.specs.Frugal.{frugal_procedures}
 use Rattle.ada_sound.proofs.Below.{named_below}
 
--- A variable is the home of no object.
-houses_nothing : (owned : Owned) (access : ℕ) (pool : Option ℕ) → IsVariable owned → Houses owned access pool → ⊥
-houses_nothing (declared x) access pool own houses = houses
-houses_nothing (collection t from) access pool own houses = own
-houses_nothing (record_object t) access pool own houses = own
-houses_nothing (storage_pool declaration number) access pool own houses = own
-
--- So no home of an object is among variables: an older item has another number.
-no_home_among : (is js : List Item) (n access : ℕ) (pool : Option ℕ) → AreVariables is → Counted (is ++ js) → is_number_of is n ≡ true → HasItem n access pool (is ++ js) → ⊥
-no_home_among [] js n access pool own counted among has = cc among
-no_home_among (i ∷ is) js n access pool own counted among (inl here) = houses_nothing i.owned access pool own.0 here.1
-no_home_among (i ∷ is) js n access pool own counted among (inr later) = go (i.number == n) refl (λ inner. no_home_among is js n access pool own.1 counted.1 inner later)
-  where
-    go : (b : Bool) → (i.number == n) ≡ b → (is_number_of is n ≡ true → ⊥) → ⊥
-    go true same others =
-        let number = eqb-true i.number n same in
-        let less = item_below n access pool (is ++ js) counted.1 later in
-        let count = counted.0 in
-        omega (arith, number, less, count)
-    go false other others = others (rw other at among)
-
--- Where the innermost master owns variables alone, no object that is there has its home in it.
-no_home : {under : List Id} (heap : List Object) (ms : List Master) → Stored under heap ms → AreVariables (innermost ms) → (o : Id) (x : Object) → object_at heap o ≡ Some x → is_there x.stage ≡ true → is_innermost ms x.cell.home.item ≡ true → ⊥
-no_home heap [] stored own o x found there inner = cc inner
-no_home heap (m ∷ ms) stored own o x found there inner =
-    let sane = stored.sane o x found in
-    let housed = sane.housed (exists_out o x found (sane.there_exists there) stored) in
-    no_home_among m.items (items_of ms) x.cell.home.item x.cell.access x.cell.home.pool own stored.counted inner housed
-
--- While such a master is left, it holds nothing.
-holds_none : (known : Known) (heap : List Object) (places : List Value) (ms : List Master) (more : Rooms → Holds → Type 0) → Parting known heap places ms more → AreVariables (innermost ms) → HeldIn heap ms
-holds_none known heap places ms more parting own holder held (o, p, c, holds, names, at') inner = absurd (no_home heap ms parting.stored own p held names.0 names.1 inner)
-
--- The master that a frugal body leaves is one of its own.
-leaves_own : (frugal : List Bool) (behind : Control) (mode left : Mode) (k : Control) (upper lower : List Master) → Frugal frugal behind mode (Leaves left ∷ k) upper → OwnVariables upper → AreVariables (innermost (upper ++ lower))
-leaves_own frugal behind mode left k upper lower (inl leads) own = absurd leads.0
-leaves_own frugal behind mode left k [] lower (inr leaving) own = absurd leaving.1
-leaves_own frugal behind mode left k (m ∷ upper) lower (inr leaving) own = own.0
-
--- So it is while the body of an operation that touches storage runs, or one that it has called; and what callers rely on lies in outer masters.
+-- While the body of an operation that touches storage runs, or one that it has called, the master that is left holds nothing; and what callers rely on lies in
+-- outer ones.
 pub touching_leaves : (program : Program) (s : State) (f : Touching program s) → s.mode ≡ Running → (left : Mode) (k : Control) → s.control ≡ Leaves left ∷ k → HeldIn s.heap s.masters × NamedBelow (outers (known_in program (running_procedure s) (waiting_for program s f))) s.heap s.masters
 touching_leaves program s f runs left k leaves =
     let known = known_in program (running_procedure s) (waiting_for program s f) in
@@ -75,4 +26,4 @@ touching_leaves program s f runs left k leaves =
     let inner = leaves_own (frugal_procedures (program_form program)) f.behind s.mode left k f.frugal.upper f.lower (rw leaves at f.frugal.frugal) f.frugal.own in
     let own : AreVariables (innermost s.masters) = rw f.frugal.masters inner in
     let more = RunsOn known (Leaves left ∷ k) in
-    (holds_none known s.heap _ s.masters more parting own, named_below known s.heap f.stands.standing.waiting f.stands.standing.low left k s.masters parting)
+    (held_in_none known s.heap _ s.masters more parting own, named_below known s.heap f.stands.standing.waiting f.stands.standing.low left k s.masters parting)

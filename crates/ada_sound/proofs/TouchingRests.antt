@@ -139,7 +139,7 @@ module _ (known : Known) (o : Id) (x : Object) (heap : List Object) (found : obj
               let access : is_access known.program.types t ≡ true = rw own at fits in
               absurd (cc (rw (← one) at access, object))
 
-  none_collected : (ms : List Master) → ItemsFit known.program.types (items_of ms) → (d : Destination) → home_of x.cell.access ms ≡ Some d → ⊥
+  pub none_collected : (ms : List Master) → ItemsFit known.program.types (items_of ms) → (d : Destination) → home_of x.cell.access ms ≡ Some d → ⊥
   none_collected [] fit d at = cc at
   none_collected (m ∷ ms) fit d at =
       none_collected ms (fit_after known.program.types m.items (items_of ms) fit) d (none_among m.items (items_of ms) (home_of x.cell.access ms) d fit at)

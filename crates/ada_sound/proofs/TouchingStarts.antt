@@ -9,22 +9,15 @@ use Rattle.ada_finalized.specs.Law.{NoOperationRuns}
 use Rattle.ada_finalized.proofs.Standing.{AdjustsAlone, adjusts_alone, untreated_start, untreated_end}
 use Rattle.ada_parts.specs.Task.{Task}
 use Rattle.ada_program.specs.declared.program.Program.{Program}
-use Rattle.ada_program.specs.declared.program.TypeNo.{TypeNo}
-use Rattle.ada_program.specs.declared.program.VariableKind.{VariableKind}
-use Rattle.ada_program.specs.declared.program.VariableKind.TheVariants as variable_kinds
 use Rattle.ada_program.specs.Controlled.{operations_of}
 use Rattle.ada_program.specs.ProgramForm.{TypeForm, ProgramForm, program_form, body_forms, seen_by, seen_in}
-use Rattle.ada_program.specs.WellFormed.{finalization_of, is_access, variable_kind, object_named}
+use Rattle.ada_program.specs.WellFormed.{finalization_of, is_access, variable_kind, object_named, IsWellFormed}
 use Rattle.ada_quiet.specs.Frugal.{is_frugal_body, frugal_procedures}
 use Rattle.ada_quiet.specs.InUse.{may_be_frugal}
 use Rattle.ada_meaning.specs.declared.event.Birth.TheVariants.{Creation, Copy, Adjustment}
 use Rattle.ada_program.specs.declared.program.Exception.{Exception}
-use Rattle.ada_program.specs.WellFormed.{IsWellFormed}
 use Rattle.ada_meaning.specs.declared.state.Id.{Id}
 use Rattle.ada_meaning.specs.declared.state.Mode.TheVariants.{Running}
-use Rattle.ada_meaning.specs.declared.state.Place.{Place}
-use Rattle.ada_meaning.specs.declared.state.Stage.{Stage}
-use Rattle.ada_meaning.specs.declared.state.Stage.TheVariants.{Building, Existing, Gone}
 use Rattle.ada_meaning.specs.declared.state.Value.{Value}
 use Rattle.ada_meaning.specs.declared.state.Value.TheVariants.{Names, Part}
 use Rattle.ada_meaning.specs.Frame.{Treatment, Treats, begins, ends, Copies, Ends}
@@ -34,7 +27,6 @@ use Rattle.ada_meaning.specs.State.{Activation}
 use Rattle.ada_meaning.specs.Step.{operating}
 use Rattle.ada_meaning.specs.Named.{Object, State, object_at, named}
 use Rattle.ada_meaning.specs.Run.{Event}
-use Rattle.ada_owners.specs.Places.{is_there}
 use Rattle.ada_scopes.proofs.Components.{items_fit}
 use Rattle.ada_scopes.proofs.Homes.{ItemsFit}
 use Rattle.ada_typed.specs.Holding.{Designates, cells_of, PartsLie}
@@ -54,23 +46,17 @@ use Rattle.ada_sound.proofs.QuietOperations.{LetsNone, MayTouch}
 use Rattle.ada_sound.proofs.FrugalUseParts.{operable_is_object, no_access_to_parts}
 use Rattle.ada_sound.proofs.FrugalUseEnds.{ends_in_starts}
 use Rattle.ada_sound.proofs.FrugalUseLets.{touches_let}
-use Rattle.ada_sound.proofs.Invariant.{Control, CoveredIn, IsCopied, Known, TreatsBy, body_among, under_in, IsAwaited, LiesAmong}
+use Rattle.ada_sound.proofs.Invariant.{Control, CoveredIn, IsCopied, Known, TreatsBy, body_among, under_in, LiesAmong}
 use Rattle.ada_sound.proofs.Operated.{OperatedAs}
-use Rattle.ada_sound.proofs.Operating.{IsCalled, IsCalm, StaysLive, lets_out, WaitsFor}
-use Rattle.ada_sound.proofs.OperationBegins.{formal_holds}
-use Rattle.ada_sound.proofs.OperationStarts.{calm_behind}
+use Rattle.ada_sound.proofs.Operating.{IsCalled, IsCalm, lets_out, WaitsFor}
+use Rattle.ada_sound.proofs.OperationBegins.{formal_holds, formal_within}
+use Rattle.ada_sound.proofs.OperationStarts.{calm_behind, is_awaited, live_there}
 use Rattle.ada_sound.proofs.Returns.{same_types}
 use Rattle.ada_sound.proofs.Starts.{Sound}
 use Rattle.ada_sound.proofs.Treatments.{Begins}
 use Rattle.ada_meaning.specs.declared.event.Cause.{Cause}
 use Rattle.ada_meaning.specs.declared.event.Cause.TheVariants.{Leaving, Freeing, Assigning, Undoing}
 use Rattle.ada_meaning.specs.Finalization.{NothingTreated}
-
--- What is looked for and found is there.
-live_there : (stage : Stage) → StaysLive stage → is_there stage ≡ true
-live_there Building live = refl
-live_there Existing live = refl
-live_there Gone live = absurd live
 
 -- An object of this type keeps it.
 kept_type : (before heap : List Object) (e : Event) (o : Id) (x : Object) (access : ℕ) → Alters before e heap → object_at heap o ≡ Some x → Designates (cells_of before) access o → x.cell.access ≡ access
@@ -84,18 +70,6 @@ kept_type before heap e o x access alters found (cell, at, of) = by (object_at b
         let cells : y.cell ≡ cell = cc seen in
         let kept : x.cell.access ≡ y.cell.access = rw same at (z.2.0) in
         kept ∙ (ap (λ (c : Cell Value). c.access) cells ∙ of)
-
--- What its formal parameter stands for lies there.
-within_by : (types : List TypeForm) (kind : Option VariableKind) (o : Id) (access : ℕ) (place : Place) (object : TypeNo) → kind ≡ Some (variable_kinds.Record object)
-    → ((at : Place) × (Part o place ≡ Part o at) × IsWithin types (Some (variable_kinds.Record object)) access at.component) → IsWithin types kind access place.component
-within_by types kind o access place object is (at, same, within) =
-    let one : at ≡ place = cc same in
-    rw (is, ← one) within
-
--- What waits for an operation is behind the end of its body.
-is_awaited : (types : List TypeForm) (o : Id) (of : ℕ) (treatment : Treatment) (k behind : Control) → WaitsFor types o of treatment k behind → IsAwaited behind
-is_awaited types o of (begins by done) k behind (part, tasks, is) = subst IsAwaited (sym is) tt
-is_awaited types o of (ends cause) k behind (tasks, is, inside) = subst IsAwaited (sym is) tt
 
 -- The operation of a controlled type that a treatment calls, by its number (7.6).
 operation_for : (program : Program) → IsWellFormed (program_form program) → (of number : ℕ) (treatment : Treatment) → MayTouch treatment → IsCalled (operations_of program.types.items of) treatment number → OperationFor (program_form program) of number
@@ -183,7 +157,7 @@ module _ (program : Program) (a : Activation Value) (rest : List (Activation Val
         let inside : typed.TypedIn (seen_in (Some c.number) p) begun = now.inside in
         let own : typed.TypedIn (seen_by c.number c.b p) begun = rw (seen_as p c.number c.b c.there) at inside in
         let holds = formal_holds program c.number c.b c.o c.place begun (_, refl) c.x c.found own in
-        let within : IsWithin p.types (variable_kind c.b.variables 0) c.x.cell.access c.place.component = within_by p.types (variable_kind c.b.variables 0) c.o c.x.cell.access c.place lone.object lone.is (rw lone.is at holds) in
+        let within : IsWithin p.types (variable_kind c.b.variables 0) c.x.cell.access c.place.component = formal_within p.types (variable_kind c.b.variables 0) c.o c.x.cell.access c.place lone.object lone.is (rw lone.is at holds) in
         let frees : (t : ℕ) → CoveredIn (implicit_of p) (seen_in (Some c.number) p) t → at.may t ≡ true =
         λ t covered. at.includes t (treated_frees_of program sound.well c.x.cell.access c.of operated.1 c.number c.b (rw of_type operated.3) c.treatment k (rw (c.operated.0) (c.operated.2)) (copied_behind (Names c.o) c.treatment k c.heap c.treats) touches c.called c.there t covered) in
         let lets : (raised : Exception) → body_among (implicit_of p) (seen_in (Some c.number) p) raised ≡ true → lets_out (implicit_of p) c.x.cell.access c.treatment raised ≡ true =

@@ -2,12 +2,11 @@
 
 use Rattle.std.proofs.Common.{◌≡◌, ℕ, Bool, false, List, [], ◌∷◌, refl, sym, ap, subst, ◌∙◌, ◌⊎◌, inl, inr, ◌++◌, drop, length, suc, zero}
 use Rattle.std.specs.Prelude.{Option, Some}
-use Rattle.ada_deeds.specs.Implicit.{implicit_of}
 use Rattle.ada_program.specs.declared.program.Exception.{Exception}
 use Rattle.ada_program.specs.declared.program.Program.{Program}
 use Rattle.ada_program.specs.declared.program.TypeDefinition.{TypeDefinition}
 use Rattle.ada_program.specs.Form.{ActualForm}
-use Rattle.ada_program.specs.ProgramForm.{ProgramForm, BodyForm, program_form, body_forms, seen_in, TypeForm}
+use Rattle.ada_program.specs.ProgramForm.{ProgramForm, BodyForm, program_form, body_forms, seen_in}
 use Rattle.ada_program.specs.WellFormed.{is_access}
 use Rattle.ada_meaning.specs.declared.event.Cause.TheVariants.{Leaving, Freeing, Assigning, Undoing}
 use Rattle.ada_meaning.specs.declared.state.Id.{Id}
@@ -27,7 +26,6 @@ use Rattle.ada_typed.proofs.Bodies.{own_bodies}
 use Rattle.ada_typed.proofs.Kept.{behind_call, crosses, is_treatment, Each, Keeps}
 use Rattle.ada_typed.proofs.KeptSteps.{step_keeps, pass_keeps}
 use Rattle.ada_sound.specs.Agreement.{running_procedure}
-use Rattle.ada_sound.proofs.Alters.{Alters}
 use Rattle.ada_sound.proofs.CallBegins.{runs_called, placed_in}
 use Rattle.ada_sound.proofs.Callers.{Suspension, callers_of, known_in, Stands, AreOf}
 use Rattle.ada_sound.proofs.Calls.{calls_to, waiting}
@@ -35,8 +33,9 @@ use Rattle.ada_sound.proofs.FrugalControl.{Frugally, GoesFrugally, Frugal, Fruga
 use Rattle.ada_sound.proofs.FrugalSteps.{frugal_goes}
 use Rattle.ada_sound.proofs.FrugalUseParts.{no_access_to_parts}
 use Rattle.ada_sound.proofs.InOrder.{in_order}
-use Rattle.ada_sound.proofs.Invariant.{CallsOn, Control, EndsWell, Fine, GoesOn, IsAwaited, Says, Stepped, Working, under_in}
-use Rattle.ada_sound.proofs.Operating.{IsCalm, WaitsFor}
+use Rattle.ada_sound.proofs.Invariant.{CallsOn, Control, Fine, GoesOn, IsAwaited, Stepped, Working, under_in}
+use Rattle.ada_sound.proofs.Operating.{InBody, IsCalm, StepsTo}
+use Rattle.ada_sound.proofs.OperationStarts.{is_awaited}
 use Rattle.ada_sound.proofs.Ready.{at_work}
 use Rattle.ada_sound.proofs.Returns.{Crosses, CrossesTo, crosses_to, same_types, same_control, left_to, resumed_in, behind_call as behind_mode, behind_frames, behind_body}
 use Rattle.ada_sound.proofs.Sees.{reaches_in, may_call}
@@ -51,10 +50,8 @@ use Rattle.ada_sound.proofs.TouchingStands.{touching_stands, touching_unlisted}
 use Rattle.ada_sound.proofs.Waiting.{SameBody, stands_kept}
 
 -- The body runs behind a step, or one that it has called; and what that does to objects.
-pub record InTouching (program : Program) (before : List Object) (e : Event) (after : State) : Type 0 where
-  pub touching : Touching program after
-  pub alters : Alters before e after.heap
-  pub says : Says (implicit_of (program_form program)) (seen_in (running_procedure after) (program_form program)) e before after
+abbrev pub InTouching : Program → List Object → Event → State → Type 0
+InTouching program before e after = InBody program (Touching program) before e after
 
 -- It runs on, or what waits for it goes on, and in what waits behind that nothing is under way.
 abbrev pub Went : Program → List Object → Event → State → Type 0
@@ -62,16 +59,7 @@ Went program before e after =
     InTouching program before e after ⊎ ((c : Crosses program before e after) × IsCalm (behind_call after.control) × (under_in (callers_of program c.suspensions) ≡ []))
 
 abbrev pub GoesTouching : Program → State → Next → Type 0
-GoesTouching program s (halts halt) = EndsWell halt s.heap s.masters
-GoesTouching program s (moves e after) = Went program s.heap e after
-GoesTouching program s (tells request e after) = Went program s.heap e after
-GoesTouching program s (asks request answered) = (granted : Bool) → Went program s.heap Quiet (answered granted)
-GoesTouching program s (picks n taken) = ⊥
-
--- What waits for the body of an operation awaits it.
-awaits : (types : List TypeForm) (o : Id) (of : ℕ) (treatment : Treatment) (after behind : Control) → WaitsFor types o of treatment after behind → IsAwaited behind
-awaits types o of (begins by done) after behind (part, tasks, is) = subst IsAwaited (sym is) tt
-awaits types o of (ends cause) after behind (tasks, is, inside) = subst IsAwaited (sym is) tt
+GoesTouching program s n = StepsTo (Went program s.heap) s n
 
 -- What waits has the operands that it had.
 behind_older : (count : ℕ) (acts : List (Activation Value)) → operands_of (drop (suc count) acts) ≡ operands_of (drop count (older acts))
@@ -110,7 +98,7 @@ module _ (program : Program) (s : State) (f : Touching program s) where
   touching_on inner e after calls operates computed goes c =
       let y = c.stepped.alters.kept f.object f.x f.found in
       record {
-        touching = record {
+        body = record {
           number = f.number;
           is_body = f.is_body;
           inner = inner;
@@ -217,7 +205,7 @@ module _ (program : Program) (s : State) (f : Touching program s) where
         let known = known_in program running (waiting_for program s f) in
         stays_next (next program.types.items (body_forms program) s) same
         (inside.fine known (copies_at program running (waiting_for program s f) sound.well sound.obeys.0) program.types.items (reaches_in program running (waiting_for program s f)) (body_forms program) (may_call program running (waiting_for program s f) sound.well) s
-        (allocates_at program running (waiting_for program s f) s sound.obeys.0 sound.apart) none sound.typed.inside (own_bodies p sound.frees_own running) (collect_two p s sound.nested)
+        (allocates_at program running (waiting_for program s f) s sound.well sound.obeys.0 sound.apart) none sound.typed.inside (own_bodies p sound.frees_own running) (collect_two p s sound.nested)
         (touching_stands program sound.well s sound.reached f known.program.types (same_types running p)) none_is_under
         (λ left behind runs at. (
         let leaves = touching_leaves program s f runs left behind at in
@@ -299,7 +287,7 @@ module _ (program : Program) (a : Activation Value) (k : Control) (s : State) wh
           let control = same_control program a.procedure g (gs ++ behind_it) mode actuals references k w.rooms w.holds w.rest in
           let none : IsAwaited k → ⊥ = λ awaited. calls.0 (subst IsAwaited control awaited) in
           let placed = placed_in (seen_in a.procedure (program_form program)) a (b ∷ rest) ending refl sound.typed.inside in
-          let leads = frugal_returns (frugal_procedures (program_form program)) f.behind mode actuals references k f.frugal.upper (awaits (program_form program).types f.object f.of f.treatment f.after f.behind f.awaited) none f.frugal.frugal in
+          let leads = frugal_returns (frugal_procedures (program_form program)) f.behind mode actuals references k f.frugal.upper (is_awaited (program_form program).types f.object f.of f.treatment f.after f.behind f.awaited) none f.frugal.frugal in
           touching_on program ending f gs Quiet back calls.2
           (ap (λ (running : Option ℕ). called_by running gs) (back_runs mode actuals a.places b rest ∙ stands.bodies.0) ∙ operates)
           (back_operands (length gs) mode actuals a.places b rest ∙ computed)
@@ -315,7 +303,7 @@ module _ (program : Program) (a : Activation Value) (k : Control) (s : State) wh
       own_ends : f.inner ≡ [] → LeavesBody behind_it → next tds bodies ending ≡ moves Quiet back → Went program s.heap Quiet back
       own_ends none w is =
           let control = same_control program a.procedure (origin program ending f) f.suspensions mode actuals references k w.rooms w.holds w.rest in
-          let awaited : IsAwaited k = subst IsAwaited (sym control) (awaits (program_form program).types f.object f.of f.treatment f.after f.behind f.awaited) in
+          let awaited : IsAwaited k = subst IsAwaited (sym control) (is_awaited (program_form program).types f.object f.of f.treatment f.after f.behind f.awaited) in
           let end = frugal_ends (frugal_procedures (program_form program)) f.behind mode actuals references k f.frugal.upper awaited f.frugal.frugal in
           let next_is : ending.control ≡ Returns [] [] ∷ f.behind = rw (end.0, end.1, end.2) refl in
           let masters_are : ending.masters ≡ f.lower = f.frugal.masters ∙ ap (λ (upper : List Master). upper ++ f.lower) end.3 in

@@ -20,68 +20,82 @@ use Rattle.ada_meaning.specs.Frame.{Treatment, begins, ends}
 use Rattle.ada_sound.proofs.Operating.{IsCalled}
 use Rattle.ada_sound.proofs.QuietOperations.{MayTouch}
 use Rattle.ada_program.specs.ProgramForm.{PartForm, TypeForm, record_of, access_to, object_of, type_form, BodyForm, ProgramForm, main_body, program_form}
-use Rattle.ada_program.specs.WellFormed.{IsWellFormed, finalization_in, has_operations, have_operations, overrides_rightly, is_operation, callable_in, profile_of, is_inherited}
+use Rattle.ada_program.specs.WellFormed.{IsWellFormed, finalization_in, has_operations, have_operations, overrides_rightly, is_operation, callable_in, profile_of, is_inherited, variable_kind}
 use Rattle.ada_flow.specs.Flow.{is_owning_part, object_record, is_procedure, tracked_of, tracked_by_adjust, tracks_of}
 use Rattle.ada_flow.specs.Tracking.{no_tracks, tracks_behind, access_numbers, number_within}
-use Rattle.ada_program.specs.WellFormed.{variable_kind}
 use Rattle.ada_quiet.specs.Apart.{is_this_one, is_adjust_of, is_tracker, body_calls_apart, overrides_apart, operations_apart, trackers_stand_apart}
-use Rattle.ada_quiet.specs.InUse.{may_be_frugal, uses_operations, operations_are_in_use}
-use Rattle.ada_quiet.specs.Tracking.{is_copied_alone, may_track}
-use Rattle.ada_quiet.specs.Quiet.{has_access, is_of_access, operation_body, adjust_body, adjusts_access}
+use Rattle.ada_quiet.specs.InUse.{uses_adjust, may_be_frugal, uses_operations, operations_are_in_use, is_copied_alone, may_track}
+use Rattle.ada_quiet.specs.Quiet.{has_access, is_of_access, operation_body}
 use Rattle.ada_sound.proofs.OperationStarts.{apart}
 use Rattle.ada_sound.specs.Untracked.{AdjustsNoOwners}
 
--- Where operations are in use, nothing tracks.
+-- Where operations are in use, nothing tracks, or components may be tracked.
 module _ (p : ProgramForm) where
   body_there : (bs : List BodyForm) (n t : ℕ) → is_operation p.types t (slice_get (map profile_of bs) n) ≡ true → is_some (slice_get bs n) ≡ true
   body_there [] n t is = absurd (cc is)
   body_there (b ∷ bs) zero t is = refl
   body_there (b ∷ bs) (suc n) t is = body_there bs n t is
 
-  none_by : (owns : Bool) (n : ℕ) (adjust : Option ProcedureNo) → overrides_rightly p.types (callable_in p) n adjust ≡ true → not (owns && is_some (operation_body p adjust)) ≡ true
-      → (m : ℕ) → (owns && is_this_one m adjust) ≡ false
-  none_by false n adjust right none m = refl
-  none_by true n None right none m = refl
-  none_by true n (Some procedure) right none m =
+  none_by : (owns : Bool) (n : ℕ) (adjust : Option ProcedureNo) → overrides_rightly p.types (callable_in p) n adjust ≡ true → uses_adjust p owns adjust ≡ true
+      → may_track p ≡ false → (m : ℕ) → (owns && is_this_one m adjust) ≡ false
+  none_by false n adjust right uses never m = refl
+  none_by true n None right uses never m = refl
+  none_by true n (Some procedure) right uses never m =
       let there : is_some (operation_body p (Some procedure)) ≡ true = body_there p.bodies procedure.0 n right in
-      let never = rw there at none in
-      absurd (cc never)
+      let is = rw (there, never) at uses in
+      absurd (cc is)
 
   none_at : (n : ℕ) (t : TypeForm) (f : Option Finalization) → finalization_in (Some t) ≡ f → has_operations p.types (callable_in p) n f ≡ true
-      → not (has_access (Some t) && is_some (adjust_body p f)) ≡ true → (m : ℕ) → (has_access (Some t) && is_adjust_of m f) ≡ false
-  none_at n t None is right none m = and_none (has_access (Some t))
+      → uses_operations p (has_access (Some t)) f ≡ true → may_track p ≡ false → (m : ℕ) → (has_access (Some t) && is_adjust_of m f) ≡ false
+  none_at n t None is right uses never m = and_none (has_access (Some t))
     where
       and_none : (b : Bool) → (b && false) ≡ false
       and_none true = refl
       and_none false = refl
-  none_at n t (Some f) is right none m =
+  none_at n t (Some f) is right uses never m =
       let two = apart _ _ right in
       let three = apart _ _ two.0 in
-      none_by (has_access (Some t)) n f.operations.adjust three.1 none m
+      let uses_two = apart _ _ uses in
+      let uses_three = apart _ _ uses_two.0 in
+      none_by (has_access (Some t)) n f.operations.adjust three.1 uses_three.1 never m
 
   none_among : (n : ℕ) (ts : List TypeForm) → have_operations p.types (callable_in p) n ts ≡ true
-      → list_all (λ t. uses_operations p (finalization_in (Some t)) && not (adjusts_access p t)) ts ≡ true
+      → list_all (λ t. uses_operations p (has_access (Some t)) (finalization_in (Some t))) ts ≡ true → may_track p ≡ false
       → (m : ℕ) → list_any (λ t. has_access (Some t) && is_adjust_of m (finalization_in (Some t))) ts ≡ false
-  none_among n [] right uses m = refl
-  none_among n (t ∷ ts) right uses m =
+  none_among n [] right uses never m = refl
+  none_among n (t ∷ ts) right uses never m =
       let rights = apart _ _ right in
       let both = apart _ _ uses in
-      let own = apart (uses_operations p (finalization_in (Some t))) (not (adjusts_access p t)) both.0 in
-      rw (none_at n t (finalization_in (Some t)) refl rights.0 own.1 m, none_among (1 + n) ts rights.1 both.1 m) refl
-
-  pub none_tracks : IsWellFormed p → operations_are_in_use p ≡ true → (m : ℕ) → is_tracker p m ≡ false
-  none_tracks well uses m = none_among 0 p.types well.operations_fit uses m
+      rw (none_at n t (finalization_in (Some t)) refl rights.0 both.0 never m, none_among (1 + n) ts rights.1 both.1 never m) refl
 
   -- Nothing tracks, or components may be tracked.
   abbrev pub TracksSafely : Type 0
   TracksSafely = ((m : ℕ) → is_tracker p m ≡ false) ⊎ (may_track p ≡ true)
 
-  -- Where they may be, what tracks stands apart.
+  pub tracks_safely : IsWellFormed p → operations_are_in_use p ≡ true → TracksSafely
+  tracks_safely well uses = by (may_track p) refl
+    where
+      by : (b : Bool) → may_track p ≡ b → TracksSafely
+      by true may = inr may
+      by false never = inl (none_among 0 p.types well.operations_fit uses never)
+
+  -- Where they may be, bodies may be frugal, records are copied alone, and what tracks stands apart.
+  frugal_and_alone : may_track p ≡ true → (may_be_frugal p ≡ true) × (list_all (is_copied_alone p.types) p.types ≡ true)
+  frugal_and_alone may =
+      apart (may_be_frugal p) (list_all (is_copied_alone p.types) p.types)
+      (apart (may_be_frugal p && list_all (is_copied_alone p.types) p.types) (trackers_stand_apart p) may).0
+
+  pub frugal_too : may_track p ≡ true → may_be_frugal p ≡ true
+  frugal_too may = (frugal_and_alone may).0
+
+  pub alone_too : may_track p ≡ true → list_all (is_copied_alone p.types) p.types ≡ true
+  alone_too may = (frugal_and_alone may).1
+
   pub stand_apart : may_track p ≡ true → trackers_stand_apart p ≡ true
   stand_apart may = (apart (may_be_frugal p && list_all (is_copied_alone p.types) p.types) (trackers_stand_apart p) may).1
 
-  pub calls_stand_apart : may_track p ≡ true → (body_calls_apart (is_tracker p) (main_body p) ≡ true) × (list_all (body_calls_apart (is_tracker p)) p.bodies ≡ true)
-  calls_stand_apart may = apart _ _ (apart (body_calls_apart (is_tracker p) (main_body p) && list_all (body_calls_apart (is_tracker p)) p.bodies) _ (stand_apart may)).0
+  pub calls_stand_apart : may_track p ≡ true → (body_calls_apart p.types (is_tracker p) (main_body p) ≡ true) × (list_all (body_calls_apart p.types (is_tracker p)) p.bodies ≡ true)
+  calls_stand_apart may = apart _ _ (apart (body_calls_apart p.types (is_tracker p) (main_body p) && list_all (body_calls_apart p.types (is_tracker p)) p.bodies) _ (stand_apart may)).0
 
   -- What does not track has a body that tracks nothing.
   none_number : (first : ℕ) (kind : PartKind) → is_of_access kind ≡ false → number_within first kind ≡ []
@@ -185,7 +199,7 @@ touches_apart program (inr tracks) of number treatment may called = by treatment
     plainly : ArePlainlyCalled (is_tracker (program_form program)) (operations_of program.types.items of)
     plainly =
         plainly_found (is_tracker (program_form program)) (λ t. is_number of (number_by (Some t))) program.types.items
-        (apart (body_calls_apart (is_tracker (program_form program)) (main_body (program_form program)) && list_all (body_calls_apart (is_tracker (program_form program))) (program_form program).bodies) _
+        (apart (body_calls_apart (program_form program).types (is_tracker (program_form program)) (main_body (program_form program)) && list_all (body_calls_apart (program_form program).types (is_tracker (program_form program))) (program_form program).bodies) _
         (stand_apart (program_form program) tracks)).1
 
     by : (treatment' : Treatment) → MayTouch treatment' → IsCalled (operations_of program.types.items of) treatment' number → is_tracker (program_form program) number ≡ false
@@ -194,26 +208,27 @@ touches_apart program (inr tracks) of number treatment may called = by treatment
     by (begins (Adjustment n) done) may' called' = absurd may'
     by (ends cause) may' called' = called_plainly (is_tracker (program_form program)) _ number plainly.finalize called'
 
+-- A type declares a component of an access type where a declared component owns.
+of_access : (kind : PartKind) → is_owning_part kind ≡ is_of_access kind
+of_access (part.Elementary (component.Integer initial)) = refl
+of_access (part.Elementary (component.Boolean initial)) = refl
+of_access (part.Elementary (component.Access access)) = refl
+of_access (part.Record u) = refl
+of_access part.Parent = refl
+
+pub owns_access : (ps : List PartForm) → list_any (λ c. is_owning_part c.kind) ps ≡ list_any (λ c. is_of_access c.kind) ps
+owns_access [] = refl
+owns_access (q ∷ ps) = rw (of_access q.kind, owns_access ps) refl
+
 -- Where nothing tracks, no Adjust is of a type that declares components of access types.
 pub nothing_adjusts : (p : ProgramForm) → ((m : ℕ) → is_tracker p m ≡ false) → AdjustsNoOwners p.types
 nothing_adjusts p none t name parts components f at owns = by f.operations.adjust refl
   where
-    of_access : (kind : PartKind) → is_owning_part kind ≡ is_of_access kind
-    of_access (part.Elementary (component.Integer initial)) = refl
-    of_access (part.Elementary (component.Boolean initial)) = refl
-    of_access (part.Elementary (component.Access access)) = refl
-    of_access (part.Record u) = refl
-    of_access part.Parent = refl
-
-    have_access : (ps : List PartForm) → list_any (λ c. is_owning_part c.kind) ps ≡ list_any (λ c. is_of_access c.kind) ps
-    have_access [] = refl
-    have_access (q ∷ ps) = rw (of_access q.kind, have_access ps) refl
-
     by : (adjust : Option ProcedureNo) → f.operations.adjust ≡ adjust → is_inherited adjust ≡ true
     by None is = refl
     by (Some q) is =
         let test = λ (u : TypeForm). has_access (Some u) && is_adjust_of q.0 (finalization_in (Some u)) in
         let never : test (record_of name parts components (Some f)) ≡ false = any_at p p.types t (record_of name parts components (Some f)) test at (none q.0) in
-        let access : list_any (λ c. is_of_access c.kind) parts ≡ true = sym (have_access parts) ∙ owns in
+        let access : list_any (λ c. is_of_access c.kind) parts ≡ true = sym (owns_access parts) ∙ owns in
         let always : test (record_of name parts components (Some f)) ≡ true = rw (access, is, eq-eqb q.0 q.0 refl) refl in
         absurd (cc (never, always))

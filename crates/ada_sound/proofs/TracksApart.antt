@@ -11,7 +11,7 @@ use Rattle.ada_program.specs.declared.program.PartKind.{PartKind}
 use Rattle.ada_program.specs.declared.program.PartKind.TheVariants as part
 use Rattle.ada_program.specs.ProgramForm.{PartForm, TypeForm, record_of, access_to, object_of, BodyForm}
 use Rattle.ada_program.specs.WellFormed.{is_parent, variable_kind}
-use Rattle.ada_quiet.specs.Tracking.{size_of_part, stand_in_a_row}
+use Rattle.ada_quiet.specs.InUse.{size_of_part, stand_in_a_row}
 use Rattle.ada_flow.specs.Flow.{object_record, adjusts, tracked_of, tracked_by_adjust, tracks_of}
 use Rattle.ada_flow.specs.Tracking.{tracks_behind, number_within, access_numbers}
 use Rattle.ada_tracked.specs.Seen.{IsNoneOf, AreApart}

@@ -3,7 +3,7 @@
 
 use Rattle.std.proofs.Common.{◌≡◌, ℕ, true, false, ◌&&◌, List, ◌∷◌, length, refl, sym, subst, inl, inr}
 use Rattle.std.specs.Prelude.{Option, Some, None}
-use Rattle.std.specs.List.{list_all, slice_get}
+use Rattle.std.specs.List.{slice_get}
 use Rattle.ada_program.specs.declared.program.Finalization.{Finalization}
 use Rattle.ada_program.specs.declared.program.Program.{Program}
 use Rattle.ada_program.specs.Form.{ActualForm, allocates}
@@ -12,29 +12,27 @@ use Rattle.ada_program.specs.WellFormed.{IsWellFormed, finalization_in, finaliza
 use Rattle.std.proofs.lemmas.Bool.{and_parts, eqb-true}
 use Rattle.ada_meaning.specs.Frame.{Calls}
 use Rattle.ada_meaning.specs.Named.{State}
-use Rattle.ada_quiet.specs.Apart.{is_tracker, trackers_stand_apart}
-use Rattle.ada_quiet.specs.InUse.{may_be_frugal}
-use Rattle.ada_quiet.specs.Tracking.{is_copied_alone, stand_in_a_row, adjusts_at_most_one, adjusts_itself, may_track}
+use Rattle.ada_quiet.specs.Apart.{is_tracker}
+use Rattle.ada_quiet.specs.InUse.{is_copied_alone, stand_in_a_row, adjusts_at_most_one, adjusts_itself, may_track}
 use Rattle.ada_sound.proofs.Callers.{Suspension, known_in}
 use Rattle.ada_sound.proofs.CallsApart.{CallApart}
 use Rattle.ada_sound.proofs.CallsApartRuns.{no_record_allocated, no_tracker_called}
 use Rattle.ada_sound.proofs.CopiedOwners.{CopiesWell}
 use Rattle.ada_sound.proofs.CopiedWell.{copies_well}
-use Rattle.ada_sound.proofs.Gathered.{AllocatesBare, allocates_plain}
+use Rattle.ada_sound.proofs.Gathered.{AllocatesBare, allocates_bare}
 use Rattle.ada_sound.proofs.Invariant.{Control}
 use Rattle.ada_sound.proofs.OnlyRows.{AreCopiedAlone}
 use Rattle.ada_sound.proofs.OnlyParts.{passed_at}
-use Rattle.ada_sound.proofs.OperationStarts.{apart}
 use Rattle.ada_sound.proofs.Returns.{same_types}
 use Rattle.ada_sound.proofs.Sees.{copies_in, allocates_in}
-use Rattle.ada_sound.proofs.Trackers.{TracksSafely, nothing_adjusts}
+use Rattle.ada_sound.proofs.Trackers.{TracksSafely, alone_too, nothing_adjusts}
 
 module _ (p : ProgramForm) (well : IsWellFormed p) (may : may_track p ≡ true) where
   pub copied_alone : AreCopiedAlone p.types
   copied_alone = record {
     types_fit = well.types_fit;
     components_lie = well.components_lie;
-    copied_alone = (apart (may_be_frugal p) (list_all (is_copied_alone p.types) p.types) (apart (may_be_frugal p && list_all (is_copied_alone p.types) p.types) (trackers_stand_apart p) may).0).1;
+    copied_alone = alone_too p may;
   }
 
   -- No record type has two controlled parts.
@@ -60,15 +58,17 @@ copies_at program procedure gs well (inl none) = copies_in program procedure gs 
 copies_at program procedure gs well (inr may) = subst CopiesWell (sym (same_types procedure (program_form program))) (tracked_well (program_form program) well may)
 
 -- The records own nothing that are items of an allocator that is evaluated next.
-pub allocates_at : (program : Program) (procedure : Option ℕ) (gs : List Suspension) (s : State) → TracksSafely (program_form program) → (may_track (program_form program) ≡ true → CallApart (is_tracker (program_form program)) s.control)
+pub allocates_at : (program : Program) (procedure : Option ℕ) (gs : List Suspension) (s : State) → IsWellFormed (program_form program) → TracksSafely (program_form program) → (may_track (program_form program) ≡ true → CallApart (program_form program).types (is_tracker (program_form program)) s.control)
     → AllocatesBare (known_in program procedure gs).program.types s.control
-allocates_at program procedure gs s (inl none) apart' = allocates_in program procedure gs s.control (nothing_adjusts (program_form program) none)
-allocates_at program procedure gs s (inr may) apart' =
-    allocates_plain (known_in program procedure gs).program.types s.control
-    (λ access items k is. no_record_allocated (is_tracker (program_form program)) s (allocates access items) k is (apart' may))
+allocates_at program procedure gs s well (inl none) apart' = allocates_in program procedure gs s.control (nothing_adjusts (program_form program) none)
+allocates_at program procedure gs s well (inr may) apart' =
+    let p = program_form program in
+    subst (λ (types : List TypeForm). AllocatesBare types s.control) (sym (same_types procedure p))
+    (allocates_bare p.types (tracked_well p well may) s.control
+    (λ access items k is. no_record_allocated p.types (is_tracker p) s (allocates access items) k is (apart' may)))
 
 -- What is called next tracks nothing.
 pub called_apart : (program : Program) (s : State) (number : ℕ) (b : BodyForm) (actuals : List ActualForm) (k : Control) → s.control ≡ Calls number b actuals ∷ k → TracksSafely (program_form program)
-    → (may_track (program_form program) ≡ true → CallApart (is_tracker (program_form program)) s.control) → is_tracker (program_form program) number ≡ false
+    → (may_track (program_form program) ≡ true → CallApart (program_form program).types (is_tracker (program_form program)) s.control) → is_tracker (program_form program) number ≡ false
 called_apart program s number b actuals k is (inl none) apart' = none number
-called_apart program s number b actuals k is (inr may) apart' = no_tracker_called (is_tracker (program_form program)) s number b actuals k is (apart' may)
+called_apart program s number b actuals k is (inr may) apart' = no_tracker_called (program_form program).types (is_tracker (program_form program)) s number b actuals k is (apart' may)

@@ -257,6 +257,7 @@ record IsFound (heap : List Object) (v : Value) (cell : Cell Value) : Type 0 whe
   names : v ≡ Names o
   found : object_at heap o ≡ Some x
   live : StaysLive x.stage
+  cell_so : x.cell ≡ cell
 
 object_found : (heap : List Object) (v : Value) (cell : Cell Value) → look heap v ≡ finds cell → IsFound heap v cell
 object_found heap Null cell is = absurd (cc is)
@@ -269,9 +270,14 @@ object_found heap (Names o) cell is = go (object_at heap o) refl is
     staged x Existing e = tt
     staged x Gone e = absurd (cc e)
 
+    held : (x : Object) (stage : Stage) → existing x stage ≡ finds cell → x.cell ≡ cell
+    held x Building e = cc e
+    held x Existing e = cc e
+    held x Gone e = absurd (cc e)
+
     go : (t : Option Object) → object_at heap o ≡ t → seen t ≡ finds cell → IsFound heap (Names o) cell
     go None at e = absurd (cc e)
-    go (Some x) at e = record { o = o; x = x; names = refl; found = at; live = staged x x.stage e }
+    go (Some x) at e = record { o = o; x = x; names = refl; found = at; live = staged x x.stage e; cell_so = held x x.stage e }
 
 changed_at : (change : Object → Object) (heap : List Object) (o : Id) (x : Object) → object_at heap o ≡ Some x → object_at (on_object change heap (Names o)) o ≡ Some (change x)
 changed_at change heap o x found = rw found (set_here heap o.0 x (change x) found)
@@ -306,6 +312,15 @@ none_inside types (ends (Assigning number)) (Copies first t ∷ k) = tt
 none_inside types (ends (Assigning number)) (f ∷ k) = tt
 none_inside types (ends (Undoing number)) k = tt
 
+-- What begins a part of an object is called where that part is, and what is left of the treatment waits for it (7.6).
+pub record BeginsPart (o : Id) (x : Object) (place : Place) (by : Birth) (done : List parts.Part) (of : ℕ) (k behind : Control) : Type 0 where
+  pub part : ℕ
+  pub tasks : List Task
+  pub p : PartState
+  pub state : slice_get x.cell.parts part ≡ Some p
+  pub at : place ≡ record { component = p.first; part = part }
+  pub awaits : behind ≡ frame.Awaits (Names o) by done of part tasks ∷ k
+
 -- The body begins of a procedure that overrides an operation, of a controlled type of which the next task is known to speak: for a part of an object that is
 -- there, and that is ready for what waits behind it (7.6, 7.6.1).
 pub record Begins (known : Known) (a : Activation Value) (rest : List (Activation Value)) (s : State) (types : List TypeDefinition) (bodies : List BodyForm) (k : Control) (IsOperated : Treatment → Id → ℕ → Type 0) (e : Event) (after : State) : Type 0 where
@@ -327,16 +342,19 @@ pub record Begins (known : Known) (a : Activation Value) (rest : List (Activatio
   pub treats : TreatsBy known (Names o) treatment k heap a.places a.operands s.masters
   pub alters : Alters s.heap e heap
   pub tells : TellsNothing e
+  pub begun : (by : Birth) (done : List parts.Part) → treatment ≡ begins by done → (heap ≡ s.heap) × (e ≡ Quiet)
+  pub standing : (by : Birth) (done : List parts.Part) → treatment ≡ begins by done → BeginsPart o x place by done of k behind
   pub is : after ≡ operating named number b (Part o place) behind (record (running k a rest s) { heap = heap })
 
 -- The body of an Adjust begins, after a copy, that sees to the components of access types of the only controlled part of an object. These count as null until
--- it has ended. The part begins with the component `p.first`, and nothing is left of the treatment behind it.
+-- it has ended. The part begins with the component `p.first`.
 pub record BeginsAdjust (known : Known) (a : Activation Value) (rest : List (Activation Value)) (s : State) (types : List TypeDefinition) (bodies : List BodyForm) (v : Value) (k : Control) (IsOperated : Treatment → Id → ℕ → Type 0) (e : Event) (after : State) : Type 0 where
   pub number : ℕ
   pub b : BodyForm
   pub there : slice_get bodies number ≡ Some b
   pub by : Birth
   pub done : List parts.Part
+  pub tasks : List Task
   pub copies : BeginsCopy by
   pub o : Id
   pub names : v ≡ Names o
@@ -350,7 +368,7 @@ pub record BeginsAdjust (known : Known) (a : Activation Value) (rest : List (Act
   pub operated : IsOperated (begins by done) o of
   pub called : IsCalled (operations_of types of) (begins by done) number
   pub quiet : e ≡ Quiet
-  pub is : after ≡ operating named number b (Part o (record { component = p.first; part = part })) (frame.Awaits (Names o) by done of part [] ∷ k) (running k a rest s)
+  pub is : after ≡ operating named number b (Part o (record { component = p.first; part = part })) (frame.Awaits (Names o) by done of part tasks ∷ k) (running k a rest s)
 
 -- An object that is there is found.
 looks_there : (heap : List Object) (o : Id) (x : Object) → object_at heap o ≡ Some x → is_there x.stage ≡ true → look heap (Names o) ≡ finds x.cell
@@ -420,10 +438,30 @@ module _ (known : Known) (a : Activation Value) (rest : List (Activation Value))
       there : IsFound s.heap v cell
       there = object_found s.heap v cell is
 
-      calls_first : (by : Birth) (done : List parts.Part) (of part : ℕ) (tasks : List Task) (p : PartState) (number : ℕ) → ((o : Id) → v ≡ Names o → IsOperated (begins by done) o of) × (beginning by (operations_of types of) ≡ Some number) → TreatsBy known v (begins by done) k s.heap a.places a.operands s.masters
+      -- What is left of the treatment waits for it.
+      awaits_it : (by : Birth) (done : List parts.Part) (of part : ℕ) (tasks : List Task) (birth : Birth) (before : List parts.Part) → begins by done ≡ begins birth before → frame.Awaits v by done of part tasks ∷ k ≡ frame.Awaits (Names there.o) birth before of part tasks ∷ k
+      awaits_it by done of part tasks birth before is =
+          let birth_is : by ≡ birth = cc is in
+          let before_is : done ≡ before = cc is in
+          ap (λ (u : Value). frame.Awaits u by done of part tasks ∷ k) (there.names)
+          ∙ (ap (λ (b : Birth). frame.Awaits (Names there.o) b done of part tasks ∷ k) birth_is ∙ ap (λ (d : List parts.Part). frame.Awaits (Names there.o) birth d of part tasks ∷ k) before_is)
+
+      -- The part that begins is one of the object.
+      part_stands : (by : Birth) (done : List parts.Part) (of part : ℕ) (tasks : List Task) (p : PartState) → slice_get cell.parts part ≡ Some p → (birth : Birth) (before : List parts.Part) → begins by done ≡ begins birth before
+          → BeginsPart there.o there.x (record { component = p.first; part = part }) birth before of k (frame.Awaits v by done of part tasks ∷ k)
+      part_stands by done of part tasks p state birth before is = record {
+        part = part;
+        tasks = tasks;
+        p = p;
+        state = subst (λ (held : Cell Value). slice_get held.parts part ≡ Some p) (sym (there.cell_so)) state;
+        at = refl;
+        awaits = awaits_it by done of part tasks birth before is;
+      }
+
+      calls_first : (by : Birth) (done : List parts.Part) (of part : ℕ) (tasks : List Task) (p : PartState) (number : ℕ) → ((o : Id) → v ≡ Names o → IsOperated (begins by done) o of) × (beginning by (operations_of types of) ≡ Some number) → slice_get cell.parts part ≡ Some p → TreatsBy known v (begins by done) k s.heap a.places a.operands s.masters
           → (found : Option BodyForm) → slice_get bodies number ≡ found → Treated (operation_next named number found (part_reference named v part p) (frame.Awaits v by done of part tasks ∷ k) Quiet (running k a rest s))
-      calls_first by done of part tasks p number called r None at = tt
-      calls_first by done of part tasks p number called r (Some b) at = inr (inl (record {
+      calls_first by done of part tasks p number called state r None at = tt
+      calls_first by done of part tasks p number called state r (Some b) at = inr (inl (record {
         of = of;
         number = number;
         b = b;
@@ -442,16 +480,18 @@ module _ (known : Known) (a : Activation Value) (rest : List (Activation Value))
         treats = subst (λ (u : Value). TreatsBy known u (begins by done) k s.heap a.places a.operands s.masters) (there.names) r;
         alters = alters_same s.heap Quiet;
         tells = tt;
+        begun = λ birth before is. (refl, refl);
+        standing = λ birth before is. part_stands by done of part tasks p state birth before is;
         is = ap (λ (u : Value). operating named number b (part_reference named u part p) (frame.Awaits v by done of part tasks ∷ k) (running k a rest s)) (there.names);
       }))
 
-      begun_fine : (by : Birth) (done : List parts.Part) (of part : ℕ) (tasks : List Task) (operation : Option ℕ) → ((number : ℕ) → operation ≡ Some number → ((o : Id) → v ≡ Names o → IsOperated (begins by done) o of) × (beginning by (operations_of types of) ≡ Some number)) → (state : Option PartState) → TreatsBy known v (begins by done) k s.heap a.places a.operands s.masters
+      begun_fine : (by : Birth) (done : List parts.Part) (of part : ℕ) (tasks : List Task) (operation : Option ℕ) → ((number : ℕ) → operation ≡ Some number → ((o : Id) → v ≡ Names o → IsOperated (begins by done) o of) × (beginning by (operations_of types of) ≡ Some number)) → (state : Option PartState) → slice_get cell.parts part ≡ state → TreatsBy known v (begins by done) k s.heap a.places a.operands s.masters
           → Treated (begun_next named bodies v by done of part tasks operation state (running k a rest s))
-      begun_fine by done of part tasks operation called None r = tt
-      begun_fine by done of part tasks None called (Some p) r =
+      begun_fine by done of part tasks operation called None at r = tt
+      begun_fine by done of part tasks None called (Some p) at r =
           inl (born_fine by done of part tasks p r, (refl, behind_treating v (begins by (record { of = of; number = part } ∷ done)) tasks k))
-      begun_fine by done of part tasks (Some number) called (Some p) r =
-          calls_first by done of part tasks p number (called number refl) r (slice_get bodies number) refl
+      begun_fine by done of part tasks (Some number) called (Some p) at r =
+          calls_first by done of part tasks p number (called number refl) at r (slice_get bodies number) refl
 
       -- A value that is finalized exists; Finalize is called for it.
       treats_after : (cause : Cause) (part : ℕ) → TreatsBy known v (ends cause) k s.heap a.places a.operands s.masters → TreatsBy known v (ends cause) k (on_object (treated finalized_part part) s.heap v) a.places a.operands s.masters
@@ -485,6 +525,8 @@ module _ (known : Known) (a : Activation Value) (rest : List (Activation Value))
         treats = subst (λ (u : Value). TreatsBy known u (ends cause) k (on_object (treated finalized_part part) s.heap v) a.places a.operands s.masters) (there.names) (treats_after cause part r);
         alters = alters_treated finalized_part part s.heap _ v;
         tells = tt;
+        begun = λ birth before is. absurd (cc is);
+        standing = λ birth before is. absurd (cc is);
         is = ap (λ (u : Value). operating named number b (part_reference named u part p) (frame.Confines ∷ treating v (ends cause) tasks k) (record (running k a rest s) { heap = on_object (treated finalized_part part) s.heap v })) (there.names);
       }))
 
@@ -517,7 +559,7 @@ module _ (known : Known) (a : Activation Value) (rest : List (Activation Value))
     performed_fine treatment of part tasks on_gone at once operated r inside = absurd (once refl)
     performed_fine treatment of part tasks on_other at once operated r inside = tt
     performed_fine (begins by done) of part tasks (finds cell) at once operated r inside =
-        begun_fine cell at by done of part tasks (beginning by (operations_of types of)) (λ number is. (operated, is)) (slice_get cell.parts part) r
+        begun_fine cell at by done of part tasks (beginning by (operations_of types of)) (λ number is. (operated, is)) (slice_get cell.parts part) refl r
     performed_fine (ends cause) of part tasks (finds cell) at once operated r inside =
         finalized_fine cell at cause of part tasks (procedure_number (operations_of types of).finalize) (λ number is. (operated, is)) (slice_get cell.parts part) once r inside
 
@@ -556,6 +598,7 @@ module _ (known : Known) (a : Activation Value) (rest : List (Activation Value))
           there = at;
           by = by;
           done = done;
+          tasks = [];
           copies = copies;
           o = o;
           names = names;

@@ -1,14 +1,15 @@
 -- What waits for a body stays as it is while the body runs.
 
 use Rattle.std.proofs.Common.{◌≡◌, ℕ, List, [], ◌∷◌, sym, subst}
-use Rattle.std.specs.Prelude.{Option}
+use Rattle.std.specs.Prelude.{Option, Some}
 use Rattle.ada_deeds.specs.Implicit.{implicit_of}
 use Rattle.ada_program.specs.declared.program.Program.{Program}
 use Rattle.ada_program.specs.ProgramForm.{program_form, seen_in}
+use Rattle.ada_meaning.specs.declared.state.Id.{Id}
 use Rattle.ada_meaning.specs.declared.state.Value.{Value}
 use Rattle.ada_meaning.specs.State.{Activation}
 use Rattle.ada_meaning.specs.Step.{older}
-use Rattle.ada_meaning.specs.Named.{State}
+use Rattle.ada_meaning.specs.Named.{Object, State, object_at}
 use Rattle.ada_meaning.specs.Run.{Event}
 use Rattle.ada_sound.specs.Agreement.{IsBehind, running_procedure}
 use Rattle.ada_sound.proofs.Alters.{Alters}
@@ -21,27 +22,33 @@ pub record SameBody (s after : State) : Type 0 where
   pub procedure : running_procedure after ≡ running_procedure s
   pub suspended : older after.activations ≡ older s.activations
 
+-- What callers rely on lies where it lay, where each object keeps its home.
+pub low_by :
+    (before after : List Object) → ((o : Id) (x : Object) → object_at before o ≡ Some x → (y : Object) × (object_at after o ≡ Some y) × (y.cell.home ≡ x.cell.home))
+    → (callers : List Caller) → LieBelow before callers → LieBelow after callers
+low_by before after home [] low = tt
+low_by before after home (w ∷ ws) low = (
+  (λ x o relied names.
+      let lies = low.0 x o relied names in
+      let y = home o lies.0 lies.1 in
+      (y.0, y.1, rw y.2 lies.2)),
+  (λ o t refers.
+      let lies = low.1 o t refers in
+      let y = home o lies.0 lies.1 in
+      (y.0, y.1, rw y.2 lies.2)),
+  (λ o is.
+      let lies = low.2 o is in
+      let y = home o lies.0 lies.1 in
+      (y.0, y.1, rw y.2 lies.2)),
+  low_by before after home ws low.3,
+)
+
+-- So it does behind a step.
+pub low_kept : (before : List Object) (e : Event) (after : List Object) → Alters before e after → (callers : List Caller) → LieBelow before callers → LieBelow after callers
+low_kept before e after a callers low = low_by before after (λ o x is. let y = a.kept o x is in (y.0, y.1, y.2.2)) callers low
+
 -- A step that begins no call and ends none keeps what is known of callers.
 module _ (program : Program) (s after : State) (gs : List Suspension) (stands : Stands program gs s) (e : Event) (same : SameBody s after) (alters : Alters s.heap e after.heap) where
-  -- What callers rely on lies where it lay.
-  low_kept : (callers : List Caller) → LieBelow s.heap callers → LieBelow after.heap callers
-  low_kept [] low = tt
-  low_kept (w ∷ ws) low = (
-    (λ x o relied names.
-        let lies = low.0 x o relied names in
-        let y = alters.kept o lies.0 lies.1 in
-        (y.0, y.1, rw y.2.2 lies.2)),
-    (λ o t refers.
-        let lies = low.1 o t refers in
-        let y = alters.kept o lies.0 lies.1 in
-        (y.0, y.1, rw y.2.2 lies.2)),
-    (λ o is.
-        let lies = low.2 o is in
-        let y = alters.kept o lies.0 lies.1 in
-        (y.0, y.1, rw y.2.2 lies.2)),
-    low_kept ws low.3,
-  )
-
   pub stands_kept : Stands program gs after
   stands_kept = record {
     body = subst (λ (procedure : Option ℕ). IsBody (program_form program) procedure) (sym same.procedure) stands.body;
@@ -50,7 +57,7 @@ module _ (program : Program) (s after : State) (gs : List Suspension) (stands : 
     standing = record {
       suspended = subst (λ (rest : List (Activation Value)). AreSuspended rest (callers_of program gs)) (sym same.suspended) stands.standing.suspended;
       waiting = subst (λ (procedure : Option ℕ). AllWait (implicit_of (program_form program)) (seen_in procedure (program_form program)) (callers_of program gs)) (sym same.procedure) stands.standing.waiting;
-      low = low_kept (callers_of program gs) stands.standing.low;
+      low = low_kept s.heap e after.heap alters (callers_of program gs) stands.standing.low;
     };
   }
 

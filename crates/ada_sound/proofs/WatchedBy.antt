@@ -164,7 +164,8 @@ held_in own s (typed.on_jump mode jumps goes) = active_held own.types (cells_of 
 held_in own s (typed.operated kinds ready ended) = active_held own.types (cells_of s.heap) own.variables kinds s.activations ready.active
 held_in own s (typed.out_of_operation e kinds jumps ended) = active_held own.types (cells_of s.heap) own.variables [] s.activations jumps.active
 
-some_variable : (ys : List VariableForm) (kind : VariableKind) → variable_kind ys 0 ≡ Some kind → 0 < length ys
+-- There is a variable that is of a kind.
+pub some_variable : (ys : List VariableForm) (kind : VariableKind) → variable_kind ys 0 ≡ Some kind → 0 < length ys
 some_variable [] kind is = absurd (cc is)
 some_variable (y ∷ ys) kind is = omega arith
 

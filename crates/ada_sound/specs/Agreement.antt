@@ -16,6 +16,7 @@ use Rattle.ada_flow.specs.Flow.{Holds, goes, hold_at, variable_access, declarati
 use Rattle.ada_flow.specs.Tracking.{no_tracks}
 use Rattle.ada_deeds.specs.Implicit.{implicit_of}
 use Rattle.ada_effects.specs.Effects.{Implicit, effects_of}
+use Rattle.ada_quiet.specs.Apart.{is_tracker}
 use Rattle.ada_quiet.specs.Quiet.{is_plain_body}
 use Rattle.ada_meaning.specs.declared.state.Id.{Id}
 use Rattle.ada_meaning.specs.declared.state.Value.{Value}
@@ -157,9 +158,13 @@ RunsPlainly program s =
     (number : ℕ) × (b : BodyForm) × (running_procedure s ≡ Some number) × (slice_get (body_forms program) number ≡ Some b)
     × (is_plain_body (program_form program).types b ≡ true)
 
--- Flow speaks of a state where no operation of a controlled type runs, or where the body that runs is not of such a procedure (7.6).
+-- The body runs of a procedure that overrides Adjust of a type which declares a component of an access type directly (3.10, 7.6).
+abbrev pub RunsTracking : Program → State → Type 0
+RunsTracking program s = (number : ℕ) × (running_procedure s ≡ Some number) × (is_tracker (program_form program) number ≡ true)
+
+-- Flow speaks of a state where no operation of a controlled type runs, or where the body that runs is of neither kind of procedure (7.6).
 abbrev pub IsSpokenOf : Program → State → Type 0
-IsSpokenOf program s = NoOperationRuns s.control ⊎ (RunsPlainly program s → ⊥)
+IsSpokenOf program s = NoOperationRuns s.control ⊎ (RunsPlainly program s ⊎ RunsTracking program s → ⊥)
 
 -- What is left to do behind a body: nothing behind the main one, and what its caller was to do behind that of a procedure (6.5).
 abbrev pub IsBehind : (procedure : Option ℕ) → (rest : Place) → Type 0

@@ -35,7 +35,8 @@ pub record IsChecked (program : Program) : Type 0 where
   -- each number is that of something there, and each form has the types that it wants
   pub well_formed : IsWellFormed (program_form program)
   -- what overrides an operation of a controlled type touches Integers and Booleans alone, and calls nothing, and no exception comes out of Adjust or Finalize
-  -- (7.6); where all that has controlled parts lies in declared objects, Initialize and Finalize may allocate, move, follow and free, and call what does so alone
+  -- (7.6); where all that has controlled parts lies in declared objects, Initialize and Finalize may allocate, move, follow and free, and call what does so
+  -- alone, and Adjust of a type that declares components of access types may allocate, move and follow, so that these own what they name, or are null
   pub in_use : operations_are_in_use (program_form program) ≡ true
   -- no object lies in a collection that lasts longer than one in which its components' objects lie (3.10.2, 7.6.1)
   pub nests : CollectionsNest (program_form program)
@@ -64,7 +65,7 @@ AgreesThere program s =
     × Agrees (program_form program).types (seen_in (running_procedure s) (program_form program)).variables s holds
 
 -- So it is wherever a statement begins, in the main body or in that of a procedure; but, while an operation runs, not in that of a procedure that touches
--- Integers and Booleans alone.
+-- Integers and Booleans alone, nor in that of an Adjust which tracks components.
 abbrev pub AgreesWithFlow : Program → Type 0
 AgreesWithFlow program = InEveryRun program (λ events last. BeginsStatement last → IsSpokenOf program last → AgreesThere program last)
 

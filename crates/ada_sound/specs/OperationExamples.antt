@@ -1,7 +1,8 @@
 -- The operations, the statements and the events of the programs by which the laws show what operations of controlled types do, where one of them raises an
--- exception and where some of them allocate and free, too, and that others must not be in use.
+-- exception and where some of them allocate and free, too, what the rules let through where a type has an Adjust of its own, and that other operations must not
+-- be in use.
 
-use Rattle.std.specs.Prelude.{ℕ, List, [], ◌∷◌, ◌++◌, Some, None, false, pos}
+use Rattle.std.specs.Prelude.{◌≡◌, ℕ, List, [], ◌∷◌, ◌++◌, Option, Some, None, false, pos}
 use Rattle.std.proofs.Math.ListN.{replicate}
 use Rattle.ada_values.specs.declared.operator.BinaryOperator.TheVariants as binary
 use Rattle.ada_program.specs.declared.program.Choice.TheVariants as choice
@@ -10,8 +11,14 @@ use Rattle.ada_program.specs.declared.program.FormalMode.TheVariants.{InOut}
 use Rattle.ada_program.specs.declared.program.Operations.{Operations}
 use Rattle.ada_program.specs.declared.program.Program.{Program}
 use Rattle.ada_program.specs.declared.program.VariableKind.TheVariants as variable
-use Rattle.ada_program.specs.Form.{PathForm, RecordPathForm, in_out_record, integer, reads, is_null, item_of_record, nothing, allocates_default, value_of, computes, DeclarationForm, collects, declares, declares_record, StmtForm, skips, assigns, assigns_record, frees, writes, writes_text, chooses, calls, raises, encloses, StmtsForm, no_stmts, a_stmt, otherwise, a_branch, HandlersForm, no_handlers, a_handler}
-use Rattle.ada_program.specs.ProgramForm.{BodyForm}
+use Rattle.ada_program.specs.Form.{PathForm, RecordPathForm, in_out_record, integer, reads, is_null, item_of_value, item_of_record, nothing, allocates, allocates_default, value_of, computes, DeclarationForm, collects, declares, declares_record, StmtForm, skips, assigns, assigns_record, frees, writes, writes_text, chooses, calls, raises, encloses, StmtsForm, no_stmts, a_stmt, otherwise, a_branch, HandlersForm, no_handlers, a_handler}
+use Rattle.ada_program.specs.ProgramForm.{TypeForm, access_to, BodyForm}
+use Rattle.ada_program.specs.WellFormed.{record_components, reached_components}
+use Rattle.ada_effects.specs.Effects.{Implicit}
+use Rattle.ada_flow.specs.declared.rule.Hold.TheVariants.{Null, Own, Lost}
+use Rattle.ada_flow.specs.declared.rule.Region.TheVariants.{Whole}
+use Rattle.ada_flow.specs.Flow.{Holds, goes, declaration_flow, types_of, variables_of}
+use Rattle.ada_flow.specs.Tracking.{no_tracks}
 use Rattle.ada_meaning.specs.declared.state.Value.{Value}
 use Rattle.ada_meaning.specs.declared.state.Value.TheVariants.{Names}
 use Rattle.ada_meaning.specs.declared.event.Birth.TheVariants.{Creation, Copy, Adjustment}
@@ -27,6 +34,7 @@ use Rattle.ada_sound.specs.Always.{AgreesThere}
 use Rattle.ada_sound.specs.Examples.{example_spot, example_path, with_number}
 use Rattle.ada_sound.specs.RecordExamples.{object_path, object_record}
 use Rattle.ada_sound.specs.CallExamples.{unnamed}
+use Rattle.ada_sound.specs.Owners.{IsLetThrough, HasNoAccess}
 
 -- An operation, whose formal parameter is known by the type of this number, and stands for a record of a controlled type (7.6).
 abbrev pub operation_body : ℕ → StmtsForm → HandlersForm → BodyForm
@@ -458,6 +466,217 @@ undoing_events =
     ∷ Left 1
     ∷ Left 0
     ∷ []
+
+-- The same first two types; and type Holder is new Controlled with record Head : Link; end record; which has number 2, is not limited, and overrides Adjust and
+-- Finalize, by these procedures. A : Holder and B : Holder have numbers 0 and 1 in the main procedure.
+abbrev pub duplicating_operations : Operations
+duplicating_operations = record { initialize = None; adjust = Some (record { 0 = 0 }); finalize = Some (record { 0 = 1 }) }
+
+-- procedure Adjust (H : in out Holder) is begin H.Head := new Cell'(Value => H.Head.Value); exception when others => H.Head := null; end Adjust;
+abbrev pub duplicating_adjust : BodyForm
+duplicating_adjust =
+    operation_body 5 (a_stmt (assigns head_now (allocates 1 (item_of_value (reads value_now) ∷ []))) no_stmts)
+    (a_handler (choice.Others ∷ []) (a_stmt (assigns head_now nothing) no_stmts) no_handlers)
+
+-- procedure Finalize (H : in out Holder) is begin Free (H.Head); end Finalize;
+abbrev pub duplicating_finalize : BodyForm
+duplicating_finalize = operation_body 6 (a_stmt (frees 1 head_now) no_stmts) no_handlers
+
+-- Both, in order.
+abbrev pub duplicating_bodies : List BodyForm
+duplicating_bodies = duplicating_adjust ∷ duplicating_finalize ∷ []
+
+-- The record of type Holder that a variable is.
+abbrev pub holder_in : (x : ℕ) → RecordPathForm
+holder_in x = record { object = object_path x []; first = 0; part = 0; record_type = 2 }
+
+-- A.Head := new Cell'(Value => 7); B := A;
+abbrev pub duplicating_stmts : StmtsForm
+duplicating_stmts =
+    a_stmt (assigns head_now (allocates 1 (item_of_value (integer (pos 7)) ∷ [])))
+    (a_stmt (assigns_record (holder_in 1) (item_of_record (holder_in 0) ∷ [])) no_stmts)
+
+-- The object A.
+abbrev pub object_a : Value
+object_a = Names (record { 0 = 0 })
+
+-- The object B.
+abbrev pub object_b : Value
+object_b = Names (record { 0 = 1 })
+
+-- The cell that A owns.
+abbrev pub cell_of_a : Value
+cell_of_a = Names (record { 0 = 2 })
+
+-- The cell that Adjust allocates, which B owns.
+abbrev pub cell_of_b : Value
+cell_of_b = Names (record { 0 = 3 })
+
+-- A and B have their values, for which nothing is called, and A is followed where its Head is found as a target, and where that is written. The assignment
+-- finds B and then A, and finalizes the value of B: the body of Finalize, a master of its own, follows B, frees nothing, since Head is null, and is left. Then
+-- A is copied to B, whose Head names the cell of A now, until Adjust, a master of its own, has run: B is followed where its Head is found as a target, and once
+-- more to where the cell of A is read, and where Head is written, which names a cell of its own now. So B has a value again. At the leaving of the main
+-- procedure B is finalized: its Finalize frees the cell of B, and the words of B go back. Then A is finalized, whose cell is there still, and goes, and so do
+-- the words of A. Nothing is left in the collection.
+abbrev pub duplicating_events : List Event
+duplicating_events =
+    Born object_a 0 0 0 1 Creation
+    ∷ Born object_b 0 0 0 2 Creation
+    ∷ replicate 2 (Followed object_a)
+    ++ Followed object_b
+    ∷ Followed object_a
+    ∷ Finalized object_b 0 0 0 2 (Assigning 1)
+    ∷ Followed object_b
+    ∷ Left 2
+    ∷ Followed object_a
+    ∷ Followed object_b
+    ∷ replicate 2 (Followed object_b)
+    ++ Followed cell_of_a
+    ∷ Followed object_b
+    ∷ Left 3
+    ∷ Born object_b 0 1 0 3 (Adjustment 1)
+    ∷ Finalized object_b 0 1 0 3 (Leaving 0 2)
+    ∷ Followed object_b
+    ∷ Back cell_of_b 1 2 (Some 0) None (Freeing 5)
+    ∷ Followed object_b
+    ∷ Left 4
+    ∷ Back object_b 4 0 None None (Leaving 0 2)
+    ∷ Finalized object_a 0 0 0 1 (Leaving 0 1)
+    ∷ Followed object_a
+    ∷ Back cell_of_a 1 1 (Some 0) None (Freeing 7)
+    ∷ Followed object_a
+    ∷ Left 6
+    ∷ Back object_a 3 0 None None (Leaving 0 1)
+    ∷ Left 0
+    ∷ []
+
+-- Where the cell is refused that Adjust allocates, the handler in its body takes Storage_Error: B is followed where its Head is found as a target, and where that
+-- becomes null. So B has a value again all the same. Its Finalize finds null and frees nothing, and the cell of A goes as before.
+abbrev pub duplicating_refused_events : List Event
+duplicating_refused_events =
+    Born object_a 0 0 0 1 Creation
+    ∷ Born object_b 0 0 0 2 Creation
+    ∷ replicate 2 (Followed object_a)
+    ++ Followed object_b
+    ∷ Followed object_a
+    ∷ Finalized object_b 0 0 0 2 (Assigning 1)
+    ∷ Followed object_b
+    ∷ Left 2
+    ∷ Followed object_a
+    ∷ Followed object_b
+    ∷ replicate 2 (Followed object_b)
+    ++ Followed cell_of_a
+    ∷ replicate 2 (Followed object_b)
+    ++ Left 3
+    ∷ Born object_b 0 1 0 3 (Adjustment 1)
+    ∷ Finalized object_b 0 1 0 3 (Leaving 0 2)
+    ∷ Followed object_b
+    ∷ Left 4
+    ∷ Back object_b 4 0 None None (Leaving 0 2)
+    ∷ Finalized object_a 0 0 0 1 (Leaving 0 1)
+    ∷ Followed object_a
+    ∷ Back cell_of_a 1 1 (Some 0) None (Freeing 6)
+    ∷ Followed object_a
+    ∷ Left 5
+    ∷ Back object_a 3 0 None None (Leaving 0 1)
+    ∷ Left 0
+    ∷ []
+
+-- The same types and procedures, but that B : Holder, which has number 1 as before, is declared in a block, by the value of A.
+
+-- A.Head := new Cell'(Value => 7); declare B : Holder := A; begin null; end;
+abbrev pub copying_stmts : StmtsForm
+copying_stmts =
+    a_stmt (assigns head_now (allocates 1 (item_of_value (integer (pos 7)) ∷ [])))
+    (a_stmt (encloses (declares_record 1 4 (Some (item_of_record (holder_in 0) ∷ [])) ∷ []) (a_stmt skips no_stmts) no_handlers) no_stmts)
+
+-- The object B of the block; A is as before, and new_cell is the cell that it owns.
+abbrev pub object_copy : Value
+object_copy = Names (record { 0 = 2 })
+
+-- The cell that Adjust allocates, which the object of the block owns.
+abbrev pub cell_of_copy : Value
+cell_of_copy = Names (record { 0 = 3 })
+
+-- A has its value, for which nothing is called, and is followed where its Head is found as a target, and where that is written. The block is entered, and A is
+-- followed where it is copied; Head of B names the cell of A now, until Adjust, a master of its own, has run, as above. So B has its value, as a copy. At the
+-- leaving of the block B is finalized: its Finalize frees the cell of B, and the words of B go back. At that of the main procedure A is finalized, whose cell
+-- is there still, and goes, and so do the words of A. Nothing is left in the collection.
+abbrev pub copying_events : List Event
+copying_events =
+    Born object_a 0 0 0 1 Creation
+    ∷ replicate 2 (Followed object_a)
+    ++ Followed object_a
+    ∷ replicate 2 (Followed object_copy)
+    ++ Followed new_cell
+    ∷ Followed object_copy
+    ∷ Left 2
+    ∷ Born object_copy 0 0 0 2 Copy
+    ∷ Finalized object_copy 0 0 0 2 (Leaving 1 2)
+    ∷ Followed object_copy
+    ∷ Back cell_of_copy 1 2 (Some 0) None (Freeing 4)
+    ∷ Followed object_copy
+    ∷ Left 3
+    ∷ Back object_copy 4 0 None None (Leaving 1 2)
+    ∷ Left 1
+    ∷ Finalized object_a 0 0 0 1 (Leaving 0 1)
+    ∷ Followed object_a
+    ∷ Back new_cell 1 1 (Some 0) None (Freeing 6)
+    ∷ Followed object_a
+    ∷ Left 5
+    ∷ Back object_a 3 0 None None (Leaving 0 1)
+    ∷ Left 0
+    ∷ []
+
+-- Where the cell is refused that Adjust allocates, its handler sets Head of B to null, and B has its value all the same. Its Finalize frees nothing.
+abbrev pub copying_refused_events : List Event
+copying_refused_events =
+    Born object_a 0 0 0 1 Creation
+    ∷ replicate 2 (Followed object_a)
+    ++ Followed object_a
+    ∷ replicate 2 (Followed object_copy)
+    ++ Followed new_cell
+    ∷ replicate 2 (Followed object_copy)
+    ++ Left 2
+    ∷ Born object_copy 0 0 0 2 Copy
+    ∷ Finalized object_copy 0 0 0 2 (Leaving 1 2)
+    ∷ Followed object_copy
+    ∷ Left 3
+    ∷ Back object_copy 4 0 None None (Leaving 1 2)
+    ∷ Left 1
+    ∷ Finalized object_a 0 0 0 1 (Leaving 0 1)
+    ∷ Followed object_a
+    ∷ Back new_cell 1 1 (Some 0) None (Freeing 5)
+    ∷ Followed object_a
+    ∷ Left 4
+    ∷ Back object_a 3 0 None None (Leaving 0 1)
+    ∷ Left 0
+    ∷ []
+
+-- The rules let B := A; through (5.2) where both objects are there, though a component of the record that is assigned to is of an access type, and one of that
+-- which is its item: both are of type Holder, whose Adjust is its own (7.6).
+abbrev pub AssignsOwner : Program → Type 0
+AssignsOwner program =
+    IsLetThrough (types_of program) (variables_of program) (assigns_record (holder_in 1) (item_of_record (holder_in 0) ∷ [])) (Own Whole ∷ Own Whole ∷ [])
+    × (HasNoAccess (record_components (types_of program) 2) → ⊥)
+
+-- By what may be known of the operations, they let B : Holder := A; through (3.3.1), which is known by the type of number 4, where A is there.
+abbrev pub DeclaresOwner : Program → Type 0
+DeclaresOwner program =
+    (implicit : Implicit) × (normal raising : Option Holds)
+    × (declaration_flow (types_of program) (variables_of program) no_tracks implicit (declares_record 1 4 (Some (item_of_record (holder_in 0) ∷ []))) (Own Whole ∷ Lost ∷ []) ≡ goes normal raising)
+    × (HasNoAccess (reached_components (types_of program) 4) → ⊥)
+
+-- The types with one more, type Keep is access Holder; which has number 7.
+abbrev pub with_keep : Program → List TypeForm
+with_keep program = types_of program ++ access_to [] 2 None ∷ []
+
+-- With these and K : Keep, which has number 2, they let K := new Holder'(A); through (4.8); it is not well formed, but for another reason: Holder is controlled.
+abbrev pub AllocatesOwner : Program → Type 0
+AllocatesOwner program =
+    IsLetThrough (with_keep program) (variables_of program ++ unnamed (variable.Access (record { 0 = 7 })) ∷ [])
+    (assigns (example_path 2 []) (allocates 7 (item_of_record (holder_in 0) ∷ []))) (Own Whole ∷ Own Whole ∷ Null ∷ [])
+    × (HasNoAccess (record_components (with_keep program) 2) → ⊥)
 
 -- type Node is new Controlled with record Value : Integer; Next : Link; end record; which has number 0; type Link is access Node; which has number 1.
 -- Head, Second : Link have the numbers 0 and 1 in the main procedure.

@@ -169,6 +169,16 @@ pub fn premises_are_met()
 /// limited type, the first one is initialized and owns a cell, and for the second one the cell is refused, so that the first
 /// one is finalized, which frees its cell, and the words of the object go back before a handler outside of its block takes
 /// the exception.
+///
+/// And one is accepted whose Adjust allocates (7.6, 4.8): a record that owns a cell is assigned to another one, of the same
+/// type. Right behind the copy the components of both name one cell; Adjust reads it, and gives the copy a cell of its own,
+/// or null, where an exception is raised. Where both cells are granted, each of the two records is finalized at the leaving
+/// of the main procedure, and frees its own cell, so that the words of each object go back once. Where the copy's cell is
+/// refused (11.1), Adjust handles that, the copy owns nothing, and the program finishes all the same.
+///
+/// And one is accepted that declares a record by its value, with the same Adjust (3.3.1, 7.6): the record lies in a block, and
+/// is adjusted where it is created. At the leaving of the block it is finalized, and frees its own cell, where that was
+/// granted; the cell of the first record is there until the main procedure is left.
 pub fn operations_are_accepted()
     ensures operates { (program : Program)
         × (operations_of program.types.items 0 ≡ operation_examples.count_operations)
@@ -212,6 +222,20 @@ pub fn operations_are_accepted()
         × (stmt_forms program ≡ operation_examples.undoing_stmts)
         × (handler_forms program ≡ operation_examples.undoing_handlers)
         × IsChecked program × FinishesAfter operation_examples.undoing_events program }
+    ensures duplicates { (program : Program)
+        × (operations_of program.types.items 0 ≡ operation_examples.duplicating_operations)
+        × (body_forms program ≡ operation_examples.duplicating_bodies)
+        × (declaration_forms program ≡ operation_examples.overwriting_declarations)
+        × (stmt_forms program ≡ operation_examples.duplicating_stmts)
+        × IsChecked program × FinishesAfter operation_examples.duplicating_events program
+        × FinishesAfter operation_examples.duplicating_refused_events program }
+    ensures copies { (program : Program)
+        × (operations_of program.types.items 0 ≡ operation_examples.duplicating_operations)
+        × (body_forms program ≡ operation_examples.duplicating_bodies)
+        × (declaration_forms program ≡ operation_examples.tidying_declarations)
+        × (stmt_forms program ≡ operation_examples.copying_stmts)
+        × IsChecked program × FinishesAfter operation_examples.copying_events program
+        × FinishesAfter operation_examples.copying_refused_events program }
 {}
 
 /// Nor are they where an Initialize raises an exception (7.6.1): a program is accepted that allocates an object with two
@@ -239,6 +263,22 @@ pub fn operations_run_apart()
         × IsChecked program × always.InSomeRun program (λ events last. operation_examples.DisagreesInside program last) }
 {}
 
+/// The premise of `records_are_copied_plain` is needed, that no type which declares components of access types has an Adjust
+/// of its own (7.6): of the two programs of `operations_are_accepted` whose Adjust allocates, the rules let through what
+/// copies a record with a component of an access type. One assigns it as a whole (5.2), as its only item (4.3.1), and the
+/// other one declares a record object by it (3.3.1). So they would an allocator that copies it (4.8), if the first program
+/// had a type and a variable for it; but that is not well formed, since the new object would have controlled parts.
+pub fn adjusted_records_are_copied()
+    ensures assigned { (program : Program)
+        × (operations_of program.types.items 0 ≡ operation_examples.duplicating_operations)
+        × (stmt_forms program ≡ operation_examples.duplicating_stmts)
+        × IsChecked program × operation_examples.AssignsOwner program × operation_examples.AllocatesOwner program }
+    ensures declared { (program : Program)
+        × (operations_of program.types.items 0 ≡ operation_examples.duplicating_operations)
+        × (stmt_forms program ≡ operation_examples.copying_stmts)
+        × IsChecked program × operation_examples.DeclaresOwner program }
+{}
+
 /// The rules are needed. Of programs that are well formed, whose collections nest, and where each Free is by the
 /// instance for the access type of what it frees, one that breaks the rules follows an access value whose object is
 /// gone, and one ends an object twice. So is the rule of loops: of a program that breaks it at the end of a loop's
@@ -257,8 +297,8 @@ pub fn operations_run_apart()
 /// does not pass the component's own access type: else it may free the object in which that component lies, which is
 /// gone where the component is to become null. And of components an item moves the one alone that the new object goes
 /// to: else two of them name one object, which one gives to a variable that frees it, and the other one is followed.
-/// And a record with a component of an access type is not copied: else a component of the copy names the same object,
-/// which is freed by way of one record and followed by way of the other.
+/// And a record with a component of an access type that no Adjust sees to is not copied: else a component of the copy
+/// names the same object, which is freed by way of one record and followed by way of the other.
 ///
 /// So are the rules of calls. At a normal end of its body a procedure gives back only what its formal parameters own:
 /// else two variables get one object back, and each of them frees it. It does not move what is only lent to it: else it

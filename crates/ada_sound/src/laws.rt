@@ -1,5 +1,6 @@
 //! The laws of storage. Each is a function that does nothing, and whose contract is the theorem. Those of statements speak of
-//! bodies that track no components (`untracked`), as all do where operations are in use.
+//! bodies that track no components (`untracked`), as all are but those of an Adjust of a type that declares components of
+//! access types.
 
 ghost use Rattle.ada_flow.specs.Parts.{DepthsAreEnough};
 ghost use Rattle.ada_program.specs.declared.program.Program.{Program};
@@ -18,9 +19,10 @@ ghost use Rattle.ada_sound.specs.ImplicitCalls as implicit_calls;
 /// that is called, flow comes to what is left to do in that body, and each of its variables holds what flow says of it:
 /// null, or null or an object that exists; and a record object that flow does not call lost is there. So it is while an
 /// operation of a controlled type runs, too, but in the body of one that touches Integers and Booleans alone, or of a
-/// procedure that does. Components of objects in their collections hold null, or name objects that exist. No object has
-/// two owners among variables and components, but for a component that the statement sets to null. A way through the
-/// statements leads to one place, and flow says one thing there.
+/// procedure that does, and in that of an Adjust of a type that declares components of access types. Components of
+/// objects in their collections hold null, or name objects that exist. No object has two owners among variables and
+/// components, but for a component that the statement sets to null. A way through the statements leads to one place, and
+/// flow says one thing there.
 pub fn flow_invariant()
     ensures agrees { (program : Program) → IsChecked program → AgreesWithFlow program }
     ensures one_flow { OneFlow }
@@ -268,9 +270,10 @@ pub fn implicit_calls_spare_what_waits()
 /// A component of a record parameter's own is freed only where its finalization comes to no object in which the parameter may
 /// lie (6.2, 7.6, 13.11.2): it frees and follows no value of an access type whose objects are of the parameter's record type,
 /// or have a part of it, however deep. Where this is so, the path follows no value of the component's own access type or of one
-/// that the finalization reaches, and begins with none that is lost, the Free is let through. Record parameters are known as another's where their body begins, and record objects as
-/// their own where they are declared. Two such statements are refused, and three are let through: where no object that is
-/// reached has such a part, where the record is an object of its own, and where the path follows a value.
+/// that the finalization reaches, and begins with none that is lost, the Free is let through. Record parameters are known as
+/// another's where their body begins, and record objects as their own where they are declared. Two such statements are
+/// refused, and three are let through: where no object that is reached has such a part, where the record is an object of its
+/// own, and where the path follows a value.
 pub fn frees_spare_record_parameters()
     ensures freed { implicit_calls.FreesSpareTheFormal }
     ensures no_more { implicit_calls.SafeFreesAreLetThrough }

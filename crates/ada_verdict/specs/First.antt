@@ -38,8 +38,8 @@ pub record IsProgramOf (source : List ℕ) (program : Program) : Type 0 where
 abbrev pub OperationsObey : Program → Type 0
 OperationsObey program = IsFirstOf (program_form program) None
 
--- Each operation is in use: Initialize is plain or, where it may be, frugal, Adjust is quiet and of a type that declares no component of an access type, and
--- Finalize is quiet or, where it may be, frugal and silent.
+-- Each operation is in use: Initialize is plain or, where it may be, frugal, Adjust is quiet, or, of a type that declares a component of an access type, simple and
+-- silent, where it may track, and Finalize is quiet or, where it may be, frugal and silent.
 abbrev pub OperationsAreInUse : Program → Type 0
 OperationsAreInUse program = IsFirstNotInUse (program_form program) None
 

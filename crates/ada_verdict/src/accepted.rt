@@ -127,8 +127,8 @@ fn obey(alloc: Global, program: &Program, implicit: &Implicit) -> Result<(), Flo
     flow(alloc, program, implicit)
 }
 
-/// Each operation is in use: Initialize is plain or, where it may be, frugal, Adjust is quiet and of a type that declares no component
-/// of an access type, and Finalize is quiet or, where it may be, frugal and silent.
+/// Each operation is in use: Initialize is plain or, where it may be, frugal, Adjust is quiet, or, of a type that declares a component
+/// of an access type, simple and silent, where it may track, and Finalize is quiet or, where it may be, frugal and silent.
 ///
 /// # Errors
 /// The first one that is not, or want of memory.

@@ -12,7 +12,7 @@ use Rattle.ada_quiet.proofs.apart.trackers_stand_apart.Goals as goal
 -- all of a program stands apart from these procedures
 abbrev stands_apart : ProgramForm → (tracks : ℕ → Bool) → Bool
 stands_apart p tracks =
-    body_calls_apart tracks (main_body p) && list_all (body_calls_apart tracks) p.bodies
+    body_calls_apart p.types tracks (main_body p) && list_all (body_calls_apart p.types tracks) p.bodies
     && list_all (λ t. operations_apart tracks (has_access (Some t)) (finalization_in (Some t))) p.types
 
 -- from those that are marked as from those that track

@@ -1,7 +1,7 @@
 use Rattle.std.proofs.Common.{◌≡◌, drop}
 use Rattle.std.specs.List.{list_all}
 use Rattle.ada_program.specs.Kept.{types_in}
-use Rattle.ada_quiet.specs.Tracking.{is_copied_alone}
+use Rattle.ada_quiet.specs.InUse.{is_copied_alone}
 use Rattle.ada_quiet.proofs.tracking.are_copied_alone.Given as goal
 
 -- what is left tells of all

@@ -5,7 +5,7 @@ use Rattle.std.proofs.lemmas.List.{at_drop_more}
 use Rattle.ada_program.specs.declared.program.Part.{Part}
 use Rattle.ada_program.specs.Kept.{types_in}
 use Rattle.ada_program.specs.ProgramForm.{PartForm, TypeForm, part_form}
-use Rattle.ada_quiet.specs.Tracking.{size_of_part, stand_in_a_row}
+use Rattle.ada_quiet.specs.InUse.{size_of_part, stand_in_a_row}
 use Rattle.ada_quiet.proofs.tracking.stand_in_a_row.Goals as goal
 
 -- numbers do not fall: past the count, they do not end with it

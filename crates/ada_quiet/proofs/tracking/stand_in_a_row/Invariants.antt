@@ -1,7 +1,7 @@
 use Rattle.std.proofs.Common.{◌≡◌, map, drop}
 use Rattle.ada_program.specs.Kept.{types_in}
 use Rattle.ada_program.specs.ProgramForm.{part_form}
-use Rattle.ada_quiet.specs.Tracking.{stand_in_a_row}
+use Rattle.ada_quiet.specs.InUse.{stand_in_a_row}
 use Rattle.ada_quiet.proofs.tracking.stand_in_a_row.Given as goal
 
 -- what is left, from the number reached on, tells of all

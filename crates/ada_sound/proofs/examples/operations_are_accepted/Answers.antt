@@ -1,10 +1,12 @@
--- By six programs and their runs.
+-- By eight programs and their runs.
 use Rattle.ada_sound.proofs.ExampleOperations as operations
 use Rattle.ada_sound.proofs.ExampleTidying as tidying
 use Rattle.ada_sound.proofs.ExampleOverwriting as overwriting
 use Rattle.ada_sound.proofs.ExampleEmptying as emptying
 use Rattle.ada_sound.proofs.ExampleAllocating as allocating
 use Rattle.ada_sound.proofs.ExampleUndoing as undoing
+use Rattle.ada_sound.proofs.ExampleDuplicating as duplicating
+use Rattle.ada_sound.proofs.ExampleCopying as copying
 use Rattle.ada_sound.proofs.examples.operations_are_accepted.Goals as goal
 
 pub returns : goal.returns
@@ -68,5 +70,25 @@ returns c = record {
     undoing.undoing_handles,
     undoing.undoing_accepted,
     undoing.undoes,
+  );
+  duplicates = (
+    duplicating.duplicating,
+    duplicating.duplicating_overrides,
+    duplicating.duplicating_has,
+    duplicating.duplicating_declares,
+    duplicating.duplicating_does,
+    duplicating.duplicating_accepted,
+    duplicating.duplicates,
+    duplicating.is_refused,
+  );
+  copies = (
+    copying.copying,
+    copying.copying_overrides,
+    copying.copying_has,
+    copying.copying_declares,
+    copying.copying_does,
+    copying.copying_accepted,
+    copying.copies,
+    copying.is_refused,
   );
 }
