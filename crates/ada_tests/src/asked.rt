@@ -111,6 +111,22 @@ procedure Free is new Ada.Unchecked_Deallocation (Node, Link);
 A : Link := new Node; B : Link := new Node;
 begin Free (A); end Main;";
 
+/// An assignment whose Adjust allocates a copy of what its component names, or leaves it null where there is no room.
+const ADJUSTED: &str = "with Ada.Finalization; with Ada.Text_IO; with Ada.Unchecked_Deallocation;
+procedure Main is
+type Leaf is record Weight : Integer := 1; end record; type Stem is access Leaf;
+type Plant is new Ada.Finalization.Controlled with record Grown : Stem; end record;
+procedure Adjust (Object : in out Plant);
+procedure Finalize (Object : in out Plant);
+procedure Free is new Ada.Unchecked_Deallocation (Leaf, Stem);
+procedure Adjust (Object : in out Plant) is
+begin Object.Grown := new Leaf'(Weight => Object.Grown.Weight);
+exception when others => Ada.Text_IO.Put_Line (\"no leaf\"); Object.Grown := null;
+end Adjust;
+procedure Finalize (Object : in out Plant) is begin Free (Object.Grown); end Finalize;
+A : Plant; B : Plant;
+begin A.Grown := new Leaf; B := A; end Main;";
+
 /// What is written for these words, and the exit status; for a fault, what is told of it.
 fn asked_for(alloc: Global, source: &str, line: &str, input: &[u8]) -> Result<(String, u8), Fail> {
     let mut words = Vec::new(alloc);
@@ -263,6 +279,37 @@ fn traced_runs_tell_of_controlled_values(rt: HostRuntime) -> Result<(), Fail> {
     for (source, wanted) in rows {
         let (found, code) = asked_for(rt.alloc(), source, "run --trace", b"")?;
         assert!(rt; found.as_str() == wanted && code == 0, "{found}");
+    }
+    Ok(())
+}
+
+#[test]
+fn traced_runs_tell_what_an_adjust_allocates(rt: HostRuntime) -> Result<(), Fail> {
+    let rows = [
+        (
+            "run --trace",
+            "# born PLANT 1\n# born PLANT 2\n# finalized PLANT 2\n# born PLANT 3\n# finalized PLANT 3\n# back STEM 2\n# finalized PLANT 1\n# back STEM 1\nfinished\n",
+            0,
+        ),
+        // the request of the Adjust is refused: it handles that, and the copy has a value all the same
+        (
+            "run --trace --refuse 2",
+            "# born PLANT 1\n# born PLANT 2\n# finalized PLANT 2\nno leaf\n# born PLANT 3\n# finalized PLANT 3\n# finalized PLANT 1\n# back STEM 1\nfinished\n",
+            0,
+        ),
+        // the request before the assignment is refused, and nothing is copied
+        (
+            "run --trace --refuse 1",
+            "# born PLANT 1\n# born PLANT 2\n# finalized PLANT 2\n# finalized PLANT 1\nunhandled STORAGE_ERROR\n",
+            2,
+        ),
+    ];
+    for (line, wanted, status) in rows {
+        let (found, code) = asked_for(rt.alloc(), ADJUSTED, line, b"")?;
+        assert!(rt;
+            found.as_str() == wanted && code == status,
+            "at {line}: {found}"
+        );
     }
     Ok(())
 }
