@@ -1,4 +1,4 @@
--- Bodies of an Adjust whose components of access types are tracked (7.6): they allocate, move and follow, free and call nothing, copy no record, and declare
+-- Bodies of an Adjust whose components of access types are tracked (7.6): they allocate, move and follow, neither free nor call, copy no record, and declare
 -- variables alone. Flow judges such a body as one that has a variable for each of those components.
 
 use Rattle.std.specs.Prelude.{Bool, true, false, not, ◌&&◌, List, drop, Option, Some, None}

@@ -8,7 +8,7 @@
 //! `first_unused` finds the first body in the text that overrides an operation and is not in use: Initialize is to be plain or, where
 //! it may be, frugal, Finalize is to be quiet or, where it may be, frugal and silent, and Adjust is to be quiet; but of a type with a
 //! component of an access type, declared in it directly, Adjust is to be simple and silent, where it may track that component: a
-//! quiet one would leave it as it is. A simple body allocates, moves and follows, frees and calls nothing, copies no record, and
+//! quiet one would leave it as it is. A simple body allocates, moves and follows, neither frees nor calls, copies no record, and
 //! declares variables alone.
 //!
 //! Operations may be frugal in a program in which no access type designates a record type with controlled parts: then each part is

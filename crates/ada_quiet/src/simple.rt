@@ -174,7 +174,7 @@ fn has_no_record(variables: &[Variable]) -> bool
     }
 }
 
-/// Whether a body is simple: it allocates, moves and follows; it frees and calls nothing, copies no record, and declares variables
+/// Whether a body is simple: it allocates, moves and follows; it neither frees nor calls, copies no record, and declares variables
 /// alone, none of them a record. An exception may come out of it. Linear in the body.
 pub(crate) fn is_simple_body(procedure: &Procedure) -> bool
     ensures { result ≡ rules.is_simple_body (body_form procedure.now) }
