@@ -39,7 +39,7 @@ module _ (types : List TypeForm) (variables : List VariableForm) where
     stmt_simple skips quiet = refl
     stmt_simple (assigns target right) quiet = right_simple right (second_of_both (is_quiet_path types variables target) (is_quiet_right types variables right) quiet)
     stmt_simple (assigns_record target items) quiet = absurd (cc quiet)
-    stmt_simple (frees access path) quiet = absurd (cc quiet)
+    stmt_simple (frees access path) quiet = refl
     stmt_simple (gets target) quiet = refl
     stmt_simple (writes e) quiet = refl
     stmt_simple (writes_text text) quiet = refl

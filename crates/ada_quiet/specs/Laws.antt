@@ -11,7 +11,7 @@ use Rattle.ada_quiet.specs.InUse.{operations_are_in_use}
 abbrev pub QuietIsFrugal : Type 0
 QuietIsFrugal = (frugal : List Bool) (types : List TypeForm) (b : BodyForm) → is_quiet_body types b ≡ true → is_frugal_body frugal b ≡ true
 
--- A quiet body is simple: it neither frees nor calls, and copies no record.
+-- A quiet body is simple: it calls nothing, and copies no record.
 abbrev pub QuietIsSimple : Type 0
 QuietIsSimple = (types : List TypeForm) (b : BodyForm) → is_quiet_body types b ≡ true → is_simple_body b ≡ true
 

@@ -1,4 +1,4 @@
--- Bodies of an Adjust whose components of access types are tracked (7.6): they allocate, move and follow, neither free nor call, copy no record, and declare
+-- Bodies of an Adjust whose components of access types are tracked (7.6): they allocate, move, follow and free, call nothing, copy no record, and declare
 -- variables alone. Flow judges such a body as one that has a variable for each of those components.
 
 use Rattle.std.specs.Prelude.{Bool, true, false, not, ◌&&◌, List, drop, Option, Some, None}
@@ -36,12 +36,12 @@ abbrev pub are_simple_declarations : List DeclarationForm → Bool
 are_simple_declarations ds = list_all is_simple_declaration ds
 
 abbrev mutual
-  -- A statement copies no record (5.2), frees nothing (13.11.2), and calls nothing (6.4).
+  -- A statement copies no record (5.2), and calls nothing (6.4).
   pub is_simple_stmt : StmtForm → Bool
   is_simple_stmt skips = true
   is_simple_stmt (assigns target right) = is_simple_right right
   is_simple_stmt (assigns_record target items) = false
-  is_simple_stmt (frees access path) = false
+  is_simple_stmt (frees access path) = true
   is_simple_stmt (gets target) = true
   is_simple_stmt (writes e) = true
   is_simple_stmt (writes_text text) = true

@@ -7,7 +7,7 @@ pub fn quiet_is_frugal()
     ensures { QuietIsFrugal }
 {}
 
-/// A quiet body is simple: it neither frees nor calls, and copies no record.
+/// A quiet body is simple: it calls nothing, and copies no record.
 pub fn quiet_is_simple()
     ensures { QuietIsSimple }
 {}

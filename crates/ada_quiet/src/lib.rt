@@ -8,7 +8,7 @@
 //! `first_unused` finds the first body in the text that overrides an operation and is not in use: Initialize is to be plain or, where
 //! it may be, frugal, Finalize is to be quiet or, where it may be, frugal and silent, and Adjust is to be quiet; but of a type with a
 //! component of an access type, declared in it directly, Adjust is to be simple and silent, where it may track that component: a
-//! quiet one would leave it as it is. A simple body allocates, moves and follows, neither frees nor calls, copies no record, and
+//! quiet one would leave it as it is. A simple body allocates, moves, follows and frees, calls nothing, copies no record, and
 //! declares variables alone.
 //!
 //! Operations may be frugal in a program in which no access type designates a record type with controlled parts: then each part is
@@ -21,7 +21,7 @@
 //!
 //! A program with another body is refused (F23), since no theorem covers it so far: an Initialize, an Adjust or a Finalize that
 //! touches storage in another program, an Adjust that touches storage of a type without such a component, operations that call
-//! procedures that are not frugal, an Adjust that frees or calls, or copies records, and an Adjust or a Finalize that lets an
+//! procedures that are not frugal, an Adjust that calls or copies records, and an Adjust or a Finalize that lets an
 //! exception out.
 #![tactic(auto)]
 

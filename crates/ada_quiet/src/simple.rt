@@ -1,5 +1,5 @@
-//! Declarations, statements and bodies, where they are simple: they allocate, move and follow (7.6, 4.8), free nothing (13.11.2), call
-//! nothing (6.4), copy no record (5.2), and declare no more than variables.
+//! Declarations, statements and bodies, where they are simple: they allocate, move, follow and free (7.6, 4.8, 13.11.2), call nothing
+//! (6.4), copy no record (5.2), and declare no more than variables.
 
 ghost use Rattle.std.specs.Prelude.{◌≡◌, ◌&&◌, drop, map, not};
 ghost use Rattle.std.specs.List.{list_all};
@@ -70,7 +70,7 @@ fn are_simple_declarations(declarations: &[Declaration]) -> bool
     true
 }
 
-/// Whether a statement copies no record (5.2), frees nothing (13.11.2), and calls nothing (6.4).
+/// Whether a statement copies no record (5.2), and calls nothing (6.4).
 #[cycle(statements)]
 #[tactic(auto, using(std::proofs::lemmas::Grind::common_steps, ada_program::specs::Form::statement_rules))]
 fn is_simple_stmt(statement: &Stmt) -> bool
@@ -78,13 +78,14 @@ fn is_simple_stmt(statement: &Stmt) -> bool
 {
     match statement {
         Stmt::Null
+        | Stmt::Free { .. }
         | Stmt::Get(_)
         | Stmt::PutImage(_)
         | Stmt::PutText(_)
         | Stmt::Exit { .. }
         | Stmt::Return(_)
         | Stmt::Raise(_) => true,
-        Stmt::AssignRecord { .. } | Stmt::Free { .. } | Stmt::Call { .. } => false,
+        Stmt::AssignRecord { .. } | Stmt::Call { .. } => false,
         Stmt::Assign { target: _, value } => is_simple_right(value),
         Stmt::If {
             branches,
@@ -174,7 +175,7 @@ fn has_no_record(variables: &[Variable]) -> bool
     }
 }
 
-/// Whether a body is simple: it allocates, moves and follows; it neither frees nor calls, copies no record, and declares variables
+/// Whether a body is simple: it allocates, moves, follows and frees; it calls nothing, copies no record, and declares variables
 /// alone, none of them a record. An exception may come out of it. Linear in the body.
 pub(crate) fn is_simple_body(procedure: &Procedure) -> bool
     ensures { result ≡ rules.is_simple_body (body_form procedure.now) }

@@ -7,7 +7,7 @@ use Rattle.std.specs.List.{list_all, slice_get}
 use Rattle.ada_parts.specs.Part as parts
 use Rattle.ada_program.specs.declared.program.Exception.{Exception}
 use Rattle.ada_program.specs.declared.program.Program.{Program}
-use Rattle.ada_program.specs.ProgramForm.{BodyForm, program_form, seen_in}
+use Rattle.ada_program.specs.ProgramForm.{BodyForm, program_form}
 use Rattle.ada_deeds.specs.Implicit.{implicit_of}
 use Rattle.ada_flow.specs.Flow.{Holds, Keeping, tracks_of}
 use Rattle.ada_meaning.specs.declared.event.Birth.{Birth}
@@ -33,7 +33,7 @@ use Rattle.ada_typed.proofs.Kept.{behind_call}
 use Rattle.ada_sound.proofs.CallsApart.{CallApart}
 use Rattle.ada_sound.proofs.Callers.{Suspension, AreOf, callers_of, known_in}
 use Rattle.ada_sound.proofs.FrugalControl.{Frugally}
-use Rattle.ada_sound.proofs.Invariant.{Control, CoveredIn, Ready, Rooms, RunsOn, Standing, body_among, under_in}
+use Rattle.ada_sound.proofs.Invariant.{AdjustsAside, Control, Ready, Rooms, RunsOn, Standing, body_among, under_in}
 use Rattle.ada_sound.proofs.Judged.{known_judged}
 use Rattle.ada_sound.proofs.Operating.{IsCalm, WaitsFor}
 use Rattle.ada_sound.proofs.Touching.{Paused, resting}
@@ -58,7 +58,6 @@ pub record Adjusting (program : Program) (s : State) : Type 0 where
   pub components : TracksComponents (program_form program).types w.tracks b.variables
   pub orderly : BodyIsOrderly w.tracks b
   pub lone : list_all holds_no_record (drop 1 b.variables) ≡ true
-  pub frees_none : (t : ℕ) → CoveredIn (implicit_of (program_form program)) (seen_in (Some number) (program_form program)) t → ⊥
   -- the state that stands for this one
   pub t : State
   pub seen : Seen program.types.items (program_form program).bodies w s t
@@ -92,6 +91,7 @@ pub record Adjusting (program : Program) (s : State) : Type 0 where
   pub frugal : Frugally [] lower behind t
   pub waits : Paused (known_in program procedure suspensions) object access places after lower rooms holds
   pub rests : RunsOn (known_in program procedure suspensions) after rooms holds
+  pub aside : AdjustsAside (known_in program procedure suspensions) access holds
   pub calm : IsCalm (behind_call behind)
   pub settled : under_in (callers_of program suspensions) ≡ []
   pub tracking : may_track (program_form program) ≡ true

@@ -55,7 +55,7 @@ use Rattle.ada_sound.proofs.BlankedBegins.{MayBeNamed, judged_begins, kind_of_ac
 use Rattle.ada_sound.proofs.Calls.{home_low, relied_says}
 use Rattle.ada_sound.proofs.Callers.{Suspension, Stands, caller_of, callers_of, known_in}
 use Rattle.ada_sound.proofs.Fits.{Fit, IsPlace, IsReferred, IsRelied, IsSaid, IsWithin, MayName, NoOuterAlias, component_access, none_spared, outer_access, outer_hold, place_at, there_by}
-use Rattle.ada_sound.proofs.Invariant.{Control, CoveredIn, IsAwaited, Known, RunsOn, Spares, Unaliased, Working, body_among, outer_of, outers, under_in}
+use Rattle.ada_sound.proofs.Invariant.{AdjustsAside, Control, CoveredIn, IsAwaited, Known, RunsOn, Spares, Unaliased, Working, body_among, outer_of, outers, under_in}
 use Rattle.ada_sound.proofs.Judged.{known_judged}
 use Rattle.ada_sound.proofs.Operating.{IsCalm, WaitsFor, behind_operation}
 use Rattle.ada_sound.proofs.OperationStarts.{apart}
@@ -145,7 +145,7 @@ pub record Copied (known : Known) (may : ℕ → Bool) (o : Id) (x : Object) (w 
   pub exists : is_there x.stage ≡ true
   pub declared : is_access known.program.types x.cell.access ≡ false
   pub names : AllName known.program.types heap x (watched w)
-  pub works : Working known (blanked w heap) places masters (RunsOn known after)
+  pub works : Working known (blanked w heap) places masters (λ rooms holds. RunsOn known after rooms holds × AdjustsAside known x.cell.access holds)
   pub spares : Spares known may
   pub unaliased : Unaliased known.program.variables may works.holds
 
@@ -301,13 +301,13 @@ module _ (program : Program) (number : ℕ) (b : BodyForm) (there : slice_get (p
     referred_low q t (inr other) = absurd other
 
     -- The body begins.
-    pub adjusting_begins : IsOfCopy by → tracks_of p.types number b ≡ w.tracks → is_tracker p number ≡ true → BodyIsOrderly w.tracks b → list_all holds_no_record (drop 1 b.variables) ≡ true → ((t : ℕ) → CoveredIn (implicit_of p) own t → ⊥) → may_track p ≡ true → may_be_frugal p ≡ true → is_frugal_body [] b ≡ true → FrameIsSimple w.tracks.first (Elaborates b.declarations b.statements b.handlers)
+    pub adjusting_begins : IsOfCopy by → tracks_of p.types number b ≡ w.tracks → is_tracker p number ≡ true → BodyIsOrderly w.tracks b → list_all holds_no_record (drop 1 b.variables) ≡ true → may_track p ≡ true → may_be_frugal p ≡ true → is_frugal_body [] b ≡ true → FrameIsSimple w.tracks.first (Elaborates b.declarations b.statements b.handlers)
         → ((e : Exception) → body_among (implicit_of p) (known_judged program number w.tracks []).program e ≡ true → ⊥)
         → CallApart p.types (is_tracker p) (seen_state w begun).control → RunsAsJudged → BeginsAsJudged → TypedAsJudged
         → (e : Event) (of : ℕ) → Alters s.heap e heap → WaitsFor p.types o of (begins by done) k behind → Stands program gs (record s { activations = a ∷ rest }) → IsCalm (behind_call behind) → under_in (callers_of program gs) ≡ []
         → ((v : Value) → v ≢ Names o → NothingBegins v k)
         → Adjusting program begun
-    adjusting_begins copies tracks_so tracker orderly alone_there frees_none tracking may frugal simple silent calls_apart runs_judged begins_judged typed_judged e of alters awaited stands calm settled untreated =
+    adjusting_begins copies tracks_so tracker orderly alone_there tracking may frugal simple silent calls_apart runs_judged begins_judged typed_judged e of alters awaited stands calm settled untreated =
         let still = stands_kept program (record s { activations = a ∷ rest }) (behind_operation (a ∷ rest) behind s.masters (record s { heap = blank_heap })) gs stands e (record { procedure = refl; suspended = refl }) (alters_then s.heap heap blank_heap e alters (alters_blank e)) in
         record {
           number = number;
@@ -320,7 +320,6 @@ module _ (program : Program) (number : ℕ) (b : BodyForm) (there : slice_get (p
           components = components;
           orderly = orderly;
           lone = alone_there;
-          frees_none = frees_none;
           t = seen_state w begun;
           seen = plainly tt refl;
           simple = (simple, tt);
@@ -362,7 +361,8 @@ module _ (program : Program) (number : ℕ) (b : BodyForm) (there : slice_get (p
             said = at.works.fit.said;
             objects = at.works.fit.objects;
           };
-          rests = at.works.rest;
+          rests = at.works.rest.0;
+          aside = at.works.rest.1;
           calm = calm;
           settled = settled;
           tracking = tracking;

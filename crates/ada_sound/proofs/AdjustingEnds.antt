@@ -37,7 +37,7 @@ use Rattle.ada_sound.proofs.Blanked.{stored_unblanked, unblanked}
 use Rattle.ada_sound.proofs.BlankedEnds.{all_lost, judged_ends}
 use Rattle.ada_sound.proofs.Callers.{AreOf, Stands, Suspension, caller_of, callers_of, known_in}
 use Rattle.ada_sound.proofs.Fits.{Fit, IsWithin, Outsiders, none_spared}
-use Rattle.ada_sound.proofs.Invariant.{Control, GoesOn, Known, Ready, ReadyIn, Rooms, RunsOn, Standing, TreatsBy, Working, outer_of, outers, owed_in}
+use Rattle.ada_sound.proofs.Invariant.{AdjustsAside, Control, GoesOn, Known, OfItsType, Ready, ReadyIn, Rooms, RunsOn, Standing, TreatsBy, Working, outer_of, outers, owed_in}
 use Rattle.ada_sound.proofs.Judged.{known_judged}
 use Rattle.ada_sound.proofs.OperationBegins.{formal_holds, formal_within}
 use Rattle.ada_sound.proofs.OperationCalls.{is_live, ready_for}
@@ -228,9 +228,16 @@ module _ (program : Program) (s : State) (f : Adjusting program s) (a b : Activa
       let same : present.object ≡ f.x = let is = present.found in let found = f.found in cc (is, found) in
       (own_stored.sane f.object f.x f.found).there_exists (rw same at present.there)
 
+  -- Of what the adjustment of the object may free there is no alias still.
+  aside_here : OfItsType s.heap (Names f.object) (λ access. AdjustsAside own access f.holds)
+  aside_here o y named at =
+      let same : f.object ≡ o = cc named in
+      let one : y ≡ f.x = let found = f.found in cc (rw (← same) at at, found) in
+      subst (λ (access : ℕ). AdjustsAside own access f.holds) (sym (ap (λ (z : Object). z.cell.access) one ∙ f.of_access)) f.aside
+
   -- So what waits goes on.
-  own_works : Working own s.heap f.places f.lower (RunsOn own f.after)
-  own_works = record { rooms = f.rooms; holds = f.holds; stored = own_stored; roomed = f.waits.roomed; fit = own_fit; rest = f.rests }
+  own_works : Working own s.heap f.places f.lower (λ rooms holds. RunsOn own f.after rooms holds × OfItsType s.heap (Names f.object) (λ access. AdjustsAside own access holds))
+  own_works = record { rooms = f.rooms; holds = f.holds; stored = own_stored; roomed = f.waits.roomed; fit = own_fit; rest = (f.rests, aside_here) }
 
   treats_by : (by : Birth) → IsOfCopy by → TreatsBy own (Names f.object) (begins by f.done) f.after s.heap f.places b.operands f.lower
   treats_by _ copied = (inl own_works, tt)

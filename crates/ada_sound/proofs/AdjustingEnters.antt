@@ -1,11 +1,12 @@
 -- Where the Adjust of a copy is called that tracks components (7.6): where its part begins in the object, which components it tracks, and what waits for it.
 
-use Rattle.std.proofs.Common.{◌≡◌, ℕ, zero, suc, Bool, true, false, List, [], ◌∷◌, length, map, take, refl, sym, ap, ◌∙◌, subst, arith}
+use Rattle.std.proofs.Common.{◌≡◌, ℕ, zero, suc, Bool, true, false, List, [], ◌∷◌, length, map, take, refl, sym, ap, ◌∙◌, subst, arith, ◌≢◌, ◌⊎◌}
 use Rattle.std.specs.Prelude.{Option, Some, None, if◌then◌else◌}
 use Rattle.std.specs.Option.{option_map}
 use Rattle.std.specs.List.{slice_get, slice_index_or}
 use Rattle.std.proofs.lemmas.Bool.{eq-eqb}
 use Rattle.std.proofs.lemmas.Option.{slice_get-map, slice_get_within}
+use Rattle.ada_deeds.specs.Implicit.{implicit_of}
 use Rattle.ada_flow.specs.Flow.{adjusts, is_procedure, object_record, tracked_by_adjust, tracked_of, tracks_of}
 use Rattle.ada_flow.specs.Tracking.{access_numbers, tracks_behind}
 use Rattle.ada_meaning.proofs.Places.{numbers_are_alone, types_have_their_operations}
@@ -33,7 +34,7 @@ use Rattle.ada_program.specs.declared.program.Program.{Program}
 use Rattle.ada_program.specs.declared.program.VariableKind.{VariableKind}
 use Rattle.ada_program.specs.declared.program.VariableKind.TheVariants as variable
 use Rattle.ada_program.specs.ProgramForm.{BodyForm, ProgramForm, TypeForm, VariableForm, body_forms, program_form, seen_in}
-use Rattle.ada_program.specs.WellFormed.{IsWellFormed, access_of, component_kind, finalization_in, held_kind, is_access, kind_among, object_named, variable_kind}
+use Rattle.ada_program.specs.WellFormed.{IsWellFormed, access_of, component_kind, finalization_in, finalization_of, held_kind, is_access, kind_among, object_named, variable_kind}
 use Rattle.ada_quiet.specs.InUse.{may_be_frugal, may_track}
 use Rattle.ada_sound.proofs.AdjustingBegins.{AllName, Copied}
 use Rattle.ada_sound.proofs.AssignedParts.{copied_in_object}
@@ -42,7 +43,7 @@ use Rattle.ada_sound.proofs.Calm.{filled_in}
 use Rattle.ada_sound.proofs.CopiedOwners.{BeginsCopy, NameThere, OnlyPart, SeesToOwners, declared_owners, hiding, part_owners}
 use Rattle.ada_sound.proofs.Fits.{MayName, component_access}
 use Rattle.ada_sound.proofs.FrugalUseParts.{no_access_to_parts}
-use Rattle.ada_sound.proofs.Invariant.{Control, Known, RunsOn, Working}
+use Rattle.ada_sound.proofs.Invariant.{AdjustsAside, Control, Known, RunsOn, Working}
 use Rattle.ada_sound.proofs.OnlyParts.{IsControlled, controlled_counts}
 use Rattle.ada_sound.proofs.OnlyPlaces.{controlled_as_shown, one_place_to}
 use Rattle.ada_sound.proofs.Returns.{same_types}
@@ -80,7 +81,7 @@ procedure_is n None is = absurd (cc is)
 procedure_is n (Some q) is = let same : q.0 ≡ n = cc is in eq-eqb q.0 n same
 
 -- After a copy the Adjust is called.
-adjust_called : (by : Birth) (operations : Operations) (number : ℕ) → BeginsCopy by → beginning by operations ≡ Some number → procedure_number operations.adjust ≡ Some number
+pub adjust_called : (by : Birth) (operations : Operations) (number : ℕ) → BeginsCopy by → beginning by operations ≡ Some number → procedure_number operations.adjust ≡ Some number
 adjust_called Creation operations number copies is = absurd copies
 adjust_called Copy operations number copies is = is
 adjust_called (Adjustment n) operations number copies is = is
@@ -219,16 +220,16 @@ module _ (program : Program) (well : IsWellFormed (program_form program)) where
       abbrev pub copy_view : View
       copy_view = record { tracks = tracks_of p.types c.number c.b; object = c.o; base = c.p.first }
 
-      only : OnlyPart p.types x.cell.access c.record_type c.of c.first
-      only = subst (λ (types : List TypeForm). OnlyPart types x.cell.access c.record_type c.of c.first) same c.adjusted.only
+      pub copy_only : OnlyPart p.types x.cell.access c.record_type c.of c.first
+      copy_only = subst (λ (types : List TypeForm). OnlyPart types x.cell.access c.record_type c.of c.first) same c.adjusted.only
 
       -- Its part is the one that the Adjust sees to.
       pub copy_begins : c.p.first ≡ c.first
-      copy_begins = part_begins s.heap filled c.o x c.adjusted.found c.record_type c.of c.first only c.part c.p c.state
+      copy_begins = part_begins s.heap filled c.o x c.adjusted.found c.record_type c.of c.first copy_only c.part c.p c.state
 
       -- What the body tracks is all that the record declares of access types.
       pub copy_tracks : (tracks_of p.types c.number c.b).components ≡ declared_owners p.types c.record_type
-      copy_tracks = tracks_declared c.record_type c.of c.by c.number c.b only.sees c.copies c.there c.called
+      copy_tracks = tracks_declared c.record_type c.of c.by c.number c.b copy_only.sees c.copies c.there c.called
 
       -- So these components of the object are watched.
       pub copy_watched : watched copy_view ≡ part_owners p.types c.record_type c.first
@@ -252,14 +253,25 @@ module _ (program : Program) (well : IsWellFormed (program_form program)) where
 
       pub copy_declared : is_access p.types x.cell.access ≡ false
       copy_declared =
-          is_declared_object s.heap filled c.o x c.adjusted.found c.record_type c.of c.first only (frugal_too p may) c.part c.p c.state
+          is_declared_object s.heap filled c.o x c.adjusted.found c.record_type c.of c.first copy_only (frugal_too p may) c.part c.p c.state
 
       -- The waiting activation goes on but for them.
-      pub copy_works : Working known (blanked copy_view s.heap) a.places s.masters (RunsOn known k)
-      copy_works = subst (λ (h : List Object). Working known h a.places s.masters (RunsOn known k)) (sym copy_blanked_seen) c.adjusted.works
+      pub copy_works : Working known (blanked copy_view s.heap) a.places s.masters (λ rooms holds. RunsOn known k rooms holds × AdjustsAside known x.cell.access holds)
+      copy_works =
+          subst (λ (h : List Object). Working known h a.places s.masters (λ rooms holds. RunsOn known k rooms holds × AdjustsAside known x.cell.access holds)) (sym copy_blanked_seen)
+          c.adjusted.works
 
-      -- All that holds where the body begins, which frees nothing.
-      pub copied_where_called : Copied known (λ t. false) c.o x copy_view k s.heap a.places s.masters
+      -- The record that is copied, or the object: the body frees no more than its Adjusts may.
+      abbrev pub copied_type : ℕ
+      copied_type = copy_works.rest.1.0
+
+      pub copy_among : (copied_type ≡ x.cell.access) ⊎ ((finalization_of p.types copied_type ≢ None) × ((first part : ℕ) × PartsLie p.types (object_named p.types (Some x.cell.access)) (Some copied_type) first part))
+      copy_among =
+          subst (λ (types : List TypeForm). (copied_type ≡ x.cell.access) ⊎ ((finalization_of types copied_type ≢ None) × ((first part : ℕ) × PartsLie types (object_named types (Some x.cell.access)) (Some copied_type) first part))) same
+          copy_works.rest.1.2
+
+      -- All that holds where the body begins.
+      pub copied_where_called : Copied known ((implicit_of p).adjust_frees copied_type) c.o x copy_view k s.heap a.places s.masters
       copied_where_called = record {
         object_so = refl;
         found = c.adjusted.found;
@@ -267,6 +279,6 @@ module _ (program : Program) (well : IsWellFormed (program_form program)) where
         declared = subst (λ (types : List TypeForm). is_access types x.cell.access ≡ false) (sym same) copy_declared;
         names = subst (λ (types : List TypeForm). AllName types s.heap x (watched copy_view)) (sym same) copy_names;
         works = copy_works;
-        spares = λ t is. absurd (cc is);
-        unaliased = λ y t kind is borrows. absurd (cc is);
+        spares = copy_works.rest.1.1.0;
+        unaliased = copy_works.rest.1.1.1;
       }

@@ -1,6 +1,6 @@
 -- The Adjust of a copy is called that tracks components (7.6): its body begins in a sound state.
 
-use Rattle.std.proofs.Common.{◌≡◌, ◌≢◌, ℕ, ◌||◌, true, false, List, [], ◌∷◌, ◌++◌, length, drop, refl, sym, ap, subst, ◌∙◌}
+use Rattle.std.proofs.Common.{◌≡◌, ◌≢◌, ℕ, ◌||◌, true, false, List, [], ◌∷◌, ◌++◌, length, drop, refl, sym, ap, subst, ◌∙◌, Bool}
 use Rattle.std.specs.Prelude.{Option, Some}
 use Rattle.std.specs.List.{list_all, list_any}
 use Rattle.ada_deeds.specs.Implicit.{implicit_of}
@@ -44,7 +44,8 @@ use Rattle.ada_typed.proofs.Values.{AreFilled}
 use Rattle.ada_typed.specs.Holding.{cells_of}
 use Rattle.ada_sound.proofs.Adjusting.{Adjusting, IsOfCopy, copied, assigned}
 use Rattle.ada_sound.proofs.AdjustingBegins.{Copied, adjusting_begins, begins_as_judged}
-use Rattle.ada_sound.proofs.AdjustingEnters.{copied_where_called, copy_tracks, copy_view}
+use Rattle.ada_sound.proofs.AdjustedParts.{adjusted_frees}
+use Rattle.ada_sound.proofs.AdjustingEnters.{copied_type, copied_where_called, copy_among, copy_only, copy_tracks, copy_view}
 use Rattle.ada_sound.proofs.AdjustingGoes.{in_a_row}
 use Rattle.ada_sound.proofs.Alters.{alters_same}
 use Rattle.ada_sound.proofs.Callers.{Suspension, Stands, callers_of, known_in}
@@ -66,7 +67,7 @@ use Rattle.ada_sound.proofs.OrderlyBodies.{lone_body, orderly_body}
 use Rattle.ada_sound.proofs.QuietOperations.{MayTrack}
 use Rattle.ada_sound.proofs.Returns.{same_types}
 use Rattle.ada_sound.proofs.SimpleBodies.{simple_frugal}
-use Rattle.ada_sound.proofs.SimpleEffects.{simple_frees_none, simple_silent}
+use Rattle.ada_sound.proofs.SimpleEffects.{simple_silent}
 use Rattle.ada_sound.proofs.Starts.{Obeys}
 use Rattle.ada_sound.proofs.Touching.{resting}
 use Rattle.ada_sound.proofs.TouchingBegins.{IsAlone, alone}
@@ -129,7 +130,10 @@ module _
     abbrev w : View
     w = copy_view program well tracks.0 a rest s gs v k IsOperated e after c filled
 
-    at : Copied (known_in program a.procedure gs) (λ t. false) c.o x w k s.heap a.places s.masters
+    abbrev may_free : ℕ → Bool
+    may_free = (implicit_of p).adjust_frees (copied_type program well tracks.0 a rest s gs v k IsOperated e after c filled)
+
+    at : Copied (known_in program a.procedure gs) may_free c.o x w k s.heap a.places s.masters
     at = copied_where_called program well tracks.0 a rest s gs v k IsOperated e after c filled
 
     -- No access type designates a record with controlled parts.
@@ -205,12 +209,12 @@ module _
         (subst (λ (q : ProgramForm). list_all holds_no_record (drop 1 q.variables) ≡ true) here none_other)
         (tracks_apart p.types (in_a_row p well tracks.0) c.number c.b)
 
-    -- It frees nothing.
-    frees_none : (t : ℕ) → CoveredIn (implicit_of p) own t → ⊥
-    frees_none t covered = simple_frees_none program well may c.number c.b c.there tracks.1 t covered
-
-    frees_no_more : (t : ℕ) → CoveredIn (implicit_of p) (judged_in w.tracks own) t → false ≡ true
-    frees_no_more t covered = absurd (frees_none t (judged_covers own w.tracks own_components own_orderly (implicit_of p) t covered))
+    -- It frees no more than the adjustment may.
+    frees_no_more : (t : ℕ) → CoveredIn (implicit_of p) (judged_in w.tracks own) t → may_free t ≡ true
+    frees_no_more t covered =
+        adjusted_frees program well x.cell.access c.record_type c.of c.first (copy_only program well tracks.0 a rest s gs v k IsOperated e after c filled)
+        (copied_type program well tracks.0 a rest s gs v k IsOperated e after c filled) (copy_among program well tracks.0 a rest s gs v k IsOperated e after c filled)
+        c.by c.copies c.number c.b c.there c.called t (judged_covers own w.tracks own_components own_orderly (implicit_of p) t covered)
 
     -- What is left to do calls nothing that tracks.
     calls_apart : CallApart p.types (is_tracker p) k → CallApart p.types (is_tracker p) (seen_state w begun).control
@@ -234,12 +238,12 @@ module _
     begins_so tracker stands calm settled behind_apart untreated =
         let kept = keeps_tracking program c.number w.tracks in
         let waiting = resting a.procedure a.places (begins c.by c.done) c.o x.cell.access [] place behind s.masters kept at.works.rooms at.works.holds in
-        adjusting_begins program c.number c.b c.there w lone components a rest gs s k c.o x s.heap place refl within c.by c.done behind kept (λ t. false) at
-        frees_no_more (of_copy c.by c.copies) refl tracker orderly none_other frees_none tracks.0 may (simple_frugal [] c.b tracks.1) simple
+        adjusting_begins program c.number c.b c.there w lone components a rest gs s k c.o x s.heap place refl within c.by c.done behind kept may_free at
+        frees_no_more (of_copy c.by c.copies) refl tracker orderly none_other tracks.0 may (simple_frugal [] c.b tracks.1) simple
         (simple_silent program well may c.number c.b c.there tracks.1 tracks.2 w.tracks components orderly)
         (calls_apart behind_apart)
         (λ spares. judged_runs program c.number c.b w.tracks waiting gs well obeys.1 c.there refl components orderly spares refl)
-        (begins_as_judged program c.number c.b c.there w lone components a rest gs s k c.o x s.heap place refl within c.by c.done behind kept (λ t. false) at watches)
+        (begins_as_judged program c.number c.b c.there w lone components a rest gs s k c.o x s.heap place refl within c.by c.done behind kept may_free at watches)
         judged_typed e c.of (alters_same s.heap e) awaited stands (calm_behind p.types c.o c.of (begins c.by c.done) k behind awaited calm) settled untreated
 
 -- The body begins.

@@ -265,7 +265,6 @@ module _
           components = f.components;
           orderly = f.orderly;
           lone = f.lone;
-          frees_none = f.frees_none;
           t = stands;
           seen = seen;
           simple = simple_still tds bodies f.w [] f.behind after stands frugal.upper seen frugal.frugal simple;
@@ -297,6 +296,7 @@ module _
           frugal = frugal;
           waits = f.waits;
           rests = f.rests;
+          aside = f.aside;
           calm = f.calm;
           settled = f.settled;
           tracking = f.tracking;

@@ -124,14 +124,14 @@ typed_at count (t ∷ ts) first zero c at = let one : record { of = t; first = f
 typed_at count (t ∷ ts) first (suc j) c at = typed_at count ts (first + count t) j c at
 
 -- The record type of the objects of a record type with controlled parts is that type itself.
-own_record : (t : ℕ) (o : Option TypeForm) (f : Finalization) → finalization_in o ≡ Some f → record_in t o ≡ Some t
+pub own_record : (t : ℕ) (o : Option TypeForm) (f : Finalization) → finalization_in o ≡ Some f → record_in t o ≡ Some t
 own_record t None f is = absurd (cc is)
 own_record t (Some (record_of name parts components finalization)) f is = refl
 own_record t (Some (access_to name designated pool)) f is = absurd (cc is)
 own_record t (Some (object_of record_type)) f is = absurd (cc is)
 
 -- A record type with a number has controlled parts, at least one.
-some_parts : (types : List TypeForm) → list_all (type_fits types) types ≡ true → (t : ℕ) (o : Option TypeForm) (f : Finalization) → slice_get types t ≡ o → finalization_in o ≡ Some f → 0 < count_said (finalization_in o)
+pub some_parts : (types : List TypeForm) → list_all (type_fits types) types ≡ true → (t : ℕ) (o : Option TypeForm) (f : Finalization) → slice_get types t ≡ o → finalization_in o ≡ Some f → 0 < count_said (finalization_in o)
 some_parts types fit t None f at is = absurd (cc is)
 some_parts types fit t (Some (record_of name ps components None)) f at is = absurd (cc is)
 some_parts types fit t (Some (record_of name ps components (Some g))) f at is =

@@ -32,7 +32,9 @@ use Rattle.ada_sound.proofs.Starts.{Ordinary, Sound, sound_first}
 use Rattle.ada_sound.proofs.Touching.{Touching, waiting_for}
 use Rattle.ada_sound.proofs.Operating.{Sight, Comes, Body, Operates}
 use Rattle.ada_sound.proofs.Uncalled.{body_called}
-use Rattle.ada_sound.proofs.Adjusting.{Adjusting}
+use Rattle.ada_sound.proofs.Judged.{judged_in}
+use Rattle.ada_sound.proofs.Adjusting.{Adjusting, waiting}
+use Rattle.ada_sound.proofs.JudgedForms.{covers_judged, orderly_seen, tracks_seen}
 use Rattle.ada_sound.proofs.AdjustingGoes.{none_comes_out}
 use Rattle.ada_sound.proofs.AdjustingSteps.{InAdjusting}
 use Rattle.ada_sound.proofs.Runs.{Led}
@@ -84,20 +86,34 @@ module _ (program : Program) where
   covered_by (Line line) before s gs stands says depth a n at is = tt
   covered_by Quiet before s gs stands says depth a n at is = tt
 
-  -- While an Adjust runs that tracks components nothing is freed.
-  adjusting_covered : (e : Event) (before : List Object) (after : State) → InAdjusting program before e after → (number : ℕ) → IsCovered program number e
-  adjusting_covered (Born object part turn type number' by) before after c number = tt
-  adjusting_covered (Finalized object part turn type number' cause) before after c number = tt
-  adjusting_covered (Back object access number' pool subpool (Leaving m item)) before after c number = tt
-  adjusting_covered (Back object access number' pool subpool (Freeing f)) before after c number =
-      let may : CoveredIn (implicit_of (program_form program)) (seen_in (running_procedure after) (program_form program)) access = c.says.covered.0 in
-      absurd (c.body.frees_none access (subst (λ (procedure : Option ℕ). CoveredIn (implicit_of (program_form program)) (seen_in procedure (program_form program)) access) c.body.runs may))
-  adjusting_covered (Back object access number' pool subpool (Assigning b)) before after c number = tt
-  adjusting_covered (Back object access number' pool subpool (Undoing b)) before after c number = tt
-  adjusting_covered (Followed object) before after c number = tt
-  adjusting_covered (Left master) before after c number = tt
-  adjusting_covered (Line line) before after c number = tt
-  adjusting_covered Quiet before after c number = tt
+  -- So it is while an Adjust runs that tracks components, as it is judged.
+  judged_free : (all : List (Activation Value)) (s : State) (f : Adjusting program s) (t : ℕ) → s.activations ≡ all → CoveredIn (implicit_of (program_form program)) (seen_in (running_procedure s) (program_form program)) t
+      → (depth : ℕ) (a : Activation Value) (number : ℕ) → slice_get all depth ≡ Some a → a.procedure ≡ Some number → call_frees (callees.effect_at program number) t ≡ true
+  judged_free [] s f t here may depth a number at is = absurd (cc at)
+  judged_free (b ∷ rest) s f t here may zero a number at is =
+      let own : running_procedure s ≡ Some number = rw here (let e : b ≡ a = cc at in rw e is) in
+      let same : f.number ≡ number = let runs = f.runs in cc (runs, own) in
+      called_frees number t (f.b, rw (← same) (f.there)) (rw own at may)
+  judged_free (b ∷ rest) s f t here may (suc depth) a number at is =
+      let p = program_form program in
+      let own = seen_in (Some f.number) p in
+      let runs : CoveredIn (implicit_of p) own t = subst (λ (procedure : Option ℕ). CoveredIn (implicit_of p) (seen_in procedure p) t) f.runs may in
+      let judged =
+      covers_judged own f.w.tracks (tracks_seen p f.number f.b f.w.tracks f.there f.components) (orderly_seen p f.number f.b f.w.tracks f.there f.orderly) (implicit_of p) t runs in
+      waiting_frees (implicit_of p) (judged_in f.w.tracks own) rest (waiting program s f ∷ f.suspensions) t (rw here at (f.bodies)) f.standing.waiting judged depth a number at is
+
+  adjusting_covered : (e : Event) (before : List Object) (after : State) → InAdjusting program before e after → (depth : ℕ) (a : Activation Value) (number : ℕ) → slice_get after.activations depth ≡ Some a → a.procedure ≡ Some number → IsCovered program number e
+  adjusting_covered (Born object part turn type number' by) before after c depth a number at is = tt
+  adjusting_covered (Finalized object part turn type number' cause) before after c depth a number at is = tt
+  adjusting_covered (Back object access number' pool subpool (Leaving m item)) before after c depth a number at is = tt
+  adjusting_covered (Back object access number' pool subpool (Freeing f)) before after c depth a number at is =
+      judged_free after.activations after c.body access refl c.says.covered.0 depth a number at is
+  adjusting_covered (Back object access number' pool subpool (Assigning b)) before after c depth a number at is = tt
+  adjusting_covered (Back object access number' pool subpool (Undoing b)) before after c depth a number at is = tt
+  adjusting_covered (Followed object) before after c depth a number at is = tt
+  adjusting_covered (Left master) before after c depth a number at is = tt
+  adjusting_covered (Line line) before after c depth a number at is = tt
+  adjusting_covered Quiet before after c depth a number at is = tt
 
   -- What leaves a body is among what it may raise.
   raised_by : (procedure : Option ℕ) (gs : List Suspension) (e : Exception) (actuals : List ActualForm) (references : List Value) (k : Control) (rooms : Rooms) (holds : Holds) → GoesOn (known_in program procedure gs) (Raising e) (Returns actuals references ∷ k) rooms holds → body_among (implicit_of (program_form program)) (seen_in procedure (program_form program)) e ≡ true
@@ -123,7 +139,7 @@ module _ (program : Program) (accepted : IsChecked program) where
       by (inl (c, calm, settled)) = covered_by program e before.heap after c.suspensions c.stands c.stepped.says depth a number at is
       by (inr (inl c)) = c.covered number
       by (inr (inr (inl c))) = covered_by program e before.heap after (waiting_for program after c.body) c.body.stands c.says depth a number at is
-      by (inr (inr (inr c))) = adjusting_covered program e before.heap after c number
+      by (inr (inr (inr c))) = adjusting_covered program e before.heap after c depth a number at is
 
   raises_in : (s : State) → Ordinary program s ⊎ (Operates program s ⊎ (Touching program s ⊎ Adjusting program s)) → (procedure : Option ℕ) (number : ℕ) (e : Exception) → running_procedure s ≡ procedure → procedure ≡ Some number → EndsBody s → s.mode ≡ Raising e → call_raises (callees.effect_at program number) (is_same e) ≡ true
   raises_in s (inl o) procedure number e runs is ends mode =

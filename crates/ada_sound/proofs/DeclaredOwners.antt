@@ -35,7 +35,7 @@ use Rattle.ada_sound.proofs.CopiedOwners.{NamesThere, NameThere, names_still, na
 use Rattle.ada_sound.proofs.CoveredOwners.{covered_kinds, only_part}
 use Rattle.ada_sound.proofs.Defaults.{Reaches}
 use Rattle.ada_sound.proofs.HiddenOwners.{StoresWell, covered_stores, names_hidden}
-use Rattle.ada_sound.proofs.Invariant.{outers, Known, Control, AdjustsFirst, AdjustsTo, RecordsFrom, Working, Stepped}
+use Rattle.ada_sound.proofs.Invariant.{outers, AdjustsAside, AdjustsFirst, AdjustsWell, Known, Control, RunsOn, AdjustsTo, RecordsFrom, Working, Stepped}
 use Rattle.ada_sound.proofs.Ready.{running, at_work, adjusts_ready}
 use Rattle.ada_sound.proofs.Records.{NameNothing, StartsBy, has_place, made_works, nothing_in_hand, recorded_plain}
 
@@ -137,7 +137,9 @@ module _ (known : Known) (rest : List (Activation Value)) (s : State) (types : L
   adjusts_next : Working known s.heap a.places s.masters (StartsBy known rest s types x t Copy k) → AdjustsTo known (created s.heap (words_of types t)) (begins Copy []) (all_tasks types t PartsFirst) k heap places masters
   adjusts_next w =
       let works = made_works known rest s types x t a k (blank_values hidden values) u is there
-      (λ holding kind. nothing_in_hand (outers known) s.heap a.places holding kind 0 (blank_values hidden values) (hidden_nothing hidden values well_stored)) w w.rest.0 w.rest.1 in
+      (λ holding kind. nothing_in_hand (outers known) s.heap a.places holding kind 0 (blank_values hidden values) (hidden_nothing hidden values well_stored)) w w.rest.0
+      {other = λ rooms less. RunsOn known k rooms less × AdjustsWell known t less} w.rest.1 in
+      let aside = at_work {other = λ rooms less. RunsOn known k rooms less × AdjustsAside known t less} works (works.rest.0, (t, works.rest.1, inl refl)) in
       record {
         by = Copy;
         done = [];
@@ -155,7 +157,7 @@ module _ (known : Known) (rest : List (Activation Value)) (s : State) (types : L
           there = refl;
           only = only_part forms r sees t 0 0 lie;
           named = names_hidden heap hidden values (λ c v at. got_there heap values c v (names_still s.heap heap values there_later names) at);
-          works = rw heap_is works;
+          works = rw heap_is aside;
         };
         leads = leads;
       }

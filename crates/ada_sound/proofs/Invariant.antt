@@ -658,14 +658,34 @@ pub record Giving (known : Known) (todo : List ItemForm) (k : Control) (rooms : 
   pub keeps : ItemsKeep known.program.types spot None holds earlier todo
   pub raises : MayRaise known (items_raise todo) ConstraintError k rooms holds
 
--- What is left goes on, perhaps behind the adjustment of a record that was assigned to (7.6), and with less known, where its operations free objects.
-abbrev pub RunsBehind : Known → Control → Rooms → Holds → Type 0
-RunsBehind known [] rooms holds = To (RunsOn known [] rooms) holds
-RunsBehind known (Treats v (begins Creation done) tasks ∷ k) rooms holds = ⊥
-RunsBehind known (Treats v (begins Copy done) tasks ∷ k) rooms holds = ⊥
-RunsBehind known (Treats v (begins (Adjustment number) done) tasks ∷ k) rooms holds = To (RunsOn known k rooms) holds
-RunsBehind known (Treats v (ends cause) tasks ∷ k) rooms holds = ⊥
-RunsBehind known (f ∷ k) rooms holds = To (RunsOn known (f ∷ k) rooms) holds
+-- Of what the Adjusts may free that are called for a copy of a record of this type, no suspended activation and no variable has an alias, and the running body
+-- may free it (7.6).
+abbrev pub AdjustsWell : Known → (record_type : ℕ) → Holds → Type 0
+AdjustsWell known t holds = Spares known (known.implicit.adjust_frees t) × Unaliased known.program.variables (known.implicit.adjust_frees t) holds
+
+-- A record of this type lies in the objects that are known by this one, with its controlled parts (7.6).
+abbrev pub LiesAmong : Known → (access record_type : ℕ) → Type 0
+LiesAmong known access t = (first part : ℕ) × PartsLie known.program.types (object_named known.program.types (Some access)) (Some t) first part
+
+-- So it is with what may be freed where an object is adjusted that is known by this type, or a record in it that has controlled parts.
+abbrev pub AdjustsAside : Known → (access : ℕ) → Holds → Type 0
+AdjustsAside known access holds =
+    (t : ℕ) × AdjustsWell known t holds × ((t ≡ access) ⊎ ((finalization_of known.program.types t ≢ None) × LiesAmong known access t))
+
+-- What holds of the type by which the object is known that a value names, if it names one.
+abbrev pub OfItsType : List Object → Value → (ℕ → Type 0) → Type 0
+OfItsType heap v more = (o : Id) (x : Object) → v ≡ Names o → object_at heap o ≡ Some x → more x.cell.access
+
+-- What is left goes on, perhaps behind the adjustment of a record that was assigned to (7.6), in the object of this name that is known by this type; and with
+-- less known, where its operations free objects.
+abbrev pub RunsBehind : Known → Value → (access : ℕ) → Control → Rooms → Holds → Type 0
+RunsBehind known v access [] rooms holds = To (RunsOn known [] rooms) holds
+RunsBehind known v access (Treats w (begins Creation done) tasks ∷ k) rooms holds = ⊥
+RunsBehind known v access (Treats w (begins Copy done) tasks ∷ k) rooms holds = ⊥
+RunsBehind known v access (Treats w (begins (Adjustment number) done) tasks ∷ k) rooms holds =
+    (w ≡ v) × To (λ less. RunsOn known k rooms less × AdjustsAside known access less) holds
+RunsBehind known v access (Treats w (ends cause) tasks ∷ k) rooms holds = ⊥
+RunsBehind known v access (f ∷ k) rooms holds = To (RunsOn known (f ∷ k) rooms) holds
 
 -- An object is there, and so many of its components, from one on, are Integers and Booleans.
 abbrev pub IsPlainIn : Known → List Object → Value → (first count : ℕ) → Type 0
@@ -678,7 +698,8 @@ IsPlainIn known heap (Scalar v) first count = ⊥
 IsPlainIn known heap (Part o base) first count = ⊥
 
 -- So many components of an object that is known by this type, from one on, get those of a record of a type, and then the record is adjusted (5.2, 7.6): the
--- Adjust of the object's only controlled part sees to all of them that are of access types. What is left goes on behind that, perhaps with less known.
+-- Adjust of the object's only controlled part sees to all of them that are of access types. What is left goes on behind that, perhaps with less known, and of
+-- what that Adjust may free there is no alias.
 pub record AdjustedBehind (known : Known) (v : Value) (access record_type first count : ℕ) (k : Control) (rooms : Rooms) (holds : Holds) : Type 0 where
   pub number : ℕ
   pub tasks : List Task
@@ -696,7 +717,7 @@ pub record AdjustedBehind (known : Known) (v : Value) (access record_type first 
   pub covers :
       (reached : List ComponentKind) → reached_components known.program.types access ≡ Some reached
       → Covered (part_owners known.program.types part_type owns) first (take count (drop first reached))
-  pub runs : To (RunsOn known behind rooms) holds
+  pub runs : To (λ less. RunsOn known behind rooms less × AdjustsAside known access less) holds
 
 -- The object of a value is there, and is such a one.
 abbrev pub IsAdjustedIn : Known → List Object → Value → (record_type first count : ℕ) → Control → Rooms → Holds → Type 0
@@ -707,15 +728,19 @@ IsAdjustedIn known heap (Names o) t first count k rooms holds =
 IsAdjustedIn known heap (Scalar v) t first count k rooms holds = ⊥
 IsAdjustedIn known heap (Part o base) t first count k rooms holds = ⊥
 
+-- So many components of an object that is there are Integers and Booleans, and what is left goes on behind them.
+abbrev pub PlainBehind : Known → List Object → Value → (first count : ℕ) → Control → Rooms → Holds → Type 0
+PlainBehind known heap v first count k rooms holds = IsPlainIn known heap v first count × OfItsType heap v (λ access. RunsBehind known v access k rooms holds)
+
 -- The components of an object get those of a record of this type: they are Integers and Booleans, or an Adjust sees to them.
 abbrev pub StoresSo : Known → List Object → Value → (record_type first count : ℕ) → Control → Rooms → Holds → Type 0
 StoresSo known heap v t first count k rooms holds =
-    (IsPlainIn known heap v first count × RunsBehind known k rooms holds) ⊎ IsAdjustedIn known heap v t first count k rooms holds
+    PlainBehind known heap v first count k rooms holds ⊎ IsAdjustedIn known heap v t first count k rooms holds
 
 -- So it is where they are the newest operands: what these name is there.
 abbrev pub StoresFrom : Known → List Object → (operands : List Value) → Value → (first count : ℕ) → Control → Rooms → Holds → Type 0
 StoresFrom known heap operands v first count k rooms holds =
-    (IsPlainIn known heap v first count × RunsBehind known k rooms holds)
+    PlainBehind known heap v first count k rooms holds
     ⊎ ((t : ℕ) × IsAdjustedIn known heap v t first count k rooms holds × NameThere heap (take count operands))
 
 -- The innermost master may own a record object that is known by this type.
@@ -727,10 +752,11 @@ MayOwn (gone ∷ rooms) t = is_among gone.types (Some t) ≡ true
 abbrev pub owns_at_first : List TypeForm → (object_type : ℕ) → Bool
 owns_at_first types t = owns_among (reached_components types t)
 
--- A record object is declared, of this type: less may be known behind it, where its operations free objects.
+-- A record object is declared, of this type: less may be known behind it, where its operations free objects, of which there is no alias.
 abbrev pub Recording : Known → (x object_type : ℕ) → Control → Rooms → Holds → Type 0
 Recording known x t k rooms holds =
-    (is_record_object t (variable_kind known.program.variables x) ≡ true) × MayOwn rooms t × To (RunsOn known k rooms) (slice_set holds x (hold.Own Whole))
+    (is_record_object t (variable_kind known.program.variables x) ≡ true) × MayOwn rooms t
+    × To (λ less. RunsOn known k rooms less × AdjustsWell known t less) (slice_set holds x (hold.Own Whole))
 
 -- The object that is known by a type is a record of this type, of which an Adjust sees to all components of access types (7.6).
 abbrev pub AdjustsFirst : List TypeForm → (object_type record_type : ℕ) → Type 0
@@ -761,7 +787,7 @@ abbrev pub FillsTo : Known → List Object → List Value → List ItemForm → 
 FillsTo known heap places todo [] operands rooms holds = ⊥
 FillsTo known heap places todo (Creates access count ∷ k) operands rooms holds = Filling known heap places access count todo k operands rooms holds
 FillsTo known heap places todo (StoresRecord o first count ∷ k) operands rooms holds =
-    Giving known todo k rooms holds × (IsPlainIn known heap o first count × RunsBehind known k rooms holds)
+    Giving known todo k rooms holds × PlainBehind known heap o first count k rooms holds
 FillsTo known heap places todo (DeclaresRecord x t ∷ k) operands rooms holds =
     Giving known todo k rooms holds × InitialTo known heap todo operands t × Recording known x t k rooms holds
 FillsTo known heap places todo (f ∷ k) operands rooms holds = ⊥
@@ -1278,11 +1304,13 @@ pub record Beginning (known : Known) (v : Value) (k : Control) (heap : List Obje
 abbrev pub IsCollected : List Object → List Master → Value → Type 0
 IsCollected heap masters v = (o : Id) (x : Object) → v ≡ Names o → object_at heap o ≡ Some x → HasCollection masters x.cell.access
 
--- Behind that of a record object what is left goes on.
+-- Behind that of a record object what is left goes on. Of what its adjustment may free there is no alias, where a record was copied to it (7.6).
 abbrev pub BeginsBy : Known → Value → Birth → Control → List Object → (places : List Value) → List Master → Type 0
 BeginsBy known v Creation k heap places masters = Beginning known v k heap places masters
-BeginsBy known v Copy k heap places masters = Working known heap places masters (RunsOn known k)
-BeginsBy known v (Adjustment number) k heap places masters = Working known heap places masters (RunsOn known k)
+BeginsBy known v Copy k heap places masters =
+    Working known heap places masters (λ rooms holds. RunsOn known k rooms holds × OfItsType heap v (λ access. AdjustsAside known access holds))
+BeginsBy known v (Adjustment number) k heap places masters =
+    Working known heap places masters (λ rooms holds. RunsOn known k rooms holds × OfItsType heap v (λ access. AdjustsAside known access holds))
 
 -- So it does behind that of any object.
 abbrev pub BegunTo : Known → Value → Birth → Control → List Object → (places operands : List Value) → List Master → Type 0
@@ -1300,10 +1328,6 @@ abbrev pub StoresBehind : Known → List Object → (record_type : ℕ) → Cont
 StoresBehind known heap t [] rooms holds = ⊥
 StoresBehind known heap t (StoresRecord o first count ∷ k) rooms holds = StoresSo known heap o t first count k rooms holds
 StoresBehind known heap t (f ∷ k) rooms holds = ⊥
-
--- A record of this type lies in the objects that are known by this one, with its controlled parts (7.6).
-abbrev pub LiesAmong : Known → (access record_type : ℕ) → Type 0
-LiesAmong known access t = (first part : ℕ) × PartsLie known.program.types (object_named known.program.types (Some access)) (Some t) first part
 
 -- It lies in an object that is there.
 abbrev pub LiesIn : Known → List Object → (record_type : ℕ) → Value → Type 0
@@ -1365,14 +1389,16 @@ TreatsBy known v (begins by done) k heap places operands masters = BegunTo known
 TreatsBy known v (ends cause) k heap places operands masters = EndsBy known v cause k heap places operands masters
 
 -- A record in an object was copied to, and its Adjust comes next, in front of this (7.6): its components of access types name what those of the other record
--- name, and so they count as null until it has ended; what they name is there.
+-- name, and so they count as null until it has ended; what they name is there, and of what that Adjust may free there is no alias.
 pub record Adjusted (known : Known) (o : Id) (record_type of first : ℕ) (k : Control) (heap : List Object) (places : List Value) (masters : List Master) : Type 0 where
   pub x : Object
   pub found : object_at heap o ≡ Some x
   pub there : is_there x.stage ≡ true
   pub only : OnlyPart known.program.types x.cell.access record_type of first
   pub named : NameThere heap (values_at (part_owners known.program.types record_type first) x.cell.values)
-  pub works : Working known (blanked (hiding known.program.types record_type first o) heap) places masters (RunsOn known k)
+  pub works :
+      Working known (blanked (hiding known.program.types record_type first o) heap) places masters (λ rooms holds.
+      RunsOn known k rooms holds × AdjustsAside known x.cell.access holds)
 
 -- What is left of a treatment is such an adjustment, which comes to that Adjust alone.
 pub record AdjustsTo (known : Known) (v : Value) (treatment : Treatment) (tasks : List Task) (k : Control) (heap : List Object) (places : List Value) (masters : List Master) : Type 0 where

@@ -120,7 +120,7 @@ pub mod FrugalBodies
 pub mod SimpleBodies
 -- they are of the forms of which the laws on tracked components speak
 pub mod OrderlyBodies
--- they free nothing by what they call implicitly
+-- no exception comes out of them by what they call implicitly
 pub mod SimpleEffects
 -- procedures that track stand apart
 pub mod Trackers
@@ -221,6 +221,8 @@ pub mod AdjustingEnters
 pub mod TracksAs
 -- what is known there where each component counts as an owner
 pub mod PlainAdjusts
+-- what that may free
+mod AdjustedParts
 -- so its body begins in a sound state
 pub mod AdjustingStarts
 -- what the state that stands for the real one has of it

@@ -12,7 +12,7 @@ use Rattle.ada_program.specs.declared.program.VariableKind.{VariableKind}
 use Rattle.ada_program.specs.declared.program.VariableKind.TheVariants as variable
 use Rattle.ada_program.specs.Form.{PathForm, ExpressionForm, integer, boolean, reads, is_null, applied_to, chained, LinksForm, no_more_links, a_link, ItemForm, null_item, item_of_path, item_of_value, item_of_record, RightForm, nothing, value_of, allocates, allocates_default, computes, DeclarationForm, creates_pool, collects, declares, declares_record, StmtForm, skips, assigns, assigns_record, frees, gets, writes, writes_text, chooses, repeats, counts, exits, calls, returns, raises, encloses, StmtsForm, no_stmts, a_stmt, BranchesForm, otherwise, a_branch, HandlersForm, no_handlers, a_handler}
 use Rattle.ada_program.specs.ProgramForm.{TypeForm, VariableForm, BodyForm, ProgramForm, seen_by}
-use Rattle.ada_program.specs.WellFormed.{IsWellFormed, variable_kind, root_kind, selectors_kind, path_kind, scalar_of, value_access, is_this, binary_type, type_of, chain_type, has_type, condition_fits, first_fits, item_fits, item_width, items_fit, is_filled, access_fits, scalar_fits, right_fits, reached_components, initial_fits, declarations_fit, Profile, callable_in, statement_fits, stmts_fit, branches_fit, handlers_fit}
+use Rattle.ada_program.specs.WellFormed.{IsWellFormed, variable_kind, root_kind, selectors_kind, path_kind, scalar_of, value_access, is_this, binary_type, type_of, chain_type, has_type, condition_fits, first_fits, item_fits, item_width, items_fit, is_filled, access_fits, scalar_fits, right_fits, reached_components, initial_fits, declarations_fit, Profile, callable_in, statement_fits, stmts_fit, branches_fit, handlers_fit, is_freed_by, path_access}
 use Rattle.ada_flow.specs.Tracking.{Tracks}
 use Rattle.ada_tracked.specs.Simple.{IsVariable, IsFrom}
 use Rattle.ada_judged.specs.Fitting.{TracksComponents}
@@ -54,6 +54,10 @@ access_value (Some (variable.Record object)) is = absurd (cc is)
 this_there : (access : ℕ) (t : Option ℕ) → is_this access t ≡ true → is_some t ≡ true
 this_there access None is = absurd (cc is)
 this_there access (Some t) is = refl
+
+freed_there : (types : List TypeForm) (access : ℕ) (t : Option ℕ) → is_freed_by types access t ≡ true → is_some t ≡ true
+freed_there types access None is = absurd (cc is)
+freed_there types access (Some t) is = refl
 
 tested_there : (access : Option ℕ) (t : ScalarType) → (if is_some access then Some Boolean else None) ≡ Some t → is_some access ≡ true
 tested_there None t is = absurd (cc is)
@@ -125,6 +129,9 @@ module _ (types : List TypeForm) (tracks : Tracks) (own : List VariableForm) (tr
 
   access_orderly : (access : ℕ) (path : PathForm) → is_this access (value_access (path_kind types own path)) ≡ true → PathIsOrderly tracks path
   access_orderly access path is = path_orderly path (access_value (path_kind types own path) (this_there access (value_access (path_kind types own path)) is))
+
+  freed_orderly : (access : ℕ) (path : PathForm) → is_freed_by types access (path_access types own path) ≡ true → PathIsOrderly tracks path
+  freed_orderly access path is = path_orderly path (access_value (path_kind types own path) (freed_there types access (path_access types own path) is))
 
   -- Expressions (4.4).
   mutual
@@ -236,7 +243,7 @@ module _ (types : List TypeForm) (tracks : Tracks) (own : List VariableForm) (tr
           let fits = (apart _ _ fit).0 in
           (path_orderly target (right_value types own (path_kind types own target) right fits), right_orderly (path_kind types own target) right fits simple)
       statement_orderly inside (assigns_record target items) fit simple = absurd (cc simple)
-      statement_orderly inside (frees access path) fit simple = absurd (cc simple)
+      statement_orderly inside (frees access path) fit simple = freed_orderly access path (apart _ _ fit).0
       statement_orderly inside (gets target) fit simple =
           let number = typed Integer (scalar_of (path_kind types own target)) fit in
           let alone : stmts_fit types own texts exceptions callable inside (a_stmt (gets target) no_stmts) ≡ true = rw fit refl in

@@ -10,6 +10,7 @@ use Rattle.ada_program.specs.declared.program.Program.{Program}
 use Rattle.ada_program.specs.ProgramForm.{ProgramForm, TypeForm, body_forms, program_form}
 use Rattle.ada_program.specs.WellFormed.{IsWellFormed, is_access, object_named, part_count, parts_named}
 use Rattle.ada_meaning.proofs.Places.{numbers_are_alone}
+use Rattle.ada_flow.specs.Flow.{Holds}
 use Rattle.ada_meaning.specs.declared.event.Birth.{Birth}
 use Rattle.ada_meaning.specs.declared.event.Birth.TheVariants.{Creation, Copy, Adjustment}
 use Rattle.ada_meaning.specs.declared.state.Id.{Id}
@@ -36,14 +37,14 @@ use Rattle.ada_sound.proofs.CopiedOwners.{BeginsCopy, OnlyPart, SeesToOwners, hi
 use Rattle.ada_sound.proofs.CopiedWell.{named_one}
 use Rattle.ada_sound.proofs.FrugalUseParts.{operable_is_object}
 use Rattle.ada_sound.proofs.HiddenOwners.{components_there, hide_set, names_hidden, stored_hidden}
-use Rattle.ada_sound.proofs.Invariant.{Adjusted, BegunTo, Control, Known, RunsOn, TreatsBy, Working}
+use Rattle.ada_sound.proofs.Invariant.{Adjusted, AdjustsAside, BegunTo, Control, Known, Rooms, RunsOn, TreatsBy, Working}
 use Rattle.ada_sound.proofs.OnlyParts.{IsControlled, controlled_counts, walked_counts}
 use Rattle.ada_sound.proofs.OnlyPlaces.{controlled_as_shown}
 use Rattle.ada_sound.proofs.Operated.{OperatedAs, OperatedOn}
 use Rattle.ada_sound.proofs.Operating.{IsCalled}
 use Rattle.ada_sound.proofs.OperationStarts.{live_there}
 use Rattle.ada_sound.proofs.QuietOperations.{AdjustsCopy, AdjustsOwn}
-use Rattle.ada_sound.proofs.Ready.{running}
+use Rattle.ada_sound.proofs.Ready.{at_work, running}
 use Rattle.ada_sound.proofs.Returns.{same_types}
 use Rattle.ada_sound.proofs.TouchingRests.{none_collected}
 use Rattle.ada_sound.proofs.Trackers.{frugal_too}
@@ -53,15 +54,16 @@ use Rattle.ada_sound.proofs.Treatments.{Begins, BeginsAdjust, BeginsPart}
 
 -- An object is treated that a record was copied to.
 module _ (known : Known) (o : Id) (x : Object) (heap : List Object) (found : object_at heap o ≡ Some x) (places operands : List Value) (masters : List Master) (k : Control) where
-  -- What is behind that goes on, since no allocator made the object: it is of no access type.
-  copied_works : (by : Birth) → BeginsCopy by → is_access known.program.types x.cell.access ≡ false → ItemsFit known.program.types (items_of masters) → BegunTo known (Names o) by k heap places operands masters → Working known heap places masters (RunsOn known k)
+  -- What is behind that goes on, since no allocator made the object, which is of no access type; and of what its adjustment may free there is no alias.
+  copied_works : (by : Birth) → BeginsCopy by → is_access known.program.types x.cell.access ≡ false → ItemsFit known.program.types (items_of masters) → BegunTo known (Names o) by k heap places operands masters
+      → Working known heap places masters (λ rooms holds. RunsOn known k rooms holds × AdjustsAside known x.cell.access holds)
   copied_works Creation copies object fits begun = absurd copies
-  copied_works Copy copies object fits (inl w) = w
-  copied_works (Adjustment n) copies object fits (inl w) = w
+  copied_works Copy copies object fits (inl w) = at_work w (w.rest.0, w.rest.1 o x refl found)
+  copied_works (Adjustment n) copies object fits (inl w) = at_work w (w.rest.0, w.rest.1 o x refl found)
   copied_works by copies object fits (inr (collected, r)) = let home = collected o x refl found in absurd (none_collected known o x heap found places operands masters object fits masters fits home.0 home.1)
 
   -- So it does where the components of access types of a record in the object count as null.
-  hidden_works : (r first : ℕ) → Working known heap places masters (RunsOn known k) → Working known (blanked (hiding known.program.types r first o) heap) places masters (RunsOn known k)
+  hidden_works : {more : Rooms → Holds → Type 0} (r first : ℕ) → Working known heap places masters more → Working known (blanked (hiding known.program.types r first o) heap) places masters more
   hidden_works r first w = record {
     rooms = w.rooms;
     holds = w.holds;
@@ -72,7 +74,8 @@ module _ (known : Known) (o : Id) (x : Object) (heap : List Object) (found : obj
   }
 
   -- What these components name is there; so all is known that is to be known where the Adjust of this record comes next, which is the only controlled part.
-  abbrev hidden_adjusted : (r of first : ℕ) → is_there x.stage ≡ true → OnlyPart known.program.types x.cell.access r of first → Working known heap places masters (RunsOn known k) → Adjusted known o r of first k heap places masters
+  abbrev hidden_adjusted : (r of first : ℕ) → is_there x.stage ≡ true → OnlyPart known.program.types x.cell.access r of first
+      → Working known heap places masters (λ rooms holds. RunsOn known k rooms holds × AdjustsAside known x.cell.access holds) → Adjusted known o r of first k heap places masters
   hidden_adjusted r of first there only w = record {
     x = x;
     found = found;

@@ -1,12 +1,14 @@
 -- What is left of the program is ready to run, or to be passed by a jump.
 
-use Rattle.std.proofs.Common.{◌≡◌, ℕ, List, [], ◌∷◌, inl, inr}
+use Rattle.std.proofs.Common.{◌≡◌, ◌≢◌, ℕ, List, [], ◌∷◌, ◌⊎◌, inl, inr, refl, sym, ap, subst, ◌∙◌}
+use Rattle.std.specs.Prelude.{Some}
 use Rattle.std.specs.List.{slice_set}
 use Rattle.ada_program.specs.declared.program.Exception.{Exception}
 use Rattle.ada_flow.specs.declared.rule.Hold.TheVariants as hold
 use Rattle.ada_flow.specs.Flow.{Holds}
 use Rattle.ada_parts.specs.Task.{Task}
 use Rattle.ada_meaning.specs.declared.event.Cause.TheVariants.{Leaving, Freeing, Assigning, Undoing}
+use Rattle.ada_meaning.specs.declared.state.Id.{Id}
 use Rattle.ada_meaning.specs.declared.state.Value.{Value}
 use Rattle.ada_meaning.specs.declared.event.Birth.{Birth}
 use Rattle.ada_meaning.specs.declared.event.Birth.TheVariants.{Creation, Copy, Adjustment}
@@ -18,15 +20,18 @@ use Rattle.ada_meaning.specs.Frame.{Frame, Elaborates, Does, Decides, Repeats, T
 use Rattle.ada_meaning.specs.Event.{Quiet}
 use Rattle.ada_meaning.specs.State.{Activation, Master}
 use Rattle.ada_meaning.specs.Step.{first_or, older, jumping, treating}
-use Rattle.ada_meaning.specs.Named.{Object, State}
+use Rattle.ada_meaning.specs.Named.{Object, State, object_at}
 use Rattle.ada_meaning.specs.Run.{Event}
+use Rattle.ada_owners.proofs.Kernel.{same_id}
+use Rattle.ada_owners.proofs.Objects.{at_other}
 use Rattle.ada_sound.proofs.Items.{NoMaster}
+use Rattle.ada_sound.proofs.Objects.{set_here}
 use Rattle.ada_sound.proofs.Fits.{MayFollow, weaker_fit, spare_fit, put_lost, sparing}
 use Rattle.ada_sound.proofs.Orderings.{AsGood}
 use Rattle.ada_sound.proofs.Alters.{alters_same}
 use Rattle.ada_sound.proofs.Stored.{Stored}
 use Rattle.ada_sound.proofs.CopiedOwners.{leads_some}
-use Rattle.ada_sound.proofs.Invariant.{AdjustsTo, under_in, outers, StoresOn, Caller, below_callers, below, at_end, nowhere, Known, Control, Rooms, Roomed, To, RunsOn, RunsBehind, GoesOn, RaisesAt, CopiesTo, PassesTo, Awaits, IsHolder, Working, Parting, HalfBy, Resumes, NamesTo, BeginsBy, BegunTo, EndsTo, StoresBehind, CopiesBehind, TreatsBy, RaisesBy, ReadyIn, Ready, Says, Stepped, By, innermost, ways, IsOfAssigned, LiesIn, EndsBy}
+use Rattle.ada_sound.proofs.Invariant.{AdjustsAside, OfItsType, AdjustsTo, under_in, outers, StoresOn, Caller, below_callers, below, at_end, nowhere, Known, Control, Rooms, Roomed, To, RunsOn, RunsBehind, GoesOn, RaisesAt, CopiesTo, PassesTo, Awaits, IsHolder, Working, Parting, HalfBy, Resumes, NamesTo, BeginsBy, BegunTo, EndsTo, StoresBehind, CopiesBehind, TreatsBy, RaisesBy, ReadyIn, Ready, Says, Stepped, By, innermost, ways, IsOfAssigned, LiesIn, EndsBy}
 use Rattle.ada_meaning.specs.declared.event.Cause.{Cause}
 
 -- The state at work on something, with a running activation; and in another mode.
@@ -71,6 +76,16 @@ pub left_stored : (known : Known) (mode : Mode) (heap : List Object) (ms : List 
 left_stored known mode heap ms [] holds g stored = none_stored known.callers mode heap ms holds g stored
 left_stored known mode heap ms (gone ∷ rooms) holds g stored = nowhere_goes mode holds g
 
+-- What holds of the type by which an object is known holds of it still where the object changes.
+pub type_set : (heap : List Object) (o : Id) (x y : Object) → object_at heap o ≡ Some x → y.cell.access ≡ x.cell.access → (v : Value) (more : ℕ → Type 0) → OfItsType heap v more → OfItsType (slice_set heap o.0 y) v more
+type_set heap o x y found same v more of q z is at = by (same_id q o)
+  where
+    by : (q ≡ o) ⊎ (q ≢ o) → more z.cell.access
+    by (inl one) =
+        let new : z ≡ y = let here = set_here heap o.0 x y found in cc (rw one at at, here) in
+        subst more (sym same ∙ ap (λ (w : Object). w.cell.access) (sym new)) (of o x (is ∙ ap (λ (i : Id). Names i) one) found)
+    by (inr ne) = of q z is (sym (at_other heap o q y ne) ∙ at)
+
 module _ (known : Known) where
   -- A step that leaves objects as they are.
   pub stays : (e : Event) (after : State) → Ready known after → Says known.implicit known.program e after.heap after → Stepped known after.heap e after
@@ -93,23 +108,32 @@ module _ (known : Known) where
   runs_ready (f ∷ k) heap places operands ms w = absurd (w.rest)
 
   -- What is left goes on also where no record is adjusted.
-  pub runs_behind : (k : Control) (rooms : Rooms) (holds : Holds) → To (RunsOn known k rooms) holds → RunsBehind known k rooms holds
-  runs_behind [] rooms holds r = r
-  runs_behind (Treats v treatment tasks ∷ k) rooms holds r = absurd (r.2)
-  runs_behind (f ∷ k) rooms holds r = r
+  pub runs_behind : (v : Value) (access : ℕ) (k : Control) (rooms : Rooms) (holds : Holds) → To (RunsOn known k rooms) holds → RunsBehind known v access k rooms holds
+  runs_behind v access [] rooms holds r = r
+  runs_behind v access (Treats w treatment tasks ∷ k) rooms holds r = absurd (r.2)
+  runs_behind v access (f ∷ k) rooms holds r = r
 
-  pub behind_ready : (k : Control) (heap : List Object) (places operands : List Value) (ms : List Master) → Working known heap places ms (RunsBehind known k) → ReadyIn known Running k heap places operands ms
-  behind_ready [] heap places operands ms w = runs_ready [] heap places operands ms (at_less w w.rest)
-  behind_ready (Treats v (begins Creation done) tasks ∷ k) heap places operands ms w = absurd (w.rest)
-  behind_ready (Treats v (begins Copy done) tasks ∷ k) heap places operands ms w = absurd (w.rest)
-  behind_ready (Treats v (begins (Adjustment number) done) tasks ∷ k) heap places operands ms w = inl ((inl (at_less w w.rest), tt), tt)
-  behind_ready (Treats v (ends cause) tasks ∷ k) heap places operands ms w = absurd (w.rest)
-  behind_ready (f ∷ k) heap places operands ms w = runs_ready (f ∷ k) heap places operands ms (at_less w w.rest)
+  -- The object that is adjusted is known by its type.
+  adjusted_ready : (v w : Value) (access : ℕ) (k : Control) (heap : List Object) (places : List Value) (ms : List Master) → OfItsType heap v (λ t. t ≡ access)
+      → (works : Working known heap places ms (λ rooms holds. (w ≡ v) × To (λ less. RunsOn known k rooms less × AdjustsAside known access less) holds))
+      → Working known heap places ms (λ rooms holds. RunsOn known k rooms holds × OfItsType heap w (λ t. AdjustsAside known t holds))
+  adjusted_ready v w access k heap places ms of works =
+      let on = at_less {other = λ rooms less. RunsOn known k rooms less × AdjustsAside known access less} works works.rest.1 in
+      at_work on (on.rest.0, λ o x is at. subst (λ (t : ℕ). AdjustsAside known t on.holds) (sym (of o x (sym works.rest.0 ∙ is) at)) on.rest.1)
+
+  pub behind_ready : (v : Value) (access : ℕ) (k : Control) (heap : List Object) (places operands : List Value) (ms : List Master) → OfItsType heap v (λ t. t ≡ access) → Working known heap places ms (RunsBehind known v access k) → ReadyIn known Running k heap places operands ms
+  behind_ready v access [] heap places operands ms of w = runs_ready [] heap places operands ms (at_less w w.rest)
+  behind_ready v access (Treats u (begins Creation done) tasks ∷ k) heap places operands ms of w = absurd (w.rest)
+  behind_ready v access (Treats u (begins Copy done) tasks ∷ k) heap places operands ms of w = absurd (w.rest)
+  behind_ready v access (Treats u (begins (Adjustment number) done) tasks ∷ k) heap places operands ms of w =
+      inl ((inl (adjusted_ready v u access k heap places ms of w), tt), tt)
+  behind_ready v access (Treats u (ends cause) tasks ∷ k) heap places operands ms of w = absurd (w.rest)
+  behind_ready v access (f ∷ k) heap places operands ms of w = runs_ready (f ∷ k) heap places operands ms (at_less w w.rest)
 
   -- It does so behind the adjustment of a record, or at once, where nothing is to be adjusted.
-  pub treating_behind : (v : Value) (number : ℕ) (tasks : List Task) (k : Control) (rooms : Rooms) (holds : Holds) → To (RunsOn known k rooms) holds → RunsBehind known (treating v (begins (Adjustment number) []) tasks k) rooms holds
-  treating_behind v number [] k rooms holds r = runs_behind k rooms holds r
-  treating_behind v number (task ∷ tasks) k rooms holds r = r
+  pub treating_behind : (v : Value) (access number : ℕ) (tasks : List Task) (k : Control) (rooms : Rooms) (holds : Holds) → To (λ less. RunsOn known k rooms less × AdjustsAside known access less) holds → RunsBehind known v access (treating v (begins (Adjustment number) []) tasks k) rooms holds
+  treating_behind v access number [] k rooms holds r = runs_behind v access k rooms holds (r.0, r.1, r.2.0)
+  treating_behind v access number (task ∷ tasks) k rooms holds r = (refl, r)
 
   -- An exception that passes the frames is on its way: nothing that passes them awaits the body of an operation.
   pub raises_by : (e : Exception) (f : Frame Value) (k : Control) (heap : List Object) (places : List Value) (ms : List Master) → Working known heap places ms (GoesOn known (Raising e) (f ∷ k)) → RaisesBy known e f k heap places ms
@@ -146,8 +170,8 @@ module _ (known : Known) where
 
   pub begins_work : (v : Value) (by : Birth) (k : Control) (heap : List Object) (places : List Value) (ms : List Master) → BeginsBy known v by k heap places ms → Working known heap places ms (RunsOn known k)
   begins_work v Creation k heap places ms b = record { rooms = b.rooms; holds = b.holds; stored = b.stored; roomed = b.roomed; fit = b.fit; rest = b.runs }
-  begins_work v Copy k heap places ms w = w
-  begins_work v (Adjustment number) k heap places ms w = w
+  begins_work v Copy k heap places ms w = at_work w w.rest.0
+  begins_work v (Adjustment number) k heap places ms w = at_work w w.rest.0
 
   begun_ready : (v : Value) (by : Birth) (k : Control) (heap : List Object) (places operands : List Value) (ms : List Master) → BegunTo known v by k heap places operands ms → ReadyIn known Running k heap places operands ms
   begun_ready v by k heap places operands ms (inl b) = runs_ready k heap places operands ms (begins_work v by k heap places ms b)

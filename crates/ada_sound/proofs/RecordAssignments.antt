@@ -4,7 +4,7 @@
 use Rattle.ada_meaning.specs.declared.state.Mode.TheVariants.{Running}
 use Rattle.ada_parts.specs.Task.{Task}
 use Rattle.ada_program.specs.declared.program.Finalization.{Finalization}
-use Rattle.std.proofs.Common.{◌≡◌, ℕ, suc, ◌+◌, Bool, true, false, ◌||◌, ◌&&◌, List, [], ◌∷◌, ◌++◌, length, take, drop, refl, ◌∙◌, sym, ◌⊎◌, inl, inr}
+use Rattle.std.proofs.Common.{◌≡◌, ℕ, suc, ◌+◌, Bool, true, false, ◌||◌, ◌&&◌, List, [], ◌∷◌, ◌++◌, length, take, drop, refl, ◌∙◌, sym, ap, subst, ◌≢◌, ◌⊎◌, inl, inr}
 use Rattle.std.proofs.lemmas.Bool.{and_parts}
 use Rattle.std.specs.Prelude.{Option, Some, None}
 use Rattle.std.specs.List.{list_any, list_all}
@@ -17,6 +17,7 @@ use Rattle.ada_program.specs.declared.program.TypeDefinition.{TypeDefinition}
 use Rattle.ada_program.specs.declared.program.VariableKind.{VariableKind}
 use Rattle.ada_program.specs.Form.{RecordPathForm, ItemForm, null_item, item_of_path, item_of_value, item_of_record, StmtsForm, assigns_record}
 use Rattle.ada_program.specs.ProgramForm.{TypeForm, VariableForm}
+use Rattle.ada_program.specs.Controlled.{number_in}
 use Rattle.ada_program.specs.Handling.{is_same}
 use Rattle.ada_program.specs.Typed.{width_of}
 use Rattle.ada_program.specs.WellFormed.{held_kind, kind_among, record_components, reached_components, is_record_path, item_fits, is_filled, item_owns, copies_whole, finalization_of, record_fits, has_record_at, object_named}
@@ -28,12 +29,12 @@ use Rattle.ada_meaning.specs.declared.event.Cause.TheVariants.{Assigning}
 use Rattle.ada_meaning.specs.declared.state.Id.{Id}
 use Rattle.ada_meaning.specs.declared.state.Place.{Place}
 use Rattle.ada_meaning.specs.declared.state.Value.{Value}
-use Rattle.ada_meaning.specs.declared.state.Value.TheVariants.{Null, Names, Part}
+use Rattle.ada_meaning.specs.declared.state.Value.TheVariants.{Null, Names, Part, Scalar}
 use Rattle.ada_meaning.specs.Event.{Quiet}
 use Rattle.ada_meaning.specs.Frame.{Treatment, Does, Refers, Assigns, Copies, StoresRecord, Treats, begins, ends}
 use Rattle.ada_meaning.specs.State.{Activation}
 use Rattle.ada_meaning.specs.Step.{first_or, older, treating, record_tasks, assigning, assigns_next, copy_next, moves}
-use Rattle.ada_meaning.specs.Named.{State, named, whole, base, part_base, same}
+use Rattle.ada_meaning.specs.Named.{Object, State, named, object_at, whole, base, part_base, same}
 use Rattle.ada_owners.proofs.Objects.{present_at}
 use Rattle.ada_sound.proofs.Begins.{Referred, record_referred, drop_kind}
 use Rattle.ada_sound.proofs.Gathered.{gathered_well}
@@ -41,10 +42,10 @@ use Rattle.ada_sound.proofs.Copied.{copied_plain, record_there, may_copy}
 use Rattle.ada_sound.proofs.Defaults.{Reaches}
 use Rattle.ada_sound.proofs.Followings.{first_kept, kept_apart}
 use Rattle.ada_sound.proofs.Handings.{passed_safe}
-use Rattle.ada_sound.proofs.Invariant.{outers, Known, Control, Rooms, Goes, To, Raised, RunsOn, AdjustedBehind, IsAdjustedIn, StoresSo, IsHolder, ReferredBy, IsTarget, IsSource, PassesTo, Working, Fine, ways, MayCopy, StoresBehind, ReadyIn, LiesIn, Spares, AssignsTo, AssignsWell}
+use Rattle.ada_sound.proofs.Invariant.{outers, AdjustsAside, Known, Control, LiesAmong, Rooms, RunsBehind, Goes, To, Raised, RunsOn, AdjustedBehind, IsAdjustedIn, StoresSo, IsHolder, ReferredBy, IsTarget, IsSource, PassesTo, Working, Fine, ways, MayCopy, StoresBehind, ReadyIn, LiesIn, Spares, AssignsTo, AssignsWell}
 use Rattle.ada_sound.proofs.Outcomes.{raised_before, using_goes, ends_goes, before_lost, goes_map, loses_goes, to_here}
 use Rattle.ada_sound.proofs.Raising.{or_left, or_right}
-use Rattle.ada_sound.proofs.Ready.{running, at_work, at_less, stays, ready_on, runs_on, treats_ready, treating_behind, copies_on}
+use Rattle.ada_sound.proofs.Ready.{running, at_work, at_less, stays, ready_on, runs_behind, runs_on, treats_ready, treating_behind, copies_on}
 use Rattle.ada_sound.proofs.Wholes.{width_is}
 use Rattle.ada_meaning.specs.Heap.{Cell}
 use Rattle.ada_typed.proofs.Values.{RefersToRecord}
@@ -202,18 +203,50 @@ module _ (known : Known) (a : Activation Value) (rest : List (Activation Value))
     treating_some : (v : Value) (treatment : Treatment) (tasks : List Task) (next : Control) → (task : Task) × (rest : List Task) × (tasks ≡ task ∷ rest) → treating v treatment tasks next ≡ Treats v treatment tasks ∷ next
     treating_some v treatment tasks next (task, rest', is) = rw is refl
 
+    -- Typing says where a record lies.
+    lies_there : (t : ℕ) (u : Value) → RefersToRecord known.program.types (cells_of s.heap) t u → IsSource s.heap u → LiesIn known s.heap t (whole u)
+    lies_there t u refers (p, other, from, (x, found, there)) =
+        let lies : RefersToRecord known.program.types (cells_of s.heap) t (Part p other) = rw from at refers in
+        let one : lies.0 ≡ x.cell = some_same (sym lies.1 ∙ cell_at s.heap p.0 x found) in
+        rw from (x, found, there, (other.component, other.part, rw one at lies.3))
+
+    -- So that object is known by a type among whose objects it lies.
+    lying_among : (t : ℕ) (u : Value) → LiesIn known s.heap t u → (o : Id) (x : Object) → u ≡ Names o → object_at s.heap o ≡ Some x → LiesAmong known x.cell.access t
+    lying_among t Null lies o x is found = absurd lies
+    lying_among t (Scalar n) lies o x is found = absurd lies
+    lying_among t (Part p place) lies o x is found = absurd lies
+    lying_among t (Names p) lies o x is found =
+        let one : p ≡ o = cc is in
+        let object : lies.0 ≡ x = let here = lies.1 in cc (here, rw (← one) at found) in
+        subst (λ (y : Object). LiesAmong known y.cell.access t) object lies.3
+
+    -- Of what the Adjusts of the record may free there is no alias, since there is none of what the assignment may free.
+    aside_there : (t access : ℕ) (next : Control) (rooms : Rooms) (holds : Holds) → RunsOn known next rooms holds → AssignsWell known t holds → finalization_of known.program.types t ≢ None → LiesAmong known access t
+        → To (λ less. RunsOn known next rooms less × AdjustsAside known access less) holds
+    aside_there t access next rooms holds runs well has lies =
+        let ends = known.implicit.end_frees t in
+        let adjusts = known.implicit.adjust_frees t in
+        to_here (λ less. RunsOn known next rooms less × AdjustsAside known access less) holds (
+          runs,
+          (
+            t,
+            (λ u may. well.0 u (or_right (ends u) (adjusts u) may), λ x u of may borrows. well.1 x u of (or_right (ends u) (adjusts u) may) borrows),
+            inr (has, lies),
+          ),
+        )
+
     -- The target's object, and what its components get.
-    adjusted_there : (t : ℕ) (v : Value) (kinds : List ComponentKind) → record_components known.program.types t ≡ Some kinds → RefersToRecord known.program.types (cells_of s.heap) t v → IsSource s.heap v → AdjustsOwners known.program.types t → (number : ℕ) (next : Control) (rooms : Rooms) (holds : Holds) → To (RunsOn known next rooms) holds → IsAdjustedIn known s.heap (whole v) t (base v) (length kinds) (treating (whole v) (begins (Adjustment number) []) (record_tasks types t PartsFirst (part_base v)) next) rooms holds
-    adjusted_there t v kinds is refers (p, place, from, (x, found, there)) sees number next rooms holds runs =
+    adjusted_there : (t : ℕ) (v : Value) (kinds : List ComponentKind) → record_components known.program.types t ≡ Some kinds → RefersToRecord known.program.types (cells_of s.heap) t v → IsSource s.heap v → AdjustsOwners known.program.types t → (number : ℕ) (next : Control) (rooms : Rooms) (holds : Holds) → RunsOn known next rooms holds → AssignsWell known t holds → IsAdjustedIn known s.heap (whole v) t (base v) (length kinds) (treating (whole v) (begins (Adjustment number) []) (record_tasks types t PartsFirst (part_base v)) next) rooms holds
+    adjusted_there t v kinds is refers (p, place, from, (x, found, there)) sees number next rooms holds runs well =
         let forms = known.program.types in
         let lies : RefersToRecord forms (cells_of s.heap) t (Part p place) = rw from at refers in
         let one : lies.0 ≡ x.cell = some_same (sym lies.1 ∙ cell_at s.heap p.0 x found) in
         let has : has_record_at (reached_components forms x.cell.access) place.component (Some kinds) ≡ true = rw (← is, ← one) lies.2 in
         let parts : PartsLie forms (object_named forms (Some x.cell.access)) (Some t) place.component place.part = rw one at lies.3 in
-        rw from (x, found, there, adjusted_in t x.cell.access p place kinds is has parts sees number next rooms holds runs)
+        rw from (x, found, there, adjusted_in t x.cell.access p place kinds is has parts sees number next rooms holds runs well)
       where
-        adjusted_in : (t access : ℕ) (p : Id) (place : Place) (kinds : List ComponentKind) → record_components known.program.types t ≡ Some kinds → has_record_at (reached_components known.program.types access) place.component (Some kinds) ≡ true → PartsLie known.program.types (object_named known.program.types (Some access)) (Some t) place.component place.part → AdjustsOwners known.program.types t → (number : ℕ) (next : Control) (rooms : Rooms) (holds : Holds) → To (RunsOn known next rooms) holds → AdjustedBehind known (Names p) access t place.component (length kinds) (treating (Names p) (begins (Adjustment number) []) (record_tasks types t PartsFirst place.part) next) rooms holds
-        adjusted_in t access p place kinds is has parts sees number next rooms holds runs =
+        adjusted_in : (t access : ℕ) (p : Id) (place : Place) (kinds : List ComponentKind) → record_components known.program.types t ≡ Some kinds → has_record_at (reached_components known.program.types access) place.component (Some kinds) ≡ true → PartsLie known.program.types (object_named known.program.types (Some access)) (Some t) place.component place.part → AdjustsOwners known.program.types t → (number : ℕ) (next : Control) (rooms : Rooms) (holds : Holds) → RunsOn known next rooms holds → AssignsWell known t holds → AdjustedBehind known (Names p) access t place.component (length kinds) (treating (Names p) (begins (Adjustment number) []) (record_tasks types t PartsFirst place.part) next) rooms holds
+        adjusted_in t access p place kinds is has parts sees number next rooms holds runs well =
             let forms = known.program.types in
             let leads = leads_there t place.part sees in
             record {
@@ -231,7 +264,7 @@ module _ (known : Known) (a : Activation Value) (rest : List (Activation Value))
               only = only_part forms t sees access place.component place.part parts;
               leads = leads;
               covers = λ reached at. covered_reached forms t sees access place.component place.part kinds reached is (rw at at has);
-              runs = runs;
+              runs = aside_there t access next rooms holds runs well (λ none. let some = ap number_in none in let own = sees.numbered in cc (some, own)) (place.component, place.part, parts);
             }
 
     begins_assigning : (t : ℕ) (v u : Value) (below : List Value) (kinds : List ComponentKind) → record_components known.program.types t ≡ Some kinds → IsTarget known s.heap (length kinds) v ⊎ (IsSource s.heap v × AdjustsOwners known.program.types t) → RefersToRecord known.program.types (cells_of s.heap) t v → IsSource s.heap u → LiesIn known s.heap t (whole u) → (found : Option Finalization) → finalization_of known.program.types t ≡ found → MayCopy known t → Working known s.heap a.places s.masters (AssignsTo known t k) → Fine known s.heap s.masters (moves Quiet (assigning named types t v u (running k (record a { operands = below }) rest s)))
@@ -239,19 +272,28 @@ module _ (known : Known) (a : Activation Value) (rest : List (Activation Value))
         let adjusts = treating (whole v) (begins (Adjustment s.next) []) (record_tasks types t PartsFirst (part_base v)) k in
         let stores = StoresRecord (whole v) (base v) (width_of types t) ∷ adjusts in
         let holder : IsHolder s.heap (whole u) = rw from there in
-        let runs = to_here (RunsOn known k w.rooms) w.holds w.rest.0 in
-        let gets : StoresSo known s.heap (whole v) t (base v) (width_of types t) adjusts w.rooms w.holds = rw (width_is known types reaches k a rest s t kinds is) (gets_so w.rooms w.holds to runs) in
+        let gets : StoresSo known s.heap (whole v) t (base v) (width_of types t) adjusts w.rooms w.holds = rw (width_is known types reaches k a rest s t kinds is) (gets_so w.rooms w.holds to w.rest.0 w.rest.1) in
         stays known Quiet (assigning named types t v u (running k (record a { operands = below }) rest s)) (
           tt,
           by found at (record_tasks types t WholeFirst (part_base v)) (λ none. reaches.2 t none WholeFirst (part_base v)) (reaches.3 t WholeFirst (part_base v)) stores
               (at_work w (holder, gets, w.rest.1)),
         ) tt
       where
-        gets_so : (rooms : Rooms) (holds : Holds) → IsTarget known s.heap (length kinds) v ⊎ (IsSource s.heap v × AdjustsOwners known.program.types t) → To (RunsOn known k rooms) holds → StoresSo known s.heap (whole v) t (base v) (length kinds) (treating (whole v) (begins (Adjustment s.next) []) (record_tasks types t PartsFirst (part_base v)) k) rooms holds
-        gets_so rooms holds (inl (o, place, is', plain)) runs =
-            let adjusts = record_tasks types t PartsFirst (part_base v) in
-            inl (rw is' plain, treating_behind known (whole v) s.next adjusts k rooms holds runs)
-        gets_so rooms holds (inr (there', sees)) runs = inr (adjusted_there t v kinds is at_target there' sees s.next k rooms holds runs)
+        behind_there : (f : Option Finalization) → finalization_of known.program.types t ≡ f → (u : Value) (access : ℕ) (rooms : Rooms) (holds : Holds) → RunsOn known k rooms holds → AssignsWell known t holds → LiesAmong known access t
+            → RunsBehind known u access (treating u (begins (Adjustment s.next) []) (record_tasks types t PartsFirst (part_base v)) k) rooms holds
+        behind_there None none u access rooms holds runs well lies =
+            let empty : record_tasks types t PartsFirst (part_base v) ≡ [] = reaches.2 t none PartsFirst (part_base v) in
+            rw empty (runs_behind known u access k rooms holds (to_here (RunsOn known k rooms) holds runs))
+        behind_there (Some f) some u access rooms holds runs well lies =
+            treating_behind known u access s.next (record_tasks types t PartsFirst (part_base v)) k rooms holds
+            (aside_there t access k rooms holds runs well (λ none. cc (some, none)) lies)
+
+        gets_so : (rooms : Rooms) (holds : Holds) → IsTarget known s.heap (length kinds) v ⊎ (IsSource s.heap v × AdjustsOwners known.program.types t) → RunsOn known k rooms holds → AssignsWell known t holds → StoresSo known s.heap (whole v) t (base v) (length kinds) (treating (whole v) (begins (Adjustment s.next) []) (record_tasks types t PartsFirst (part_base v)) k) rooms holds
+        gets_so rooms holds (inl (o, place, is', plain)) runs well =
+            let source : IsSource s.heap v = (o, place, is', (plain.0, plain.1, plain.2)) in
+            let lying = lies_there t v at_target source in
+            inl (rw is' plain, λ q x named' found'. behind_there found at (whole v) x.cell.access rooms holds runs well (lying_among t (whole v) lying q x named' found'))
+        gets_so rooms holds (inr (there', sees)) runs well = inr (adjusted_there t v kinds is at_target there' sees s.next k rooms holds runs well)
 
         by : (f : Option Finalization) → finalization_of known.program.types t ≡ f → (tasks : List Task) → (finalization_of known.program.types t ≡ None → tasks ≡ []) → TasksInside known.program.types t tasks → (stores : Control)
             → Working known s.heap a.places s.masters (λ rooms holds. IsHolder s.heap (whole u) × StoresBehind known s.heap t stores rooms holds × AssignsWell known t holds)
@@ -261,13 +303,6 @@ module _ (known : Known) (a : Activation Value) (rest : List (Activation Value))
         by (Some f) some tasks empty inside stores works =
             treats_ready known (whole v) (ends (Assigning s.next)) tasks (Copies (base u) t ∷ stores) s.heap a.places (whole u ∷ below) s.masters
             ((f, some, may f some), at_work works (lies, works.rest.1, works.rest.2)) inside
-
-    -- Typing says where the other record lies.
-    lies_there : (t : ℕ) (u : Value) → RefersToRecord known.program.types (cells_of s.heap) t u → IsSource s.heap u → LiesIn known s.heap t (whole u)
-    lies_there t u refers (p, other, from, (x, found, there)) =
-        let lies : RefersToRecord known.program.types (cells_of s.heap) t (Part p other) = rw from at refers in
-        let one : lies.0 ≡ x.cell = some_same (sym lies.1 ∙ cell_at s.heap p.0 x found) in
-        rw from (x, found, there, (other.component, other.part, rw one at lies.3))
 
     pub assigns_fine : (t : ℕ) (operands : List Value) → RefersToRecord known.program.types (cells_of s.heap) t (first_or Null operands) → RefersToRecord known.program.types (cells_of s.heap) t (first_or Null (older operands)) → Working known s.heap a.places s.masters (PassesTo known s.heap a.places operands (Assigns t ∷ k)) → Fine known s.heap s.masters (assigns_next named types t (first_or Null (older operands)) (first_or Null operands) (same (first_or Null (older operands)) (first_or Null operands)) (running k (record a { operands = older (older operands) }) rest s))
     assigns_fine t operands refers target w = go (same (first_or Null (older operands)) (first_or Null operands))

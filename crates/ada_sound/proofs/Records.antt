@@ -34,7 +34,7 @@ use Rattle.ada_meaning.specs.Heap.{Cell}
 use Rattle.ada_meaning.specs.Frame.{Elaborates, Handles, Closes, Fills, DeclaresRecord, begins}
 use Rattle.ada_meaning.specs.State.{Activation, record_object, Master, height}
 use Rattle.ada_meaning.specs.Step.{all_tasks, owning, made, record_next, record_cell, initial_value, initial_values}
-use Rattle.ada_meaning.specs.Named.{Object, State, named, new_object, create, created}
+use Rattle.ada_meaning.specs.Named.{Object, State, named, new_object, create, created, object_at}
 use Rattle.ada_meaning.specs.Law.{items_of}
 use Rattle.ada_owners.specs.Places.{Place, variable, component, elsewhere, value_at}
 use Rattle.ada_owners.specs.Reliance.{Owns, Borrows, AreInHand}
@@ -53,9 +53,9 @@ use Rattle.ada_typed.proofs.Values.{OperandKind, AreComputed, AreHeld, active_pl
 use Rattle.ada_typed.proofs.Control as typed
 use Rattle.ada_sound.proofs.Fits.{Outsiders, Fit, Hand, IsUnreferred, outer_access, bare, stacked, none_spared, place_at, hold_in, weaker_fit, put_lost, put_owner, create_fit, hand_is_unnamed, less_unnamed}
 use Rattle.ada_sound.proofs.Alters.{alters_new}
-use Rattle.ada_sound.proofs.Invariant.{outers, below, Known, Control, Rooms, Roomed, To, Raised, Doing, Handled, Outside, Elaborating, Giving, MayOwn, InitialTo, Recording, owns_at_first, RunsOn, StartsTo, Spares, Unaliased, IsAside, Beginning, BeginsBy, MayUndo, Working, Stepped, Fine, ways}
+use Rattle.ada_sound.proofs.Invariant.{outers, below, AdjustsAside, AdjustsWell, Known, Control, OfItsType, Rooms, Roomed, To, Raised, Doing, Handled, Outside, Elaborating, Giving, MayOwn, InitialTo, Recording, owns_at_first, RunsOn, StartsTo, Spares, Unaliased, IsAside, Beginning, BeginsBy, MayUndo, Working, Stepped, Fine, ways}
 use Rattle.ada_sound.proofs.Ready.{running, at_work, treats_ready, ready_on}
-use Rattle.ada_sound.proofs.Outcomes.{to_before, raised_before, using_goes, ends_goes, loses_goes, loses_to}
+use Rattle.ada_sound.proofs.Outcomes.{before_lost, goes_map, to_before, raised_before, using_goes, ends_goes, loses_goes}
 use Rattle.ada_sound.proofs.Raising.{or_left, or_right, any_more}
 use Rattle.ada_sound.proofs.Values.{lost_here}
 use Rattle.ada_sound.proofs.Orderings.{AsGood, good_losing, good_to_lost, without_freed_good}
@@ -195,11 +195,12 @@ module _ (known : Known) (rest : List (Activation Value)) (s : State) (types : L
     pub spares : Spares known (known.implicit.start_frees t)
     pub unaliased : Unaliased known.program.variables (known.implicit.start_frees t) after
 
-  -- What is copied is never undone: what is behind goes on.
+  -- What is copied is never undone: what is behind goes on, and of what its adjustment may free there is no alias.
   abbrev pub StartsBy : Birth → Control → Rooms → Holds → Type 0
   StartsBy Creation k rooms holds = Initializing k rooms holds
-  StartsBy Copy k rooms holds = MayOwn rooms t × To (RunsOn known k rooms) (slice_set holds x (hold.Own Whole))
-  StartsBy (Adjustment number) k rooms holds = MayOwn rooms t × To (RunsOn known k rooms) (slice_set holds x (hold.Own Whole))
+  StartsBy Copy k rooms holds = MayOwn rooms t × To (λ less. RunsOn known k rooms less × AdjustsWell known t less) (slice_set holds x (hold.Own Whole))
+  StartsBy (Adjustment number) k rooms holds =
+      MayOwn rooms t × To (λ less. RunsOn known k rooms less × AdjustsWell known t less) (slice_set holds x (hold.Own Whole))
 
   -- An object comes to be whose components name nothing, and its variable owns it.
   module _ (a : Activation Value) (k : Control) (values : List Value) (u : Value) (is : is_record_object t (variable_kind known.program.variables x) ≡ true) (there : slice_get a.places x ≡ Some u) (in_hand : (holding : Place → Hold) (kind : ℕ → Option ℕ) → AreInHand s.heap (stacked a.places (outers known)) holding kind 0 values) where
@@ -253,8 +254,19 @@ module _ (known : Known) (rest : List (Activation Value)) (s : State) (types : L
             new_unreferred words cell w.fit,
           )
 
-      pub made_works : To (RunsOn known k w.rooms) (slice_set w.holds x (hold.Own Whole)) → Working known heap places masters (RunsOn known k)
+      pub made_works : {other : Rooms → Holds → Type 0} → To (other w.rooms) (slice_set w.holds x (hold.Own Whole)) → Working known heap places masters other
       made_works runs = record { rooms = w.rooms; holds = runs.0; stored = made_stored; roomed = made_roomed; fit = made_fit runs.0 runs.1; rest = runs.2 }
+
+    -- It is the object that is adjusted.
+    made_aside_works : Working known heap places masters (λ rooms less. RunsOn known k rooms less × AdjustsWell known t less)
+        → Working known heap places masters (λ rooms less. RunsOn known k rooms less × OfItsType heap new (λ access. AdjustsAside known access less))
+    made_aside_works w = at_work w (w.rest.0, λ o y named at. adjusted_so o y named at)
+      where
+        adjusted_so : (o : Id) (y : Object) → new ≡ Names o → object_at heap o ≡ Some y → AdjustsAside known y.cell.access w.holds
+        adjusted_so o y named at =
+            let same : next_id s.heap ≡ o = cc named in
+            let one : new_object cell ≡ y = let made = get_new s.heap (new_object cell) in cc (rw (← same) at at, made) in
+            (t, w.rest.1, inl (ap (λ (z : Object). z.cell.access) one))
 
     made_begins : (by : Birth) → Working known s.heap a.places s.masters (StartsBy by k) → BeginsBy known new by k heap places masters × MayUndo known new by k heap places masters
     made_begins Creation w =
@@ -276,8 +288,8 @@ module _ (known : Known) (rest : List (Activation Value)) (s : State) (types : L
           well = (i.spares, i.unaliased);
         } in
         (b, (b.stored, beginning_undone known new k heap places masters b))
-    made_begins Copy w = (made_works w w.rest.0 w.rest.1, tt)
-    made_begins (Adjustment number) w = (made_works w w.rest.0 w.rest.1, tt)
+    made_begins Copy w = (made_aside_works (made_works w w.rest.0 {other = λ rooms less. RunsOn known k rooms less × AdjustsWell known t less} w.rest.1), tt)
+    made_begins (Adjustment number) w = (made_aside_works (made_works w w.rest.0 {other = λ rooms less. RunsOn known k rooms less × AdjustsWell known t less} w.rest.1), tt)
 
     pub made_fine : (by : Birth) → Working known s.heap a.places s.masters (StartsBy by k) → Stepped known s.heap Quiet (made named types x t by values (running k a rest s))
     made_fine by w =
@@ -342,9 +354,18 @@ module _ (known : Known) (a : Activation Value) (rest : List (Activation Value))
       let after = slice_set holds x (hold.Own Whole) in
       let may = items_raise items || false in
       let flow = using_paths no_tracks (copies_to owning spot ∷ used) holds (ends_with may holds after) in
-      let g = loses_to program.variables (λ u. initial_frees known.implicit u t (Some items)) flow more (Raised among o) (raised_before among o) e.1.0 in
-      let u = using_goes (copies_to owning spot ∷ used) holds (ends_with may holds after) (To more) (Raised among o) g in
-      let n = ends_goes may holds after (To more) (Raised among o) u.1 in
+      let frees : ℕ → Bool = λ u. initial_frees known.implicit u t (Some items) in
+      let adjusted = To (λ less. more less × AdjustsWell known t less) in
+      let g = goes_map flow (λ h. more (without_freed program.variables frees h)) (λ h. Raised among o (without_freed program.variables frees h)) adjusted (Raised among o)
+      (λ h m. (
+        without_freed program.variables frees h,
+        without_freed_good program.variables frees h,
+        (m, (e.1.1, λ y u of freed b. freed_none program.variables frees h y u of freed b)),
+      ))
+      (before_lost program.variables frees (Raised among o) (raised_before among o))
+      (loses_goes program.variables frees flow more (Raised among o) e.1.0) in
+      let u = using_goes (copies_to owning spot ∷ used) holds (ends_with may holds after) adjusted (Raised among o) g in
+      let n = ends_goes may holds after adjusted (Raised among o) u.1 in
       let kept = first_kept holds (copies_to owning spot) used u.0 in (
         record {
           spot = spot;
@@ -353,7 +374,7 @@ module _ (known : Known) (a : Activation Value) (rest : List (Activation Value))
           raises = λ raises. (let either = or_left (items_raise items) false raises in n.1 either ConstraintError either);
         },
         first_well (gathered_first_well program.types copies spot holds t items (λ r f named found. initial_copies program.types program.variables x t items r f named found fits) (copied_plain owning spot kept.0) kept.1),
-        (is, e.0.0, (n.0.0, n.0.1, (e.0.1, n.0.2))),
+        (is, e.0.0, (n.0.0, n.0.1, ((e.0.1, n.0.2.0), n.0.2.1))),
       )
     where
       first_well : (owns_at_first known.program.types t ≡ false) ⊎ ((r : ℕ) × (named_in (slice_get known.program.types t) ≡ Some r) × AdjustsOwners known.program.types r × ((p : RecordPathForm) × (items ≡ item_of_record p ∷ []) × (p.record_type ≡ r))) → InitialTo known heap items operands t

@@ -23,7 +23,7 @@ module _ (frugal : List Bool) where
     frugal_stmt skips is = refl
     frugal_stmt (assigns target right) is = refl
     frugal_stmt (assigns_record target items) is = absurd (cc is)
-    frugal_stmt (frees access path) is = absurd (cc is)
+    frugal_stmt (frees access path) is = refl
     frugal_stmt (gets target) is = refl
     frugal_stmt (writes e) is = refl
     frugal_stmt (writes_text text) is = refl

@@ -91,7 +91,7 @@ StoresInto known object access t [] rooms holds = ⊥
 StoresInto known object access t (StoresRecord v first count ∷ k) rooms holds =
     (v ≡ Names object)
     × ((((components : List ComponentKind) → reached_components known.program.types access ≡ Some components → list_any is_owning (take count (drop first components)) ≡ false)
-    × RunsBehind known k rooms holds)
+    × RunsBehind known (Names object) access k rooms holds)
     ⊎ AdjustedBehind known (Names object) access t first count k rooms holds)
 StoresInto known object access t (f ∷ k) rooms holds = ⊥
 

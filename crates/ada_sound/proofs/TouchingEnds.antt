@@ -40,7 +40,7 @@ use Rattle.ada_sound.proofs.Callers.{rest_of, Suspension, caller_of, known_in, S
 use Rattle.ada_sound.proofs.Touching.{IsNamedNowhere, Touching, Resting, Rests, Starting, under_way, Undoes, origin, called_by, Overwrites, RestsBy, StoresInto}
 use Rattle.ada_sound.proofs.Fits.{Fit, kinds_of, hold_in, stacked, none_spared, sparing, outer_hold, outer_value_at, spare_fit, weaker_fit, IsReferred, Reference}
 use Rattle.ada_sound.proofs.InOrder.{component_is_access}
-use Rattle.ada_sound.proofs.Invariant.{AllWait, Control, Known, Rooms, GoesOn, Working, Ending, EndsTo, ReadyIn, TreatsBy, innermost, outer_of, outers, IsLive, Beginning, StartsTo, BeginsWell, Ready, IsActive, AreSuspended, CopiesBehind, EndsBy, LiesIn, StoresBehind}
+use Rattle.ada_sound.proofs.Invariant.{AllWait, Control, Known, OfItsType, Rooms, RunsBehind, GoesOn, Working, Ending, EndsTo, ReadyIn, TreatsBy, innermost, outer_of, outers, IsLive, Beginning, StartsTo, BeginsWell, Ready, IsActive, AreSuspended, CopiesBehind, EndsBy, LiesIn, StoresBehind}
 use Rattle.ada_sound.proofs.Operating.{behind_operation, lets_out, WaitsFor}
 use Rattle.ada_sound.proofs.Waiting.{stands_behind}
 use Rattle.ada_sound.proofs.Returns.{CrossesTo, same_types}
@@ -291,10 +291,19 @@ module _ (program : Program) (well : IsWellFormed (program_form program)) (s : S
       ∙ (ap (λ (inner : List Suspension). operands_of (drop (suc (length inner)) s.activations)) none
       ∙ ap (λ (all : List (Activation Value)). operands_of (drop 1 all)) acts_so)
 
+  behind_there : (v : Value) (k : Control) (rooms : Rooms) (holds : Holds) → v ≡ Names f.object → RunsBehind own (Names f.object) f.access k rooms holds
+      → OfItsType s.heap v (λ access. RunsBehind own v access k rooms holds)
+  behind_there v k rooms holds is behind o y names at =
+      let same : f.object ≡ o = cc (is, names) in
+      let one : y ≡ f.x = let found = f.found in cc (rw (← same) at at, found) in
+      let access : f.access ≡ y.cell.access = sym (ap (λ (z : Object). z.cell.access) one ∙ f.of_access) in
+      subst (λ (u : Value). RunsBehind own u y.cell.access k rooms holds) (sym is)
+      (subst (λ (t : ℕ). RunsBehind own (Names f.object) t k rooms holds) access behind)
+
   stores_next : (t : ℕ) (k : Control) (rooms : Rooms) (holds : Holds) → StoresInto own f.object f.access t k rooms holds → StoresBehind own s.heap t k rooms holds
   stores_next t [] rooms holds r = absurd r
   stores_next t (StoresRecord v first count ∷ k) rooms holds (is, inl (plain, behind)) =
-      inl (rw is (f.x, f.found, rw exists_still refl, λ components reached. plain components (rw (← f.of_access) reached)), behind)
+      inl (rw is (f.x, f.found, rw exists_still refl, λ components reached. plain components (rw (← f.of_access) reached)), behind_there v k rooms holds is behind)
   stores_next t (StoresRecord v first count ∷ k) rooms holds (is, inr adjusted) =
       inr (rw is (f.x, f.found, rw exists_still refl, rw f.of_access adjusted))
   stores_next t (f' ∷ k) rooms holds r = absurd r

@@ -299,7 +299,7 @@ module _ (known : Known) (o : Id) (x : Object) (heap : List Object) (found : obj
     into_here : (t first count : ℕ) (k : Control) (rooms : Rooms) (holds : Holds) → StoresBehind known heap t (StoresRecord (Names o) first count ∷ k) rooms holds → StoresInto known o x.cell.access t (StoresRecord (Names o) first count ∷ k) rooms holds
     into_here t first count k rooms holds (inl ((y, at, there, plain), behind)) =
         let one : y ≡ x = cc (at, found) in
-        (refl, inl (rw one at plain, behind))
+        (refl, inl (rw one at plain, behind o x refl found))
     into_here t first count k rooms holds (inr (y, at, there, adjusted)) =
         let one : y ≡ x = cc (at, found) in
         (refl, inr (rw one at adjusted))

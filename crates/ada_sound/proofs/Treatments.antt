@@ -44,8 +44,8 @@ use Rattle.ada_sound.proofs.Alters.{Alters, alters_same, alters_set}
 use Rattle.ada_owners.specs.Places.{is_there}
 use Rattle.ada_typed.proofs.Parts.{shown_shapes}
 use Rattle.ada_sound.proofs.CopiedOwners.{BeginsCopy, SeesToOwners, Leads, now, later}
-use Rattle.ada_sound.proofs.Invariant.{outers, Adjusted, AdjustsTo, Known, Control, Rooms, RunsOn, Working, IsHolder, IsPlainIn, IsAdjustedIn, IsLive, NamesTo, BeginsBy, BegunTo, EndsTo, StoresBehind, CopiesBehind, TreatsBy, ThenBack, Ending, ConfinesBy, EndsWell, Stepped, Fine, IsOfAssigned, IsOfCopied, LiesIn}
-use Rattle.ada_sound.proofs.Ready.{running, at_work, stays, treats_ready, adjusts_ready}
+use Rattle.ada_sound.proofs.Invariant.{outers, Adjusted, AdjustsAside, AdjustsTo, Known, Control, OfItsType, Rooms, RunsBehind, RunsOn, Working, IsHolder, IsPlainIn, IsAdjustedIn, IsLive, NamesTo, BeginsBy, BegunTo, EndsTo, StoresBehind, CopiesBehind, TreatsBy, ThenBack, Ending, ConfinesBy, EndsWell, Stepped, Fine, IsOfAssigned, IsOfCopied, LiesIn}
+use Rattle.ada_sound.proofs.Ready.{running, at_work, stays, treats_ready, adjusts_ready, type_set}
 use Rattle.ada_sound.proofs.Endings.{swapped, gone_still, under_set, behind_set}
 use Rattle.ada_sound.proofs.Undone.{beginning_set, collected_set, undo_set}
 use Rattle.ada_sound.proofs.Operating.{StaysLive, WaitsFor, IsCalled}
@@ -173,12 +173,20 @@ module _ (change : PartState → PartState) (part : ℕ) where
     names_set places operands (StoresIn h c ∷ k) r = put_set h c _ places k r
     names_set places operands (f ∷ k) r = absurd r
 
+    aside_set : (v : Value) (places : List Value) (k : Control)
+        → Working known heap places ms (λ rooms holds. RunsOn known k rooms holds × OfItsType heap v (λ access. AdjustsAside known access holds))
+        → Working known (slice_set heap o.0 (treated change part x)) places ms (λ rooms holds.
+        RunsOn known k rooms holds × OfItsType (slice_set heap o.0 (treated change part x)) v (λ access. AdjustsAside known access holds))
+    aside_set v places k w =
+        works_set heap o x found known ms
+        (at_work w (w.rest.0, type_set heap o x (treated change part x) found refl v (λ access. AdjustsAside known access w.holds) w.rest.1))
+
     begins_set : (v : Value) (by : Birth) (places : List Value) (k : Control) → v ≡ Names o → BeginsBy known v by k heap places ms → BeginsBy known v by k (slice_set heap o.0 (treated change part x)) places ms
     begins_set v Creation places k is b =
         beginning_set known heap places ms o x (treated change part x) found refl (stored_treated change part o x found) (λ holds f. treated_fit change part o x found f)
         (λ holds aside. (same_unnamed heap o x found o aside.0 (treated change part x) refl (λ c. refl), aside.1)) v k is b
-    begins_set v Copy places k is w = works_set heap o x found known ms w
-    begins_set v (Adjustment number) places k is w = works_set heap o x found known ms w
+    begins_set v Copy places k is w = aside_set v places k w
+    begins_set v (Adjustment number) places k is w = aside_set v places k w
 
     begun_set : (v : Value) (by : Birth) (places operands : List Value) (k : Control) → v ≡ Names o → BegunTo known v by k heap places operands ms → BegunTo known v by k (slice_set heap o.0 (treated change part x)) places operands ms
     begun_set v by places operands k is (inl b) = inl (begins_set v by places k is b)
@@ -223,7 +231,8 @@ module _ (change : PartState → PartState) (part : ℕ) where
 
     stores_set : (t : ℕ) (k : Control) (rooms : Rooms) (holds : Holds) → StoresBehind known heap t k rooms holds → StoresBehind known (slice_set heap o.0 (treated change part x)) t k rooms holds
     stores_set t [] rooms holds r = absurd r
-    stores_set t (StoresRecord p first count ∷ k) rooms holds (inl r) = inl (plain_set p first count r.0, r.1)
+    stores_set t (StoresRecord p first count ∷ k) rooms holds (inl r) =
+        inl (plain_set p first count r.0, type_set heap o x (treated change part x) found refl p (λ access. RunsBehind known p access k rooms holds) r.1)
     stores_set t (StoresRecord p first count ∷ k) rooms holds (inr r) = inr (adjusted_set p t first count k rooms holds r)
     stores_set t (f ∷ k) rooms holds r = absurd r
 

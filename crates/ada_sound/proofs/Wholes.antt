@@ -1,6 +1,6 @@
 -- Records as wholes: they are copied and assigned to, where their components are Integers and Booleans.
 
-use Rattle.std.proofs.Common.{◌≡◌, ℕ, ◌+◌, Bool, true, false, ◌||◌, ◌&&◌, List, [], ◌∷◌, ◌++◌, length, take, drop, reverse, refl, sym, ap, ◌∙◌, inl, inr}
+use Rattle.std.proofs.Common.{◌≡◌, ℕ, ◌+◌, Bool, true, false, ◌||◌, ◌&&◌, List, [], ◌∷◌, ◌++◌, length, take, drop, reverse, refl, sym, ap, subst, ◌∙◌, inl, inr}
 use Rattle.std.proofs.lemmas.Bool.{eqb-true}
 use Rattle.std.specs.Prelude.{Option, Some, None, ◌==◌, if◌then◌else◌}
 use Rattle.std.specs.List.{list_any}
@@ -44,7 +44,7 @@ use Rattle.ada_sound.proofs.CopiedOwners.{NameThere, names_drop, names_take, nam
 use Rattle.ada_sound.proofs.HiddenOwners.{names_hidden, hide_set, components_there, stored_hidden, StoresWell, covered_stores, Hides, hide_all}
 use Rattle.ada_tracked.specs.Frames.{View, blanked}
 use Rattle.ada_typed.proofs.Parts.{shown_number}
-use Rattle.ada_sound.proofs.Invariant.{outers, Known, Control, Rooms, Goes, To, Raised, RunsOn, RunsBehind, RaisesAt, IsPlainIn, AdjustedBehind, IsAdjustedIn, StoresSo, StoresFrom, AdjustsTo, ReadyIn, CopiesTo, RecordIn, Working, Fine, ways, begun, along}
+use Rattle.ada_sound.proofs.Invariant.{outers, AdjustsAside, Known, Control, OfItsType, Rooms, Goes, To, Raised, RunsOn, RunsBehind, RaisesAt, IsPlainIn, AdjustedBehind, IsAdjustedIn, StoresSo, StoresFrom, AdjustsTo, ReadyIn, CopiesTo, RecordIn, Working, Fine, ways, begun, along}
 use Rattle.ada_sound.proofs.Ready.{running, at_work, at_less, stays, runs_behind, behind_ready, jumps_less}
 use Rattle.ada_sound.proofs.Outcomes.{raised_before, using_goes, ends_goes, loses_to}
 use Rattle.ada_sound.proofs.Followings.{first_kept, kept_apart}
@@ -218,7 +218,7 @@ module _ (known : Known) (types : List TypeDefinition) (reaches : Reaches known 
       let plain = plain_there first t o there.0 below kinds there.1 there.2 in_record.0 items fits computed in
       rw (there.1, (w.stored.sane o there.0 there.1).there_exists there.2)
       (stays known (Followed (Names o)) (running (Fills items ∷ StoresRecord (Names o) first (width_of types t) ∷ k) (record a { operands = below }) rest s)
-      (tt, at_work w (in_record.1, (plain, runs_behind known k w.rooms w.holds in_record.2))) (followed o there w.stored))
+      (tt, at_work w (in_record.1, (plain, λ q x is at. runs_behind known (Names o) x.cell.access k w.rooms w.holds in_record.2))) (followed o there w.stored))
   record_target_fine first t items (Scalar n) below kinds fits computed w = tt
   record_target_fine first t items (Part object_id base) below kinds fits computed w = tt
 
@@ -231,14 +231,19 @@ module _ (known : Known) (types : List TypeDefinition) (reaches : Reaches known 
       let b = begins_some (reached_components known.program.types object.cell.access) first rs (rw same at lies) in
       rw counted (plain_names_nothing known.program.types (cells_of s.heap) rs (reverse (take (length rs) a.operands)) (from_object (drop first b.0) rs b.2 (rw counted at (plain b.0 b.1))) have)
 
-  stored_whole : (o : Id) (object : Object) (first count : ℕ) (found : Option (List Value)) → object_at s.heap o ≡ Some object → is_there object.stage ≡ true → NameNothing (reverse (take count a.operands)) → Working known s.heap a.places s.masters (RunsBehind known k) → Fine known s.heap s.masters (record_stored_next named (Names o) first (reverse (take count a.operands)) found (running k (record a { operands = drop count a.operands }) rest s))
+  stored_whole : (o : Id) (object : Object) (first count : ℕ) (found : Option (List Value)) → object_at s.heap o ≡ Some object → is_there object.stage ≡ true → NameNothing (reverse (take count a.operands)) → Working known s.heap a.places s.masters (RunsBehind known (Names o) object.cell.access k) → Fine known s.heap s.masters (record_stored_next named (Names o) first (reverse (take count a.operands)) found (running k (record a { operands = drop count a.operands }) rest s))
   stored_whole o object first count None found listed none w = tt
   stored_whole o object first count (Some before) found listed none w =
       let vs = reverse (take count a.operands) in
       let after = stored_from named s.heap (Names o) first vs in
       let all = store_all known s.heap a.places s.masters w.holds o object first vs found none w.stored w.fit in
+      let kept = all.alters.kept o object found in
+      let of_type : OfItsType after (Names o) (λ t. t ≡ object.cell.access) = λ q x is at.
+      (let same : o ≡ q = cc is in
+      let one : x ≡ kept.0 = let there = kept.1 in cc (rw (← same) at at, there) in
+      ap (λ (y : Object). y.cell.access) one ∙ kept.2.0) in
       record {
-        ready = (tt, behind_ready known k after a.places (drop count a.operands) s.masters (record { rooms = w.rooms; holds = w.holds; stored = all.stored; roomed = w.roomed; fit = all.fit; rest = w.rest }));
+        ready = (tt, behind_ready known (Names o) object.cell.access k after a.places (drop count a.operands) s.masters of_type (record { rooms = w.rooms; holds = w.holds; stored = all.stored; roomed = w.roomed; fit = all.fit; rest = w.rest }));
         alters = all.alters;
         says = followed o (object, found, listed) w.stored;
       }
@@ -274,7 +279,7 @@ module _ (known : Known) (types : List TypeDefinition) (reaches : Reaches known 
         hide_all (outers known) known.program.types known.program.variables a.places s.masters w.holds view refl s.heap object first values found well
         (names_reverse s.heap (take count a.operands) names) (names_hidden s.heap hidden object.cell.values (components_there s.heap o object found w.fit listed)) w.stored fits_hidden
 
-    hidden_works : Hides (outers known) known.program.types known.program.variables s.heap a.places s.masters w.holds view object stores → Working known (blanked view stores) a.places s.masters (λ rooms holds. To (RunsOn known to.behind rooms) holds)
+    hidden_works : Hides (outers known) known.program.types known.program.variables s.heap a.places s.masters w.holds view object stores → Working known (blanked view stores) a.places s.masters (λ rooms holds. To (λ less. RunsOn known to.behind rooms less × AdjustsAside known object.cell.access less) holds)
     hidden_works h = record { rooms = w.rooms; holds = w.holds; stored = stored_hidden view h.object h.found h.stored; roomed = w.roomed; fit = h.fit; rest = to.runs }
 
     adjusts_next : Hides (outers known) known.program.types known.program.variables s.heap a.places s.masters w.holds view object stores → AdjustsTo known (Names o) (frame.begins (Adjustment to.number) []) to.tasks to.behind stores a.places s.masters
@@ -297,7 +302,9 @@ module _ (known : Known) (types : List TypeDefinition) (reaches : Reaches known 
             there = rw (h.stage) listed;
             only = rw (h.access) (to.only);
             named = h.named;
-            works = at_less works works.rest;
+            works =
+                subst (λ (access : ℕ). Working known (blanked view stores) a.places s.masters (λ rooms holds. RunsOn known to.behind rooms holds × AdjustsAside known access holds)) (sym (h.access))
+                (at_less {other = λ rooms less. RunsOn known to.behind rooms less × AdjustsAside known object.cell.access less} works works.rest);
           };
           leads = to.leads;
         }
@@ -325,7 +332,7 @@ module _ (known : Known) (types : List TypeDefinition) (reaches : Reaches known 
           let p = r.0 in
           let none = named_nothing o first count kinds fits' computed p in
           let looks : look s.heap (Names o) ≡ finds p.0.cell = rw (p.1, (w.stored.sane o p.0 p.1).there_exists p.2) refl in
-          rw looks (stored_whole o p.0 first count (record_in p.0.cell.values first count) p.1 p.2 none (at_work w r.1))
+          rw looks (stored_whole o p.0 first count (record_in p.0.cell.values first count) p.1 p.2 none (at_work w (r.1 o p.0 refl p.1)))
       by (Names o) fits' (inr r) =
           let p = r.1 in
           let looks : look s.heap (Names o) ≡ finds p.0.cell = rw (p.1, (w.stored.sane o p.0 p.1).there_exists p.2) refl in

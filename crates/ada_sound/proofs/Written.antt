@@ -20,8 +20,8 @@ use Rattle.ada_owners.proofs.Changes.{store_is}
 use Rattle.ada_sound.proofs.Objects.{set_here, set_twice}
 use Rattle.ada_sound.proofs.Stored.{stored_filled}
 use Rattle.ada_sound.proofs.Fits.{Fit, none_spared, store_blank, wrote_unnamed, gone_fit}
-use Rattle.ada_sound.proofs.Invariant.{outers, Known, Control, Rooms, RunsOn, Working, IsHolder, IsPlainIn, IsAdjustedIn, NamesTo, BeginsBy, BegunTo, EndsTo, StoresBehind, CopiesBehind, TreatsBy, ThenBack, Ending, LiesIn}
-use Rattle.ada_sound.proofs.Ready.{at_work}
+use Rattle.ada_sound.proofs.Invariant.{outers, AdjustsAside, Known, Control, OfItsType, Rooms, RunsBehind, RunsOn, Working, IsHolder, IsPlainIn, IsAdjustedIn, NamesTo, BeginsBy, BegunTo, EndsTo, StoresBehind, CopiesBehind, TreatsBy, ThenBack, Ending, LiesIn}
+use Rattle.ada_sound.proofs.Ready.{at_work, type_set}
 use Rattle.ada_sound.proofs.Endings.{KeepsFit, swapped, gone_still, under_set, behind_set}
 use Rattle.ada_sound.proofs.Undone.{beginning_set, collected_set, undo_set}
 use Rattle.ada_meaning.specs.declared.event.Cause.TheVariants.{Leaving, Freeing, Assigning, Undoing}
@@ -156,12 +156,20 @@ module _ (c : ℕ) (v : Value) (nameless : (p : Id) → v ≡ Names p → ⊥) w
     names_set places operands (StoresIn h d ∷ k) r = put_set h d _ places k r
     names_set places operands (f ∷ k) r = absurd r
 
+    aside_set : (places : List Value) (k : Control)
+        → Working known heap places ms (λ rooms holds. RunsOn known k rooms holds × OfItsType heap (Names o) (λ access. AdjustsAside known access holds))
+        → Working known (slice_set heap o.0 (wrote x)) places ms (λ rooms holds.
+        RunsOn known k rooms holds × OfItsType (slice_set heap o.0 (wrote x)) (Names o) (λ access. AdjustsAside known access holds))
+    aside_set places k w =
+        works_set heap o x found known ms
+        (at_work w (w.rest.0, type_set heap o x (wrote x) found refl (Names o) (λ access. AdjustsAside known access w.holds) w.rest.1))
+
     begins_set : (by : Birth) (places : List Value) (k : Control) → BeginsBy known (Names o) by k heap places ms → BeginsBy known (Names o) by k (slice_set heap o.0 (wrote x)) places ms
     begins_set Creation places k b =
         beginning_set known heap places ms o x (wrote x) found refl (stored_filled o x c v found) (λ holds f. wrote_fit known heap places o x found none_spared holds f)
         (λ holds aside. (wrote_unnamed heap o x found o aside.0 c v nameless, aside.1)) (Names o) k refl b
-    begins_set Copy places k w = works_set heap o x found known ms w
-    begins_set (Adjustment number) places k w = works_set heap o x found known ms w
+    begins_set Copy places k w = aside_set places k w
+    begins_set (Adjustment number) places k w = aside_set places k w
 
     begun_set : (by : Birth) (places operands : List Value) (k : Control) → BegunTo known (Names o) by k heap places operands ms → BegunTo known (Names o) by k (slice_set heap o.0 (wrote x)) places operands ms
     begun_set by places operands k (inl b) = inl (begins_set by places k b)
@@ -206,7 +214,8 @@ module _ (c : ℕ) (v : Value) (nameless : (p : Id) → v ≡ Names p → ⊥) w
 
     stores_set : (t : ℕ) (k : Control) (rooms : Rooms) (holds : Holds) → StoresBehind known heap t k rooms holds → StoresBehind known (slice_set heap o.0 (wrote x)) t k rooms holds
     stores_set t [] rooms holds r = absurd r
-    stores_set t (StoresRecord p first count ∷ k) rooms holds (inl r) = inl (plain_set p first count r.0, r.1)
+    stores_set t (StoresRecord p first count ∷ k) rooms holds (inl r) =
+        inl (plain_set p first count r.0, type_set heap o x (wrote x) found refl p (λ access. RunsBehind known p access k rooms holds) r.1)
     stores_set t (StoresRecord p first count ∷ k) rooms holds (inr r) = inr (adjusted_set p t first count k rooms holds r)
     stores_set t (f ∷ k) rooms holds r = absurd r
 
