@@ -10,3 +10,5 @@ pub mod QuietFrugal
 pub mod QuietSimple
 -- procedures that are frugal have frugal bodies
 pub mod FrugalAt
+-- collections that are created in order, found in one pass
+pub mod Behind

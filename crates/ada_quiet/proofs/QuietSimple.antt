@@ -9,37 +9,37 @@ use Rattle.ada_program.specs.declared.program.VariableKind.{VariableKind}
 use Rattle.ada_program.specs.declared.program.VariableKind.TheVariants as variable
 use Rattle.ada_program.specs.ProgramForm.{TypeForm, VariableForm, BodyForm}
 use Rattle.ada_program.specs.WellFormed.{variable_kind}
-use Rattle.ada_quiet.specs.Simple.{is_simple_right, is_simple_declaration, are_simple_declarations, is_simple_stmt, are_simple, are_simple_branches, are_simple_handlers, is_record_kind, is_simple_body}
+use Rattle.ada_quiet.specs.Simple.{is_simple_right, is_simple_declaration, are_simple_declarations, is_simple_stmt, are_simple, are_simple_branches, are_simple_handlers, is_bare_kind, is_simple_body}
 use Rattle.ada_quiet.specs.Quiet.{is_elementary, holds_elementary, is_quiet_path, is_quiet_expression, is_quiet_condition, is_quiet_right, is_quiet_declaration, are_quiet_declarations, is_quiet_stmt, are_quiet, are_quiet_branches, are_quiet_handlers, is_plain_body, is_quiet_body}
 use Rattle.ada_quiet.proofs.InUse.{first_of_both, second_of_both, others}
 
-module _ (types : List TypeForm) (variables : List VariableForm) where
-  right_simple : (right : RightForm) → is_quiet_right types variables right ≡ true → is_simple_right right ≡ true
+module _ (types known : List TypeForm) (variables : List VariableForm) where
+  right_simple : (right : RightForm) → is_quiet_right types variables right ≡ true → is_simple_right known right ≡ true
   right_simple nothing quiet = absurd (cc quiet)
   right_simple (value_of path) quiet = absurd (cc quiet)
   right_simple (allocates access items) quiet = absurd (cc quiet)
   right_simple (allocates_default access) quiet = absurd (cc quiet)
   right_simple (computes e) quiet = refl
 
-  declaration_simple : (d : DeclarationForm) → is_quiet_declaration types variables d ≡ true → is_simple_declaration d ≡ true
+  declaration_simple : (d : DeclarationForm) → is_quiet_declaration types variables d ≡ true → is_simple_declaration known d ≡ true
   declaration_simple (creates_pool p) quiet = absurd (cc quiet)
   declaration_simple (collects access) quiet = absurd (cc quiet)
   declaration_simple (declares x right) quiet =
       right_simple right (second_of_both (holds_elementary (variable_kind variables x)) (is_quiet_right types variables right) quiet)
   declaration_simple (declares_record x t initial) quiet = absurd (cc quiet)
 
-  declarations_simple : (ds : List DeclarationForm) → are_quiet_declarations types variables ds ≡ true → are_simple_declarations ds ≡ true
+  declarations_simple : (ds : List DeclarationForm) → are_quiet_declarations types variables ds ≡ true → are_simple_declarations known ds ≡ true
   declarations_simple [] quiet = refl
   declarations_simple (d ∷ ds) quiet =
-      others (is_quiet_declaration types variables d) (are_quiet_declarations types variables ds) (is_simple_declaration d) (are_simple_declarations ds)
+      others (is_quiet_declaration types variables d) (are_quiet_declarations types variables ds) (is_simple_declaration known d) (are_simple_declarations known ds)
       (declaration_simple d) (declarations_simple ds) quiet
 
   mutual
-    stmt_simple : (f : StmtForm) → is_quiet_stmt types variables f ≡ true → is_simple_stmt f ≡ true
+    stmt_simple : (f : StmtForm) → is_quiet_stmt types variables f ≡ true → is_simple_stmt known f ≡ true
     stmt_simple skips quiet = refl
     stmt_simple (assigns target right) quiet = right_simple right (second_of_both (is_quiet_path types variables target) (is_quiet_right types variables right) quiet)
     stmt_simple (assigns_record target items) quiet = absurd (cc quiet)
-    stmt_simple (frees access path) quiet = refl
+    stmt_simple (frees access path) quiet = absurd (cc quiet)
     stmt_simple (gets target) quiet = refl
     stmt_simple (writes e) quiet = refl
     stmt_simple (writes_text text) quiet = refl
@@ -55,58 +55,58 @@ module _ (types : List TypeForm) (variables : List VariableForm) where
     stmt_simple (raises e) quiet = refl
     stmt_simple (encloses ds fs hs) quiet =
         others (are_quiet_declarations types variables ds && are_quiet types variables fs) (are_quiet_handlers types variables hs)
-        (are_simple_declarations ds && are_simple fs) (are_simple_handlers hs)
-        (others (are_quiet_declarations types variables ds) (are_quiet types variables fs) (are_simple_declarations ds) (are_simple fs)
+        (are_simple_declarations known ds && are_simple known fs) (are_simple_handlers known hs)
+        (others (are_quiet_declarations types variables ds) (are_quiet types variables fs) (are_simple_declarations known ds) (are_simple known fs)
         (declarations_simple ds) (stmts_simple fs))
         (handlers_simple hs) quiet
 
-    stmts_simple : (fs : StmtsForm) → are_quiet types variables fs ≡ true → are_simple fs ≡ true
+    stmts_simple : (fs : StmtsForm) → are_quiet types variables fs ≡ true → are_simple known fs ≡ true
     stmts_simple no_stmts quiet = refl
     stmts_simple (a_stmt f fs) quiet =
-        others (is_quiet_stmt types variables f) (are_quiet types variables fs) (is_simple_stmt f) (are_simple fs) (stmt_simple f) (stmts_simple fs) quiet
+        others (is_quiet_stmt types variables f) (are_quiet types variables fs) (is_simple_stmt known f) (are_simple known fs) (stmt_simple f) (stmts_simple fs) quiet
 
-    branches_simple : (branches : BranchesForm) → are_quiet_branches types variables branches ≡ true → are_simple_branches branches ≡ true
+    branches_simple : (branches : BranchesForm) → are_quiet_branches types variables branches ≡ true → are_simple_branches known branches ≡ true
     branches_simple (otherwise fs) quiet = stmts_simple fs quiet
     branches_simple (a_branch e fs branches) quiet =
         let condition = is_quiet_expression types variables e in
-        others (condition && are_quiet types variables fs) (are_quiet_branches types variables branches) (are_simple fs) (are_simple_branches branches)
+        others (condition && are_quiet types variables fs) (are_quiet_branches types variables branches) (are_simple known fs) (are_simple_branches known branches)
         (λ both. stmts_simple fs (second_of_both condition (are_quiet types variables fs) both))
         (branches_simple branches) quiet
 
-    handlers_simple : (hs : HandlersForm) → are_quiet_handlers types variables hs ≡ true → are_simple_handlers hs ≡ true
+    handlers_simple : (hs : HandlersForm) → are_quiet_handlers types variables hs ≡ true → are_simple_handlers known hs ≡ true
     handlers_simple no_handlers quiet = refl
     handlers_simple (a_handler choices fs hs) quiet =
-        others (are_quiet types variables fs) (are_quiet_handlers types variables hs) (are_simple fs) (are_simple_handlers hs)
+        others (are_quiet types variables fs) (are_quiet_handlers types variables hs) (are_simple known fs) (are_simple_handlers known hs)
         (stmts_simple fs) (handlers_simple hs) quiet
 
--- What holds an Integer or a Boolean is no record.
-no_record : (kind : VariableKind) → is_elementary kind ≡ true → not (is_record_kind kind) ≡ true
-no_record variable.Integer h = refl
-no_record variable.Boolean h = refl
-no_record (variable.Access access) h = refl
-no_record (variable.Record object) h = absurd (cc h)
+-- What holds an Integer or a Boolean is no record, and of no access type.
+bare_kind : (known : List TypeForm) (kind : VariableKind) → is_elementary kind ≡ true → is_bare_kind known kind ≡ true
+bare_kind known variable.Integer h = refl
+bare_kind known variable.Boolean h = refl
+bare_kind known (variable.Access access) h = absurd (cc h)
+bare_kind known (variable.Record object) h = absurd (cc h)
 
-no_records : (xs : List VariableForm) → list_all (λ x. is_elementary x.kind) xs ≡ true → list_all (λ x. not (is_record_kind x.kind)) xs ≡ true
-no_records [] h = refl
-no_records (x ∷ xs) h =
-    others (is_elementary x.kind) (list_all (λ y. is_elementary y.kind) xs) (not (is_record_kind x.kind)) (list_all (λ y. not (is_record_kind y.kind)) xs)
-    (no_record x.kind) (no_records xs) h
+bare_kinds : (known : List TypeForm) (xs : List VariableForm) → list_all (λ x. is_elementary x.kind) xs ≡ true → list_all (λ x. is_bare_kind known x.kind) xs ≡ true
+bare_kinds known [] h = refl
+bare_kinds known (x ∷ xs) h =
+    others (is_elementary x.kind) (list_all (λ y. is_elementary y.kind) xs) (is_bare_kind known x.kind) (list_all (λ y. is_bare_kind known y.kind) xs)
+    (bare_kind known x.kind) (bare_kinds known xs) h
 
 -- No exception comes out of a quiet body: of a simple one this is not asked.
-pub simple_body : (types : List TypeForm) (b : BodyForm) → is_quiet_body types b ≡ true → is_simple_body b ≡ true
-simple_body types b quiet =
-    others (elementary && declarations && statements) handlers (plain && are_simple_declarations b.declarations && are_simple b.statements) (are_simple_handlers b.handlers)
-    (others (elementary && declarations) statements (plain && are_simple_declarations b.declarations) (are_simple b.statements)
-    (others elementary declarations plain (are_simple_declarations b.declarations) (no_records (drop 1 b.variables)) (declarations_simple types b.variables b.declarations))
-    (stmts_simple types b.variables b.statements))
-    (handlers_simple types b.variables b.handlers)
+pub simple_body : (types known : List TypeForm) (b : BodyForm) → is_quiet_body types b ≡ true → is_simple_body known b ≡ true
+simple_body types known b quiet =
+    others (elementary && declarations && statements) handlers (plain && are_simple_declarations known b.declarations && are_simple known b.statements) (are_simple_handlers known b.handlers)
+    (others (elementary && declarations) statements (plain && are_simple_declarations known b.declarations) (are_simple known b.statements)
+    (others elementary declarations plain (are_simple_declarations known b.declarations) (bare_kinds known (drop 1 b.variables)) (declarations_simple types known b.variables b.declarations))
+    (stmts_simple types known b.variables b.statements))
+    (handlers_simple types known b.variables b.handlers)
     (first_of_both (is_plain_body types b) (not (body_raises no_calls b (λ e. true))) quiet)
   where
     elementary : Bool
     elementary = list_all (λ x. is_elementary x.kind) (drop 1 b.variables)
 
     plain : Bool
-    plain = list_all (λ x. not (is_record_kind x.kind)) (drop 1 b.variables)
+    plain = list_all (λ x. is_bare_kind known x.kind) (drop 1 b.variables)
 
     declarations : Bool
     declarations = are_quiet_declarations types b.variables b.declarations

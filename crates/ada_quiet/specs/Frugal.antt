@@ -1,33 +1,40 @@
--- Bodies of Initialize and Finalize that touch storage, and of procedures that they call (7.6, 4.8, 6.4, 13.11.2): they allocate, move, follow and free, and declare
--- variables alone, which may be given what they allocate.
+-- Bodies of Initialize and Finalize that touch storage, and of procedures that they call (7.6, 4.8, 6.4, 13.11.2): they allocate, move, follow and free objects
+-- without controlled parts, and declare variables alone, which may be given what they allocate.
 
 use Rattle.std.specs.Prelude.{Bool, true, false, not, ◌&&◌, List, [], ◌∷◌, ◌++◌, Option, Some, None}
 use Rattle.std.specs.List.{list_all, slice_get, slice_index_or}
 use Rattle.ada_program.specs.Form.{StmtForm, skips, assigns, assigns_record, frees, gets, writes, writes_text, chooses, repeats, counts, exits, calls, returns, raises, encloses, StmtsForm, no_stmts, a_stmt, BranchesForm, otherwise, a_branch, HandlersForm, no_handlers, a_handler, DeclarationForm, creates_pool, collects, declares, declares_record}
 use Rattle.ada_program.specs.declared.program.ProcedureNo.{ProcedureNo}
-use Rattle.ada_program.specs.ProgramForm.{BodyForm, ProgramForm}
+use Rattle.ada_program.specs.ProgramForm.{TypeForm, BodyForm, ProgramForm}
+use Rattle.ada_quiet.specs.Bare.{has_bare_objects, allocates_bare}
 use Rattle.ada_effects.specs.Effects.{Effects, no_implicit, effects_of, body_raises}
 
--- A declaration is that of a variable, whatever it is given at first (3.3.1): no record object, no collection and no pool is created.
-abbrev pub is_frugal_declaration : DeclarationForm → Bool
-is_frugal_declaration (creates_pool p) = false
-is_frugal_declaration (collects access) = false
-is_frugal_declaration (declares x right) = true
-is_frugal_declaration (declares_record x t initial) = false
+-- A declaration is that of a variable (3.3.1), and what that is given at first is no new object with controlled parts: no record object, no collection and no pool
+-- is created.
+abbrev pub is_frugal_declaration : List TypeForm → DeclarationForm → Bool
+is_frugal_declaration types (creates_pool p) = false
+is_frugal_declaration types (collects access) = false
+is_frugal_declaration types (declares x right) = allocates_bare types right
+is_frugal_declaration types (declares_record x t initial) = false
 
 -- So is each of these.
-abbrev pub are_frugal_declarations : List DeclarationForm → Bool
-are_frugal_declarations ds = list_all is_frugal_declaration ds
+abbrev pub are_frugal_declarations : List TypeForm → List DeclarationForm → Bool
+are_frugal_declarations types ds = list_all (is_frugal_declaration types) ds
 
--- Of each procedure, by its number, whether its body is so.
-module _ (frugal : List Bool) where
+-- What frugal bodies go by: the types of the program, and of each procedure, by its number, whether its body is frugal.
+pub record Thrift : Type 0 where
+  pub types : List TypeForm
+  pub procedures : List Bool
+
+module _ (thrift : Thrift) where
   abbrev mutual
-    -- A statement assigns no record as a whole (5.1), and calls procedures with frugal bodies alone (6.4).
+    -- A statement assigns no record as a whole (5.1), allocates and frees no object with controlled parts (4.8, 13.11.2), and calls procedures with frugal bodies
+    -- alone (6.4).
     pub is_frugal_stmt : StmtForm → Bool
     is_frugal_stmt skips = true
-    is_frugal_stmt (assigns target right) = true
+    is_frugal_stmt (assigns target right) = allocates_bare thrift.types right
     is_frugal_stmt (assigns_record target items) = false
-    is_frugal_stmt (frees access path) = true
+    is_frugal_stmt (frees access path) = has_bare_objects thrift.types access
     is_frugal_stmt (gets target) = true
     is_frugal_stmt (writes e) = true
     is_frugal_stmt (writes_text text) = true
@@ -35,10 +42,10 @@ module _ (frugal : List Bool) where
     is_frugal_stmt (repeats condition fs spot) = are_frugal fs
     is_frugal_stmt (counts x low high fs spot) = are_frugal fs
     is_frugal_stmt (exits condition spot) = true
-    is_frugal_stmt (calls procedure actuals) = slice_index_or frugal procedure false
+    is_frugal_stmt (calls procedure actuals) = slice_index_or thrift.procedures procedure false
     is_frugal_stmt (returns spot) = true
     is_frugal_stmt (raises e) = true
-    is_frugal_stmt (encloses ds fs hs) = are_frugal_declarations ds && are_frugal fs && are_frugal_handlers hs
+    is_frugal_stmt (encloses ds fs hs) = are_frugal_declarations thrift.types ds && are_frugal fs && are_frugal_handlers hs
 
     -- So it is with statements.
     pub are_frugal : StmtsForm → Bool
@@ -56,17 +63,21 @@ module _ (frugal : List Bool) where
     are_frugal_handlers (a_handler choices fs hs) = are_frugal fs && are_frugal_handlers hs
 
 -- All of a body is so.
-abbrev pub is_frugal_body : (frugal : List Bool) → BodyForm → Bool
-is_frugal_body frugal b = are_frugal_declarations b.declarations && are_frugal frugal b.statements && are_frugal_handlers frugal b.handlers
+abbrev pub is_frugal_body : Thrift → BodyForm → Bool
+is_frugal_body thrift b = are_frugal_declarations thrift.types b.declarations && are_frugal thrift b.statements && are_frugal_handlers thrift b.handlers
 
 -- Of these procedures, behind others: each calls those before it.
-abbrev pub frugal_from : (frugal : List Bool) → List BodyForm → List Bool
-frugal_from frugal [] = frugal
-frugal_from frugal (b ∷ bs) = frugal_from (frugal ++ is_frugal_body frugal b ∷ []) bs
+abbrev pub frugal_from : List TypeForm → (frugal : List Bool) → List BodyForm → List Bool
+frugal_from types frugal [] = frugal
+frugal_from types frugal (b ∷ bs) = frugal_from types (frugal ++ is_frugal_body (record { types = types; procedures = frugal }) b ∷ []) bs
 
 -- Of the procedures of a program.
 abbrev pub frugal_procedures : ProgramForm → List Bool
-frugal_procedures p = frugal_from [] p.bodies
+frugal_procedures p = frugal_from p.types [] p.bodies
+
+-- What the frugal bodies of a program go by.
+abbrev pub thrift_of : ProgramForm → Thrift
+thrift_of p = record { types = p.types; procedures = frugal_procedures p }
 
 -- What overrides an operation has such a body, if one is overridden (7.6).
 abbrev pub is_frugal_operation : ProgramForm → Option ProcedureNo → Bool

@@ -1,19 +1,19 @@
 -- Laws of what is in use.
 
-use Rattle.std.specs.Prelude.{◌≡◌, Bool, true, List}
+use Rattle.std.specs.Prelude.{◌≡◌, true, List}
 use Rattle.ada_program.specs.ProgramForm.{TypeForm, BodyForm, ProgramForm}
 use Rattle.ada_quiet.specs.Quiet.{is_quiet_body, operations_are_quiet}
-use Rattle.ada_quiet.specs.Frugal.{is_frugal_body}
+use Rattle.ada_quiet.specs.Frugal.{Thrift, is_frugal_body}
 use Rattle.ada_quiet.specs.Simple.{is_simple_body}
 use Rattle.ada_quiet.specs.InUse.{operations_are_in_use}
 
--- A quiet body is frugal, whatever is known of procedures: it calls none.
+-- A quiet body is frugal, whatever is known of types and procedures: it allocates and frees nothing, and calls no procedure.
 abbrev pub QuietIsFrugal : Type 0
-QuietIsFrugal = (frugal : List Bool) (types : List TypeForm) (b : BodyForm) → is_quiet_body types b ≡ true → is_frugal_body frugal b ≡ true
+QuietIsFrugal = (thrift : Thrift) (types : List TypeForm) (b : BodyForm) → is_quiet_body types b ≡ true → is_frugal_body thrift b ≡ true
 
 -- A quiet body is simple: it calls nothing, and copies no record.
 abbrev pub QuietIsSimple : Type 0
-QuietIsSimple = (types : List TypeForm) (b : BodyForm) → is_quiet_body types b ≡ true → is_simple_body b ≡ true
+QuietIsSimple = (types others : List TypeForm) (b : BodyForm) → is_quiet_body types b ≡ true → is_simple_body others b ≡ true
 
 -- Where all operations are quiet, all are in use.
 abbrev pub QuietIsInUse : Type 0

@@ -1,13 +1,14 @@
--- Bodies of an Adjust whose components of access types are tracked (7.6): they allocate, move, follow and free, call nothing, copy no record, and declare
--- variables alone. Flow judges such a body as one that has a variable for each of those components.
+-- Bodies of an Adjust whose components of access types are tracked (7.6): they allocate and free objects without controlled parts, move and follow, call nothing,
+-- copy no record, and declare variables alone. Flow judges such a body as one that has a variable for each of those components.
 
-use Rattle.std.specs.Prelude.{Bool, true, false, not, ◌&&◌, List, drop, Option, Some, None}
+use Rattle.std.specs.Prelude.{Bool, true, false, ◌&&◌, List, drop, Option, Some, None}
 use Rattle.std.specs.List.{list_all, slice_get}
 use Rattle.ada_program.specs.Form.{ItemForm, null_item, item_of_path, item_of_value, item_of_record, RightForm, nothing, value_of, allocates, allocates_default, computes, StmtForm, skips, assigns, assigns_record, frees, gets, writes, writes_text, chooses, repeats, counts, exits, calls, returns, raises, encloses, StmtsForm, no_stmts, a_stmt, BranchesForm, otherwise, a_branch, HandlersForm, no_handlers, a_handler, DeclarationForm, creates_pool, collects, declares, declares_record}
 use Rattle.ada_program.specs.declared.program.ProcedureNo.{ProcedureNo}
 use Rattle.ada_program.specs.declared.program.VariableKind.{VariableKind}
 use Rattle.ada_program.specs.declared.program.VariableKind.TheVariants as variable
-use Rattle.ada_program.specs.ProgramForm.{BodyForm, ProgramForm}
+use Rattle.ada_program.specs.ProgramForm.{TypeForm, BodyForm, ProgramForm}
+use Rattle.ada_quiet.specs.Bare.{has_bare_objects}
 
 -- An item of an aggregate copies no record (4.3.1).
 abbrev pub is_plain_item : ItemForm → Bool
@@ -16,78 +17,79 @@ is_plain_item (item_of_path path) = true
 is_plain_item (item_of_value e) = true
 is_plain_item (item_of_record path) = false
 
--- Nor does what is assigned (5.2), where it is a new object with items for its components (4.8).
-abbrev pub is_simple_right : RightForm → Bool
-is_simple_right nothing = true
-is_simple_right (value_of path) = true
-is_simple_right (allocates access items) = list_all is_plain_item items
-is_simple_right (allocates_default access) = true
-is_simple_right (computes e) = true
+-- Nor does what is assigned (5.2), where it is a new object with items for its components (4.8); and that has no controlled parts.
+abbrev pub is_simple_right : List TypeForm → RightForm → Bool
+is_simple_right types nothing = true
+is_simple_right types (value_of path) = true
+is_simple_right types (allocates access items) = has_bare_objects types access && list_all is_plain_item items
+is_simple_right types (allocates_default access) = has_bare_objects types access
+is_simple_right types (computes e) = true
 
 -- A declaration is that of a variable (3.3.1), and what that is given at first copies no record: no record object, no collection and no pool is created.
-abbrev pub is_simple_declaration : DeclarationForm → Bool
-is_simple_declaration (creates_pool p) = false
-is_simple_declaration (collects access) = false
-is_simple_declaration (declares x right) = is_simple_right right
-is_simple_declaration (declares_record x t initial) = false
+abbrev pub is_simple_declaration : List TypeForm → DeclarationForm → Bool
+is_simple_declaration types (creates_pool p) = false
+is_simple_declaration types (collects access) = false
+is_simple_declaration types (declares x right) = is_simple_right types right
+is_simple_declaration types (declares_record x t initial) = false
 
 -- So is each of these.
-abbrev pub are_simple_declarations : List DeclarationForm → Bool
-are_simple_declarations ds = list_all is_simple_declaration ds
+abbrev pub are_simple_declarations : List TypeForm → List DeclarationForm → Bool
+are_simple_declarations types ds = list_all (is_simple_declaration types) ds
 
-abbrev mutual
-  -- A statement copies no record (5.2), and calls nothing (6.4).
-  pub is_simple_stmt : StmtForm → Bool
-  is_simple_stmt skips = true
-  is_simple_stmt (assigns target right) = is_simple_right right
-  is_simple_stmt (assigns_record target items) = false
-  is_simple_stmt (frees access path) = true
-  is_simple_stmt (gets target) = true
-  is_simple_stmt (writes e) = true
-  is_simple_stmt (writes_text text) = true
-  is_simple_stmt (chooses branches) = are_simple_branches branches
-  is_simple_stmt (repeats condition fs spot) = are_simple fs
-  is_simple_stmt (counts x low high fs spot) = are_simple fs
-  is_simple_stmt (exits condition spot) = true
-  is_simple_stmt (calls procedure actuals) = false
-  is_simple_stmt (returns spot) = true
-  is_simple_stmt (raises e) = true
-  is_simple_stmt (encloses ds fs hs) = are_simple_declarations ds && are_simple fs && are_simple_handlers hs
+module _ (types : List TypeForm) where
+  abbrev mutual
+    -- A statement copies no record (5.2), allocates and frees no object with controlled parts (4.8, 13.11.2), and calls nothing (6.4).
+    pub is_simple_stmt : StmtForm → Bool
+    is_simple_stmt skips = true
+    is_simple_stmt (assigns target right) = is_simple_right types right
+    is_simple_stmt (assigns_record target items) = false
+    is_simple_stmt (frees access path) = has_bare_objects types access
+    is_simple_stmt (gets target) = true
+    is_simple_stmt (writes e) = true
+    is_simple_stmt (writes_text text) = true
+    is_simple_stmt (chooses branches) = are_simple_branches branches
+    is_simple_stmt (repeats condition fs spot) = are_simple fs
+    is_simple_stmt (counts x low high fs spot) = are_simple fs
+    is_simple_stmt (exits condition spot) = true
+    is_simple_stmt (calls procedure actuals) = false
+    is_simple_stmt (returns spot) = true
+    is_simple_stmt (raises e) = true
+    is_simple_stmt (encloses ds fs hs) = are_simple_declarations types ds && are_simple fs && are_simple_handlers hs
 
-  -- So it is with statements.
-  pub are_simple : StmtsForm → Bool
-  are_simple no_stmts = true
-  are_simple (a_stmt f fs) = is_simple_stmt f && are_simple fs
+    -- So it is with statements.
+    pub are_simple : StmtsForm → Bool
+    are_simple no_stmts = true
+    are_simple (a_stmt f fs) = is_simple_stmt f && are_simple fs
 
-  -- So it is with branches (5.3).
-  pub are_simple_branches : BranchesForm → Bool
-  are_simple_branches (otherwise fs) = are_simple fs
-  are_simple_branches (a_branch e fs branches) = are_simple fs && are_simple_branches branches
+    -- So it is with branches (5.3).
+    pub are_simple_branches : BranchesForm → Bool
+    are_simple_branches (otherwise fs) = are_simple fs
+    are_simple_branches (a_branch e fs branches) = are_simple fs && are_simple_branches branches
 
-  -- So it is with handlers (11.2).
-  pub are_simple_handlers : HandlersForm → Bool
-  are_simple_handlers no_handlers = true
-  are_simple_handlers (a_handler choices fs hs) = are_simple fs && are_simple_handlers hs
+    -- So it is with handlers (11.2).
+    pub are_simple_handlers : HandlersForm → Bool
+    are_simple_handlers no_handlers = true
+    are_simple_handlers (a_handler choices fs hs) = are_simple fs && are_simple_handlers hs
 
--- A variable is a record object, or a record parameter (3.3.1, 6.2).
-abbrev pub is_record_kind : VariableKind → Bool
-is_record_kind variable.Integer = false
-is_record_kind variable.Boolean = false
-is_record_kind (variable.Access access) = false
-is_record_kind (variable.Record object) = true
+-- A variable holds an Integer, a Boolean, or values of an access type whose objects have no controlled parts (3.3.1, 3.10): it is no record.
+abbrev pub is_bare_kind : List TypeForm → VariableKind → Bool
+is_bare_kind types variable.Integer = true
+is_bare_kind types variable.Boolean = true
+is_bare_kind types (variable.Access access) = has_bare_objects types access.0
+is_bare_kind types (variable.Record object) = false
 
--- All of a body is so, and no variable but its first one, the formal parameter, is a record.
-abbrev pub is_simple_body : BodyForm → Bool
-is_simple_body b =
-    list_all (λ x. not (is_record_kind x.kind)) (drop 1 b.variables) && are_simple_declarations b.declarations && are_simple b.statements
-    && are_simple_handlers b.handlers
+-- All of a body is so, and so is each of its variables but the first one, the formal parameter.
+abbrev pub is_simple_body : List TypeForm → BodyForm → Bool
+is_simple_body types b =
+    list_all (λ x. is_bare_kind types x.kind) (drop 1 b.variables) && are_simple_declarations types b.declarations && are_simple types b.statements
+    && are_simple_handlers types b.handlers
 
 -- A procedure that was found has such a body.
-abbrev pub is_simple_procedure : Option BodyForm → Bool
-is_simple_procedure None = true
-is_simple_procedure (Some b) = is_simple_body b
+abbrev pub is_simple_procedure : List TypeForm → Option BodyForm → Bool
+is_simple_procedure types None = true
+is_simple_procedure types (Some b) = is_simple_body types b
 
 -- So has what overrides an operation, if one is overridden (7.6).
 abbrev pub is_simple_operation : ProgramForm → Option ProcedureNo → Bool
 is_simple_operation p None = true
-is_simple_operation p (Some procedure) = is_simple_procedure (slice_get p.bodies procedure.0)
+is_simple_operation p (Some procedure) = is_simple_procedure p.types (slice_get p.bodies procedure.0)

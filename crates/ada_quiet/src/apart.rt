@@ -11,6 +11,7 @@ ghost use Rattle.ada_quiet.specs.Apart as rules;
 ghost use Rattle.ada_quiet.specs.Known.{is_marked};
 ghost use Rattle.ada_quiet.specs.Quiet.{has_access};
 
+use crate::marks::{has_mark, mark};
 use crate::operations::have_access;
 use ada_program::parts::finalization_of;
 use ada_program::program::{
@@ -46,27 +47,13 @@ fn tracker_in(definition: &TypeDefinition) -> Option<ProcedureNo>
     adjust_of(*finalization)
 }
 
-/// A procedure is marked. The marks grow as far as it.
-fn mark(marks: &mut Vec<bool>, procedure: ProcedureNo) -> Result<(), AllocError>
-    ensures { OnOk result ((n : ℕ) → is_marked marks.new.items n ≡ (is_marked marks.old.items n || procedure.0 == n)) }
-{
-    match marks.get_mut(procedure.0) {
-        Some(is_marked) => *is_marked = true,
-        None => {
-            marks.resize(procedure.0, false)?;
-            marks.push(true)?;
-        }
-    }
-    Ok(())
-}
-
 /// What tracks among the operations of a type is marked, if one does.
 fn mark_tracker(marks: &mut Vec<bool>, definition: &TypeDefinition) -> Result<(), AllocError>
     ensures { OnOk result ((n : ℕ) → is_marked marks.new.items n ≡ (is_marked marks.old.items n
         || (has_access (Some (type_form definition.now)) && rules.is_adjust_of n (finalization_in (Some (type_form definition.now)))))) }
 {
     if let Some(procedure) = tracker_in(definition) {
-        mark(marks, procedure)?;
+        mark(marks, procedure.0)?;
     }
     Ok(())
 }
@@ -83,16 +70,6 @@ fn trackers(alloc: Global, program: &Program) -> Result<Vec<bool>, AllocError>
         mark_tracker(&mut marks, definition)?;
     }
     Ok(marks)
-}
-
-/// Whether a procedure is marked.
-fn tracks(marks: &[bool], procedure: ProcedureNo) -> bool
-    ensures { result ≡ is_marked marks.now procedure.0 }
-{
-    match marks.get(procedure.0) {
-        Some(is_marked) => *is_marked,
-        None => false,
-    }
 }
 
 /// Whether an item of an aggregate copies no record with controlled parts (4.3.1, 7.6).
@@ -182,7 +159,7 @@ fn calls_apart(types: &[TypeDefinition], marks: &[bool], statement: &Stmt) -> bo
         Stmt::Call {
             procedure,
             actuals: _,
-        } => !tracks(marks, *procedure),
+        } => !has_mark(marks, procedure.0),
         Stmt::If {
             branches,
             otherwise,
@@ -282,7 +259,7 @@ fn overrides_apart(marks: &[bool], operation: Option<ProcedureNo>) -> bool
 {
     match operation {
         None => true,
-        Some(procedure) => !tracks(marks, procedure),
+        Some(procedure) => !has_mark(marks, procedure.0),
     }
 }
 

@@ -1,27 +1,36 @@
-//! Declarations, statements and bodies, where they are frugal: they allocate, move, follow and free (7.6, 4.8, 13.11.2), call procedures
-//! with frugal bodies alone (6.4), and declare no more than variables.
+//! Declarations, statements and bodies, where they are frugal: they allocate, move, follow and free objects without controlled parts
+//! (7.6, 4.8, 13.11.2), call procedures with frugal bodies alone (6.4), and declare no more than variables.
 
 ghost use Rattle.std.specs.Prelude.{◌≡◌, ◌&&◌, false, map, slice_index_or};
 ghost use Rattle.ada_program.specs.Form.{StmtsForm, branches_form, declaration_form, handlers_form, stmt_form, stmts_form};
+ghost use Rattle.ada_program.specs.Kept.{types_in};
 ghost use Rattle.ada_program.specs.ProgramForm.{body_form};
 ghost use Rattle.ada_quiet.specs.Frugal as rules;
+ghost use Rattle.ada_quiet.specs.Known.{thrift_in};
 
-use ada_program::program::{Branch, Declaration, Handler, Procedure};
+use crate::bare::{allocates_bare, has_bare_objects, initial_allocates_bare};
+use ada_program::program::{Branch, Declaration, Handler, Procedure, TypeDefinition};
 use ada_program::{ProcedureNo, Stmt};
 
-/// Whether a declaration is that of a variable, whatever it is given at first (3.3.1).
-fn is_frugal_declaration(declaration: &Declaration) -> bool
-    ensures { result ≡ rules.is_frugal_declaration (declaration_form declaration.now) }
+/// Whether a declaration is that of a variable, which is given no new object with controlled parts at first (3.3.1).
+fn is_frugal_declaration(types: &[TypeDefinition], declaration: &Declaration) -> bool
+    ensures { result ≡ rules.is_frugal_declaration (types_in types.now) (declaration_form declaration.now) }
 {
-    matches!(declaration, Declaration::Variable { .. })
+    match declaration {
+        Declaration::Variable {
+            variable: _,
+            initial,
+        } => initial_allocates_bare(types, initial),
+        Declaration::Pool(_) | Declaration::Collection(_) | Declaration::Record { .. } => false,
+    }
 }
 
 /// Whether each of these is.
-fn are_frugal_declarations(declarations: &[Declaration]) -> bool
-    ensures { result ≡ rules.are_frugal_declarations (map declaration_form declarations.now) }
+fn are_frugal_declarations(types: &[TypeDefinition], declarations: &[Declaration]) -> bool
+    ensures { result ≡ rules.are_frugal_declarations (types_in types.now) (map declaration_form declarations.now) }
 {
     'declarations: for declaration in declarations {
-        if !is_frugal_declaration(declaration) {
+        if !is_frugal_declaration(types, declaration) {
             return false;
         }
     }
@@ -38,16 +47,15 @@ pub(crate) fn is_frugal_call(frugal: &[bool], procedure: ProcedureNo) -> bool
     }
 }
 
-/// Whether a statement assigns no record as a whole (5.1), and calls procedures with frugal bodies alone (6.4).
+/// Whether a statement assigns no record as a whole (5.1), allocates and frees no object with controlled parts (4.8, 13.11.2), and calls
+/// procedures with frugal bodies alone (6.4).
 #[cycle(statements)]
 #[tactic(auto, using(std::proofs::lemmas::Grind::common_steps, ada_program::specs::Form::statement_rules))]
-fn is_frugal_stmt(frugal: &[bool], statement: &Stmt) -> bool
-    ensures { result ≡ rules.is_frugal_stmt frugal.now (stmt_form statement.now) }
+fn is_frugal_stmt(types: &[TypeDefinition], frugal: &[bool], statement: &Stmt) -> bool
+    ensures { result ≡ rules.is_frugal_stmt (thrift_in types.now frugal.now) (stmt_form statement.now) }
 {
     match statement {
         Stmt::Null
-        | Stmt::Assign { .. }
-        | Stmt::Free { .. }
         | Stmt::Get(_)
         | Stmt::PutImage(_)
         | Stmt::PutText(_)
@@ -55,6 +63,8 @@ fn is_frugal_stmt(frugal: &[bool], statement: &Stmt) -> bool
         | Stmt::Return(_)
         | Stmt::Raise(_) => true,
         Stmt::AssignRecord { .. } => false,
+        Stmt::Assign { target: _, value } => allocates_bare(types, value),
+        Stmt::Free { access, path: _ } => has_bare_objects(types, *access),
         Stmt::Call {
             procedure,
             actuals: _,
@@ -62,36 +72,36 @@ fn is_frugal_stmt(frugal: &[bool], statement: &Stmt) -> bool
         Stmt::If {
             branches,
             otherwise,
-        } => are_frugal_branches(frugal, branches) && are_frugal(frugal, otherwise),
+        } => are_frugal_branches(types, frugal, branches) && are_frugal(types, frugal, otherwise),
         Stmt::Loop {
             condition: _,
             statements,
             end: _,
-        } => are_frugal(frugal, statements),
+        } => are_frugal(types, frugal, statements),
         Stmt::For {
             parameter: _,
             first: _,
             last: _,
             statements,
             end: _,
-        } => are_frugal(frugal, statements),
+        } => are_frugal(types, frugal, statements),
         Stmt::Block {
             declarations,
             statements,
             handlers,
-        } => are_frugal_declarations(declarations)
-            && are_frugal(frugal, statements)
-            && are_frugal_handlers(frugal, handlers),
+        } => are_frugal_declarations(types, declarations)
+            && are_frugal(types, frugal, statements)
+            && are_frugal_handlers(types, frugal, handlers),
     }
 }
 
 /// Whether statements are frugal.
 #[cycle(statements)]
-fn are_frugal(frugal: &[bool], statements: &[Stmt]) -> bool
-    ensures { result ≡ rules.are_frugal frugal.now (stmts_form statements.now) }
+fn are_frugal(types: &[TypeDefinition], frugal: &[bool], statements: &[Stmt]) -> bool
+    ensures { result ≡ rules.are_frugal (thrift_in types.now frugal.now) (stmts_form statements.now) }
 {
     'statements: for statement in statements {
-        if !is_frugal_stmt(frugal, statement) {
+        if !is_frugal_stmt(types, frugal, statement) {
             return false;
         }
     }
@@ -100,12 +110,12 @@ fn are_frugal(frugal: &[bool], statements: &[Stmt]) -> bool
 
 /// Whether branches are (5.3).
 #[cycle(statements)]
-fn are_frugal_branches(frugal: &[bool], branches: &[Branch]) -> bool
+fn are_frugal_branches(types: &[TypeDefinition], frugal: &[bool], branches: &[Branch]) -> bool
     ensures { (others : StmtsForm) →
-        rules.are_frugal_branches frugal.now (branches_form branches.now others) ≡ (result && rules.are_frugal frugal.now others) }
+        rules.are_frugal_branches (thrift_in types.now frugal.now) (branches_form branches.now others) ≡ (result && rules.are_frugal (thrift_in types.now frugal.now) others) }
 {
     'branches: for branch in branches {
-        if !are_frugal(frugal, &branch.statements) {
+        if !are_frugal(types, frugal, &branch.statements) {
             return false;
         }
     }
@@ -114,23 +124,27 @@ fn are_frugal_branches(frugal: &[bool], branches: &[Branch]) -> bool
 
 /// Whether handlers are (11.2).
 #[cycle(statements)]
-fn are_frugal_handlers(frugal: &[bool], handlers: &[Handler]) -> bool
-    ensures { result ≡ rules.are_frugal_handlers frugal.now (handlers_form handlers.now) }
+fn are_frugal_handlers(types: &[TypeDefinition], frugal: &[bool], handlers: &[Handler]) -> bool
+    ensures { result ≡ rules.are_frugal_handlers (thrift_in types.now frugal.now) (handlers_form handlers.now) }
 {
     'handlers: for handler in handlers {
-        if !are_frugal(frugal, &handler.statements) {
+        if !are_frugal(types, frugal, &handler.statements) {
             return false;
         }
     }
     true
 }
 
-/// Whether a body is frugal: it allocates, moves, follows and frees; it calls procedures with frugal bodies alone, assigns no record as
-/// a whole, and declares variables alone. An exception may come out of it. Linear in the body.
-pub(crate) fn is_frugal_body(frugal: &[bool], procedure: &Procedure) -> bool
-    ensures { result ≡ rules.is_frugal_body frugal.now (body_form procedure.now) }
+/// Whether a body is frugal: it allocates, moves, follows and frees objects without controlled parts; it calls procedures with frugal
+/// bodies alone, assigns no record as a whole, and declares variables alone. An exception may come out of it. Linear in the body.
+pub(crate) fn is_frugal_body(
+    types: &[TypeDefinition],
+    frugal: &[bool],
+    procedure: &Procedure,
+) -> bool
+    ensures { result ≡ rules.is_frugal_body (thrift_in types.now frugal.now) (body_form procedure.now) }
 {
-    are_frugal_declarations(&procedure.declarations)
-        && are_frugal(frugal, &procedure.statements)
-        && are_frugal_handlers(frugal, &procedure.handlers)
+    are_frugal_declarations(types, &procedure.declarations)
+        && are_frugal(types, frugal, &procedure.statements)
+        && are_frugal_handlers(types, frugal, &procedure.handlers)
 }

@@ -31,7 +31,7 @@ pub(crate) fn frugal_procedures(alloc: Global, program: &Program) -> Result<Vec<
 {
     let mut frugal = Vec::new(alloc);
     'procedures: for procedure in &program.procedures {
-        let is_frugal = is_frugal_body(&frugal, procedure);
+        let is_frugal = is_frugal_body(&program.types, &frugal, procedure);
         frugal.push(is_frugal)?;
     }
     Ok(frugal)

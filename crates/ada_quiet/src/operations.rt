@@ -71,7 +71,7 @@ pub(crate) fn is_simple_operation(program: &Program, operation: Option<Procedure
     let Some(procedure) = program.procedures.get(number.0) else {
         return true;
     };
-    is_simple_body(procedure)
+    is_simple_body(&program.types, procedure)
 }
 
 /// Whether it has a silent one: no exception comes out of it.

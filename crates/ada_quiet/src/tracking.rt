@@ -1,16 +1,16 @@
 //! Where an Adjust may track the components of access types of its formal parameter (7.6): the copy of a record is alone, the
 //! elementary components of each record type stand in the order of its declared components, and what tracks stands apart.
 
-ghost use Rattle.std.specs.Prelude.{◌≡◌, ◌||◌, ◌==◌, map, IfOk};
+ghost use Rattle.std.specs.Prelude.{◌≡◌, ◌&&◌, ◌||◌, ◌==◌, map, IfOk};
 ghost use Rattle.std.specs.List.{list_all, list_any};
 ghost use Rattle.std.specs.Option.{option_copied};
 ghost use Rattle.ada_program.specs.Kept.{types_in};
 ghost use Rattle.ada_program.specs.ProgramForm.{part_form, program_form, type_form};
 ghost use Rattle.ada_program.specs.WellFormed as fits;
+ghost use Rattle.ada_quiet.specs.Apart as apart;
 ghost use Rattle.ada_quiet.specs.InUse as rules;
 
 use crate::apart::trackers_stand_apart;
-use crate::uses::may_be_frugal;
 use ada_program::Program;
 use ada_program::lookup::record_components;
 use ada_program::program::{ComponentKind, Finalization, Part, PartKind, TypeDefinition};
@@ -125,18 +125,15 @@ fn are_copied_alone(types: &[TypeDefinition]) -> bool
     true
 }
 
-/// Whether an Adjust may track its components in a program: operations may be frugal, no copy of a record has two parts that are
-/// adjusted, and no procedure that tracks is called or overrides another operation. Linear in the types, their components, and all
-/// bodies.
+/// Whether an Adjust may track its components in a program, where a Finalize may be frugal or not: it may be, no copy of a record has
+/// two parts that are adjusted, and no procedure that tracks is called or overrides another operation. Linear in the types, their
+/// components, and all bodies.
 ///
 /// # Errors
 /// `AllocError` where memory was refused.
-pub(crate) fn may_track(alloc: Global, program: &Program) -> Result<bool, AllocError>
-    ensures { IfOk result (λ answer. answer ≡ rules.may_track (program_form program.now)) }
+pub(crate) fn may_track(alloc: Global, program: &Program, ends: bool) -> Result<bool, AllocError>
+    ensures { let p = program_form program.now in
+        IfOk result (λ answer. answer ≡ (ends && list_all (rules.is_copied_alone p.types) p.types && apart.trackers_stand_apart p)) }
 {
-    Ok(
-        may_be_frugal(program)
-            && are_copied_alone(&program.types)
-            && trackers_stand_apart(alloc, program)?,
-    )
+    Ok(ends && are_copied_alone(&program.types) && trackers_stand_apart(alloc, program)?)
 }

@@ -1,5 +1,5 @@
--- Operations that are in use create nothing with controlled parts in their declarations (7.6): a frugal one or a simple one may allocate there, but no access type
--- designates what has some.
+-- Operations that are in use create nothing with controlled parts in their declarations (7.6): a frugal one or a simple one may allocate there, but nothing that has
+-- some.
 
 use Rattle.std.proofs.Common.{◌≡◌, ℕ, Bool, true, false, ◌&&◌, ◌||◌, if◌then◌else◌, List, [], ◌∷◌, map, Option, Some, None, refl, sym, ap, ◌∙◌}
 use Rattle.std.specs.Prelude.{find, drop, is_some}
@@ -10,23 +10,20 @@ use Rattle.ada_program.specs.declared.program.ProcedureNo.{ProcedureNo}
 use Rattle.ada_program.specs.declared.program.Program.{Program}
 use Rattle.ada_program.specs.declared.program.TypeDefinition.{TypeDefinition}
 use Rattle.ada_program.specs.declared.program.TypeDefinition.TheVariants as definition
-use Rattle.ada_program.specs.declared.program.VariableKind.{VariableKind}
 use Rattle.ada_program.specs.Controlled.{number_by, number_reached, is_number, operations_in, operations_by}
 use Rattle.ada_program.specs.Form.{RightForm, nothing, value_of, allocates, allocates_default, computes, DeclarationForm, creates_pool, collects, declares, declares_record}
 use Rattle.ada_program.specs.ProgramForm.{TypeForm, type_form, VariableForm, BodyForm, body_forms, ProgramForm, program_form}
-use Rattle.ada_program.specs.WellFormed.{finalization_in, is_access, variable_kind, variable_fits, right_fits, initial_fits, body_fits, Profile, IsWellFormed}
+use Rattle.ada_program.specs.WellFormed.{finalization_in, variable_kind, IsWellFormed}
 use Rattle.ada_meaning.specs.Pace.{right_creates, declaration_creates, declarations_create, body_creates, operation_creates, OperationsDeclareNoParts}
 use Rattle.ada_quiet.specs.Quiet.{is_elementary, holds_elementary, is_quiet_right, is_quiet_declaration, are_quiet_declarations, are_quiet, are_quiet_handlers, is_plain_body, is_plain_procedure, is_plain_operation, is_quiet_operation, has_access, operation_body}
-use Rattle.ada_quiet.specs.InUse.{may_be_frugal, may_track, uses_initialize, uses_adjust, uses_finalize, uses_operations, operations_are_in_use}
-use Rattle.ada_quiet.specs.Frugal.{is_frugal_declaration, are_frugal_declarations, are_frugal, are_frugal_handlers, is_frugal_body, frugal_procedures, is_frugal_operation, is_silent_operation}
+use Rattle.ada_quiet.specs.Bare.{has_bare_objects, allocates_bare}
+use Rattle.ada_quiet.specs.InUse.{may_be_frugal, may_end_frugally, may_track, uses_initialize, uses_adjust, uses_finalize, uses_operations, operations_are_in_use}
+use Rattle.ada_quiet.specs.Frugal.{Thrift, is_frugal_declaration, are_frugal_declarations, are_frugal, are_frugal_handlers, is_frugal_body, frugal_procedures, is_frugal_operation, is_silent_operation}
 use Rattle.ada_quiet.specs.Simple.{is_simple_procedure, is_simple_operation}
 use Rattle.ada_quiet.proofs.InUse.{plain_operation}
 use Rattle.ada_quiet.proofs.FrugalAt.{frugal_at}
-use Rattle.ada_deeds.proofs.Naming.{KindFits, allocates_access, default_access, variable_fits_kind}
-use Rattle.ada_typed.proofs.Bodies.{body_at}
 use Rattle.ada_typed.proofs.Parts.{known_number}
 use Rattle.ada_sound.proofs.FrugalFrees.{bare_number}
-use Rattle.ada_sound.proofs.FrugalUseParts.{no_access_to_parts}
 use Rattle.ada_sound.proofs.SimpleBodies.{simple_frugal}
 
 -- Both tests are passed where their conjunction is.
@@ -111,81 +108,68 @@ module _ (program : Program) (well : IsWellFormed (program_form program)) where
   abbrev tds : List TypeDefinition
   tds = program.types.items
 
-  -- Where operations may be frugal, no access type designates what has controlled parts: so no allocator creates any (4.8).
-  module _ (may : may_be_frugal p ≡ true) where
-    reaches_none : (access : ℕ) → is_access p.types access ≡ true → is_some (number_reached tds access) ≡ false
-    reaches_none access is =
-        ap (λ (o : Option ℕ). is_some o) (sym (known_number tds p.types access refl) ∙ bare_number p.types (no_access_to_parts p may) access is)
+  -- An allocator of a bare object creates no controlled part (4.8).
+  reaches_none : (access : ℕ) → has_bare_objects p.types access ≡ true → is_some (number_reached tds access) ≡ false
+  reaches_none access bare = ap (λ (o : Option ℕ). is_some o) (sym (known_number tds p.types access refl) ∙ bare_number p.types (slice_get p.types access) bare)
 
-    module _ (variables : List VariableForm) (variables_fit : list_all (variable_fits p.types) variables ≡ true) where
-      right_plain : (kind : Option VariableKind) (right : RightForm) → KindFits p.types kind → right_fits p.types variables kind right ≡ true → right_creates tds right ≡ false
-      right_plain kind nothing held fits = refl
-      right_plain kind (value_of path) held fits = refl
-      right_plain kind (allocates access items) held fits =
-          reaches_none access (allocates_access p.types well.types_fit variables variables_fit kind access items held fits)
-      right_plain kind (allocates_default access) held fits = reaches_none access (default_access p.types well.types_fit variables variables_fit kind access held fits)
-      right_plain kind (computes e) held fits = refl
+  right_bare : (right : RightForm) → allocates_bare p.types right ≡ true → right_creates tds right ≡ false
+  right_bare nothing bare = refl
+  right_bare (value_of path) bare = refl
+  right_bare (allocates access items) bare = reaches_none access bare
+  right_bare (allocates_default access) bare = reaches_none access bare
+  right_bare (computes e) bare = refl
 
-      -- So a frugal declaration creates nothing that has some (3.3.1).
-      declaration_frugal : (d : DeclarationForm) → is_frugal_declaration d ≡ true → initial_fits p.types variables d ≡ true → declaration_creates tds d ≡ false
-      declaration_frugal (creates_pool pool) frugal fits = refl
-      declaration_frugal (collects access) frugal fits = refl
-      declaration_frugal (declares x right) frugal fits =
-          right_plain (variable_kind variables x) right (variable_fits_kind p.types well.types_fit variables variables_fit x) (right_of _ _ (left_of _ _ fits))
-      declaration_frugal (declares_record x object initial) frugal fits = absurd (cc frugal)
+  -- So a frugal declaration creates nothing that has some (3.3.1).
+  declaration_frugal : (d : DeclarationForm) → is_frugal_declaration p.types d ≡ true → declaration_creates tds d ≡ false
+  declaration_frugal (creates_pool pool) frugal = refl
+  declaration_frugal (collects access) frugal = refl
+  declaration_frugal (declares x right) frugal = right_bare right frugal
+  declaration_frugal (declares_record x object initial) frugal = absurd (cc frugal)
 
-      declarations_frugal : (ds : List DeclarationForm) → are_frugal_declarations ds ≡ true → list_all (initial_fits p.types variables) ds ≡ true → declarations_create tds ds ≡ false
-      declarations_frugal [] frugal fits = refl
-      declarations_frugal (d ∷ ds) frugal fits =
-          let here = is_frugal_declaration d in
-          let later = are_frugal_declarations ds in
-          rw (declaration_frugal d (left_of here later frugal) (left_of _ _ fits)) (declarations_frugal ds (right_of here later frugal) (right_of _ _ fits))
+  declarations_frugal : (ds : List DeclarationForm) → are_frugal_declarations p.types ds ≡ true → declarations_create tds ds ≡ false
+  declarations_frugal [] frugal = refl
+  declarations_frugal (d ∷ ds) frugal =
+      let here = is_frugal_declaration p.types d in
+      let later = are_frugal_declarations p.types ds in
+      rw (declaration_frugal d (left_of here later frugal)) (declarations_frugal ds (right_of here later frugal))
 
-    -- Nor does one of a frugal body.
-    body_frugal : (known : List Bool) (b : BodyForm) (callable : List Profile) → is_frugal_body known b ≡ true → body_fits p.types p.texts p.exceptions callable b ≡ true
-        → declarations_create tds b.declarations ≡ false
-    body_frugal known b callable frugal fits =
-        let declarations = are_frugal_declarations b.declarations in
-        let statements = are_frugal known b.statements in
-        let handlers = are_frugal_handlers known b.handlers in
-        let declared = left_of _ _ (left_of _ _ fits) in
-        declarations_frugal b.variables (left_of _ _ (left_of _ _ declared)) b.declarations
-        (left_of declarations statements (left_of (declarations && statements) handlers frugal))
-        (right_of _ _ (right_of _ _ declared))
+  -- Nor does one of a frugal body.
+  body_frugal : (known : List Bool) (b : BodyForm) → is_frugal_body (record { types = p.types; procedures = known }) b ≡ true → declarations_create tds b.declarations ≡ false
+  body_frugal known b frugal =
+      let thrift : Thrift = record { types = p.types; procedures = known } in
+      let declarations = are_frugal_declarations p.types b.declarations in
+      let statements = are_frugal thrift b.statements in
+      let handlers = are_frugal_handlers thrift b.handlers in
+      declarations_frugal b.declarations (left_of declarations statements (left_of (declarations && statements) handlers frugal))
 
-    procedure_frugal : (n : ℕ) (found : Option BodyForm) → slice_index_or (frugal_procedures p) n false ≡ true → slice_get p.bodies n ≡ found → body_creates tds found ≡ false
-    procedure_frugal n None frugal at = refl
-    procedure_frugal n (Some b) frugal at =
-        body_frugal (frugal_procedures p) b _ (frugal_at p n b frugal at) (body_at p.types p.texts p.exceptions [] p.bodies n b well.bodies_fit at)
+  procedure_frugal : (n : ℕ) (found : Option BodyForm) → slice_index_or (frugal_procedures p) n false ≡ true → slice_get p.bodies n ≡ found → body_creates tds found ≡ false
+  procedure_frugal n None frugal at = refl
+  procedure_frugal n (Some b) frugal at = body_frugal (frugal_procedures p) b (frugal_at p n b frugal at)
 
-    operation_frugal : (o : Option ProcedureNo) → is_frugal_operation p o ≡ true → operation_creates tds p.bodies o ≡ false
-    operation_frugal None frugal = refl
-    operation_frugal (Some procedure) frugal = procedure_frugal procedure.0 (slice_get p.bodies procedure.0) frugal refl
+  operation_frugal : (o : Option ProcedureNo) → is_frugal_operation p o ≡ true → operation_creates tds p.bodies o ≡ false
+  operation_frugal None frugal = refl
+  operation_frugal (Some procedure) frugal = procedure_frugal procedure.0 (slice_get p.bodies procedure.0) frugal refl
 
-    -- Nor does one of a simple body, which is frugal, whatever is known of procedures.
-    procedure_simple : (n : ℕ) (found : Option BodyForm) → is_simple_procedure found ≡ true → slice_get p.bodies n ≡ found → body_creates tds found ≡ false
-    procedure_simple n None simple at = refl
-    procedure_simple n (Some b) simple at =
-        body_frugal [] b _ (simple_frugal [] b simple) (body_at p.types p.texts p.exceptions [] p.bodies n b well.bodies_fit at)
+  -- Nor does one of a simple body, which is frugal, whatever is known of procedures.
+  procedure_simple : (found : Option BodyForm) → is_simple_procedure p.types found ≡ true → body_creates tds found ≡ false
+  procedure_simple None simple = refl
+  procedure_simple (Some b) simple = body_frugal [] b (simple_frugal (record { types = p.types; procedures = [] }) b simple)
 
-    operation_simple : (o : Option ProcedureNo) → is_simple_operation p o ≡ true → operation_creates tds p.bodies o ≡ false
-    operation_simple None simple = refl
-    operation_simple (Some procedure) simple = procedure_simple procedure.0 (slice_get p.bodies procedure.0) simple refl
-
-  -- So it is with an operation that is frugal, where it may be.
-  frugal_used : (o : Option ProcedureNo) → (may_be_frugal p && is_frugal_operation p o) ≡ true → operation_creates tds p.bodies o ≡ false
-  frugal_used o both = operation_frugal (left_of (may_be_frugal p) (is_frugal_operation p o) both) o (right_of (may_be_frugal p) (is_frugal_operation p o) both)
+  operation_simple : (o : Option ProcedureNo) → is_simple_operation p o ≡ true → operation_creates tds p.bodies o ≡ false
+  operation_simple None simple = refl
+  operation_simple (Some procedure) simple = procedure_simple (slice_get p.bodies procedure.0) simple
 
   -- So it is with an Initialize and a Finalize that are in use.
   initialize_used : (o : Option ProcedureNo) → uses_initialize p o ≡ true → operation_creates tds p.bodies o ≡ false
   initialize_used o used =
-      operation_either p tds o (is_plain_operation p o) (may_be_frugal p && is_frugal_operation p o) (operation_plain p tds o) (frugal_used o) used
+      operation_either p tds o (is_plain_operation p o) (may_be_frugal p && is_frugal_operation p o) (operation_plain p tds o)
+      (λ both. operation_frugal o (right_of (may_be_frugal p) (is_frugal_operation p o) both)) used
 
   finalize_used : (o : Option ProcedureNo) → uses_finalize p o ≡ true → operation_creates tds p.bodies o ≡ false
   finalize_used o used =
-      let frugal = may_be_frugal p && is_frugal_operation p o in
+      let frugal = may_end_frugally p && is_frugal_operation p o in
       operation_either p tds o (is_quiet_operation p o) (frugal && is_silent_operation p o) (λ quiet. operation_plain p tds o (plain_operation p o quiet))
-      (λ both. frugal_used o (left_of frugal (is_silent_operation p o) both)) used
+      (λ both. operation_frugal o (right_of (may_end_frugally p) (is_frugal_operation p o) (left_of frugal (is_silent_operation p o) both))) used
 
   -- So it is with an Adjust that is in use: it is simple, where it may track, or quiet.
   adjust_used : (owns : Bool) (o : Option ProcedureNo) → uses_adjust p owns o ≡ true → operation_creates tds p.bodies o ≡ false
@@ -195,8 +179,7 @@ module _ (program : Program) (well : IsWellFormed (program_form program)) where
           → operation_creates tds p.bodies o ≡ false
       by true simple =
           let both = left_of (may_track p && is_simple_operation p o) (is_silent_operation p o) simple in
-          let may = left_of _ _ (left_of _ _ (left_of (may_track p) (is_simple_operation p o) both)) in
-          operation_simple may o (right_of (may_track p) (is_simple_operation p o) both)
+          operation_simple o (right_of (may_track p) (is_simple_operation p o) both)
       by false quiet = operation_plain p tds o (plain_operation p o quiet)
 
   none_in : (owns : Bool) (f : Option Finalization) → uses_operations p owns f ≡ true → DeclareNone tds p.bodies (operations_in f)

@@ -3,7 +3,7 @@
 
 use Rattle.std.proofs.Common.{◌≡◌, ℕ, true, List, [], ◌∷◌, length, drop}
 use Rattle.std.specs.Prelude.{Option, Some}
-use Rattle.std.specs.List.{list_all, slice_get}
+use Rattle.std.specs.List.{slice_get}
 use Rattle.ada_parts.specs.Part as parts
 use Rattle.ada_program.specs.declared.program.Exception.{Exception}
 use Rattle.ada_program.specs.declared.program.Program.{Program}
@@ -24,7 +24,7 @@ use Rattle.ada_meaning.specs.Step as step
 use Rattle.ada_quiet.specs.Apart.{is_tracker}
 use Rattle.ada_judged.specs.Fitting.{TracksComponents}
 use Rattle.ada_judged.specs.Obeying.{BodyIsOrderly}
-use Rattle.ada_quiet.specs.InUse.{may_be_frugal, may_track}
+use Rattle.ada_quiet.specs.InUse.{may_end_frugally, may_track}
 use Rattle.ada_tracked.specs.Frames.{View}
 use Rattle.ada_tracked.specs.Seen.{Seen}
 use Rattle.ada_tracked.specs.Staying.{BodyIsSimple}
@@ -36,8 +36,9 @@ use Rattle.ada_sound.proofs.FrugalControl.{Frugally}
 use Rattle.ada_sound.proofs.Invariant.{AdjustsAside, Control, Ready, Rooms, RunsOn, Standing, body_among, under_in}
 use Rattle.ada_sound.proofs.Judged.{known_judged}
 use Rattle.ada_sound.proofs.Operating.{IsCalm, WaitsFor}
+use Rattle.ada_sound.proofs.FrugalBodies.{calling_none}
 use Rattle.ada_sound.proofs.Touching.{Paused, resting}
-use Rattle.ada_sound.proofs.WatchedBy.{holds_no_record}
+use Rattle.ada_sound.proofs.WatchedBy.{hold_bare}
 use Rattle.ada_sound.specs.Agreement.{running_procedure}
 
 -- A copy of a record is adjusted: an object that is declared gets its initial value so, or a record that is assigned to (3.3.1, 5.2).
@@ -57,7 +58,7 @@ pub record Adjusting (program : Program) (s : State) : Type 0 where
   pub tracker : is_tracker (program_form program) number ≡ true
   pub components : TracksComponents (program_form program).types w.tracks b.variables
   pub orderly : BodyIsOrderly w.tracks b
-  pub lone : list_all holds_no_record (drop 1 b.variables) ≡ true
+  pub lone : hold_bare (program_form program).types (drop 1 b.variables) ≡ true
   -- the state that stands for this one
   pub t : State
   pub seen : Seen program.types.items (program_form program).bodies w s t
@@ -88,14 +89,14 @@ pub record Adjusting (program : Program) (s : State) : Type 0 where
   pub kept : Keeping
   pub rooms : Rooms
   pub holds : Holds
-  pub frugal : Frugally [] lower behind t
+  pub frugal : Frugally (calling_none (program_form program).types) lower behind t
   pub waits : Paused (known_in program procedure suspensions) object access places after lower rooms holds
   pub rests : RunsOn (known_in program procedure suspensions) after rooms holds
   pub aside : AdjustsAside (known_in program procedure suspensions) access holds
   pub calm : IsCalm (behind_call behind)
   pub settled : under_in (callers_of program suspensions) ≡ []
   pub tracking : may_track (program_form program) ≡ true
-  pub may : may_be_frugal (program_form program) ≡ true
+  pub may : may_end_frugally (program_form program) ≡ true
   pub silent : (e : Exception) → body_among (implicit_of (program_form program)) (known_judged program number w.tracks []).program e ≡ true → ⊥
   -- what holds of the state that stands for it
   pub bodies : AreOf program (older s.activations) (resting procedure places (begins by done) object access [] place behind lower kept rooms holds ∷ suspensions)

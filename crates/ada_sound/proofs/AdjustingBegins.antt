@@ -3,7 +3,7 @@
 
 use Rattle.std.proofs.Common.{◌≡◌, ◌≢◌, ◌≤◌, ℕ, ◌+◌, zero, suc, Bool, true, false, List, [], ◌∷◌, ◌++◌, length, drop, refl, sym, ap, ◌∙◌, subst, inl, inr}
 use Rattle.std.specs.Prelude.{Option, Some}
-use Rattle.std.specs.List.{list_all, slice_get, slice_index_or}
+use Rattle.std.specs.List.{slice_get, slice_index_or}
 use Rattle.ada_deeds.specs.Implicit.{implicit_of}
 use Rattle.ada_effects.specs.Effects.{body_frees, effects_of}
 use Rattle.ada_parts.specs.Part as parts
@@ -13,11 +13,12 @@ use Rattle.ada_program.specs.declared.program.Program.{Program}
 use Rattle.ada_program.specs.declared.program.TypeNo.{TypeNo}
 use Rattle.ada_program.specs.declared.program.VariableKind.{VariableKind}
 use Rattle.ada_program.specs.declared.program.VariableKind.TheVariants as variable_kinds
-use Rattle.ada_program.specs.Form.{StmtForm, skips, assigns, assigns_record, frees, gets, writes, writes_text, chooses, repeats, counts, exits, calls, returns, raises, encloses, StmtsForm, no_stmts, a_stmt, BranchesForm, otherwise, a_branch, HandlersForm, no_handlers, a_handler, DeclarationForm, creates_pool, collects, declares, declares_record}
+use Rattle.ada_program.specs.Form.{RightForm, nothing, value_of, allocates, allocates_default, computes, StmtForm, skips, assigns, assigns_record, frees, gets, writes, writes_text, chooses, repeats, counts, exits, calls, returns, raises, encloses, StmtsForm, no_stmts, a_stmt, BranchesForm, otherwise, a_branch, HandlersForm, no_handlers, a_handler, DeclarationForm, creates_pool, collects, declares, declares_record}
 use Rattle.ada_program.specs.ProgramForm.{TypeForm, VariableForm, BodyForm, ProgramForm, program_form, main_body, seen_in, seen_by}
 use Rattle.ada_program.specs.WellFormed.{access_of, is_access, selected_kind, variable_kind}
-use Rattle.ada_quiet.specs.Frugal.{are_frugal_declarations, is_frugal_stmt, are_frugal, are_frugal_branches, are_frugal_handlers, is_frugal_body}
-use Rattle.ada_quiet.specs.InUse.{may_be_frugal, may_track}
+use Rattle.ada_quiet.specs.Bare.{has_bare_objects, allocates_bare}
+use Rattle.ada_quiet.specs.Frugal.{Thrift, are_frugal_declarations, is_frugal_stmt, are_frugal, are_frugal_branches, are_frugal_handlers, is_frugal_body}
+use Rattle.ada_quiet.specs.InUse.{may_end_frugally, may_track}
 use Rattle.ada_finalized.specs.Law.{NothingBegins}
 use Rattle.ada_flow.specs.declared.rule.Hold.TheVariants as hold
 use Rattle.ada_flow.specs.Flow.{Holds, Keeping, first_holds, gone_with, hold_at, holds_at_first, tracks_of, variable_access}
@@ -37,7 +38,7 @@ use Rattle.ada_meaning.specs.Named.{Object, State, named, object_at}
 use Rattle.ada_meaning.specs.Run.{Event}
 use Rattle.ada_owners.specs.Places.{access_at, is_there, variable}
 use Rattle.ada_owners.specs.Reliance.{Owns, Borrows, Says}
-use Rattle.ada_tracked.specs.Forms.{seen_declarations, seen_stmt, seen_stmts, seen_branches, seen_handlers}
+use Rattle.ada_tracked.specs.Forms.{seen_right, seen_declarations, seen_stmt, seen_stmts, seen_branches, seen_handlers}
 use Rattle.ada_tracked.specs.Frames.{View, watched, shifted, blanked, blank_object, tracked_values}
 use Rattle.ada_tracked.specs.Seen.{IsWatched, plainly, seen_state}
 use Rattle.ada_tracked.specs.Simple.{FrameIsSimple}
@@ -47,7 +48,7 @@ use Rattle.ada_typed.proofs.Control as typed
 use Rattle.ada_typed.proofs.Kept.{behind_call}
 use Rattle.ada_quiet.specs.Apart.{is_tracker}
 use Rattle.ada_sound.proofs.CallsApart.{CallApart}
-use Rattle.ada_sound.proofs.WatchedBy.{given_count, holds_no_record, some_variable}
+use Rattle.ada_sound.proofs.WatchedBy.{given_count, hold_bare, some_variable}
 use Rattle.ada_sound.proofs.Activations.{called_fit}
 use Rattle.ada_sound.proofs.Adjusting.{Adjusting, IsOfCopy}
 use Rattle.ada_sound.proofs.Alters.{Alters, alters_set, alters_then}
@@ -61,24 +62,32 @@ use Rattle.ada_sound.proofs.Operating.{IsCalm, WaitsFor, behind_operation}
 use Rattle.ada_sound.proofs.OperationStarts.{apart}
 use Rattle.ada_sound.proofs.Orderings.{as_good}
 use Rattle.ada_sound.proofs.Returns.{same_types}
+use Rattle.ada_sound.proofs.FrugalBodies.{calling_none}
 use Rattle.ada_sound.proofs.Stored.{stored_entered}
 use Rattle.ada_sound.proofs.Touching.{resting}
 use Rattle.ada_sound.proofs.TouchingBegins.{IsAlone}
 use Rattle.ada_sound.proofs.Waiting.{stands_kept}
 
 -- A body is frugal as it is judged, where it is.
-module _ (marks : List Bool) (tracks : Tracks) where
-  declarations_same : (ds : List DeclarationForm) → are_frugal_declarations (seen_declarations tracks ds) ≡ are_frugal_declarations ds
+module _ (marks : Thrift) (tracks : Tracks) where
+  right_same : (right : RightForm) → allocates_bare marks.types (seen_right tracks right) ≡ allocates_bare marks.types right
+  right_same nothing = refl
+  right_same (value_of path) = refl
+  right_same (allocates access items) = refl
+  right_same (allocates_default access) = refl
+  right_same (computes e) = refl
+
+  declarations_same : (ds : List DeclarationForm) → are_frugal_declarations marks.types (seen_declarations tracks ds) ≡ are_frugal_declarations marks.types ds
   declarations_same [] = refl
   declarations_same (creates_pool p ∷ ds) = refl
   declarations_same (collects access ∷ ds) = refl
-  declarations_same (declares x right ∷ ds) = declarations_same ds
+  declarations_same (declares x right ∷ ds) = rw (right_same right, declarations_same ds) refl
   declarations_same (declares_record x t initial ∷ ds) = refl
 
   mutual
     stmt_same : (f : StmtForm) → is_frugal_stmt marks (seen_stmt tracks f) ≡ is_frugal_stmt marks f
     stmt_same skips = refl
-    stmt_same (assigns target right) = refl
+    stmt_same (assigns target right) = right_same right
     stmt_same (assigns_record target items) = refl
     stmt_same (frees access path) = refl
     stmt_same (gets target) = refl
@@ -106,7 +115,7 @@ module _ (marks : List Bool) (tracks : Tracks) where
     handlers_same (a_handler choices fs hs) = rw (stmts_same fs, handlers_same hs) refl
 
   pub frugal_as_judged : (b : BodyForm) → is_frugal_body marks b ≡ true
-      → (are_frugal_declarations (seen_declarations tracks b.declarations) ≡ true) × (are_frugal marks (seen_stmts tracks b.statements) ≡ true) × (are_frugal_handlers marks (seen_handlers tracks b.handlers) ≡ true)
+      → (are_frugal_declarations marks.types (seen_declarations tracks b.declarations) ≡ true) × (are_frugal marks (seen_stmts tracks b.statements) ≡ true) × (are_frugal_handlers marks (seen_handlers tracks b.handlers) ≡ true)
   frugal_as_judged b is =
       let three = apart _ _ is in
       let two = apart _ _ three.0 in
@@ -137,13 +146,13 @@ first_length modes [] = refl
 first_length [] (v ∷ vs) = ap suc (first_length [] vs)
 first_length (m ∷ ms) (v ∷ vs) = ap suc (first_length ms vs)
 
--- A record was copied into an object, of no access type, and its Adjust is to be called: each tracked component shares what it names with the source of the
+-- A record with controlled parts was copied into an object, and its Adjust is to be called: each tracked component shares what it names with the source of the
 -- copy. But for them the waiting activation goes on, and of what the Adjust may free, as `may` says, it has no alias.
 pub record Copied (known : Known) (may : ℕ → Bool) (o : Id) (x : Object) (w : View) (after : Control) (heap : List Object) (places : List Value) (masters : List Master) : Type 0 where
   pub object_so : w.object ≡ o
   pub found : object_at heap o ≡ Some x
   pub exists : is_there x.stage ≡ true
-  pub declared : is_access known.program.types x.cell.access ≡ false
+  pub parted : has_bare_objects known.program.types x.cell.access ≡ false
   pub names : AllName known.program.types heap x (watched w)
   pub works : Working known (blanked w heap) places masters (λ rooms holds. RunsOn known after rooms holds × AdjustsAside known x.cell.access holds)
   pub spares : Spares known may
@@ -264,7 +273,11 @@ module _ (program : Program) (number : ℕ) (b : BodyForm) (there : slice_get (p
   abbrev TypedAsJudged : Type 0
   TypedAsJudged = typed.TypedIn judging.program (seen_state w begun)
 
-  module _ (frees_no_more : FreesNoMore) where
+  -- What it may free has no controlled parts.
+  abbrev FreesBare : Type 0
+  FreesBare = (t : ℕ) → CoveredIn judging.implicit judging.program t → has_bare_objects known.program.types t ≡ true
+
+  module _ (frees_no_more : FreesNoMore) (frees_bare : FreesBare) where
     no_outer : (t : ℕ) → CoveredIn judging.implicit judging.program t → NoOuterAlias known.program.types (outers judging) t
     no_outer t may = (
       (λ d y of b'. (by_depth d y of b')),
@@ -279,7 +292,7 @@ module _ (program : Program) (number : ℕ) (b : BodyForm) (there : slice_get (p
         by_depth (suc d) y of b' = (at.spares t ends).0.0 d y of b'
 
         by_reference : (q : Id) → IsReferred (outers judging).referenced q t → is_access known.program.types t ≡ true → ⊥
-        by_reference q (inl (same, of)) access = let object = at.declared in cc (object, of, access)
+        by_reference q (inl (same, of)) access = let parted = at.parted in let bare = frees_bare t may in cc (parted, of, bare)
         by_reference q (inr outer) access = (at.spares t ends).0.1 q outer access
 
     spares : Spares judging (body_frees judging.program.types (effects_of judging.implicit judging.program) (main_body judging.program))
@@ -301,7 +314,7 @@ module _ (program : Program) (number : ℕ) (b : BodyForm) (there : slice_get (p
     referred_low q t (inr other) = absurd other
 
     -- The body begins.
-    pub adjusting_begins : IsOfCopy by → tracks_of p.types number b ≡ w.tracks → is_tracker p number ≡ true → BodyIsOrderly w.tracks b → list_all holds_no_record (drop 1 b.variables) ≡ true → may_track p ≡ true → may_be_frugal p ≡ true → is_frugal_body [] b ≡ true → FrameIsSimple w.tracks.first (Elaborates b.declarations b.statements b.handlers)
+    pub adjusting_begins : IsOfCopy by → tracks_of p.types number b ≡ w.tracks → is_tracker p number ≡ true → BodyIsOrderly w.tracks b → hold_bare p.types (drop 1 b.variables) ≡ true → may_track p ≡ true → may_end_frugally p ≡ true → is_frugal_body (calling_none p.types) b ≡ true → FrameIsSimple w.tracks.first (Elaborates b.declarations b.statements b.handlers)
         → ((e : Exception) → body_among (implicit_of p) (known_judged program number w.tracks []).program e ≡ true → ⊥)
         → CallApart p.types (is_tracker p) (seen_state w begun).control → RunsAsJudged → BeginsAsJudged → TypedAsJudged
         → (e : Event) (of : ℕ) → Alters s.heap e heap → WaitsFor p.types o of (begins by done) k behind → Stands program gs (record s { activations = a ∷ rest }) → IsCalm (behind_call behind) → under_in (callers_of program gs) ≡ []
@@ -352,10 +365,10 @@ module _ (program : Program) (number : ℕ) (b : BodyForm) (there : slice_get (p
             upper = record { number = s.next; items = [] } ∷ [];
             masters = refl;
             own = (tt, tt);
-            frugal = inl (frugal_as_judged [] w.tracks b frugal, inl ((refl, refl), refl, refl));
+            frugal = inl (frugal_as_judged (calling_none p.types) w.tracks b frugal, inl ((refl, refl), refl, refl));
           };
           waits = record {
-            declared = at.declared;
+            parted = at.parted;
             untreated = untreated;
             roomed = at.works.roomed;
             said = at.works.fit.said;

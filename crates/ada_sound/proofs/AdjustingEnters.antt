@@ -34,20 +34,19 @@ use Rattle.ada_program.specs.declared.program.Program.{Program}
 use Rattle.ada_program.specs.declared.program.VariableKind.{VariableKind}
 use Rattle.ada_program.specs.declared.program.VariableKind.TheVariants as variable
 use Rattle.ada_program.specs.ProgramForm.{BodyForm, ProgramForm, TypeForm, VariableForm, body_forms, program_form, seen_in}
-use Rattle.ada_program.specs.WellFormed.{IsWellFormed, access_of, component_kind, finalization_in, finalization_of, held_kind, is_access, kind_among, object_named, variable_kind}
-use Rattle.ada_quiet.specs.InUse.{may_be_frugal, may_track}
+use Rattle.ada_program.specs.WellFormed.{IsWellFormed, access_of, component_kind, finalization_in, finalization_of, held_kind, kind_among, object_named, variable_kind}
+use Rattle.ada_quiet.specs.Bare.{has_bare_objects}
+use Rattle.ada_quiet.specs.InUse.{may_track}
 use Rattle.ada_sound.proofs.AdjustingBegins.{AllName, Copied}
-use Rattle.ada_sound.proofs.AssignedParts.{copied_in_object}
+use Rattle.ada_sound.proofs.BareObjects.{holder_is_not_bare}
 use Rattle.ada_sound.proofs.Callers.{Suspension, known_in}
 use Rattle.ada_sound.proofs.Calm.{filled_in}
 use Rattle.ada_sound.proofs.CopiedOwners.{BeginsCopy, NameThere, OnlyPart, SeesToOwners, declared_owners, hiding, part_owners}
 use Rattle.ada_sound.proofs.Fits.{MayName, component_access}
-use Rattle.ada_sound.proofs.FrugalUseParts.{no_access_to_parts}
 use Rattle.ada_sound.proofs.Invariant.{AdjustsAside, Control, Known, RunsOn, Working}
 use Rattle.ada_sound.proofs.OnlyParts.{IsControlled, controlled_counts}
 use Rattle.ada_sound.proofs.OnlyPlaces.{controlled_as_shown, one_place_to}
 use Rattle.ada_sound.proofs.Returns.{same_types}
-use Rattle.ada_sound.proofs.Trackers.{frugal_too}
 use Rattle.ada_sound.proofs.Treatments.{BeginsAdjust}
 use Rattle.ada_tracked.specs.Frames.{View, blank_object, blanked, shifted, values_at, watched}
 use Rattle.ada_typed.proofs.Calls.{same_filled}
@@ -196,10 +195,10 @@ module _ (program : Program) (well : IsWellFormed (program_form program)) where
     pub part_begins : (part : ℕ) (q : PartState) → slice_get x.cell.parts part ≡ Some q → q.first ≡ first
     part_begins part q at = part_begins_first q (subst (λ (n : ℕ). slice_get x.cell.parts n ≡ Some q) (part_first part q at) at)
 
-    -- No access value names the object.
-    pub is_declared_object : may_be_frugal p ≡ true → (part : ℕ) (q : PartState) → slice_get x.cell.parts part ≡ Some q → is_access p.types x.cell.access ≡ false
-    is_declared_object may part q at =
-        copied_in_object program well (no_access_to_parts p may) record_type only.sees.finalization (ap finalization_in only.sees.at) x.cell.access q.first 0
+    -- No access value of a type whose objects are bare names the object.
+    pub is_parted : (part : ℕ) (q : PartState) → slice_get x.cell.parts part ≡ Some q → has_bare_objects p.types x.cell.access ≡ false
+    is_parted part q at =
+        holder_is_not_bare program well record_type only.sees.finalization (ap finalization_in only.sees.at) x.cell.access q.first 0
         (part_lies q (subst (λ (n : ℕ). slice_get x.cell.parts n ≡ Some q) (part_first part q at) at))
 
   -- The Adjust of a copy is called, which is the next step of a treatment.
@@ -251,9 +250,9 @@ module _ (program : Program) (well : IsWellFormed (program_form program)) where
           subst (λ (cs : List ℕ). AllName p.types s.heap x cs) (sym copy_watched)
           (all_name p.types s.heap filled c.o x c.adjusted.found (part_owners p.types c.record_type c.first) named)
 
-      pub copy_declared : is_access p.types x.cell.access ≡ false
-      copy_declared =
-          is_declared_object s.heap filled c.o x c.adjusted.found c.record_type c.of c.first copy_only (frugal_too p may) c.part c.p c.state
+      pub copy_parted : has_bare_objects p.types x.cell.access ≡ false
+      copy_parted =
+          is_parted s.heap filled c.o x c.adjusted.found c.record_type c.of c.first copy_only c.part c.p c.state
 
       -- The waiting activation goes on but for them.
       pub copy_works : Working known (blanked copy_view s.heap) a.places s.masters (λ rooms holds. RunsOn known k rooms holds × AdjustsAside known x.cell.access holds)
@@ -276,7 +275,7 @@ module _ (program : Program) (well : IsWellFormed (program_form program)) where
         object_so = refl;
         found = c.adjusted.found;
         exists = c.adjusted.there;
-        declared = subst (λ (types : List TypeForm). is_access types x.cell.access ≡ false) (sym same) copy_declared;
+        parted = subst (λ (types : List TypeForm). has_bare_objects types x.cell.access ≡ false) (sym same) copy_parted;
         names = subst (λ (types : List TypeForm). AllName types s.heap x (watched copy_view)) (sym same) copy_names;
         works = copy_works;
         spares = copy_works.rest.1.1.0;

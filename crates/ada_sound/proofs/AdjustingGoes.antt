@@ -3,7 +3,7 @@
 use Rattle.std.proofs.Common.{◌≡◌, ℕ, Bool, true, false, ◌&&◌, List, [], ◌∷◌, ◌++◌, refl, sym, ap, ◌∙◌, subst, ◌⊎◌, inl, inr, drop, length}
 use Rattle.std.proofs.lemmas.Bool.{and_parts}
 use Rattle.std.specs.Prelude.{Option, Some}
-use Rattle.std.specs.List.{list_all, slice_get}
+use Rattle.std.specs.List.{slice_get}
 use Rattle.ada_deeds.specs.Implicit.{implicit_of}
 use Rattle.ada_flow.specs.Tracking.{Tracks}
 use Rattle.ada_finalized.proofs.Doings.{Of, doings}
@@ -24,7 +24,7 @@ use Rattle.ada_meaning.specs.Step.{halts, moves, tells, asks, picks, older, oper
 use Rattle.ada_program.specs.declared.program.Program.{Program}
 use Rattle.ada_program.specs.Freed.{FreesItsOwn}
 use Rattle.ada_program.specs.ProgramForm.{BodyForm, ProgramForm, TypeForm, body_forms, main_body, program_form, seen_in, record_of}
-use Rattle.ada_program.specs.WellFormed.{IsWellFormed, is_access}
+use Rattle.ada_program.specs.WellFormed.{IsWellFormed, access_of, kind_among, reached_components}
 use Rattle.ada_scopes.proofs.Runs.{Scoped}
 use Rattle.ada_tracked.proofs.Law.{plainly_at_end}
 use Rattle.ada_program.specs.declared.program.Exception.{Exception}
@@ -38,6 +38,7 @@ use Rattle.ada_typed.proofs.Control.{OwnBody}
 use Rattle.ada_typed.proofs.Evaluations as evaluated
 use Rattle.ada_typed.proofs.Kept.{Behind, Each, behind_call}
 use Rattle.ada_judged.specs.Obeying.{BodyIsOrderly}
+use Rattle.ada_quiet.specs.Bare.{has_bare_objects}
 use Rattle.ada_quiet.specs.InUse.{is_copied_alone, stand_in_a_row, adjusts_at_most_one, adjusts_itself, may_track}
 use Rattle.ada_sound.proofs.Adjusting.{Adjusting, waiting}
 use Rattle.ada_sound.proofs.AdjustingCore.{judged_keeps}
@@ -61,7 +62,9 @@ use Rattle.ada_sound.proofs.Returns.{CrossesTo, same_types}
 use Rattle.ada_sound.proofs.TracksApart.{AreInARow, tracks_apart}
 use Rattle.ada_sound.proofs.TracksWell.{copied_alone, tracked_well}
 use Rattle.ada_sound.proofs.Trackers.{calls_stand_apart}
-use Rattle.ada_sound.proofs.WatchedBy.{holds_no_record, watched_by}
+use Rattle.ada_sound.proofs.BareObjects.{components_are_bare}
+use Rattle.ada_sound.proofs.FrugalBodies.{calling_none}
+use Rattle.ada_sound.proofs.WatchedBy.{hold_bare, watched_by}
 use Rattle.ada_sound.proofs.Starts.{IsReached}
 
 -- What a body frees as it is judged it frees by the instance for that (13.11.2).
@@ -102,6 +105,7 @@ is_judged program well may frees number b tracks there components orderly =
       stays = λ t typing alone crossing ending.
           each_comes (judged_in tracks own) (next program.types.items (body_forms program) t)
           (judged_stays p well number b there tracks components program.types.items refl t crossing ending typing);
+      owns = judged_owns p frees number b tracks there components orderly;
       keeps = λ gs.
           judged_keeps program number tracks gs (subst CopiesWell (sym (same_types (Some number) p)) (tracked_well p well may))
           (judged_owns p frees number b tracks there components orderly);
@@ -125,21 +129,29 @@ module _ (program : Program) (well : IsWellFormed (program_form program)) (may :
   pub inside : typed.TypedIn own s
   inside = subst (λ (procedure : Option ℕ). typed.TypedIn (seen_in procedure p) s) f.runs typing.inside
 
-  -- The object is a declared one.
-  declared_there : is_access own.types f.x.cell.access ≡ false
-  declared_there =
-      let declared = f.waits.declared in
-      let object : is_access p.types f.access ≡ false = rw (same_types f.procedure p) at declared in
-      subst (λ (types : List TypeForm). is_access types f.x.cell.access ≡ false) (sym (same_types (Some f.number) p)) (rw f.of_access object)
+  -- The object has controlled parts.
+  parted_there : has_bare_objects own.types f.x.cell.access ≡ false
+  parted_there =
+      let waits = f.waits.parted in
+      let parted : has_bare_objects p.types f.access ≡ false = rw (same_types f.procedure p) at waits in
+      subst (λ (types : List TypeForm). has_bare_objects types f.x.cell.access ≡ false) (sym (same_types (Some f.number) p)) (rw f.of_access parted)
+
+  -- And no component names such an object.
+  components_there : (holder c access : ℕ) → access_of (kind_among (reached_components own.types holder) c) ≡ Some access → has_bare_objects own.types access ≡ true
+  components_there =
+      subst (λ (types : List TypeForm). (holder c access : ℕ) → access_of (kind_among (reached_components types holder) c) ≡ Some access → has_bare_objects types access ≡ true)
+      (sym (same_types (Some f.number) p)) (components_are_bare program well f.may)
 
   -- The object is watched in which the components lie, where it exists.
   pub is_watched :
-      f.x.stage ≡ Existing → TracksComponents p.types f.w.tracks f.b.variables → list_all holds_no_record (drop 1 f.b.variables) ≡ true → IsWatched f.w (places s) s.heap
-  is_watched exists components none =
+      f.x.stage ≡ Existing → TracksComponents p.types f.w.tracks f.b.variables → hold_bare p.types (drop 1 f.b.variables) ≡ true → IsWatched f.w (places s) s.heap
+  is_watched exists components bare =
       let here = sym (seen_as p f.number f.b f.there) in
       watched_by own (tables_in own (seen_fits p well (Some f.number))) f.w (tracks_seen p f.number f.b f.w.tracks f.there components) s f.place f.x inside
       (rw f.object_so f.formal) f.based (subst (λ (q : ProgramForm). length (places s) ≡ length q.variables) here f.count)
-      (rw f.object_so f.found) exists declared_there (subst (λ (q : ProgramForm). list_all holds_no_record (drop 1 q.variables) ≡ true) here none)
+      (rw f.object_so f.found) exists parted_there
+      (subst (λ (types : List TypeForm). hold_bare types (drop 1 own.variables) ≡ true) (sym (same_types (Some f.number) p)) (subst (λ (q : ProgramForm). hold_bare p.types (drop 1 q.variables) ≡ true) here bare))
+      components_there
       (subst (λ (tracks : Tracks). AreApart tracks.components) f.tracks_so (tracks_apart p.types (in_a_row p well may) f.number f.b))
 
 some_same : {x y : Behind} → Some x ≡ Some y → x ≡ y
@@ -156,13 +168,13 @@ module _ (program : Program) (s : State) (f : Adjusting program s) (ends_now : s
   stands_so : f.t ≡ seen_state f.w s
   stands_so = (plainly_at_end program.types.items (program_form program).bodies f.w s f.t [] [] f.behind f.seen ends_now).1
 
-  frugal_now : Frugally [] f.lower f.behind (seen_state f.w s)
-  frugal_now = subst (Frugally [] f.lower f.behind) stands_so f.frugal
+  frugal_now : Frugally (calling_none (program_form program).types) f.lower f.behind (seen_state f.w s)
+  frugal_now = subst (Frugally (calling_none (program_form program).types) f.lower f.behind) stands_so f.frugal
 
   pub lower_left : s.masters ≡ f.lower
   lower_left =
-      let last : Frugal [] f.behind s.mode (Returns [] [] ∷ f.behind) frugal_now.upper = subst (λ (k : Control). Frugal [] f.behind s.mode (seen_control f.w k) frugal_now.upper) ends_now frugal_now.frugal in
-      let end = frugal_ends [] f.behind s.mode [] [] f.behind frugal_now.upper (subst IsAwaited (sym f.awaited.2) tt) last in
+      let last : Frugal (calling_none (program_form program).types) f.behind s.mode (Returns [] [] ∷ f.behind) frugal_now.upper = subst (λ (k : Control). Frugal (calling_none (program_form program).types) f.behind s.mode (seen_control f.w k) frugal_now.upper) ends_now frugal_now.frugal in
+      let end = frugal_ends (calling_none (program_form program).types) f.behind s.mode [] [] f.behind frugal_now.upper (subst IsAwaited (sym f.awaited.2) tt) last in
       frugal_now.masters ∙ ap (λ (upper : List Master). upper ++ f.lower) end.3
 
 -- What is treated behind the end of the running body is there.

@@ -40,7 +40,7 @@ use Rattle.ada_sound.proofs.Homes.{NoneIsUnder}
 use Rattle.ada_sound.proofs.Invariant.{Control, CoveredIn, Fine, IsCovered, IsFollowed, Known, Ready, Says, Standing, innermost, outers}
 use Rattle.ada_sound.proofs.Judged.{judged_in, known_judged}
 use Rattle.ada_sound.proofs.Leavings.{AreInOrder, HeldIn, NamedBelow}
-use Rattle.ada_sound.proofs.Standing.{FinalizesIn}
+use Rattle.ada_sound.proofs.Standing.{FinalizesIn, FreesAmong}
 use Rattle.ada_sound.proofs.Steps as inside
 use Rattle.ada_sound.proofs.Defaults.{Reaches}
 use Rattle.ada_sound.proofs.Sees.{reaches_in}
@@ -50,10 +50,11 @@ use Rattle.ada_sound.proofs.Waiting.{low_kept}
 abbrev pub StepsKeep : Known → List TypeDefinition → List BodyForm → Type 0
 StepsKeep known types bodies =
     (t : State) → calls_or_copies t.control ≡ false → inside.crosses t.mode t.control ≡ false → typed.TypedIn known.program t
-    → AllocatesBare known.program.types t.control → AllPairs CollectTwoTypes (items_of t.masters) → FinalizesIn known.program.types types bodies t.mode t.control t
-    → NoneIsUnder known.program.types (outers known).under t.heap
+    → AllocatesBare known.program.types t.control → AllPairs CollectTwoTypes (items_of t.masters)
+    → (may : ℕ → Bool) → FinalizesIn may known.program.types types bodies t.mode t.control t → NoneIsUnder may (outers known).under t.heap
+    → (t.mode ≡ Running → FreesAmong may t.control)
     → ((left : Mode) (k : Control) → t.mode ≡ Running → t.control ≡ Leaves left ∷ k
-    → HeldIn t.heap t.masters × NamedBelow (outers known) t.heap t.masters × AreInOrder known.program.types (innermost t.masters))
+    → HeldIn t.heap t.masters × NamedBelow (outers known) t.heap t.masters × AreInOrder known.ahead known.program.types (innermost t.masters))
     → Ready known t → Fine known t.heap t.masters (next types bodies t)
 
 -- A step leaves typed what is typed by the program as a body sees it, where no body begins and none ends, and nothing is called or treated.
@@ -62,10 +63,11 @@ StepsStayTyped own types bodies =
     (t : State) → typed.TypedIn own t → calls_or_copies t.control ≡ false → inside.crosses t.mode t.control ≡ false → ends_operation t.control ≡ false
     → Each (typed.TypedIn own) (next types bodies t)
 
--- What is known of the body of a procedure as it is judged: it fits, and may free nothing more than it may as it stands; its steps leave it typed, and keep the
+-- What is known of the body of a procedure as it is judged: it fits, frees by its own instances, and may free nothing more than it may as it stands; its steps leave it typed, and keep the
 -- invariant, whatever has called it.
 pub record IsJudged (program : Program) (number : ℕ) (tracks : Tracks) : Type 0 where
   pub fits : TablesFit (judged_in tracks (seen_in (Some number) (program_form program)))
+  pub owns : typed.OwnBody (judged_in tracks (seen_in (Some number) (program_form program)))
   pub covered : (t : ℕ) → CoveredIn (implicit_of (program_form program)) (judged_in tracks (seen_in (Some number) (program_form program))) t
       → CoveredIn (implicit_of (program_form program)) (seen_in (Some number) (program_form program)) t
   pub apart : list_all (body_calls_apart (program_form program).types (is_tracker (program_form program))) (body_forms program) ≡ true

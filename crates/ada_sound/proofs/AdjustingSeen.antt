@@ -6,7 +6,7 @@ use Rattle.std.specs.Prelude.{Option, Some, None, ◌||◌}
 use Rattle.ada_program.specs.declared.program.Exception.{Exception}
 use Rattle.ada_program.specs.declared.program.TypeDefinition.{TypeDefinition}
 use Rattle.ada_program.specs.Form.{calls, assigns_record, a_stmt, declares_record}
-use Rattle.ada_program.specs.ProgramForm.{BodyForm}
+use Rattle.ada_program.specs.ProgramForm.{BodyForm, TypeForm}
 use Rattle.ada_parts.specs.Task.{Task}
 use Rattle.ada_meaning.specs.declared.state.Mode.{Mode}
 use Rattle.ada_meaning.specs.declared.state.Mode.TheVariants.{Running, Raising, Exiting, Returning}
@@ -24,6 +24,8 @@ use Rattle.ada_tracked.specs.Simple.{FrameIsSimple}
 use Rattle.ada_tracked.specs.Staying.{BodyIsSimple, IsWithinBody, StaysSimple, at_once, behind_treatment}
 use Rattle.ada_typed.proofs.Kept.{behind_call, crosses as crosses_by, Behind, Each, is_treatment, Keeps}
 use Rattle.ada_typed.proofs.KeptSteps.{pass_keeps, step_keeps}
+use Rattle.ada_quiet.specs.Frugal.{Thrift}
+use Rattle.ada_sound.proofs.FrugalBodies.{calling_none}
 use Rattle.ada_sound.proofs.FrugalControl.{Frugal, FrugalLeads, FrugalLeaves, is_return_first}
 use Rattle.ada_sound.proofs.FrugalSteps.{is_call_first}
 use Rattle.ada_sound.proofs.Invariant.{Control}
@@ -37,21 +39,21 @@ calls_or_copies (Elaborates (declares_record x t initial ∷ ds) fs hs ∷ k) = 
 calls_or_copies k = false
 
 -- Not in a frugal body, where no procedure is called frugal.
-leads_on : (behind k : Control) (ms : List Master) → FrugalLeads [] behind k ms → calls_or_copies k ≡ false
-leads_on behind (Does (a_stmt (calls procedure actuals) fs) ∷ k) ms q = absurd (cc (q.0))
-leads_on behind (Does (a_stmt (assigns_record target items) fs) ∷ k) ms q = absurd (cc (q.0))
-leads_on behind (Elaborates (declares_record x t initial ∷ ds) fs hs ∷ k) [] q = absurd q
-leads_on behind (Elaborates (declares_record x t initial ∷ ds) fs hs ∷ k) (m ∷ ms) q = absurd (cc (q.0.0))
-leads_on behind k ms q = refl
+leads_on : (types : List TypeForm) (behind k : Control) (ms : List Master) → FrugalLeads (calling_none types) behind k ms → calls_or_copies k ≡ false
+leads_on types behind (Does (a_stmt (calls procedure actuals) fs) ∷ k) ms q = absurd (cc (q.0))
+leads_on types behind (Does (a_stmt (assigns_record target items) fs) ∷ k) ms q = absurd (cc (q.0))
+leads_on types behind (Elaborates (declares_record x t initial ∷ ds) fs hs ∷ k) [] q = absurd q
+leads_on types behind (Elaborates (declares_record x t initial ∷ ds) fs hs ∷ k) (m ∷ ms) q = absurd (cc (q.0.0))
+leads_on types behind k ms q = refl
 
-leaves_on : (behind k : Control) (ms : List Master) → FrugalLeaves [] behind k ms → calls_or_copies k ≡ false
-leaves_on behind [] ms q = refl
-leaves_on behind (Leaves left ∷ k) ms q = refl
-leaves_on behind (f ∷ k) ms q = absurd q
+leaves_on : (types : List TypeForm) (behind k : Control) (ms : List Master) → FrugalLeaves (calling_none types) behind k ms → calls_or_copies k ≡ false
+leaves_on types behind [] ms q = refl
+leaves_on types behind (Leaves left ∷ k) ms q = refl
+leaves_on types behind (f ∷ k) ms q = absurd q
 
-pub frugal_alone : (behind : Control) (mode : Mode) (k : Control) (ms : List Master) → Frugal [] behind mode k ms → calls_or_copies k ≡ false
-frugal_alone behind mode k ms (inl q) = leads_on behind k ms q
-frugal_alone behind mode k ms (inr (runs, q)) = leaves_on behind k ms q
+pub frugal_alone : (types : List TypeForm) (behind : Control) (mode : Mode) (k : Control) (ms : List Master) → Frugal (calling_none types) behind mode k ms → calls_or_copies k ≡ false
+frugal_alone types behind mode k ms (inl q) = leads_on types behind k ms q
+frugal_alone types behind mode k ms (inr (runs, q)) = leaves_on types behind k ms q
 
 -- A state with these parts.
 abbrev with_parts : Mode → Control → State → State
@@ -274,12 +276,12 @@ module _ (types : List TypeDefinition) (bodies : List BodyForm) (w : View) where
   no_treatment getting c k l v treatment tasks e = absurd (cc e)
   no_treatment (freeing access) c k l v treatment tasks e = absurd (cc e)
 
-  treats_first : (marks : List Bool) (back : Control) (mode : Mode) (v : Value) (treatment : frame.Treatment) (tasks : List Task) (k : Control) (ms : List Master) → Frugal marks back mode (frame.Treats v treatment tasks ∷ k) ms → ⊥
+  treats_first : (marks : Thrift) (back : Control) (mode : Mode) (v : Value) (treatment : frame.Treatment) (tasks : List Task) (k : Control) (ms : List Master) → Frugal marks back mode (frame.Treats v treatment tasks ∷ k) ms → ⊥
   treats_first marks back mode v treatment tasks k ms (inl q) = q.0
   treats_first marks back mode v treatment tasks k ms (inr (runs, q)) = q
 
   -- So none is, where the other one is frugal.
-  treated_not : (marks : List Bool) (back : Control) (s t : State) (ms : List Master) (v : Value) (treatment : frame.Treatment) (tasks : List Task) (k : Control) → Seen types bodies w s t → Frugal marks back t.mode t.control ms → s.control ≡ frame.Treats v treatment tasks ∷ k → ⊥
+  treated_not : (marks : Thrift) (back : Control) (s t : State) (ms : List Master) (v : Value) (treatment : frame.Treatment) (tasks : List Task) (k : Control) → Seen types bodies w s t → Frugal marks back t.mode t.control ms → s.control ≡ frame.Treats v treatment tasks ∷ k → ⊥
   treated_not marks back s t ms v treatment tasks k (plainly others is) frugal e =
       let control : t.control ≡ frame.Treats v treatment tasks ∷ seen_control w k = rw (is, e) refl in
       treats_first marks back t.mode v treatment tasks (seen_control w k) ms (rw control at frugal)
@@ -290,7 +292,7 @@ module _ (types : List TypeDefinition) (bodies : List BodyForm) (w : View) where
       no_treatment waiting c (Does fs ∷ j) k v treatment tasks (sym control_is ∙ e)
 
   -- So what is left to do stays simple.
-  pub simple_still : (marks : List Bool) (back : Control) (s t : State) (ms : List Master) → Seen types bodies w s t → Frugal marks back t.mode t.control ms → StaysSimple w.tracks.first s.control → BodyIsSimple w.tracks.first s.control
+  pub simple_still : (marks : Thrift) (back : Control) (s t : State) (ms : List Master) → Seen types bodies w s t → Frugal marks back t.mode t.control ms → StaysSimple w.tracks.first s.control → BodyIsSimple w.tracks.first s.control
   simple_still marks back s t ms seen frugal (at_once simple) = simple
   simple_still marks back s t ms seen frugal (behind_treatment v treatment tasks k is simple) = absurd (treated_not marks back s t ms v treatment tasks k seen frugal is)
 

@@ -2,7 +2,7 @@
 
 use Rattle.std.proofs.Common.{◌≡◌, ◌≢◌, ℕ, ◌||◌, true, false, List, [], ◌∷◌, ◌++◌, length, drop, refl, sym, ap, subst, ◌∙◌, Bool}
 use Rattle.std.specs.Prelude.{Option, Some}
-use Rattle.std.specs.List.{list_all, list_any}
+use Rattle.std.specs.List.{list_any}
 use Rattle.ada_deeds.specs.Implicit.{implicit_of}
 use Rattle.ada_finalized.specs.Law.{NothingBegins}
 use Rattle.ada_flow.specs.Flow.{is_owning_part}
@@ -15,7 +15,7 @@ use Rattle.ada_program.specs.declared.program.PartKind.TheVariants as part_kinds
 use Rattle.ada_program.specs.declared.program.Program.{Program}
 use Rattle.ada_program.specs.declared.program.VariableKind.TheVariants as variable_kinds
 use Rattle.ada_program.specs.ProgramForm.{PartForm, ProgramForm, TypeForm, body_forms, main_body, program_form, seen_by, seen_in}
-use Rattle.ada_program.specs.WellFormed.{IsWellFormed, is_access, variable_kind}
+use Rattle.ada_program.specs.WellFormed.{IsWellFormed, access_of, kind_among, reached_components, variable_kind}
 use Rattle.ada_meaning.specs.declared.event.Birth.{Birth}
 use Rattle.ada_meaning.specs.declared.event.Birth.TheVariants.{Creation, Copy, Adjustment}
 use Rattle.ada_meaning.specs.declared.state.Id.{Id}
@@ -31,7 +31,9 @@ use Rattle.ada_meaning.specs.Run.{Event}
 use Rattle.ada_meaning.specs.State.{Activation}
 use Rattle.ada_meaning.specs.Step.{operating, places}
 use Rattle.ada_quiet.specs.Apart.{body_calls_apart, is_tracker}
-use Rattle.ada_quiet.specs.InUse.{may_be_frugal}
+use Rattle.ada_quiet.specs.Bare.{has_bare_objects}
+use Rattle.ada_quiet.specs.Frugal.{is_frugal_body, thrift_of}
+use Rattle.ada_quiet.specs.InUse.{may_end_frugally}
 use Rattle.ada_tracked.proofs.Heaps.{blanked_here}
 use Rattle.ada_tracked.specs.Frames.{View, blank_object, watched}
 use Rattle.ada_tracked.specs.Seen.{IsWatched, seen_state}
@@ -66,6 +68,8 @@ use Rattle.ada_sound.proofs.OperationStarts.{calm_behind}
 use Rattle.ada_sound.proofs.OrderlyBodies.{lone_body, orderly_body}
 use Rattle.ada_sound.proofs.QuietOperations.{MayTrack}
 use Rattle.ada_sound.proofs.Returns.{same_types}
+use Rattle.ada_sound.proofs.BareObjects.{components_are_bare, frugal_frees_bare}
+use Rattle.ada_sound.proofs.FrugalBodies.{calling_none}
 use Rattle.ada_sound.proofs.SimpleBodies.{simple_frugal}
 use Rattle.ada_sound.proofs.SimpleEffects.{simple_silent}
 use Rattle.ada_sound.proofs.Starts.{Obeys}
@@ -74,7 +78,7 @@ use Rattle.ada_sound.proofs.TouchingBegins.{IsAlone, alone}
 use Rattle.ada_sound.proofs.TracksApart.{tracks_apart}
 use Rattle.ada_sound.proofs.Trackers.{calls_stand_apart, frugal_too}
 use Rattle.ada_sound.proofs.Treatments.{BeginsAdjust}
-use Rattle.ada_sound.proofs.WatchedBy.{given_count, holds_no_record, some_variable, watched_by}
+use Rattle.ada_sound.proofs.WatchedBy.{given_count, hold_bare, some_variable, watched_by}
 
 -- A copy of a record begins where an object is declared, or a record is assigned to.
 of_copy : (by : Birth) → BeginsCopy by → IsOfCopy by
@@ -136,9 +140,12 @@ module _
     at : Copied (known_in program a.procedure gs) may_free c.o x w k s.heap a.places s.masters
     at = copied_where_called program well tracks.0 a rest s gs v k IsOperated e after c filled
 
-    -- No access type designates a record with controlled parts.
-    may : may_be_frugal p ≡ true
+    -- What it is called for has controlled parts, and what it frees has none.
+    may : may_end_frugally p ≡ true
     may = frugal_too p tracks.0
+
+    frugal : is_frugal_body (thrift_of p) c.b ≡ true
+    frugal = simple_frugal (thrift_of p) c.b tracks.1
 
     -- What the waiting activation sees, and the body.
     known_types : (known_in program a.procedure gs).program.types ≡ p.types
@@ -175,8 +182,8 @@ module _
         let body : operation.body ≡ c.b = let found = operation.there in let there = c.there in cc (found, there) in
         alone c.b operation.object (rw body at operation.formals)
 
-    none_other : list_all holds_no_record (drop 1 c.b.variables) ≡ true
-    none_other = lone_body c.b tracks.1
+    none_other : hold_bare p.types (drop 1 c.b.variables) ≡ true
+    none_other = lone_body p.types c.b tracks.1
 
     -- Each variable has a value.
     count : length (places begun) ≡ length c.b.variables
@@ -205,8 +212,9 @@ module _
         let types : own.types ≡ p.types = same_types (Some c.number) p in
         watched_by own (tables_in own (seen_fits p well (Some c.number))) w own_components begun place x inside refl refl
         (subst (λ (q : ProgramForm). length (places begun) ≡ length q.variables) here count) c.adjusted.found exists
-        (subst (λ (types : List TypeForm). is_access types x.cell.access ≡ false) (known_types ∙ sym types) at.declared)
-        (subst (λ (q : ProgramForm). list_all holds_no_record (drop 1 q.variables) ≡ true) here none_other)
+        (subst (λ (types : List TypeForm). has_bare_objects types x.cell.access ≡ false) (known_types ∙ sym types) at.parted)
+        (subst (λ (types : List TypeForm). hold_bare types (drop 1 own.variables) ≡ true) (sym types) (subst (λ (q : ProgramForm). hold_bare p.types (drop 1 q.variables) ≡ true) here none_other))
+        (subst (λ (types : List TypeForm). (holder component access : ℕ) → access_of (kind_among (reached_components types holder) component) ≡ Some access → has_bare_objects types access ≡ true) (sym types) (components_are_bare program well may))
         (tracks_apart p.types (in_a_row p well tracks.0) c.number c.b)
 
     -- It frees no more than the adjustment may.
@@ -215,6 +223,12 @@ module _
         adjusted_frees program well x.cell.access c.record_type c.of c.first (copy_only program well tracks.0 a rest s gs v k IsOperated e after c filled)
         (copied_type program well tracks.0 a rest s gs v k IsOperated e after c filled) (copy_among program well tracks.0 a rest s gs v k IsOperated e after c filled)
         c.by c.copies c.number c.b c.there c.called t (judged_covers own w.tracks own_components own_orderly (implicit_of p) t covered)
+
+    -- And that has no controlled parts.
+    frees_bare : (t : ℕ) → CoveredIn (implicit_of p) (judged_in w.tracks own) t → has_bare_objects (known_in program a.procedure gs).program.types t ≡ true
+    frees_bare t covered =
+        subst (λ (types : List TypeForm). has_bare_objects types t ≡ true) (sym known_types)
+        (frugal_frees_bare program well c.number c.b c.there frugal t (judged_covers own w.tracks own_components own_orderly (implicit_of p) t covered))
 
     -- What is left to do calls nothing that tracks.
     calls_apart : CallApart p.types (is_tracker p) k → CallApart p.types (is_tracker p) (seen_state w begun).control
@@ -239,8 +253,8 @@ module _
         let kept = keeps_tracking program c.number w.tracks in
         let waiting = resting a.procedure a.places (begins c.by c.done) c.o x.cell.access [] place behind s.masters kept at.works.rooms at.works.holds in
         adjusting_begins program c.number c.b c.there w lone components a rest gs s k c.o x s.heap place refl within c.by c.done behind kept may_free at
-        frees_no_more (of_copy c.by c.copies) refl tracker orderly none_other tracks.0 may (simple_frugal [] c.b tracks.1) simple
-        (simple_silent program well may c.number c.b c.there tracks.1 tracks.2 w.tracks components orderly)
+        frees_no_more frees_bare (of_copy c.by c.copies) refl tracker orderly none_other tracks.0 may (simple_frugal (calling_none p.types) c.b tracks.1) simple
+        (simple_silent program well c.number c.b c.there tracks.1 tracks.2 w.tracks components orderly)
         (calls_apart behind_apart)
         (λ spares. judged_runs program c.number c.b w.tracks waiting gs well obeys.1 c.there refl components orderly spares refl)
         (begins_as_judged program c.number c.b c.there w lone components a rest gs s k c.o x s.heap place refl within c.by c.done behind kept may_free at watches)

@@ -39,6 +39,7 @@ use Rattle.ada_typed.proofs.Kept.{Each}
 use Rattle.ada_sound.specs.Agreement.{running_procedure}
 use Rattle.ada_program.specs.Form.{allocates}
 use Rattle.ada_quiet.specs.Apart.{is_tracker}
+use Rattle.ada_quiet.specs.Bare.{has_bare_objects}
 use Rattle.ada_sound.proofs.CallsApart.{CallApart, AllCallApart}
 use Rattle.ada_sound.proofs.CallsApartRuns.{no_record_allocated}
 use Rattle.ada_sound.proofs.CallsApartSteps.{calls_stay_apart}
@@ -53,18 +54,20 @@ use Rattle.ada_sound.proofs.Blanked.{alters_unblanked, ends_unblanked, says_unbl
 use Rattle.ada_sound.proofs.Callers.{AreOf}
 use Rattle.ada_sound.proofs.Finalization.{parts_alive}
 use Rattle.ada_sound.proofs.FrugalControl.{Frugal, Frugally, GoesFrugally, is_return_first}
-use Rattle.ada_sound.proofs.FrugalFrees.{AccessIsBare, bare_by}
 use Rattle.ada_sound.proofs.FrugalLeaves.{held_in_none, innermost_houses_none, leaves_own}
 use Rattle.ada_sound.proofs.FrugalSteps.{is_call_first, frugal_crosses, frugal_steps, none_ends}
-use Rattle.ada_sound.proofs.FrugalUseParts.{no_access_to_parts}
 use Rattle.ada_sound.proofs.Homes.{NoneIsUnder}
+use Rattle.ada_sound.proofs.CollectsApartRuns.{apart_where_reached}
 use Rattle.ada_sound.proofs.InOrder.{in_order}
 use Rattle.ada_sound.proofs.Invariant.{Control, EndsWell, Fine, IsFollowed, Known, Parting, Ready, RunsOn, Says, Standing, Stepped, innermost, outers}
 use Rattle.ada_sound.proofs.Judged.{known_judged}
 use Rattle.ada_sound.proofs.Leavings.{AreInOrder, HeldIn, NamedBelow}
 use Rattle.ada_sound.proofs.Operating.{AreVariables, InBody, StepsTo}
 use Rattle.ada_sound.proofs.Returns.{same_types}
-use Rattle.ada_sound.proofs.Standing.{AllStand, FinalizesBy, FinalizesIn}
+use Rattle.ada_sound.proofs.FrugalBodies.{calling_none}
+use Rattle.ada_sound.proofs.FrugalFrees.{bare_by}
+use Rattle.ada_sound.proofs.Standing.{AllStand, FinalizesBy, FinalizesIn, FreesAmong}
+use Rattle.ada_sound.proofs.TouchingStands.{frees_bare}
 use Rattle.ada_sound.proofs.Starts.{IsReached}
 use Rattle.ada_sound.proofs.Steps as inside
 use Rattle.ada_sound.proofs.Stored.{IsUnder, Stored}
@@ -112,10 +115,10 @@ module _
   firsts = seen_within tds bodies f.w s f.t f.seen f.simple inner some_waits
 
   none_crosses : inside.crosses f.t.mode f.t.control ≡ false
-  none_crosses = frugal_crosses [] f.behind f.t.mode f.t.control f.frugal.upper f.frugal.frugal firsts.0 (λ runs. firsts.1)
+  none_crosses = frugal_crosses (calling_none p.types) f.behind f.t.mode f.t.control f.frugal.upper f.frugal.frugal firsts.0 (λ runs. firsts.1)
 
   alone_there : calls_or_copies f.t.control ≡ false
-  alone_there = frugal_alone f.behind f.t.mode f.t.control f.frugal.upper f.frugal.frugal
+  alone_there = frugal_alone p.types f.behind f.t.mode f.t.control f.frugal.upper f.frugal.frugal
 
   -- In the real state, nothing begins of another object.
   begins_nothing : (v : Value) → (v ≢ Names f.object) → NothingBegins v s.control
@@ -123,39 +126,42 @@ module _
       let behind : NothingBegins v f.behind = subst (NothingBegins v) (sym f.awaited.2) ((λ same. ne (sym same)), f.waits.untreated v ne) in
       simple_begins f.w.tracks.first v s.control f.behind f.simple f.ends behind
 
-  -- The object that is adjusted is of no access type.
-  other_object : (o : Id) (x : Object) → object_at s.heap o ≡ Some x → is_access p.types x.cell.access ≡ true → Names o ≡ Names f.object → ⊥
+  -- The object that is adjusted has controlled parts.
+  other_object : (o : Id) (x : Object) → object_at s.heap o ≡ Some x → has_bare_objects p.types x.cell.access ≡ true → Names o ≡ Names f.object → ⊥
   other_object o x found of same =
       let one : o ≡ f.object = cc same in
       let x_is : x ≡ f.x = let here = f.found in let there = found in cc (one, here, there) in
-      let declared = f.waits.declared in
-      let object : is_access p.types f.access ≡ false = rw (same_types f.procedure p) at declared in
-      let access : is_access p.types f.access ≡ true = rw (x_is, f.of_access) at of in
-      cc (object, access)
+      let waits = f.waits.parted in
+      let parted : has_bare_objects p.types f.access ≡ false = rw (same_types f.procedure p) at waits in
+      let bare : has_bare_objects p.types f.access ≡ true = rw (x_is, f.of_access) at of in
+      cc (parted, bare)
 
-  stand : AllStand p.types s.heap
-  stand o x found listed of =
+  abbrev bare_types : ℕ → Bool
+  bare_types access = has_bare_objects p.types access
+
+  stand : AllStand bare_types p.types s.heap
+  stand o x found listed of bare =
       parts_alive program well s reached o x found
-      (listed_stand program reached.0 reached.1 s reached.2 o x found listed (begins_nothing (Names o) (other_object o x found of)))
+      (listed_stand program reached.0 reached.1 s reached.2 o x found listed (begins_nothing (Names o) (other_object o x found bare)))
 
   -- So each object that may be freed stands in the other one, too.
-  alive : AllStand known.program.types f.t.heap
-  alive o y found listed of =
+  alive : AllStand bare_types known.program.types f.t.heap
+  alive o y found listed of bare =
       let x = unblanked f.w s.heap o y (subst (λ (heap : List Object). object_at heap o ≡ Some y) of_t.heap found) in
       let access : is_access p.types x.object.cell.access ≡ true = subst (λ (t : ℕ). is_access p.types t ≡ true) (sym x.alike.access) (subst (λ (all : List TypeForm). is_access all y.cell.access ≡ true) types_are of) in
-      rw (sym x.alike.parts) (stand o x.object x.found (x.alike.listed ∙ listed) access)
+      rw (sym x.alike.parts) (stand o x.object x.found (x.alike.listed ∙ listed) access (subst (λ (t : ℕ). bare_types t ≡ true) (sym x.alike.access) bare))
 
-  finalizes : FinalizesIn known.program.types tds bodies f.t.mode f.t.control f.t
+  finalizes : FinalizesIn bare_types known.program.types tds bodies f.t.mode f.t.control f.t
   finalizes = by f.t.mode f.t.control f.frugal.upper f.frugal.frugal
     where
-      by_frame : (g : Frame Value) (k : Control) (mode : Mode) (ms : List Master) → Frugal [] f.behind mode (g ∷ k) ms → FinalizesBy known.program.types tds bodies g (record f.t { mode = Running; control = k })
+      by_frame : (g : Frame Value) (k : Control) (mode : Mode) (ms : List Master) → Frugal (calling_none p.types) f.behind mode (g ∷ k) ms → FinalizesBy bare_types known.program.types tds bodies g (record f.t { mode = Running; control = k })
       by_frame (frame.Does fs) k mode ms q = alive
       by_frame (frame.FreesIn access c) k mode ms q = alive
       by_frame (frame.Treats v treatment tasks) k mode ms (inl q) = absurd q.0
       by_frame (frame.Treats v treatment tasks) k mode ms (inr (runs, leaving)) = absurd leaving
       by_frame g k mode ms q = tt
 
-      by : (mode : Mode) (k : Control) (ms : List Master) → Frugal [] f.behind mode k ms → FinalizesIn known.program.types tds bodies mode k f.t
+      by : (mode : Mode) (k : Control) (ms : List Master) → Frugal (calling_none p.types) f.behind mode k ms → FinalizesIn bare_types known.program.types tds bodies mode k f.t
       by Running [] ms q = tt
       by Running (g ∷ k) ms q = by_frame g k Running ms q
       by (Raising e) k ms q = tt
@@ -165,18 +171,22 @@ module _
   -- Where the other one leaves a master, no object has its home there, and what callers rely on lies in outer ones.
   own_masters : (left : Mode) (k : Control) → f.t.control ≡ Leaves left ∷ k → AreVariables (innermost f.t.masters)
   own_masters left k at =
-      let owned = leaves_own [] f.behind f.t.mode left k f.frugal.upper f.lower (rw at at f.frugal.frugal) f.frugal.own in
+      let owned = leaves_own (calling_none p.types) f.behind f.t.mode left k f.frugal.upper f.lower (rw at at f.frugal.frugal) f.frugal.own in
       subst (λ (ms : List Master). AreVariables (innermost ms)) (sym f.frugal.masters) owned
 
-  low : (left : Mode) (k : Control) → f.t.mode ≡ Running → f.t.control ≡ Leaves left ∷ k → HeldIn f.t.heap f.t.masters × NamedBelow (outers known) f.t.heap f.t.masters × AreInOrder known.program.types (innermost f.t.masters)
+  low : (left : Mode) (k : Control) → f.t.mode ≡ Running → f.t.control ≡ Leaves left ∷ k → HeldIn f.t.heap f.t.masters × NamedBelow (outers known) f.t.heap f.t.masters × AreInOrder known.ahead known.program.types (innermost f.t.masters)
   low left k runs at =
       let parting : Parting known f.t.heap (places f.t) f.t.masters (RunsOn known (Leaves left ∷ k)) = rw (runs, at) at f.ready.1 in (
         held_in_none known f.t.heap (places f.t) f.t.masters (RunsOn known (Leaves left ∷ k)) parting (own_masters left k at),
         named_below known f.t.heap f.standing.waiting f.standing.low left k f.t.masters parting,
-        rw of_t.masters (in_order program well s nested known.program.types types_are s.masters refl),
+        rw of_t.masters (in_order program well s nested (apart_where_reached program s reached) known.program.types types_are s.masters refl),
       )
 
-  none_is_under : NoneIsUnder known.program.types (outers known).under f.t.heap
+  -- What is freed next is bare.
+  freely : FreesAmong bare_types f.t.control
+  freely = frees_bare (calling_none p.types) f.behind f.t.mode f.t.control f.frugal.upper f.frugal.frugal
+
+  none_is_under : NoneIsUnder bare_types (outers known).under f.t.heap
   none_is_under o x under found = let none : IsUnder [] o = subst (λ (all : List Id). IsUnder all o) f.settled under in absurd none
 
   -- No allocator copies a record with controlled parts.
@@ -196,15 +206,15 @@ module _
   fine_on : Fine known f.t.heap f.t.masters (next tds bodies f.t)
   fine_on =
       judged.keeps (waiting program s f ∷ f.suspensions) f.t alone_there none_crosses f.typed bare_there
-      (subst (λ (ms : List Master). AllPairs CollectTwoTypes (items_of ms)) (sym of_t.masters) (collect_two p s nested)) finalizes none_is_under low f.ready
+      (subst (λ (ms : List Master). AllPairs CollectTwoTypes (items_of ms)) (sym of_t.masters) (collect_two p s nested)) bare_types finalizes none_is_under (λ runs. freely) low f.ready
 
-  frugal_on : GoesFrugally [] f.lower f.behind (next tds bodies f.t)
+  frugal_on : GoesFrugally (calling_none p.types) f.lower f.behind (next tds bodies f.t)
   frugal_on =
-      frugal_steps known tds bodies judged.fits (subst (λ (all : List TypeForm). AccessIsBare all tds) (sym types_are) (bare_by program (no_access_to_parts p f.may)))
-      [] (λ number b there told. absurd (cc told)) f.behind f.lower f.t f.frugal (λ actuals references k is. absurd (let first = firsts.0 in cc (rw is at first))) f.typed f.ready
+      frugal_steps known.program judged.owns tds bodies (calling_none p.types) (bare_by program) (λ number b there told. absurd (cc told)) f.behind f.lower f.t f.frugal
+      (λ actuals references k is. absurd (let first = firsts.0 in cc (rw is at first))) f.typed
 
   typed_on : Each (typed.TypedIn known.program) (next tds bodies f.t)
-  typed_on = judged.stays f.t f.typed alone_there none_crosses (none_ends [] f.behind f.t.mode f.t.control f.frugal.upper f.frugal.frugal)
+  typed_on = judged.stays f.t f.typed alone_there none_crosses (none_ends (calling_none p.types) f.behind f.t.mode f.t.control f.frugal.upper f.frugal.frugal)
 
   -- And the real one takes a step to which it does.
   real_on : Each (SameRun s) (next tds bodies s)
@@ -249,7 +259,7 @@ module _
   -- What holds behind a step.
   adjusting_by :
       (e : Event) (after stands : State) → Seen tds bodies f.w after stands → Runs after → Alters s.heap e after.heap → StaysSimple f.w.tracks.first after.control → Standing known stands
-      → Kept stands → Ready known stands → Frugally [] f.lower f.behind stands → Says known.implicit own e s.heap after → InAdjusting program s.heap e after
+      → Kept stands → Ready known stands → Frugally (calling_none p.types) f.lower f.behind stands → Says known.implicit own e s.heap after → InAdjusting program s.heap e after
   adjusting_by e after stands seen same a simple standing typing ready frugal says =
       let y = a.kept f.object f.x f.found in
       let runs : running_procedure after ≡ Some f.number = same.0.procedure ∙ f.runs in
@@ -267,7 +277,7 @@ module _
           lone = f.lone;
           t = stands;
           seen = seen;
-          simple = simple_still tds bodies f.w [] f.behind after stands frugal.upper seen frugal.frugal simple;
+          simple = simple_still tds bodies f.w (calling_none p.types) f.behind after stands frugal.upper seen frugal.frugal simple;
           procedure = f.procedure;
           places = f.places;
           suspensions = f.suspensions;
@@ -315,7 +325,7 @@ module _
   -- Both take a step.
   both_on :
       (e g : Event) (after stands : State) → Matches f.w e g → Seen tds bodies f.w after stands → Runs after → StaysSimple f.w.tracks.first after.control → Stepped known f.t.heap g stands
-      → Kept stands → Frugally [] f.lower f.behind stands → InAdjusting program s.heap e after
+      → Kept stands → Frugally (calling_none p.types) f.lower f.behind stands → InAdjusting program s.heap e after
   both_on e g after stands matches seen same simple step typing frugal =
       let of_after = stands_for tds bodies f.w after stands seen in
       let before : Alters f.t.heap g (blanked f.w after.heap) = subst (Alters f.t.heap g) of_after.heap step.alters in
@@ -334,19 +344,19 @@ module _
       alters_unblanked f.w s.heap after.heap e (subst (Alters (blanked f.w s.heap) e) (sym of_t.heap ∙ of_after.heap) (alters_same (blanked f.w s.heap) e)) in
       adjusting_by e after f.t seen same a simple f.standing (f.typed, f.apart) f.ready f.frugal (says_silent f.w known.implicit own e s.heap after followed silent)
 
-  next_on : (n m : Next) → Shown tds bodies f.w f.t n m → Each Runs n → AllStaySimple f.w.tracks.first n → Fine known f.t.heap f.t.masters m → GoesFrugally [] f.lower f.behind m → Each Kept m → GoesAdjusting program s n
+  next_on : (n m : Next) → Shown tds bodies f.w f.t n m → Each Runs n → AllStaySimple f.w.tracks.first n → Fine known f.t.heap f.t.masters m → GoesFrugally (calling_none p.types) f.lower f.behind m → Each Kept m → GoesAdjusting program s n
   next_on (halts halt) m is same simple fine goes typing =
       let well_ends : EndsWell halt f.t.heap f.t.masters = subst (Fine known f.t.heap f.t.masters) is fine in
       ends_unblanked f.w halt s.heap s.masters (subst (λ (heap : List Object). EndsWell halt heap s.masters) of_t.heap (subst (EndsWell halt f.t.heap) of_t.masters well_ends))
   next_on (moves e after) m (both g stands is matches seen) same simple fine goes typing =
-      both_on e g after stands matches seen same simple (subst (Fine known f.t.heap f.t.masters) is fine) (subst (Each Kept) is typing) (subst (GoesFrugally [] f.lower f.behind) is goes)
+      both_on e g after stands matches seen same simple (subst (Fine known f.t.heap f.t.masters) is fine) (subst (Each Kept) is typing) (subst (GoesFrugally (calling_none p.types) f.lower f.behind) is goes)
   next_on (moves e after) m (alone silent seen) same simple fine goes typing = alone_on e after silent seen same simple
   next_on (tells request e after) m (stands, is, seen) same simple fine goes typing =
-      both_on e e after stands (matching.same refl) seen same simple (subst (Fine known f.t.heap f.t.masters) is fine) (subst (Each Kept) is typing) (subst (GoesFrugally [] f.lower f.behind) is goes)
+      both_on e e after stands (matching.same refl) seen same simple (subst (Fine known f.t.heap f.t.masters) is fine) (subst (Each Kept) is typing) (subst (GoesFrugally (calling_none p.types) f.lower f.behind) is goes)
   next_on (asks request answered) m (answers, is, seen) same simple fine goes typing = λ granted.
       (let steps : Fine known f.t.heap f.t.masters (asks request answers) = subst (Fine known f.t.heap f.t.masters) is fine in
       let types : Each Kept (asks request answers) = subst (Each Kept) is typing in
-      let runs : GoesFrugally [] f.lower f.behind (asks request answers) = subst (GoesFrugally [] f.lower f.behind) is goes in
+      let runs : GoesFrugally (calling_none p.types) f.lower f.behind (asks request answers) = subst (GoesFrugally (calling_none p.types) f.lower f.behind) is goes in
       both_on Quiet Quiet (answered granted) (answers granted) (matching.same refl) (seen granted) (same granted) (simple granted) (steps granted) (types granted) (runs granted))
   next_on (picks n taken) m none same simple fine goes typing = none
 

@@ -281,7 +281,7 @@ module _ (known : Known) (k : Control) (a : Activation Value) (rest : List (Acti
 
     answered_fine : (granted : Bool) → Stepped known s.heap Quiet (answered named types access count words home (running k a rest s) granted)
     unfolding cell lost
-    answered_fine true = record { ready = (tt, treats_ready known (created s.heap words) (begins Creation []) (all_tasks types access PartsFirst) k (create s.heap words cell) a.places (created s.heap words ∷ drop count a.operands) s.masters (inr (collected, granted_names k (drop count a.operands) w.rest.leads.room w.rest.into w.rest.leads.to), new_may_undo known s.heap words cell k a.places s.masters w.rooms w.holds (home, is_home) stored w.roomed w.fit w.rest.leads.starts) tt); alters = alters_new s.heap Quiet (new_object cell) refl; says = tt }
+    answered_fine true = record { ready = (tt, treats_ready known (created s.heap words) (begins Creation []) (all_tasks types access PartsFirst) k (create s.heap words cell) a.places (created s.heap words ∷ drop count a.operands) s.masters (inr (refl, collected, granted_names k (drop count a.operands) w.rest.leads.room w.rest.into w.rest.leads.to), new_may_undo known s.heap words cell k a.places s.masters w.rooms w.holds (home, is_home) stored w.roomed w.fit w.rest.leads.starts) tt); alters = alters_new s.heap Quiet (new_object cell) refl; says = tt }
     answered_fine false = jumps_less known k a rest s (Raising StorageError) (at_work w (w.rest.leads.refused refl))
 
   creates_by : (types : List TypeDefinition) (access count words : ℕ) (home : Option Destination) → home_of access s.masters ≡ home → (w : Working known s.heap a.places s.masters (Filling known s.heap a.places access count [] k a.operands)) → HaveKinds known.program.types (cells_of s.heap) w.rest.leads.components (reverse (take count a.operands)) → Fine known s.heap s.masters (new_next named types access count words home (running k a rest s))

@@ -1,11 +1,11 @@
 -- What is finalized at an assignment (5.2, 7.6.1): the records with controlled parts that are of the type of what is assigned to, or lie in such a record. What
 -- their bodies free is among what the assignment may free; and what is assigned to lies in a declared object, where no access type designates such records.
 
-use Rattle.std.proofs.Common.{◌≡◌, ℕ, zero, suc, ◌+◌, ◌<◌, ◌==◌, ◌&&◌, Bool, true, false, if◌then◌else◌, List, [], ◌∷◌, ◌++◌, length, map, Option, Some, None, refl, sym, ap, ◌∙◌, subst}
-use Rattle.std.specs.Prelude.{count_by, is_some, nat_lt}
-use Rattle.std.specs.List.{list_all, slice_get}
+use Rattle.std.proofs.Common.{◌≡◌, ℕ, zero, suc, ◌+◌, ◌==◌, Bool, true, false, if◌then◌else◌, List, [], ◌∷◌, ◌++◌, length, map, Option, Some, None, refl, sym, ap, ◌∙◌, subst}
+use Rattle.std.specs.Prelude.{count_by}
+use Rattle.std.specs.List.{slice_get}
 use Rattle.std.specs.Option.{option_map}
-use Rattle.std.proofs.lemmas.Bool.{eqb-true, ltb-true, or_left}
+use Rattle.std.proofs.lemmas.Bool.{eqb-true, or_left}
 use Rattle.std.proofs.lemmas.Option.{slice_get-map}
 use Rattle.ada_deeds.specs.Does.{Does}
 use Rattle.ada_deeds.specs.Forms.{overriding, parts_do}
@@ -16,7 +16,6 @@ use Rattle.ada_deeds.specs.declared.deed.Deed.{Deed}
 use Rattle.ada_deeds.specs.declared.deed.Operation.{Operation}
 use Rattle.ada_deeds.specs.declared.deed.Operation.TheVariants.{Finalize}
 use Rattle.ada_deeds.proofs.Freed.{deed}
-use Rattle.ada_deeds.proofs.Naming.{all_at}
 use Rattle.ada_deeds.proofs.Starting.{own_out, walked_out}
 use Rattle.ada_deeds.proofs.Within.{counts_are_enough}
 use Rattle.ada_effects.specs.Effects.{assignment_frees}
@@ -35,16 +34,12 @@ use Rattle.ada_program.specs.declared.program.TypeNo.{TypeNo}
 use Rattle.ada_program.specs.Controlled.{number_of, operations_of, procedure_number, type_numbered, parts_by, if_parts, with_parts, components_with_parts, shape_by, shapes_up_to, has_parts, shapes_of}
 use Rattle.ada_program.specs.ProgramForm.{PartForm, TypeForm, record_of, access_to, object_of, part_form, type_form, BodyForm, ProgramForm, program_form, body_forms, seen_in}
 use Rattle.ada_program.specs.Walks.{Walks, ends}
-use Rattle.ada_program.specs.WellFormed.{IsWellFormed, count_said, designated_in, finalization_in, finalization_of, is_access, is_numbered_alone, is_of_earlier, kind_fits, named_in, object_named, parent_first, parts_in_order, says_parts, type_fits}
+use Rattle.ada_program.specs.WellFormed.{IsWellFormed, finalization_in, finalization_of}
 use Rattle.ada_program.proofs.Shapes.{same_number, shapes_length}
 use Rattle.ada_program.proofs.Walks.{one_step, walks_on}
-use Rattle.ada_sound.proofs.FrugalFrees.{NoAccessToParts}
 use Rattle.ada_sound.proofs.FrugalUseEnds.{covered_done}
-use Rattle.ada_sound.proofs.FrugalUseParts.{walked_parts}
 use Rattle.ada_sound.proofs.Invariant.{CoveredIn}
 use Rattle.ada_sound.proofs.Started.{numbered_one}
-use Rattle.ada_typed.specs.Holding.{PartsLie, WalksTo}
-use Rattle.ada_typed.proofs.Operators.{and_left, and_right}
 use Rattle.ada_typed.proofs.Parts.{shapes_shown}
 use Rattle.ada_meaning.specs.declared.event.Birth.TheVariants.{Creation, Copy, Adjustment}
 use Rattle.ada_meaning.specs.declared.event.Cause.{Cause}
@@ -130,32 +125,6 @@ own_record t (Some (record_of name parts components finalization)) f is = refl
 own_record t (Some (access_to name designated pool)) f is = absurd (cc is)
 own_record t (Some (object_of record_type)) f is = absurd (cc is)
 
--- A record type with a number has controlled parts, at least one.
-pub some_parts : (types : List TypeForm) → list_all (type_fits types) types ≡ true → (t : ℕ) (o : Option TypeForm) (f : Finalization) → slice_get types t ≡ o → finalization_in o ≡ Some f → 0 < count_said (finalization_in o)
-some_parts types fit t None f at is = absurd (cc is)
-some_parts types fit t (Some (record_of name ps components None)) f at is = absurd (cc is)
-some_parts types fit t (Some (record_of name ps components (Some g))) f at is =
-    let counted = nat_lt 0 g.parts in
-    let ordered = parts_in_order types g.parts 0 ps in
-    let earlier = list_all (λ q. is_of_earlier types g.number.0 q.kind) ps in
-    let before = list_all (kind_fits types) components && parent_first ps in
-    let said = says_parts types (Some g) ps in
-    let fits = all_at (type_fits types) types t (record_of name ps components (Some g)) fit at in
-    let says = and_right before said (and_left (before && said) (is_numbered_alone types (Some g)) fits) in
-    ltb-true 0 g.parts (and_left counted ordered (and_left (counted && ordered) earlier says))
-some_parts types fit t (Some (access_to name designated pool)) f at is = absurd (cc is)
-some_parts types fit t (Some (object_of record_type)) f at is = absurd (cc is)
-
--- Where no access type designates a record type with controlled parts, a record with some lies in no object of an access type.
-in_no_access : (types : List TypeForm) → NoAccessToParts types → (access t first part : ℕ) (o : Option TypeForm) → slice_get types access ≡ o → WalksTo types (named_in o) (Some t) first part → is_some (finalization_of types t) ≡ true → is_some (designated_in o) ≡ false
-in_no_access types bare access t first part None at walks has = refl
-in_no_access types bare access t first part (Some (record_of name parts components finalization)) at walks has = refl
-in_no_access types bare access t first part (Some (access_to name designated pool)) at walks has =
-    let none = bare access name designated pool at in
-    let some = walked_parts types designated first part t walks has in
-    absurd (cc (none, some))
-in_no_access types bare access t first part (Some (object_of record_type)) at walks has = refl
-
 -- A record of the type of a number is found by walking from a record type into declared components.
 record Found (types : List TypeDefinition) (t of : ℕ) : Type 0 where
   record_type : ℕ
@@ -231,15 +200,6 @@ assigned_frees program well t of number b f is inside overrides there u covered 
     let ended : (implicit_of p).end_frees t u ≡ true =
     ap (parts_do (does_by p (deed u)) Finalize) (own_record t (slice_get p.types t) f is) ∙ (counts_are_enough p (deed u) (callee.Parts Finalize (record { 0 = t }))).1 done in
     or_left ((implicit_of p).end_frees t u) ((implicit_of p).adjust_frees t u) ended
-
--- So a record with controlled parts that is assigned to lies in a declared object (5.2, 7.6).
-pub copied_in_object : (program : Program) → IsWellFormed (program_form program) → NoAccessToParts (program_form program).types → (t : ℕ) (f : Finalization)
-    → finalization_of (program_form program).types t ≡ Some f → (access first part : ℕ)
-    → PartsLie (program_form program).types (object_named (program_form program).types (Some access)) (Some t) first part → is_access (program_form program).types access ≡ false
-copied_in_object program well bare t f is access first part lie =
-    let types = (program_form program).types in
-    in_no_access types bare access t first part (slice_get types access) refl (lie.1 (some_parts types well.types_fit t (slice_get types t) f refl is))
-    (ap (λ (o : Option Finalization). is_some o) is)
 
 -- The record that is copied behind a finalization at an assignment has controlled parts.
 abbrev pub IsCopiedBehind : List TypeForm → Cause → Control → Type 0

@@ -31,7 +31,7 @@ use Rattle.ada_sound.proofs.Homes.{same_one}
 use Rattle.ada_sound.proofs.Stored.{IsUnder, Stored, IsTaken, stored_part, stored_finish, stored_back, stored_shorter, stored_older, exists_out, none_is_left, taken_is}
 use Rattle.ada_sound.proofs.Fits.{sparing, Fit, none_spared, weaker_fit, part_fit, finish_fit, back_fit, sparing_set, sparing_shorter, sparing_left, sparing_unnamed, same_unnamed}
 use Rattle.ada_sound.proofs.Alters.{alters_set}
-use Rattle.ada_sound.proofs.Invariant.{outers, below, Known, Control, Rooms, Roomed, OwnedAmong, NamesNone, RunsOn, Working, Parting, IsAside, Freed, IsOther, gone_in, UnderIs, IsHolder, Clearing, ClearsTo, LeavesTo, ResumesTo, Behind, ThenBack, Ending, EndingBy, Backing, BackingBy, ReadyIn, Stepped, Fine, innermost}
+use Rattle.ada_sound.proofs.Invariant.{outers, below, Known, Control, Rooms, Roomed, OwnedAmong, NamesNone, RunsOn, Working, Parting, IsAside, Freed, IsOther, gone_in, FreesWell, IsNamedIn, UnderIs, IsHolder, Clearing, ClearsTo, LeavesTo, ResumesTo, Behind, ThenBack, Ending, EndingBy, Backing, BackingBy, ReadyIn, Stepped, Fine, innermost}
 use Rattle.ada_sound.proofs.Ready.{running, at_work, stays, goes_ready, treats_ready}
 use Rattle.ada_sound.proofs.Taken.{stored_after}
 use Rattle.ada_sound.proofs.Leavings.{AreInOrder, GoesInOrder, NamedBelow, HeldIn, taken_unnamed, taken_unreferred}
@@ -65,9 +65,9 @@ KeepsAside known o y under after heap places =
     × IsAside known spared (slice_set heap o.0 y) places holds after
 
 -- Nothing relies on an object under way, where homes stay as they are.
-aside_going : (known : Known) (heap : List Object) (items : List Item) (o : Id) (x y : Object) → object_at heap o ≡ Some x → y.cell.home ≡ x.cell.home → (places : List Value) (holds : Holds) (under : Option Id) → IsAside known (sparing heap items) (slice_set heap o.0 y) places holds under → IsAside known (sparing (slice_set heap o.0 y) items) (slice_set heap o.0 y) places holds under
+aside_going : (known : Known) (heap : List Object) (items : List Item) (o : Id) (x y : Object) → object_at heap o ≡ Some x → y.cell.home ≡ x.cell.home → (places : List Value) (holds : Holds) (under : Option Id) → IsAside known (sparing known.ahead heap items) (slice_set heap o.0 y) places holds under → IsAside known (sparing known.ahead (slice_set heap o.0 y) items) (slice_set heap o.0 y) places holds under
 aside_going known heap items o x y found same places holds None aside = tt
-aside_going known heap items o x y found same places holds (Some p) aside = (sparing_unnamed (outers known) heap items o x y found same places holds p aside.0, aside.1)
+aside_going known heap items o x y found same places holds (Some p) aside = (sparing_unnamed known.ahead (outers known) heap items o x y found same places holds p aside.0, aside.1)
 
 -- What holds where an object is gone holds still once it has changed before.
 pub gone_still : (heap : List Object) (o : Id) (x y : Object) → object_at heap o ≡ Some x → (P : List Object → Type 0) → (P (slice_set heap o.0 (finished x)) → P (slice_set heap o.0 (finished y))) → P (gone_in (Some o) heap) → P (gone_in (Some o) (slice_set heap o.0 y))
@@ -80,6 +80,21 @@ pub under_set : (heap : List Object) (o : Id) (x y : Object) → object_at heap 
 under_set heap o x y found same access (z, there, of) =
     let one : z ≡ x = cc (there, found) in
     (y, set_here heap o.0 x y found, same ∙ (rw one at of))
+
+-- So what its finalization may free stays the same, and a component that is freed is of its type still.
+pub frees_set : (known : Known) (heap : List Object) (o : Id) (x y : Object) → object_at heap o ≡ Some x → y.cell.access ≡ x.cell.access → (holds : Holds) → FreesWell known heap (Some o) holds → FreesWell known (slice_set heap o.0 y) (Some o) holds
+frees_set known heap o x y found same holds well object at =
+    let still = set_here heap o.0 x y found in
+    let one : object ≡ y = cc (at, still) in
+    rw one (rw same (well x found))
+
+pub named_set : (known : Known) (heap : List Object) (o : Id) (x y : Object) → object_at heap o ≡ Some x → y.cell.access ≡ x.cell.access → (v : Value) (c : ℕ) → v ≢ Names o → IsNamedIn known heap v c (Some o) → IsNamedIn known (slice_set heap o.0 y) v c (Some o)
+named_set known heap o x y found same Null c other named = absurd named
+named_set known heap o x y found same (Names h) c other (holder, object, at_h, at_o, is) =
+    let one : object ≡ x = cc (at_o, found) in
+    (holder, y, at_other heap o h y (λ e. other (ap Names e)) ∙ at_h, set_here heap o.0 x y found, rw same (rw one at is))
+named_set known heap o x y found same (Scalar n) c other named = absurd named
+named_set known heap o x y found same (Part p place) c other named = absurd named
 
 -- What holds a component is no object that is gone.
 gone_holder : (heap : List Object) (v : Value) (o : Id) (x : Object) → v ≡ Names o → object_at heap o ≡ Some x → x.stage ≡ Gone → IsHolder heap v → ⊥
@@ -96,7 +111,7 @@ gone_holder heap (Names h) o x is found gone (y, at, there) =
 freed_works : {known : Known} {heap : List Object} {places : List Value} {ms : List Master} {more : Rooms → Holds → Type 0} → Stored (outers known).under heap ms → Freed known None none_spared heap places ms more → Working known heap places ms more
 freed_works stored c = record { rooms = c.rooms; holds = c.holds; stored = stored; roomed = c.roomed; fit = c.fit; rest = c.rest }
 
-freed_parts : {known : Known} {heap : List Object} {places : List Value} {ms : List Master} {more : Rooms → Holds → Type 0} → Stored (outers known).under heap ms → Freed known None (sparing heap (innermost ms)) heap places ms more → Parting known heap places ms more
+freed_parts : {known : Known} {heap : List Object} {places : List Value} {ms : List Master} {more : Rooms → Holds → Type 0} → Stored (outers known).under heap ms → Freed known None (sparing known.ahead heap (innermost ms)) heap places ms more → Parting known heap places ms more
 freed_parts stored c = record { rooms = c.rooms; holds = c.holds; stored = stored; roomed = c.roomed; fit = c.fit; rest = c.rest }
 
 -- What an item is the home of is of a type that it may own.
@@ -119,7 +134,9 @@ module _ (known : Known) where
   module _ (o : Id) (x y : Object) (heap : List Object) (found : object_at heap o ≡ Some x) (same : y.cell.home ≡ x.cell.home) (under after : Option Id) (others : (v : Value) → IsHolder heap v → IsOther v under → (v ≢ Names o) × IsOther v after)
       (keeps : (objects : List Object) (places : List Value) → object_at objects o ≡ Some x → KeepsAside known o y under after objects places)
       (goes : (spared : Id → Bool) (places : List Value) (holds : Holds) → Fit known.program.types known.program.variables (outers known) spared (gone_in under heap) places holds → Fit known.program.types known.program.variables (outers known) spared (gone_in after (slice_set heap o.0 y)) places holds)
-      (remains : (access : ℕ) → UnderIs heap under access → UnderIs (slice_set heap o.0 y) after access) where
+      (remains : (access : ℕ) → UnderIs heap under access → UnderIs (slice_set heap o.0 y) after access)
+      (frees : (holds : Holds) → FreesWell known heap under holds → FreesWell known (slice_set heap o.0 y) after holds)
+      (names : (v : Value) (c : ℕ) → IsHolder heap v → IsOther v under → IsNamedIn known heap v c under → IsNamedIn known (slice_set heap o.0 y) v c after) where
     holder_set : (h : Value) (c : ℕ) (places : List Value) (ms : List Master) (k : Control) → ClearsTo known under heap places ms (ClearsIn h c ∷ k) → ClearsTo known after (slice_set heap o.0 y) places ms (ClearsIn h c ∷ k)
     holder_set Null c places ms k r = absurd r.0
     holder_set (Names h) c places ms k r =
@@ -127,16 +144,17 @@ module _ (known : Known) where
         let other = others (Names h) there r.1 in
         let apart : h ≢ o = λ e. other.0 (ap Names e) in
         let elsewhere = stored_elsewhere heap h there.0 c o x y there.1 found apart in
-        let kept = keeps (store heap (Names h) c Null) places elsewhere.1 none_spared r.2.holds r.2.fit r.2.aside in (
+        let kept = keeps (store heap (Names h) c Null) places elsewhere.1 none_spared r.3.holds r.3.fit r.3.aside in (
           (there.0, elsewhere.0, there.2),
           other.1,
+          names (Names h) c there r.1 r.2,
           record {
-            rooms = r.2.rooms;
-            holds = r.2.holds;
-            roomed = r.2.roomed;
+            rooms = r.3.rooms;
+            holds = r.3.holds;
+            roomed = r.3.roomed;
             fit = rw elsewhere.2 kept.0;
             aside = rw elsewhere.2 kept.1;
-            rest = r.2.rest;
+            rest = r.3.rest;
           },
         )
     holder_set (Scalar n) c places ms k r = absurd r.0
@@ -146,19 +164,19 @@ module _ (known : Known) where
     clears_set places ms [] c = absurd c
     clears_set places ms (Clears z ∷ k) c =
         let kept = keeps heap (slice_set places z Null) found none_spared c.holds c.fit c.aside in
-        record { rooms = c.rooms; holds = c.holds; roomed = c.roomed; fit = kept.0; aside = kept.1; rest = c.rest }
+        record { rooms = c.rooms; holds = c.holds; roomed = c.roomed; fit = kept.0; aside = kept.1; rest = (c.rest.0, frees c.holds c.rest.1) }
     clears_set places ms (ClearsIn h c ∷ k) r = holder_set h c places ms k r
     clears_set places ms (f ∷ k) c = absurd c
 
     leaves_set : (places : List Value) (ms : List Master) (k : Control) → LeavesTo known under heap places ms k → LeavesTo known after (slice_set heap o.0 y) places ms k
     leaves_set places ms [] c = absurd c
     leaves_set places ms (Leaves mode ∷ k) c =
-        let kept = keeps heap places found (sparing heap (innermost ms)) c.holds c.fit c.aside in
+        let kept = keeps heap places found (sparing known.ahead heap (innermost ms)) c.holds c.fit c.aside in
         record {
           rooms = c.rooms;
           holds = c.holds;
           roomed = c.roomed;
-          fit = sparing_set (outers known) heap (innermost ms) o x y found same kept.0;
+          fit = sparing_set known.ahead (outers known) heap (innermost ms) o x y found same kept.0;
           aside = aside_going known heap (innermost ms) o x y found same places c.holds after kept.1;
           rest = c.rest;
         }
@@ -196,7 +214,7 @@ module _ (known : Known) where
           covered = e.covered;
           rest = behind_set o e.object (finished e.object) s.heap e.found refl (Some o) None (λ v holder other. (other, tt))
               (λ objects places at spared holds f aside. (finish_fit o e.object at aside.0 aside.1 f, tt))
-              (λ spared places holds f. rw e.found at f) (λ access is. tt) cause e.object.cell.home.item a.places s.masters k b.2;
+              (λ spared places holds f. rw e.found at f) (λ access is. tt) (λ holds well. tt) (λ v c holder other named. tt) cause e.object.cell.home.item a.places s.masters k b.2;
         }),
       );
       alters = alters_set s.heap Quiet o e.object (finished e.object) e.found (refl, refl, refl) (λ h. h) (λ h. inl h);
@@ -214,13 +232,13 @@ module _ (known : Known) where
     module _ (heap : List Object) (stored : Stored (outers known).under heap s.masters) where
       clearing_ready : (h : Value) (d : ℕ) (k : Control) → ClearsTo known None heap a.places s.masters (ClearsIn h d ∷ k) → Clearing known h d k heap a.places s.masters
       clearing_ready Null d k c = absurd c.0
-      clearing_ready (Names h) d k c = (c.0, freed_works (stored_after heap h d Null stored) c.2)
+      clearing_ready (Names h) d k c = (c.0, freed_works (stored_after heap h d Null stored) c.3)
       clearing_ready (Scalar n) d k c = absurd c.0
       clearing_ready (Part object_id base) d k c = absurd c.0
 
       cleared_ready : (k : Control) → ClearsTo known None heap a.places s.masters k → ReadyIn known Running k heap a.places a.operands s.masters
       cleared_ready [] c = absurd c
-      cleared_ready (Clears x ∷ k) c = freed_works stored c
+      cleared_ready (Clears x ∷ k) c = let w = freed_works stored c in at_work w w.rest.0
       cleared_ready (ClearsIn h d ∷ k) c = clearing_ready h d k c
       cleared_ready (f ∷ k) c = absurd c
 
@@ -254,7 +272,7 @@ module _ (known : Known) where
             tt,
             behind_ready (slice_set s.heap o.0 (returned b.object)) (stored_back o b.object b.found b.gone b.stored) cause b.object.cell.home.item k
                 (behind_set o b.object (returned b.object) s.heap b.found refl None None (λ v holder other. (λ is. gone_holder s.heap v o b.object is b.found b.gone holder, tt))
-                (λ objects places at spared holds f aside. (back_fit o b.object at f, tt)) (λ spared places holds f. back_fit o b.object b.found f) (λ access is. tt) cause b.object.cell.home.item a.places s.masters k b.rest),
+                (λ objects places at spared holds f aside. (back_fit o b.object at f, tt)) (λ spared places holds f. back_fit o b.object b.found f) (λ access is. tt) (λ holds well. tt) (λ v c holder other named. tt) cause b.object.cell.home.item a.places s.masters k b.rest),
           );
           alters = alters_set s.heap _ o b.object (returned b.object) b.found (refl, refl, refl) (λ h. refl) (λ h. inr refl);
           says = record {
@@ -298,7 +316,7 @@ module _ (known : Known) where
     none_owned item items access pool (gone ∷ rooms) holds owns roomed r = (gone.types, r.0, among_by item.owned access pool gone.types owns roomed.0.0)
 
     -- A member is taken: its parts are finalized first.
-    taken_fine : (item : Item) (items : List Item) (pool : Option ℕ) (v : Value) → HousesFrom item.owned pool → Left_with (item ∷ items) → HeldIn s.heap (record { number = number; items = item ∷ items } ∷ ms) → NamedBelow (outers known) s.heap (record { number = number; items = item ∷ items } ∷ ms) → GoesInOrder known.program.types item items → IsTaken item.number s.heap v → Stepped known s.heap Quiet (taken_out named types (Leaving number item.number) pool v (look s.heap v) (left_with (item ∷ items)))
+    taken_fine : (item : Item) (items : List Item) (pool : Option ℕ) (v : Value) → HousesFrom item.owned pool → Left_with (item ∷ items) → HeldIn s.heap (record { number = number; items = item ∷ items } ∷ ms) → NamedBelow (outers known) s.heap (record { number = number; items = item ∷ items } ∷ ms) → GoesInOrder known.ahead known.program.types item items → IsTaken item.number s.heap v → Stepped known s.heap Quiet (taken_out named types (Leaving number item.number) pool v (look s.heap v) (left_with (item ∷ items)))
     unfolding left_with Left_with
     taken_fine item items pool v from w held low order (o, is, member) =
         let x = member.object in
@@ -307,8 +325,8 @@ module _ (known : Known) where
         let there : is_there x.stage ≡ true = rw exists refl in
         let type = newest_is x.cell.home.item x.cell.access x.cell.home.pool item (items ++ items_of ms) member.home w.stored.counted (sane.housed (exists_out o x member.found exists w.stored)) in
         let none = none_owned item items x.cell.access x.cell.home.pool w.rooms w.holds type w.roomed w.rest in
-        let unnamed = taken_unnamed known.program.types known.program.variables (outers known) s.heap a.places w.holds number item items ms none.0 w.fit none.1 held low o x member.found there member.home none.2 x.cell.home.pool type order in
-        let unreferred = taken_unreferred known.program.types known.program.variables (outers known) s.heap a.places w.holds number item items ms none.0 w.fit none.1 held low o x member.found there member.home none.2 x.cell.home.pool type order in
+        let unnamed = taken_unnamed known.ahead known.program.types known.program.variables (outers known) s.heap a.places w.holds number item items ms none.0 w.fit none.1 held low o x member.found there member.home none.2 x.cell.home.pool type order in
+        let unreferred = taken_unreferred known.ahead known.program.types known.program.variables (outers known) s.heap a.places w.holds number item items ms none.0 w.fit none.1 held low o x member.found there member.home none.2 x.cell.home.pool type order in
         let under : Ending known o (GivesBack (Names o) (Leaving number item.number) pool ∷ Leaves mode ∷ k) (slice_set s.heap o.0 (parted x)) a.places (record { number = number; items = item ∷ items } ∷ ms) = record {
           object = parted x;
           found = set_here s.heap o.0 x (parted x) member.found;
@@ -326,7 +344,7 @@ module _ (known : Known) where
                 rooms = w.rooms;
                 holds = w.holds;
                 roomed = w.roomed;
-                fit = sparing_set (outers known) s.heap (item ∷ items) o x (parted x) member.found refl (part_fit o x member.found w.fit);
+                fit = sparing_set known.ahead (outers known) s.heap (item ∷ items) o x (parted x) member.found refl (part_fit o x member.found w.fit);
                 aside = aside_going known s.heap (item ∷ items) o x (parted x) member.found refl a.places w.holds (Some o)
                     (same_unnamed s.heap o x member.found o unnamed (parted x) refl (λ c. refl), unreferred);
                 rest = w.rest;
@@ -357,7 +375,7 @@ module _ (known : Known) where
         holds = w.holds;
         stored = stored_shorter (record { number = number; items = [] }) item items ms (λ o x under found home. low.2 o x under found (rw (eq-eqb item.number x.cell.home.item (sym home)) refl)) (λ o x found listed is home. none o x found listed home) w.stored;
         roomed = roomed_shorter item items w.rooms w.holds w.rest w.roomed;
-        fit = sparing_shorter item items gone w.fit;
+        fit = sparing_shorter known.ahead item items gone w.fit;
         rest = w.rest;
       },
     ) tt
@@ -380,12 +398,12 @@ module _ (known : Known) where
         let type = newest_is x.cell.home.item x.cell.access x.cell.home.pool item (items ++ items_of ms) home w.stored.counted (sane.housed (exists_out o x found exists w.stored)) in
         none x.cell.access x.cell.home.pool type
 
-    members_fine : (item : Item) (items : List Item) (pool : Option ℕ) (vs : List Value) → HousesFrom item.owned pool → members s.heap item.number ≡ vs → Left_with (item ∷ items) → HeldIn s.heap (record { number = number; items = item ∷ items } ∷ ms) → NamedBelow (outers known) s.heap (record { number = number; items = item ∷ items } ∷ ms) → GoesInOrder known.program.types item items → Fine known s.heap (record { number = number; items = item ∷ items } ∷ ms) (members_next named types (Leaving number item.number) pool vs (left_with (item ∷ items)))
+    members_fine : (item : Item) (items : List Item) (pool : Option ℕ) (vs : List Value) → HousesFrom item.owned pool → members s.heap item.number ≡ vs → Left_with (item ∷ items) → HeldIn s.heap (record { number = number; items = item ∷ items } ∷ ms) → NamedBelow (outers known) s.heap (record { number = number; items = item ∷ items } ∷ ms) → GoesInOrder known.ahead known.program.types item items → Fine known s.heap (record { number = number; items = item ∷ items } ∷ ms) (members_next named types (Leaving number item.number) pool vs (left_with (item ∷ items)))
     unfolding left_with Left_with
     members_fine item items pool [] owns e w held low order = shorter_fine item items low (λ o x found listed home. none_is_left item.number s.heap o x e found listed home) w
     members_fine item items pool (v ∷ vs) owns e w held low order = λ i lt. taken_fine item items pool (slice_index_or (v ∷ vs) i Null) owns w held low order (rw e at (taken_is item.number s.heap i (rw e lt)))
 
-    item_fine : (item : Item) (items : List Item) (what : Owned) → item.owned ≡ what → Left_with (item ∷ items) → HeldIn s.heap (record { number = number; items = item ∷ items } ∷ ms) → NamedBelow (outers known) s.heap (record { number = number; items = item ∷ items } ∷ ms) → GoesInOrder known.program.types item items → Fine known s.heap (record { number = number; items = item ∷ items } ∷ ms) (item_leave_next named types number item what (left_with (item ∷ items)))
+    item_fine : (item : Item) (items : List Item) (what : Owned) → item.owned ≡ what → Left_with (item ∷ items) → HeldIn s.heap (record { number = number; items = item ∷ items } ∷ ms) → NamedBelow (outers known) s.heap (record { number = number; items = item ∷ items } ∷ ms) → GoesInOrder known.ahead known.program.types item items → Fine known s.heap (record { number = number; items = item ∷ items } ∷ ms) (item_leave_next named types number item what (left_with (item ∷ items)))
     unfolding left_with Left_with
     item_fine item items (declared y) is w held low order = shorter_fine item items low (has_none item items (λ t own h. rw is at h) w) w
     item_fine item items (storage_pool declaration pool) is w held low order = shorter_fine item items low (has_none item items (λ t own h. rw is at h) w) w
@@ -399,15 +417,15 @@ module _ (known : Known) where
         goes_ready known mode k s.heap a.places a.operands ms
         (record { rooms = rooms; holds = r.2.0; stored = stored_older (record { number = number; items = [] }) ms stored; roomed = roomed.1; fit = weaker_fit r.2.0 r.2.1 fit; rest = r.2.2 })
 
-    master_fine : (items : List Item) → Left_with items → HeldIn s.heap (record { number = number; items = items } ∷ ms) → NamedBelow (outers known) s.heap (record { number = number; items = items } ∷ ms) → AreInOrder known.program.types items → Fine known s.heap (record { number = number; items = items } ∷ ms) (master_leave_next named types mode number items (record (running k a rest s) { masters = record { number = number; items = items } ∷ ms }))
+    master_fine : (items : List Item) → Left_with items → HeldIn s.heap (record { number = number; items = items } ∷ ms) → NamedBelow (outers known) s.heap (record { number = number; items = items } ∷ ms) → AreInOrder known.ahead known.program.types items → Fine known s.heap (record { number = number; items = items } ∷ ms) (master_leave_next named types mode number items (record (running k a rest s) { masters = record { number = number; items = items } ∷ ms }))
     unfolding left_with Left_with
-    master_fine [] w held low order = stays known (Left number) _ (tt, gone_ready w.rooms w.holds w.stored (sparing_left w.fit) w.roomed w.rest) tt
+    master_fine [] w held low order = stays known (Left number) _ (tt, gone_ready w.rooms w.holds w.stored (sparing_left known.ahead w.fit) w.roomed w.rest) tt
     master_fine (item ∷ items) w held low order = item_fine item items item.owned refl w held low order
 
-    pub left_fine : (items : List Item) → Parting known s.heap a.places (record { number = number; items = items } ∷ ms) (RunsOn known (Leaves mode ∷ k)) → HeldIn s.heap (record { number = number; items = items } ∷ ms) → NamedBelow (outers known) s.heap (record { number = number; items = items } ∷ ms) → AreInOrder known.program.types items → Fine known s.heap (record { number = number; items = items } ∷ ms) (master_leave_next named types mode number items (record (running k a rest s) { masters = record { number = number; items = items } ∷ ms }))
+    pub left_fine : (items : List Item) → Parting known s.heap a.places (record { number = number; items = items } ∷ ms) (RunsOn known (Leaves mode ∷ k)) → HeldIn s.heap (record { number = number; items = items } ∷ ms) → NamedBelow (outers known) s.heap (record { number = number; items = items } ∷ ms) → AreInOrder known.ahead known.program.types items → Fine known s.heap (record { number = number; items = items } ∷ ms) (master_leave_next named types mode number items (record (running k a rest s) { masters = record { number = number; items = items } ∷ ms }))
     unfolding left_with Left_with
     left_fine items w held low order = master_fine items w held low order
 
-  pub leave_fine : (types : List TypeDefinition) (mode : Mode) (k : Control) (a : Activation Value) (rest : List (Activation Value)) (s : State) (ms : List Master) → Parting known s.heap a.places ms (RunsOn known (Leaves mode ∷ k)) → HeldIn s.heap ms → NamedBelow (outers known) s.heap ms → AreInOrder known.program.types (innermost ms) → Fine known s.heap ms (leave_next named types mode ms (record (running k a rest s) { masters = ms }))
+  pub leave_fine : (types : List TypeDefinition) (mode : Mode) (k : Control) (a : Activation Value) (rest : List (Activation Value)) (s : State) (ms : List Master) → Parting known s.heap a.places ms (RunsOn known (Leaves mode ∷ k)) → HeldIn s.heap ms → NamedBelow (outers known) s.heap ms → AreInOrder known.ahead known.program.types (innermost ms) → Fine known s.heap ms (leave_next named types mode ms (record (running k a rest s) { masters = ms }))
   leave_fine types mode k a rest s [] w held low order = tt
   leave_fine types mode k a rest s (m ∷ ms) w held low order = left_fine types mode k a rest s m.number ms m.items w held low order

@@ -18,9 +18,9 @@ use Rattle.ada_meaning.specs.declared.state.Id.{Id}
 use Rattle.ada_meaning.specs.declared.state.Value.{Value}
 use Rattle.ada_meaning.specs.declared.state.Value.TheVariants.{Null, Names, Scalar, Part}
 use Rattle.ada_meaning.specs.Heap.{PartState, Cell}
-use Rattle.ada_meaning.specs.State.{Activation, Item}
+use Rattle.ada_meaning.specs.State.{Activation, Item, Owned}
 use Rattle.ada_meaning.specs.Named.{Object, object_at, changed, filled, create, created, store, parted, finished, returned, treated}
-use Rattle.ada_scopes.specs.Scopes.{is_declared_object, is_number_of}
+use Rattle.ada_scopes.specs.Scopes.{is_number_of}
 use Rattle.ada_owners.specs.Places.{is_there, Place, variable, component, elsewhere, component_in, value_at, access_in, access_at, is_lent}
 use Rattle.ada_owners.specs.Reliance.{IsOf, Says, Owns, Borrows, Kinds, kind_of, Reliance, component_hold, hold_of, with_hold, with_lent, Fits, IsInHand, AreInHand}
 use Rattle.ada_owners.specs.Keeping.{IsThere}
@@ -124,14 +124,14 @@ lies_among (Some x) items = is_number_of items x.cell.home.item
 abbrev pub going : List Object → List Item → Id → Bool
 going heap items o = lies_among (object_at heap o) items
 
--- Is one of these items an object?
-abbrev pub objects_left : List Item → Bool
-objects_left [] = false
-objects_left (i ∷ is) = is_declared_object i.owned || objects_left is
+-- Is one of these items among those that go first?
+abbrev pub first_left : (ahead : Owned → Bool) → List Item → Bool
+first_left ahead [] = false
+first_left ahead (i ∷ is) = ahead i.owned || first_left ahead is
 
--- While these items of a master are left, its objects go first: then nothing relies on the components of what lies in its collections.
-abbrev pub sparing : List Object → List Item → Id → Bool
-sparing heap items o = not (objects_left items) && going heap items o
+-- While these items of a master are left, some go first, as its objects do: then nothing relies on the components of what lies in its collections.
+abbrev pub sparing : (ahead : Owned → Bool) → List Object → List Item → Id → Bool
+sparing ahead heap items o = not (first_left ahead items) && going heap items o
 
 -- What a place is relied on for.
 abbrev pub hold_in : Outsiders → (spared : Id → Bool) → Holds → Place → Hold
@@ -841,34 +841,34 @@ lies_nowhere None = refl
 lies_nowhere (Some x) = refl
 
 -- While a master is left, homes stay as they are; an item goes whose collection is empty; and where none is left, all is relied on again.
-sparing_stays : (heap : List Object) (items : List Item) (o : Id) (x y : Object) → object_at heap o ≡ Some x → y.cell.home ≡ x.cell.home → (k : Id) → sparing (slice_set heap o.0 y) items k ≡ sparing heap items k
-sparing_stays heap items o x y found same k = ap (λ b. not (objects_left items) && b) (going_stays heap items o x y found same k)
+sparing_stays : (ahead : Owned → Bool) (heap : List Object) (items : List Item) (o : Id) (x y : Object) → object_at heap o ≡ Some x → y.cell.home ≡ x.cell.home → (k : Id) → sparing ahead (slice_set heap o.0 y) items k ≡ sparing ahead heap items k
+sparing_stays ahead heap items o x y found same k = ap (λ b. not (first_left ahead items) && b) (going_stays heap items o x y found same k)
 
-pub sparing_set : (outer : Outsiders) → {types : List TypeForm} {variables : List VariableForm} {places : List Value} {holds : Holds} (heap : List Object) (items : List Item) (o : Id) (x y : Object) → object_at heap o ≡ Some x → y.cell.home ≡ x.cell.home → Fit types variables outer (sparing heap items) (slice_set heap o.0 y) places holds → Fit types variables outer (sparing (slice_set heap o.0 y) items) (slice_set heap o.0 y) places holds
-sparing_set outer heap items o x y found same f =
-    respare (sparing heap items) (sparing (slice_set heap o.0 y) items) (λ k c n e. sparing_stays heap items o x y found same k) f
+pub sparing_set : (ahead : Owned → Bool) (outer : Outsiders) → {types : List TypeForm} {variables : List VariableForm} {places : List Value} {holds : Holds} (heap : List Object) (items : List Item) (o : Id) (x y : Object) → object_at heap o ≡ Some x → y.cell.home ≡ x.cell.home → Fit types variables outer (sparing ahead heap items) (slice_set heap o.0 y) places holds → Fit types variables outer (sparing ahead (slice_set heap o.0 y) items) (slice_set heap o.0 y) places holds
+sparing_set ahead outer heap items o x y found same f =
+    respare (sparing ahead heap items) (sparing ahead (slice_set heap o.0 y) items) (λ k c n e. sparing_stays ahead heap items o x y found same k) f
 
-pub sparing_shorter : {types : List TypeForm} {variables : List VariableForm} {outer : Outsiders} {heap : List Object} {places : List Value} {holds : Holds} (item : Item) (items : List Item) → ((o : Id) (x : Object) → object_at heap o ≡ Some x → is_there x.stage ≡ true → x.cell.home.item ≡ item.number → ⊥) → Fit types variables outer (sparing heap (item ∷ items)) heap places holds → Fit types variables outer (sparing heap items) heap places holds
-sparing_shorter {types} {variables} {outer} {heap} {places} {holds} item items none f = by (is_declared_object item.owned) (objects_left items) refl refl
+pub sparing_shorter : (ahead : Owned → Bool) → {types : List TypeForm} {variables : List VariableForm} {outer : Outsiders} {heap : List Object} {places : List Value} {holds : Holds} (item : Item) (items : List Item) → ((o : Id) (x : Object) → object_at heap o ≡ Some x → is_there x.stage ≡ true → x.cell.home.item ≡ item.number → ⊥) → Fit types variables outer (sparing ahead heap (item ∷ items)) heap places holds → Fit types variables outer (sparing ahead heap items) heap places holds
+sparing_shorter ahead {types} {variables} {outer} {heap} {places} {holds} item items none f = by (ahead item.owned) (first_left ahead items) refl refl
   where
-    by : (here later : Bool) → is_declared_object item.owned ≡ here → objects_left items ≡ later → Fit types variables outer (sparing heap items) heap places holds
-    by true later here rest = spare_fit (sparing heap items) (respare (sparing heap (item ∷ items)) none_spared (λ o c k e. rw here refl) f)
-    by false true here rest = respare (sparing heap (item ∷ items)) (sparing heap items) (λ o c k e. rw (here, rest) refl) f
-    by false false here rest = respare (sparing heap (item ∷ items)) (sparing heap items) (λ o c k e. rw (here, rest) (shorter_stays item items (object_at heap o) c k (none o) e)) f
+    by : (here later : Bool) → ahead item.owned ≡ here → first_left ahead items ≡ later → Fit types variables outer (sparing ahead heap items) heap places holds
+    by true later here rest = spare_fit (sparing ahead heap items) (respare (sparing ahead heap (item ∷ items)) none_spared (λ o c k e. rw here refl) f)
+    by false true here rest = respare (sparing ahead heap (item ∷ items)) (sparing ahead heap items) (λ o c k e. rw (here, rest) refl) f
+    by false false here rest = respare (sparing ahead heap (item ∷ items)) (sparing ahead heap items) (λ o c k e. rw (here, rest) (shorter_stays item items (object_at heap o) c k (none o) e)) f
 
-pub sparing_left : {types : List TypeForm} {variables : List VariableForm} {outer : Outsiders} {heap : List Object} {places : List Value} {holds : Holds} → Fit types variables outer (sparing heap []) heap places holds → Fit types variables outer none_spared heap places holds
-sparing_left {outer = outer} {heap = heap} f = respare (sparing heap []) none_spared (λ o c k e. lies_nowhere (object_at heap o)) f
+pub sparing_left : (ahead : Owned → Bool) → {types : List TypeForm} {variables : List VariableForm} {outer : Outsiders} {heap : List Object} {places : List Value} {holds : Holds} → Fit types variables outer (sparing ahead heap []) heap places holds → Fit types variables outer none_spared heap places holds
+sparing_left ahead {outer = outer} {heap = heap} f = respare (sparing ahead heap []) none_spared (λ o c k e. lies_nowhere (object_at heap o)) f
 
 -- What no place is relied on to name is so still, where homes stay as they are.
-pub sparing_unnamed : (outer : Outsiders) (heap : List Object) (items : List Item) (o : Id) (x y : Object) → object_at heap o ≡ Some x → y.cell.home ≡ x.cell.home → (places : List Value) (holds : Holds) (p : Id) → IsUnnamed (slice_set heap o.0 y) (stacked places outer) (hold_in outer (sparing heap items) holds) p → IsUnnamed (slice_set heap o.0 y) (stacked places outer) (hold_in outer (sparing (slice_set heap o.0 y) items) holds) p
-sparing_unnamed outer heap items o x y found same places holds p none = record {
+pub sparing_unnamed : (ahead : Owned → Bool) (outer : Outsiders) (heap : List Object) (items : List Item) (o : Id) (x y : Object) → object_at heap o ≡ Some x → y.cell.home ≡ x.cell.home → (places : List Value) (holds : Holds) (p : Id) → IsUnnamed (slice_set heap o.0 y) (stacked places outer) (hold_in outer (sparing ahead heap items) holds) p → IsUnnamed (slice_set heap o.0 y) (stacked places outer) (hold_in outer (sparing ahead (slice_set heap o.0 y) items) holds) p
+sparing_unnamed ahead outer heap items o x y found same places holds p none = record {
   unowned = λ q own e. none.unowned q (rw (one q) at own) e;
   unborrowed = λ q b e. none.unborrowed q (rw (one q) at b) e;
 }
   where
-    one : (q : Place) → hold_in outer (sparing (slice_set heap o.0 y) items) holds q ≡ hold_in outer (sparing heap items) holds q
+    one : (q : Place) → hold_in outer (sparing ahead (slice_set heap o.0 y) items) holds q ≡ hold_in outer (sparing ahead heap items) holds q
     one (variable z) = refl
-    one (component k c) = ap component_hold (sparing_stays heap items o x y found same k)
+    one (component k c) = ap component_hold (sparing_stays ahead heap items o x y found same k)
     one (elsewhere d z) = refl
 
 -- So it is where less is relied on: what was called null names nothing.

@@ -1,6 +1,6 @@
 -- Free (X).
 
-use Rattle.std.proofs.Common.{subst, ◌≡◌, ℕ, true, false, List, ◌∷◌, refl, sym, ◌∙◌, inl}
+use Rattle.std.proofs.Common.{subst, ◌≡◌, ℕ, Bool, true, false, List, ◌∷◌, refl, sym, ◌∙◌, inl}
 use Rattle.std.specs.Prelude.{Some, None}
 use Rattle.std.specs.List.{slice_set}
 use Rattle.ada_text.specs.declared.spot.Spot.{Spot}
@@ -25,7 +25,7 @@ use Rattle.ada_sound.proofs.Homes.{HaveHomes, same_one, stands_there, freed_home
 use Rattle.ada_sound.proofs.Stored.{stored_part}
 use Rattle.ada_sound.proofs.Alters.{alters_set}
 use Rattle.ada_sound.proofs.Taken.{root_access}
-use Rattle.ada_sound.proofs.Invariant.{CoveredIn, outers, Known, Control, Rooms, Goes, To, RunsOn, Working, Ending, Stepped, Fine}
+use Rattle.ada_sound.proofs.Invariant.{CoveredIn, Spares, Unaliased, FreesWell, outers, Known, Control, Rooms, Goes, To, RunsOn, Working, Ending, Stepped, Fine}
 use Rattle.ada_sound.proofs.Ready.{running, runs_on, treats_ready}
 
 -- An owner is not lost.
@@ -36,13 +36,18 @@ own_kept (hold.Own r) spot own = refl
 own_kept (hold.Alias r) spot own = absurd own
 own_kept hold.Lost spot own = absurd own
 
-module _ (known : Known) (a : Activation Value) (rest : List (Activation Value)) (s : State) (types : List TypeDefinition) (access x : ℕ) (none : is_object known.program.variables x ≡ false) (spot : Spot) (fs : StmtsForm) (k : Control) (raised : Rooms → Holds → Type 0) (homes : HaveHomes known.program.types (outers known).under s.heap s.masters) (own_type : ℕ) (by_own : own_type ≡ access) (of_type : variable_access known.program.variables x ≡ Some own_type) (is_type : is_access known.program.types own_type ≡ true) (spares : NoOuterAlias known.program.types (outers known) own_type × CoveredIn known.implicit known.program own_type) (w : Working known s.heap a.places s.masters (λ rooms holds. Goes (released known.program.variables x spot holds (hold_at holds x)) (To (RunsOn known (Does fs ∷ k) rooms)) (raised rooms))) where
+-- What is left goes on behind it; and of what the finalization of an object of this type may free, no suspended activation and no variable has an alias, and the
+-- running body may free it (7.6.1).
+abbrev pub FreesTo : Known → (access : ℕ) → Control → Rooms → Holds → Type 0
+FreesTo known t k rooms holds = RunsOn known k rooms holds × Spares known (known.implicit.end_frees t) × Unaliased known.program.variables (known.implicit.end_frees t) holds
+
+module _ (known : Known) (a : Activation Value) (rest : List (Activation Value)) (s : State) (types : List TypeDefinition) (access x : ℕ) (none : is_object known.program.variables x ≡ false) (spot : Spot) (fs : StmtsForm) (k : Control) (raised : Rooms → Holds → Type 0) (may : ℕ → Bool) (homes : HaveHomes may known.program.types (outers known).under s.heap s.masters) (freely : may access ≡ true) (own_type : ℕ) (by_own : own_type ≡ access) (of_type : variable_access known.program.variables x ≡ Some own_type) (is_type : is_access known.program.types own_type ≡ true) (spares : NoOuterAlias known.program.types (outers known) own_type × CoveredIn known.implicit known.program own_type) (w : Working known s.heap a.places s.masters (λ rooms holds. Goes (released known.program.variables x spot holds (hold_at holds x)) (To (FreesTo known own_type (Does fs ∷ k) rooms)) (raised rooms))) where
   -- X is null: nothing happens.
-  free_null : place_at a.places x ≡ Null → To (RunsOn known (Does fs ∷ k) w.rooms) (freed known.program.variables x w.holds) → Stepped known s.heap Quiet (running (Does fs ∷ k) a rest s)
-  free_null is more = runs_on known (Does fs ∷ k) a rest s (record { rooms = w.rooms; holds = more.0; stored = w.stored; roomed = w.roomed; fit = weaker_fit more.0 more.1 (null_fit x none is (behind_fit (variable_access known.program.variables x) w.fit)); rest = more.2 }) Quiet tt
+  free_null : place_at a.places x ≡ Null → To (FreesTo known own_type (Does fs ∷ k) w.rooms) (freed known.program.variables x w.holds) → Stepped known s.heap Quiet (running (Does fs ∷ k) a rest s)
+  free_null is more = runs_on known (Does fs ∷ k) a rest s (record { rooms = w.rooms; holds = more.0; stored = w.stored; roomed = w.roomed; fit = weaker_fit more.0 more.1 (null_fit x none is (behind_fit (variable_access known.program.variables x) w.fit)); rest = more.2.0 }) Quiet tt
 
   -- X owns an object: that leaves its collection, and nothing relies on it then.
-  free_value : (v : Value) → place_at a.places x ≡ v → IsOwn (hold_at w.holds x) → To (RunsOn known (Does fs ∷ k) w.rooms) (freed known.program.variables x w.holds) → Fine known s.heap s.masters (free_next named types access x v (named.standing s.heap v) (running (Does fs ∷ k) a rest s))
+  free_value : (v : Value) → place_at a.places x ≡ v → IsOwn (hold_at w.holds x) → To (FreesTo known own_type (Does fs ∷ k) w.rooms) (freed known.program.variables x w.holds) → Fine known s.heap s.masters (free_next named types access x v (named.standing s.heap v) (running (Does fs ∷ k) a rest s))
   free_value Null is own more = free_null is more
   free_value (Names o) is own more =
       let after = freed_unnamed x o (λ t same. (let one : own_type ≡ t = cc (of_type, same) in rw (← one) (is_type, spares.0))) none own is w.fit in
@@ -52,6 +57,11 @@ module _ (known : Known) (a : Activation Value) (rest : List (Activation Value))
       let of_own = root_access w.fit x spot o there.0 (own_kept (hold_at w.holds x) spot own) is found in
       let one : own_type ≡ there.0.cell.access = cc (of_type, of_own) in
       let home = freed_home access o there.0 homes w.stored found exists (rw (← one) is_type) (sym one ∙ by_own) in
+      let here = set_here s.heap o.0 there.0 (parted there.0) found in
+      let well : FreesWell known (slice_set s.heap o.0 (parted there.0)) (Some o) more.0 = λ object at. (
+      let same : object ≡ parted there.0 = cc (at, here) in
+      rw (same, ← one) (more.2.1, more.2.2)
+      ) in
       let under : Ending known o (GivesBack (Names o) (Freeing s.next) (Some (pool_freed_to (home_of access s.masters))) ∷ Clears x ∷ Does fs ∷ k) (slice_set s.heap o.0 (parted there.0)) a.places s.masters = record {
         object = parted there.0;
         found = set_here s.heap o.0 there.0 (parted there.0) found;
@@ -68,11 +78,11 @@ module _ (known : Known) (a : Activation Value) (rest : List (Activation Value))
             roomed = w.roomed;
             fit = weaker_fit more.0 more.1 (part_fit o there.0 found after.0);
             aside = (less_unnamed more.0 more.1 o (part_fit o there.0 found after.0) (same_unnamed s.heap o there.0 found o after.1 (parted there.0) refl (λ c. refl)), after.3);
-            rest = more.2;
+            rest = (more.2.0, well);
           },
         );
       } in
-      let stands = stands_there o there.0 homes w.stored found there.2 (rw (← one) is_type) in
+      let stands = stands_there o there.0 homes w.stored found there.2 (rw (← one) is_type) (rw (← one, by_own) freely) in
       rw (found, stands.0, stands.1) (rw (same_one (Some (pool_freed_to (home_of access s.masters))) there.0.cell.home.pool home) (rw found (record {
         ready = (
           tt,
@@ -84,7 +94,7 @@ module _ (known : Known) (a : Activation Value) (rest : List (Activation Value))
   free_value (Scalar n) is own more = tt
   free_value (Part object_id base) is own more = tt
 
-  free_hold : (h : Hold) → hold_at w.holds x ≡ h → Goes (released known.program.variables x spot w.holds h) (To (RunsOn known (Does fs ∷ k) w.rooms)) (raised w.rooms) → IsSaid (place_at (outers known).given x) h (place_at a.places x) → Fine known s.heap s.masters (free_next named types access x (place_at a.places x) (named.standing s.heap (place_at a.places x)) (running (Does fs ∷ k) a rest s))
+  free_hold : (h : Hold) → hold_at w.holds x ≡ h → Goes (released known.program.variables x spot w.holds h) (To (FreesTo known own_type (Does fs ∷ k) w.rooms)) (raised w.rooms) → IsSaid (place_at (outers known).given x) h (place_at a.places x) → Fine known s.heap s.masters (free_next named types access x (place_at a.places x) (named.standing s.heap (place_at a.places x)) (running (Does fs ∷ k) a rest s))
   free_hold hold.Null own more blank = rw blank (free_null blank more.0)
   free_hold (hold.Kept r) own more blank = free_value (place_at a.places x) refl (rw own tt) more.0
   free_hold (hold.Own r) own more blank = free_value (place_at a.places x) refl (rw own tt) more.0

@@ -27,7 +27,8 @@ use Rattle.ada_meaning.specs.Frame.{Frame, Elaborates, Leaves, Calls, TestsNull,
 use Rattle.ada_meaning.specs.State.{Activation, Item, Master, Owned, declared, collection, record_object, storage_pool, Destination, height, home_of, pool_freed_to}
 use Rattle.ada_meaning.specs.Step.{first_or, older, places_of, operands_of, with_operands, begun, record_holder_next, referred_next, refers_next, open_next, opened_next, opens_next, storing, returned, computing, call_next, entered, all_tasks, halts, moves, same_pool, raised, jumping, computed, put, owned, at, reading, component_next, follow_next, path_next, selected, named_next, before_last, last_of, holder_next, expression_next, null_test_next, is_decided, link_next, links_next, outcome_next, place_in, record_in, item_next, items_next, copied_next, copies_next, answered, new_next, right_next, freeing, freeing_next, free_next, end_next, told_back, given_back, back_next, assign_next, target_next, stored_next, store_next, frees_next, freed_next, free_component_next, free_in_next, branches_next, decided_next, turn_next, repeats_next, turned_next, count_turn_next, counts_next, ranges_next, gets_next, received_next, receive_next, exit_next, exited_next, stmt_next, line_next, declarations_next, leave_next, master_leave_next, item_leave_next}
 use Rattle.ada_meaning.specs.Named.{State, Next, named, whole, look, standing}
-use Rattle.ada_quiet.specs.Frugal.{is_frugal_declaration, are_frugal_declarations, is_frugal_stmt, are_frugal, are_frugal_branches, are_frugal_handlers, is_frugal_body}
+use Rattle.ada_quiet.specs.Bare.{allocates_bare, has_bare_objects}
+use Rattle.ada_quiet.specs.Frugal.{Thrift, is_frugal_declaration, are_frugal_declarations, is_frugal_stmt, are_frugal, are_frugal_branches, are_frugal_handlers, is_frugal_body}
 use Rattle.ada_sound.proofs.Fits.{place_at}
 use Rattle.ada_sound.proofs.Invariant.{Control}
 use Rattle.ada_sound.proofs.OperationStarts.{apart}
@@ -36,7 +37,7 @@ use Rattle.ada_sound.proofs.FrugalBodies.{frugal_parts}
 use Rattle.ada_sound.proofs.FrugalControl.{FrugalLeads, FrugalLeaves, Frugally, GoesFrugally, same_masters}
 use Rattle.ada_sound.proofs.FrugalFrees.{IsBare, StmtIsBare}
 
-module _ (marks : List Bool) (lower : List Master) (behind : Control) (tds : List TypeDefinition) (bodies : List BodyForm) (s : State) where
+module _ (marks : Thrift) (lower : List Master) (behind : Control) (tds : List TypeDefinition) (bodies : List BodyForm) (s : State) where
   abbrev pub Fine : Next → Type 0
   Fine n = GoesFrugally marks lower behind n
 
@@ -126,12 +127,12 @@ module _ (marks : List Bool) (lower : List Master) (behind : Control) (tds : Lis
     outcome_on (Err WrongType) all k q = tt
 
     -- What is assigned.
-    pub right_on : (right : RightForm) (all : List (Activation Value)) → (k : Control) → Left k → Fine (right_next named tds right (now all k ms))
-    right_on nothing all k q = computes_on _ all k q
-    right_on (value_of path) all k q = named_on path.selectors path.root all k q
-    right_on (allocates access items) all k q = on _ refl (tt, (tt, q))
-    right_on (allocates_default access) all k q = on _ refl (tt, q)
-    right_on (computes e) all k q = on _ refl (tt, q)
+    pub right_on : (right : RightForm) → allocates_bare marks.types right ≡ true → (all : List (Activation Value)) → (k : Control) → Left k → Fine (right_next named tds right (now all k ms))
+    right_on nothing bare all k q = computes_on _ all k q
+    right_on (value_of path) bare all k q = named_on path.selectors path.root all k q
+    right_on (allocates access items) bare all k q = on _ refl (tt, (bare, q))
+    right_on (allocates_default access) bare all k q = on _ refl (bare, q)
+    right_on (computes e) bare all k q = on _ refl (tt, q)
 
     -- The items of an allocator, and what is copied for them.
     item_on : (i : ItemForm) (all : List (Activation Value)) → (k : Control) → Left k → Fine (item_next named i (now all k ms))
@@ -165,15 +166,15 @@ module _ (marks : List Bool) (lower : List Master) (behind : Control) (tds : Lis
     new_on access count words None none all k q = raises_on StorageError all k q
     new_on access count words (Some home) none all k q = answered_on access count words home none all k q
 
-    assigns_on : (cs : List ℕ) (x : ℕ) (right : RightForm) (all : List (Activation Value)) → (k : Control) → Left k → Fine (assign_next named cs x right (now all k ms))
-    assigns_on [] x right all k q = on _ refl (tt, (tt, q))
-    assigns_on (c ∷ cs) x right all k q = holder_on c cs x (λ last. Targets last right) all k (λ last. (tt, q))
+    assigns_on : (cs : List ℕ) (x : ℕ) (right : RightForm) → allocates_bare marks.types right ≡ true → (all : List (Activation Value)) → (k : Control) → Left k → Fine (assign_next named cs x right (now all k ms))
+    assigns_on [] x right bare all k q = on _ refl (bare, (tt, q))
+    assigns_on (c ∷ cs) x right bare all k q = holder_on c cs x (λ last. Targets last right) all k (λ last. (bare, q))
 
-    pub target_on : (o : Value) (c : ℕ) (right : RightForm) (found : Found (Cell Value)) (all : List (Activation Value)) → (k : Control) → Left k → Fine (target_next named o c right found (now all k ms))
-    target_on o c right on_null all k q = raises_on ConstraintError all k q
-    target_on o c right on_gone all k q = tt
-    target_on o c right on_other all k q = tt
-    target_on o c right (finds cell) all k q = on _ refl (tt, (tt, q))
+    pub target_on : (o : Value) (c : ℕ) (right : RightForm) (found : Found (Cell Value)) → allocates_bare marks.types right ≡ true → (all : List (Activation Value)) → (k : Control) → Left k → Fine (target_next named o c right found (now all k ms))
+    target_on o c right on_null bare all k q = raises_on ConstraintError all k q
+    target_on o c right on_gone bare all k q = tt
+    target_on o c right on_other bare all k q = tt
+    target_on o c right (finds cell) bare all k q = on _ refl (bare, (tt, q))
 
     stored_on : (o : Value) (c : ℕ) (v : Value) (found : Option Value) (all : List (Activation Value)) → (k : Control) → Left k → Fine (stored_next named o c v found (now all k ms))
     stored_on o c v None all k q = tt
@@ -200,27 +201,27 @@ module _ (marks : List Bool) (lower : List Master) (behind : Control) (tds : Lis
         by true = freeing_on access v cell clears none all k q
         by false = tt
 
-    free_on : (access x : ℕ) (v : Value) (found : Found (Cell Value)) → IsBare tds found → (all : List (Activation Value)) → (k : Control) → Left k → Fine (free_next named tds access x v found (now all k ms))
+    free_on : (access x : ℕ) (v : Value) (found : Found (Cell Value)) → IsBare marks.types tds found → (all : List (Activation Value)) → (k : Control) → Left k → Fine (free_next named tds access x v found (now all k ms))
     free_on access x v on_null bare all k q = on _ refl q
     free_on access x v on_gone bare all k q = tt
     free_on access x v on_other bare all k q = tt
     free_on access x v (finds cell) bare all k q = freeing_next_on access v cell (Clears x) Quiet bare all k (tt, q)
 
-    frees_on : (cs : List ℕ) (access x : ℕ) (all : List (Activation Value)) → (cs ≡ [] → IsBare tds (standing s.heap (place_at (places_of all) x))) → (k : Control) → Left k → Fine (frees_next named tds cs access x (now all k ms))
-    frees_on [] access x all bare k q = free_on access x (place_at (places_of all) x) (standing s.heap (place_at (places_of all) x)) (bare refl) all k q
-    frees_on (c ∷ cs) access x all bare k q = holder_on c cs x (λ last. FreesIn access last) all k (λ last. (tt, q))
+    frees_on : (cs : List ℕ) (access x : ℕ) (all : List (Activation Value)) → has_bare_objects marks.types access ≡ true → (cs ≡ [] → IsBare marks.types tds (standing s.heap (place_at (places_of all) x))) → (k : Control) → Left k → Fine (frees_next named tds cs access x (now all k ms))
+    frees_on [] access x all is bare k q = free_on access x (place_at (places_of all) x) (standing s.heap (place_at (places_of all) x)) (bare refl) all k q
+    frees_on (c ∷ cs) access x all is bare k q = holder_on c cs x (λ last. FreesIn access last) all k (λ last. (is, q))
 
-    freed_on : (access : ℕ) (o : Value) (c : ℕ) (v : Value) (found : Found (Cell Value)) → IsBare tds found → (all : List (Activation Value)) → (k : Control) → Left k → Fine (freed_next named tds access o c v found (now all k ms))
+    freed_on : (access : ℕ) (o : Value) (c : ℕ) (v : Value) (found : Found (Cell Value)) → IsBare marks.types tds found → (all : List (Activation Value)) → (k : Control) → Left k → Fine (freed_next named tds access o c v found (now all k ms))
     freed_on access o c v on_null bare all k q = on _ refl q
     freed_on access o c v on_gone bare all k q = tt
     freed_on access o c v on_other bare all k q = tt
     freed_on access o c v (finds cell) bare all k q = freeing_next_on access v cell (ClearsIn o c) (Followed o) bare all k (tt, q)
 
-    free_component_on : (access : ℕ) (o : Value) (c : ℕ) (found : Option Value) → ((w : Value) → found ≡ Some w → IsBare tds (standing s.heap w)) → (all : List (Activation Value)) → (k : Control) → Left k → Fine (free_component_next named tds access o c found (now all k ms))
+    free_component_on : (access : ℕ) (o : Value) (c : ℕ) (found : Option Value) → ((w : Value) → found ≡ Some w → IsBare marks.types tds (standing s.heap w)) → (all : List (Activation Value)) → (k : Control) → Left k → Fine (free_component_next named tds access o c found (now all k ms))
     free_component_on access o c None bare all k q = tt
     free_component_on access o c (Some v) bare all k q = freed_on access o c v (standing s.heap v) (bare v refl) all k q
 
-    pub free_in_on : (access : ℕ) (o : Value) (c : ℕ) (found : Found (Cell Value)) → ((cell : Cell Value) (w : Value) → found ≡ finds cell → slice_get cell.values c ≡ Some w → IsBare tds (standing s.heap w)) → (all : List (Activation Value)) → (k : Control) → Left k → Fine (free_in_next named tds access o c found (now all k ms))
+    pub free_in_on : (access : ℕ) (o : Value) (c : ℕ) (found : Found (Cell Value)) → ((cell : Cell Value) (w : Value) → found ≡ finds cell → slice_get cell.values c ≡ Some w → IsBare marks.types tds (standing s.heap w)) → (all : List (Activation Value)) → (k : Control) → Left k → Fine (free_in_next named tds access o c found (now all k ms))
     free_in_on access o c on_null bare all k q = raises_on ConstraintError all k q
     free_in_on access o c on_gone bare all k q = tt
     free_in_on access o c on_other bare all k q = tt
@@ -320,10 +321,10 @@ module _ (marks : List Bool) (lower : List Master) (behind : Control) (tds : Lis
     line_on (Some i) all k q = on _ refl q
 
     -- A block is a master of its own.
-    encloses_on : (ds : List DeclarationForm) (fs : StmtsForm) (hs : HandlersForm) → (are_frugal_declarations ds && are_frugal marks fs && are_frugal_handlers marks hs) ≡ true → (all : List (Activation Value)) → (k : Control) → Left k → Goes (entered (at (Elaborates ds fs hs ∷ k) (now all k ms)))
+    encloses_on : (ds : List DeclarationForm) (fs : StmtsForm) (hs : HandlersForm) → (are_frugal_declarations marks.types ds && are_frugal marks fs && are_frugal_handlers marks hs) ≡ true → (all : List (Activation Value)) → (k : Control) → Left k → Goes (entered (at (Elaborates ds fs hs ∷ k) (now all k ms)))
     encloses_on ds fs hs frugal all k q =
-        let one = apart (are_frugal_declarations ds && are_frugal marks fs) (are_frugal_handlers marks hs) frugal in
-        let two = apart (are_frugal_declarations ds) (are_frugal marks fs) one.0 in
+        let one = apart (are_frugal_declarations marks.types ds && are_frugal marks fs) (are_frugal_handlers marks hs) frugal in
+        let two = apart (are_frugal_declarations marks.types ds) (are_frugal marks fs) one.0 in
         record {
           upper = record { number = s.next; items = [] } ∷ ms;
           masters = refl;
@@ -365,11 +366,11 @@ module _ (marks : List Bool) (lower : List Master) (behind : Control) (tds : Lis
     computing_left : (actuals : List ActualForm) (k : Control) → Left k → Left (computing named actuals k)
     computing_left [] k q = q
     computing_left (in_value e ∷ rest) k q = (tt, computing_left rest k q)
-    computing_left (in_null ∷ rest) k q = (tt, computing_left rest k q)
-    computing_left (in_access path ∷ rest) k q = (tt, computing_left rest k q)
+    computing_left (in_null ∷ rest) k q = (refl, computing_left rest k q)
+    computing_left (in_access path ∷ rest) k q = (refl, computing_left rest k q)
     computing_left (in_record p ∷ rest) k q = (tt, computing_left rest k q)
     computing_left (in_out_path path ∷ rest) k q = (tt, computing_left rest k q)
-    computing_left (in_out_access path ∷ rest) k q = (tt, computing_left rest k q)
+    computing_left (in_out_access path ∷ rest) k q = (refl, computing_left rest k q)
     computing_left (in_out_component path ∷ rest) k q = (tt, computing_left rest k q)
     computing_left (in_out_record p ∷ rest) k q = (tt, computing_left rest k q)
 
@@ -395,11 +396,11 @@ module _ (marks : List Bool) (lower : List Master) (behind : Control) (tds : Lis
     returned_on actuals references all k q = on _ refl (storing_left references k q)
 
     -- Statements.
-    pub stmt_on : (f : StmtForm) → ((number : ℕ) (b : BodyForm) → slice_get bodies number ≡ Some b → slice_index_or marks number false ≡ true → is_frugal_body marks b ≡ true) → is_frugal_stmt marks f ≡ true → (all : List (Activation Value)) → StmtIsBare tds f s.heap (places_of all) → (k : Control) → Left k → Fine (stmt_next named tds bodies f (now all k ms))
+    pub stmt_on : (f : StmtForm) → ((number : ℕ) (b : BodyForm) → slice_get bodies number ≡ Some b → slice_index_or marks.procedures number false ≡ true → is_frugal_body marks b ≡ true) → is_frugal_stmt marks f ≡ true → (all : List (Activation Value)) → StmtIsBare marks.types tds f s.heap (places_of all) → (k : Control) → Left k → Fine (stmt_next named tds bodies f (now all k ms))
     stmt_on skips finds_frugal frugal all bare k q = on _ refl q
-    stmt_on (assigns target right) finds_frugal frugal all bare k q = assigns_on target.selectors target.root right all k q
+    stmt_on (assigns target right) finds_frugal frugal all bare k q = assigns_on target.selectors target.root right frugal all k q
     stmt_on (assigns_record target items) finds_frugal frugal all bare k q = absurd (cc frugal)
-    stmt_on (frees access path) finds_frugal frugal all bare k q = frees_on path.selectors access path.root all bare k q
+    stmt_on (frees access path) finds_frugal frugal all bare k q = frees_on path.selectors access path.root all frugal (bare frugal) k q
     stmt_on (gets target) finds_frugal frugal all bare k q = gets_on target.selectors target.root s.input all k q
     stmt_on (writes e) finds_frugal frugal all bare k q = on _ refl (tt, (tt, q))
     stmt_on (writes_text text) finds_frugal frugal all bare k q = on _ refl q
@@ -413,17 +414,17 @@ module _ (marks : List Bool) (lower : List Master) (behind : Control) (tds : Lis
     stmt_on (encloses ds fs hs) finds_frugal frugal all bare k q = encloses_on ds fs hs frugal all k q
 
   -- The declarations of a block, or of the body.
-  declaration_on : (m : Master) (ms : List Master) → OwnVariables (m ∷ ms) → (d : DeclarationForm) (ds : List DeclarationForm) (fs : StmtsForm) (hs : HandlersForm) → is_frugal_declaration d ≡ true → (are_frugal_declarations ds ≡ true) × (are_frugal marks fs ≡ true) × (are_frugal_handlers marks hs ≡ true) → (all : List (Activation Value)) → (k : Control) → FrugalLeads marks behind k ms → Fine (declarations_next named tds (d ∷ ds) fs hs (now all k (m ∷ ms)))
+  declaration_on : (m : Master) (ms : List Master) → OwnVariables (m ∷ ms) → (d : DeclarationForm) (ds : List DeclarationForm) (fs : StmtsForm) (hs : HandlersForm) → is_frugal_declaration marks.types d ≡ true → (are_frugal_declarations marks.types ds ≡ true) × (are_frugal marks fs ≡ true) × (are_frugal_handlers marks hs ≡ true) → (all : List (Activation Value)) → (k : Control) → FrugalLeads marks behind k ms → Fine (declarations_next named tds (d ∷ ds) fs hs (now all k (m ∷ ms)))
   declaration_on m ms own (creates_pool p) ds fs hs frugal more all k q = absurd (cc frugal)
   declaration_on m ms own (collects access) ds fs hs frugal more all k q = absurd (cc frugal)
   declaration_on m ms own (declares_record x t initial) ds fs hs frugal more all k q = absurd (cc frugal)
-  declaration_on m ms own (declares x right) ds fs hs frugal more all k q = on (m ∷ ms) own _ refl (tt, (tt, (more, q)))
+  declaration_on m ms own (declares x right) ds fs hs frugal more all k q = on (m ∷ ms) own _ refl (frugal, (tt, (more, q)))
 
   pub declarations_on : (ms : List Master) → OwnVariables ms → (ds : List DeclarationForm) (fs : StmtsForm) (hs : HandlersForm) (all : List (Activation Value)) → (k : Control) → FrugalLeads marks behind (Elaborates ds fs hs ∷ k) ms → Fine (declarations_next named tds ds fs hs (now all k ms))
   declarations_on [] own ds fs hs all k q = absurd q
   declarations_on (m ∷ ms) own [] fs hs all k ((ds_frugal, frugal, hs_frugal), q) = on (m ∷ ms) own _ refl (frugal, (hs_frugal, (tt, q)))
   declarations_on (m ∷ ms) own (d ∷ ds) fs hs all k ((ds_frugal, frugal, hs_frugal), q) =
-      let both = apart (is_frugal_declaration d) (are_frugal_declarations ds) ds_frugal in
+      let both = apart (is_frugal_declaration marks.types d) (are_frugal_declarations marks.types ds) ds_frugal in
       declaration_on m ms own d ds fs hs both.0 (both.1, frugal, hs_frugal) all k q
 
   pub declares_on : (ms : List Master) → OwnVariables ms → (x : ℕ) (v : Value) (all : List (Activation Value)) → (k : Control) → FrugalLeads marks behind (Declares x ∷ k) ms → Goes (owned (declared x) (put x v (now all k ms)))

@@ -12,6 +12,7 @@ use Rattle.ada_meaning.specs.Law.{items_of}
 use Rattle.ada_meaning.specs.State.{Owned, declared, collection, record_object, storage_pool, type_housed, Item, Master}
 use Rattle.ada_meaning.specs.Named.{Object, object_at}
 use Rattle.ada_owners.specs.Places.{is_there}
+use Rattle.ada_quiet.specs.Frugal.{Thrift}
 use Rattle.ada_scopes.specs.Scopes.{is_number_of, is_innermost}
 use Rattle.ada_tracked.specs.Law.{InnermostHousesNone, NewestHousesNone}
 use Rattle.ada_sound.proofs.FrugalControl.{Frugal}
@@ -70,7 +71,7 @@ innermost_houses_none [] own = tt
 innermost_houses_none (m ∷ ms) own = houses_none m.items own
 
 -- The master that a frugal body leaves is one of its own.
-pub leaves_own : (marks : List Bool) (back : Control) (mode left : Mode) (k : Control) (upper lower : List Master) → Frugal marks back mode (Leaves left ∷ k) upper → OwnVariables upper → AreVariables (innermost (upper ++ lower))
+pub leaves_own : (marks : Thrift) (back : Control) (mode left : Mode) (k : Control) (upper lower : List Master) → Frugal marks back mode (Leaves left ∷ k) upper → OwnVariables upper → AreVariables (innermost (upper ++ lower))
 leaves_own marks back mode left k upper lower (inl leads) own = absurd leads.0
 leaves_own marks back mode left k [] lower (inr leaving) own = absurd leaving.1
 leaves_own marks back mode left k (m ∷ upper) lower (inr leaving) own = own.0

@@ -1,16 +1,17 @@
 -- Any step of a frugal body (7.6, 7.6.1, 13.11.2) in front of its end leads on in it, or in one that it calls (6.4).
 
-use Rattle.std.proofs.Common.{◌≡◌, ℕ, Bool, true, false, if◌then◌else◌, List, [], ◌∷◌, ◌++◌, refl, sym, ap, ◌∙◌, subst, inl, inr}
+use Rattle.std.proofs.Common.{◌≡◌, ℕ, Bool, true, false, if◌then◌else◌, List, [], ◌∷◌, ◌++◌, refl, subst, inl, inr}
 use Rattle.std.specs.Prelude.{Option, Some, None, ◌||◌}
 use Rattle.std.specs.List.{slice_get, slice_index_or}
 use Rattle.ada_program.specs.declared.program.Exception.{Exception}
 use Rattle.ada_program.specs.declared.program.TypeDefinition.{TypeDefinition}
 use Rattle.ada_program.specs.Form.{ActualForm, StmtsForm, no_stmts, a_stmt, HandlersForm, no_handlers, a_handler}
 use Rattle.ada_program.specs.Handling.{handler_of, some_takes}
-use Rattle.ada_program.specs.ProgramForm.{TypeForm, BodyForm, ProgramForm, program_form, body_forms, seen_in}
+use Rattle.ada_program.specs.ProgramForm.{BodyForm, ProgramForm, program_form, body_forms, seen_in}
+use Rattle.ada_parts.specs.declared.tasks.Direction.TheVariants.{PartsFirst}
+use Rattle.ada_program.specs.Freed.{FreesItsOwn}
 use Rattle.ada_program.specs.Typed.{words_of, width_of}
 use Rattle.ada_program.specs.declared.program.Program.{Program}
-use Rattle.ada_program.specs.WellFormed.{IsWellFormed}
 use Rattle.ada_meaning.specs.declared.state.Value.{Value}
 use Rattle.ada_meaning.specs.declared.state.Value.TheVariants.{Null}
 use Rattle.ada_meaning.specs.declared.state.Mode.{Mode}
@@ -19,23 +20,24 @@ use Rattle.ada_meaning.specs.Frame.{Frame, is_return, Elaborates, Does, Decides,
 use Rattle.ada_meaning.specs.State.{Activation, Master, home_of}
 use Rattle.ada_meaning.specs.Step.{first_or, places_of, operands_of, operand_count, newest_ones, frame_next, landed, jump_next, mode_next}
 use Rattle.ada_meaning.specs.Named.{State, Next, named, next, look, lent}
-use Rattle.ada_quiet.specs.Frugal.{are_frugal, are_frugal_handlers, is_frugal_body, frugal_procedures}
+use Rattle.ada_quiet.specs.Frugal.{Thrift, are_frugal, are_frugal_handlers, is_frugal_body, thrift_of}
 use Rattle.ada_quiet.proofs.FrugalAt.{frugal_at}
-use Rattle.ada_typed.proofs.Bodies.{TablesFit, tables_in, seen_fits, types_seen}
+use Rattle.ada_typed.proofs.Bodies.{own_bodies}
 use Rattle.ada_typed.proofs.Control as typed
+use Rattle.ada_typed.proofs.Control.{OwnBody}
 use Rattle.ada_typed.proofs.Kept.{crosses as crosses_by, is_treatment}
 use Rattle.ada_sound.specs.Agreement.{running_procedure}
 use Rattle.ada_sound.proofs.Calm.{ends_operation}
-use Rattle.ada_sound.proofs.Invariant.{Control, Known, Ready}
+use Rattle.ada_sound.proofs.Invariant.{Control}
 use Rattle.ada_sound.proofs.OperationStarts.{apart}
 use Rattle.ada_sound.proofs.Operating.{OwnVariables}
 use Rattle.ada_sound.proofs.FrugalControl.{FrugalFrame, FrugalLeads, FrugalLeaves, Frugal, is_return_first, first_frugal, Frugally, GoesFrugally}
 use Rattle.ada_sound.proofs.Steps.{crosses}
-use Rattle.ada_sound.proofs.FrugalFrees.{NoAccessToParts, AccessIsBare, bare_by, FrameIsBare, NextIsBare, next_bare}
+use Rattle.ada_sound.proofs.FrugalFrees.{AccessIsBare, bare_by, FrameIsBare, NextIsBare, next_bare}
 use Rattle.ada_sound.proofs.FrugalFrames as frames
 
 -- The statements of the handler that takes an exception.
-handler_frugal : (marks : List Bool) (hs : HandlersForm) (e : Exception) (fs : StmtsForm) → handler_of e hs ≡ Some fs → are_frugal_handlers marks hs ≡ true → are_frugal marks fs ≡ true
+handler_frugal : (marks : Thrift) (hs : HandlersForm) (e : Exception) (fs : StmtsForm) → handler_of e hs ≡ Some fs → are_frugal_handlers marks hs ≡ true → are_frugal marks fs ≡ true
 handler_frugal marks no_handlers e fs is frugal = absurd (cc is)
 handler_frugal marks (a_handler choices gs hs) e fs is frugal = by (some_takes e choices) is (λ later more. handler_frugal marks hs e fs later more)
   where
@@ -47,10 +49,10 @@ handler_frugal marks (a_handler choices gs hs) e fs is frugal = by (some_takes e
     by false is' more = more is' both.1
 
 -- The body that a statement calls is frugal, where its procedure is.
-abbrev FindsFrugal : List Bool → List BodyForm → Type 0
-FindsFrugal marks bodies = (number : ℕ) (b : BodyForm) → slice_get bodies number ≡ Some b → slice_index_or marks number false ≡ true → is_frugal_body marks b ≡ true
+abbrev FindsFrugal : Thrift → List BodyForm → Type 0
+FindsFrugal marks bodies = (number : ℕ) (b : BodyForm) → slice_get bodies number ≡ Some b → slice_index_or marks.procedures number false ≡ true → is_frugal_body marks b ≡ true
 
-module _ (marks : List Bool) (lower : List Master) (behind : Control) (tds : List TypeDefinition) (bodies : List BodyForm) (finds_frugal : FindsFrugal marks bodies) (s : State) where
+module _ (marks : Thrift) (lower : List Master) (behind : Control) (tds : List TypeDefinition) (bodies : List BodyForm) (access_bare : AccessIsBare marks.types tds) (finds_frugal : FindsFrugal marks bodies) (s : State) where
   abbrev Fine : Next → Type 0
   Fine n = GoesFrugally marks lower behind n
 
@@ -70,7 +72,7 @@ module _ (marks : List Bool) (lower : List Master) (behind : Control) (tds : Lis
   twice_without all = without (without all)
 
   -- What is left of the body goes on.
-  frame_on : (f : Frame Value) (k : Control) (ms : List Master) → OwnVariables ms → (all : List (Activation Value)) → IsInner f k ms → FrameIsBare tds f s.heap (places_of all) (operands_of all) → FrugalLeads marks behind (f ∷ k) ms → Fine (frame_next named tds bodies f (now all k ms))
+  frame_on : (f : Frame Value) (k : Control) (ms : List Master) → OwnVariables ms → (all : List (Activation Value)) → IsInner f k ms → FrameIsBare marks.types tds f s.heap (places_of all) (operands_of all) → FrugalLeads marks behind (f ∷ k) ms → Fine (frame_next named tds bodies f (now all k ms))
   frame_on (Elaborates ds fs hs) k ms own all inner bare q = frames.declarations_on marks lower behind tds bodies s ms own ds fs hs all k q
   frame_on (Does no_stmts) k ms own all inner bare (frugal, q) = frames.on marks lower behind tds bodies s ms own _ refl q
   frame_on (Does (a_stmt f fs)) k ms own all inner bare (frugal, q) =
@@ -99,7 +101,7 @@ module _ (marks : List Bool) (lower : List Master) (behind : Control) (tds : Lis
   frame_on (Opens path) k ms own all inner bare (frugal, q) = frames.open_on marks lower behind tds bodies s ms own path.selectors path.root all k q
   frame_on (OpensIn c) k ms own all inner bare (frugal, q) =
       frames.opens_on marks lower behind tds bodies s ms own (first_or Null (operands_of all)) c (look s.heap (first_or Null (operands_of all))) (without all) k q
-  frame_on (Evaluates right) k ms own all inner bare (frugal, q) = frames.right_on marks lower behind tds bodies s ms own right all k q
+  frame_on (Evaluates right) k ms own all inner bare (frugal, q) = frames.right_on marks lower behind tds bodies s ms own right frugal all k q
   frame_on (Computes e) k ms own all inner bare (frugal, q) = frames.expression_on marks lower behind tds bodies s ms own e all k q
   frame_on (Follows cs) k ms own all inner bare (frugal, q) =
       frames.path_on marks lower behind tds bodies s ms own cs (first_or Null (operands_of all)) (without all) k q
@@ -114,17 +116,17 @@ module _ (marks : List Bool) (lower : List Master) (behind : Control) (tds : Lis
   frame_on (Copies first t) k ms own all inner bare (frugal, q) =
       frames.copies_on marks lower behind tds bodies s ms own (first_or Null (operands_of all)) first (width_of tds t) (look s.heap (first_or Null (operands_of all))) (without all) k q
   frame_on (Creates access count) k ms own all inner bare (frugal, q) =
-      frames.new_on marks lower behind tds bodies s ms own access count (words_of tds access) (home_of access (ms ++ lower)) bare all k q
+      frames.new_on marks lower behind tds bodies s ms own access count (words_of tds access) (home_of access (ms ++ lower)) (access_bare access PartsFirst frugal) all k q
   frame_on (Stores x) k ms own all inner bare (frugal, q) =
       frames.puts_on marks lower behind tds bodies s ms own x (first_or Null (operands_of all)) (without all) k q
   frame_on (Targets c right) k ms own all inner bare (frugal, q) =
-      frames.target_on marks lower behind tds bodies s ms own (first_or Null (operands_of all)) c right (look s.heap (first_or Null (operands_of all))) (without all) k q
+      frames.target_on marks lower behind tds bodies s ms own (first_or Null (operands_of all)) c right (look s.heap (first_or Null (operands_of all))) frugal (without all) k q
   frame_on (StoresIn o c) k ms own all inner bare (frugal, q) =
       frames.store_on marks lower behind tds bodies s ms own o c (first_or Null (operands_of all)) (look s.heap o) (without all) k q
   frame_on (Receives c) k ms own all inner bare (frugal, q) =
       frames.receive_on marks lower behind tds bodies s ms own (first_or Null (operands_of all)) c (look s.heap (first_or Null (operands_of all))) (without all) k q
   frame_on (FreesIn access c) k ms own all inner bare (frugal, q) =
-      frames.free_in_on marks lower behind tds bodies s ms own access (first_or Null (operands_of all)) c (look s.heap (first_or Null (operands_of all))) bare (without all) k q
+      frames.free_in_on marks lower behind tds bodies s ms own access (first_or Null (operands_of all)) c (look s.heap (first_or Null (operands_of all))) (bare frugal) (without all) k q
   frame_on (Declares x) k ms own all inner bare q = frames.declares_on marks lower behind tds bodies s ms own x (first_or Null (operands_of all)) (without all) k q
   frame_on Writes k ms own all inner bare (frugal, q) =
       frames.line_on marks lower behind tds bodies s ms own (named.reads_integer (first_or Null (operands_of all))) (without all) k q
@@ -190,7 +192,7 @@ module _ (marks : List Bool) (lower : List Master) (behind : Control) (tds : Lis
   is_inner (Returns actuals references) k ms inner = inner actuals references k refl
   is_inner f k ms inner = tt
 
-  mode_on : (mode : Mode) (k : Control) (ms : List Master) → OwnVariables ms → (all : List (Activation Value)) → ((actuals : List ActualForm) (references : List Value) (j : Control) → k ≡ Returns actuals references ∷ j → FrugalLeads marks behind j ms) → (mode ≡ Running → NextIsBare tds k s.heap (places_of all) (operands_of all)) → Frugal marks behind mode k ms → Fine (mode_next named tds bodies mode (passing mode all k ms))
+  mode_on : (mode : Mode) (k : Control) (ms : List Master) → OwnVariables ms → (all : List (Activation Value)) → ((actuals : List ActualForm) (references : List Value) (j : Control) → k ≡ Returns actuals references ∷ j → FrugalLeads marks behind j ms) → (mode ≡ Running → NextIsBare marks.types tds k s.heap (places_of all) (operands_of all)) → Frugal marks behind mode k ms → Fine (mode_next named tds bodies mode (passing mode all k ms))
   mode_on mode k ms own all inner bare (inr (runs, leaving)) = rw runs (leaving_on k ms own all leaving)
   mode_on mode [] ms own all inner bare (inl q) = absurd q
   mode_on Running (f ∷ k) ms own all inner bare (inl q) = frame_on f k ms own all (is_inner f k ms inner) (bare refl) q
@@ -199,7 +201,7 @@ module _ (marks : List Bool) (lower : List Master) (behind : Control) (tds : Lis
   mode_on Returning (f ∷ k) ms own all inner bare (inl q) = returning_on f k ms own all (is_inner f k ms inner) q
 
 -- No operation of a controlled type ends in such a body.
-pub none_ends : (marks : List Bool) (behind : Control) (mode : Mode) (k : Control) (ms : List Master) → Frugal marks behind mode k ms → ends_operation k ≡ false
+pub none_ends : (marks : Thrift) (behind : Control) (mode : Mode) (k : Control) (ms : List Master) → Frugal marks behind mode k ms → ends_operation k ≡ false
 none_ends marks behind mode [] ms frugal = refl
 none_ends marks behind mode (f ∷ k) ms (inl q) = first f ms q
   where
@@ -211,43 +213,38 @@ none_ends marks behind mode (Leaves left ∷ k) ms (inr (runs, q)) = refl
 none_ends marks behind mode (f ∷ k) ms (inr (runs, q)) = absurd q
 
 -- Where a body comes to its end next, it is one that was called: what called it goes on in these masters.
-abbrev pub EndsInner : (marks : List Bool) (behind : Control) → Control → List Master → Type 0
+abbrev pub EndsInner : (marks : Thrift) (behind : Control) → Control → List Master → Type 0
 EndsInner marks behind k ms = (actuals : List ActualForm) (references : List Value) (j : Control) → k ≡ Returns actuals references ∷ j → FrugalLeads marks behind j ms
 
--- While a frugal body runs, or one that it calls, and its own end is not next, nothing is treated: whatever comes next is in such a body, too.
+-- While a frugal body runs, or one that it calls, and its own end is not next, nothing is treated: whatever comes next is in such a body, too. Each Free of what
+-- runs is by the instance for the access type of what it frees (13.11.2).
 pub frugal_steps :
-    (known : Known) (tds : List TypeDefinition) (bodies : List BodyForm) → TablesFit known.program → AccessIsBare known.program.types tds
-    → (marks : List Bool) → FindsFrugal marks bodies → (behind : Control) (lower : List Master) (s : State) (f : Frugally marks lower behind s)
-    → EndsInner marks behind s.control f.upper → typed.TypedIn known.program s → Ready known s → GoesFrugally marks lower behind (next tds bodies s)
+    (p : ProgramForm) → OwnBody p → (tds : List TypeDefinition) (bodies : List BodyForm) (marks : Thrift) → AccessIsBare marks.types tds → FindsFrugal marks bodies
+    → (behind : Control) (lower : List Master) (s : State) (f : Frugally marks lower behind s)
+    → EndsInner marks behind s.control f.upper → typed.TypedIn p s → GoesFrugally marks lower behind (next tds bodies s)
 unfolding next
-frugal_steps known tds bodies fits bare marks finds_frugal behind lower s f inner typing ready =
+frugal_steps p whole tds bodies marks bare finds_frugal behind lower s f inner typing =
     subst (λ (t : State). GoesFrugally marks lower behind (mode_next named tds bodies s.mode t)) state_is
-    (mode_on marks lower behind tds bodies finds_frugal s s.mode s.control f.upper f.own s.activations inner none f.frugal)
+    (mode_on marks lower behind tds bodies bare finds_frugal s s.mode s.control f.upper f.own s.activations inner none f.frugal)
   where
-    none : s.mode ≡ Running → NextIsBare tds s.control s.heap (places_of s.activations) (operands_of s.activations)
-    none runs = next_bare known tds fits bare s typing ready runs (none_ends marks behind s.mode s.control f.upper f.frugal)
+    none : s.mode ≡ Running → NextIsBare marks.types tds s.control s.heap (places_of s.activations) (operands_of s.activations)
+    none runs = next_bare p whole marks.types tds bare s typing runs (none_ends marks behind s.mode s.control f.upper f.frugal)
 
     -- The state, by its parts.
     state_is : record s { masters = f.upper ++ lower } ≡ s
     state_is = subst (λ (ms : List Master). record s { masters = ms } ≡ s) f.masters refl
 
--- The body, or what it calls, runs on, unless its own end is next, in a run of a well-formed program in which no access type designates a record type that has
--- controlled parts.
+-- The body, or what it calls, runs on, unless its own end is next, in a run of a well-formed program.
 pub frugal_goes :
-    (program : Program) → IsWellFormed (program_form program) → NoAccessToParts (program_form program).types
-    → (lower : List Master) (behind : Control) (s : State) (f : Frugally (frugal_procedures (program_form program)) lower behind s)
-    → ((actuals : List ActualForm) (references : List Value) (k : Control) → s.control ≡ Returns actuals references ∷ k → FrugalLeads (frugal_procedures (program_form program)) behind k f.upper)
+    (program : Program) → FreesItsOwn (program_form program)
+    → (lower : List Master) (behind : Control) (s : State) (f : Frugally (thrift_of (program_form program)) lower behind s)
+    → EndsInner (thrift_of (program_form program)) behind s.control f.upper
     → typed.TypedIn (seen_in (running_procedure s) (program_form program)) s
-    → (known : Known) → known.program ≡ seen_in (running_procedure s) (program_form program) → Ready known s
-    → GoesFrugally (frugal_procedures (program_form program)) lower behind (next program.types.items (body_forms program) s)
-frugal_goes program well none lower behind s f inner typing known seen ready =
+    → GoesFrugally (thrift_of (program_form program)) lower behind (next program.types.items (body_forms program) s)
+frugal_goes program whole lower behind s f inner typing =
     let p = program_form program in
     let procedure = running_procedure s in
-    let types : known.program.types ≡ p.types = ap (λ (own : ProgramForm). own.types) seen ∙ types_seen p procedure in
-    let fits : TablesFit known.program = subst TablesFit (sym seen) (tables_in (seen_in procedure p) (seen_fits p well procedure)) in
-    let bare : AccessIsBare known.program.types program.types.items = subst (λ (all : List TypeForm). AccessIsBare all program.types.items) (sym types) (bare_by program none) in
-    let typing' : typed.TypedIn known.program s = subst (λ (own : ProgramForm). typed.TypedIn own s) (sym seen) typing in
-    frugal_steps known program.types.items (body_forms program) fits bare (frugal_procedures p) (λ number b there told. frugal_at p number b told there) behind lower s f inner typing' ready
+    frugal_steps (seen_in procedure p) (own_bodies p whole procedure) program.types.items (body_forms program) (thrift_of p) (bare_by program) (λ number b there told. frugal_at p number b told there) behind lower s f inner typing
 
 -- A call comes next.
 abbrev pub is_call_first : Control → Bool
@@ -256,19 +253,19 @@ is_call_first (Calls number b actuals ∷ k) = true
 is_call_first (f ∷ k) = false
 
 -- A frame of such a body calls nothing, but where it is a call.
-calls_nothing : (marks : List Bool) (f : Frame Value) (k : Control) → is_return f ≡ false → is_call_first (f ∷ k) ≡ false → FrugalFrame marks f → (crosses_by f || is_treatment f) ≡ false
+calls_nothing : (marks : Thrift) (f : Frame Value) (k : Control) → is_return f ≡ false → is_call_first (f ∷ k) ≡ false → FrugalFrame marks f → (crosses_by f || is_treatment f) ≡ false
 calls_nothing marks (Calls number b actuals) k inner none frugal = absurd (cc none)
 calls_nothing marks (Returns actuals references) k inner none frugal = absurd (cc inner)
 calls_nothing marks (Treats v treatment tasks) k inner none frugal = absurd frugal
 calls_nothing marks f k inner none frugal = refl
 
-leaving_crosses : (marks : List Bool) (behind : Control) (k : Control) (ms : List Master) → FrugalLeaves marks behind k ms → crosses Running k ≡ false
+leaving_crosses : (marks : Thrift) (behind : Control) (k : Control) (ms : List Master) → FrugalLeaves marks behind k ms → crosses Running k ≡ false
 leaving_crosses marks behind [] ms leaving = refl
 leaving_crosses marks behind (Leaves left ∷ k) ms leaving = refl
 leaving_crosses marks behind (f ∷ k) ms leaving = absurd leaving
 
 -- Where neither the end of a body is next, nor the beginning of one, no body begins, none ends, and no operation is called.
-pub frugal_crosses : (marks : List Bool) (behind : Control) (mode : Mode) (k : Control) (ms : List Master) → Frugal marks behind mode k ms → is_return_first k ≡ false → (mode ≡ Running → is_call_first k ≡ false) → crosses mode k ≡ false
+pub frugal_crosses : (marks : Thrift) (behind : Control) (mode : Mode) (k : Control) (ms : List Master) → Frugal marks behind mode k ms → is_return_first k ≡ false → (mode ≡ Running → is_call_first k ≡ false) → crosses mode k ≡ false
 frugal_crosses marks behind mode k ms (inr (runs, leaving)) inner none = rw runs (leaving_crosses marks behind k ms leaving)
 frugal_crosses marks behind mode [] ms (inl q) inner none = absurd q
 frugal_crosses marks behind Running (f ∷ k) ms (inl q) inner none = calls_nothing marks f k inner (none refl) (first_frugal marks behind f k ms inner q)

@@ -6,9 +6,8 @@ use Rattle.std.proofs.lemmas.Bool.{or_left}
 use Rattle.std.proofs.lemmas.Option.{slice_get-map}
 use Rattle.std.specs.List.{filter, list_all, list_any, slice_get, slice_index_or}
 use Rattle.std.specs.Option.{option_map}
-use Rattle.std.specs.Prelude.{Option, Some, None, is_some}
+use Rattle.std.specs.Prelude.{Option, Some, None, is_some, not}
 use Rattle.ada_deeds.proofs.Known.{raises_are_done}
-use Rattle.ada_deeds.proofs.Naming.{KindFits, allocates_access, default_access, path_fits_kind, variable_fits_kind}
 use Rattle.ada_deeds.proofs.Parted.{does_parted}
 use Rattle.ada_deeds.proofs.Starting.{created_out}
 use Rattle.ada_deeds.proofs.Within.{counts_are_enough, is_one_of}
@@ -22,7 +21,7 @@ use Rattle.ada_deeds.specs.declared.deed.Deed.TheVariants.{Raises}
 use Rattle.ada_deeds.specs.declared.deed.Deed.{Deed}
 use Rattle.ada_deeds.specs.declared.deed.Operation.TheVariants.{Initialize, Finalize}
 use Rattle.ada_deeds.specs.declared.deed.Operation.{Operation}
-use Rattle.ada_effects.proofs.Calls.{Within, either}
+use Rattle.ada_effects.proofs.Calls.{AllEach, Within, either}
 use Rattle.ada_effects.proofs.Programs.{program_each}
 use Rattle.ada_effects.proofs.Raising.{within_untaken, declarations_stay, stmts_stay, handlers_stay}
 use Rattle.ada_effects.specs.Effects.{Effect, Effects, actuals_raise, path_raises, right_raises, right_starts, declaration_raises, declarations_raise, call_raises, stmt_raises, untaken, stmts_raise, branches_raise, handlers_raise, body_raises, no_implicit, effect_of, known_of, effects_from, effects_of}
@@ -32,17 +31,14 @@ use Rattle.ada_program.specs.Controlled.{procedure_number, operations_of}
 use Rattle.ada_program.specs.Form.{ActualForm, nothing, calls, raises, StmtForm, skips, assigns, assigns_record, frees, gets, writes, writes_text, chooses, repeats, counts, exits, returns, encloses, StmtsForm, no_stmts, a_stmt, BranchesForm, otherwise, a_branch, HandlersForm, no_handlers, a_handler, RightForm, value_of, allocates, allocates_default, computes, DeclarationForm, creates_pool, collects, declares, declares_record}
 use Rattle.ada_program.specs.Handling.{is_same}
 use Rattle.ada_program.specs.ProgramForm.{BodyForm, ProgramForm, VariableForm, TypeForm, record_of, access_to, object_of, seen_in, program_form, body_forms}
-use Rattle.ada_program.specs.WellFormed.{type_fits, variable_kind, variable_fits, finalization_of, designated_in, is_access, path_kind, right_fits, initial_fits, declarations_fit, suits_profile, statement_fits, stmts_fit, branches_fit, handlers_fit, body_fits, bodies_fit, IsWellFormed, Profile, profile_of}
+use Rattle.ada_program.specs.WellFormed.{type_fits, finalization_of, suits_profile, statement_fits, stmts_fit, branches_fit, handlers_fit, body_fits, bodies_fit, IsWellFormed, Profile, profile_of}
 use Rattle.ada_program.specs.declared.program.Exception.{Exception}
 use Rattle.ada_program.specs.declared.program.Exception.TheVariants.{ConstraintError}
 use Rattle.ada_program.specs.declared.program.Program.{Program}
-use Rattle.ada_program.specs.declared.program.VariableKind.{VariableKind}
-use Rattle.ada_quiet.specs.Frugal.{is_frugal_stmt, are_frugal, are_frugal_branches, are_frugal_handlers, is_frugal_body, is_frugal_declaration, are_frugal_declarations, frugal_from, frugal_procedures, own_effects}
-use Rattle.ada_quiet.specs.InUse.{may_be_frugal}
+use Rattle.ada_quiet.specs.Bare.{allocates_bare, has_bare_objects, is_bare_access}
+use Rattle.ada_quiet.specs.Frugal.{Thrift, thrift_of, is_frugal_stmt, are_frugal, are_frugal_branches, are_frugal_handlers, is_frugal_body, is_frugal_declaration, are_frugal_declarations, frugal_from, frugal_procedures, own_effects}
 use Rattle.ada_sound.proofs.Bodies.{seen_is, effect_at, taken_before, taken_get}
-use Rattle.ada_sound.proofs.FrugalFrees.{NoAccessToParts}
 use Rattle.ada_sound.proofs.FrugalUseEnds.{done_lying}
-use Rattle.ada_sound.proofs.FrugalUseParts.{no_access_to_parts}
 use Rattle.ada_sound.proofs.Invariant.{body_among}
 use Rattle.ada_sound.proofs.Operating.{IsCalled, lets_out}
 use Rattle.ada_sound.proofs.OperationStarts.{apart}
@@ -51,14 +47,18 @@ use Rattle.ada_typed.proofs.Bodies.{body_at}
 use Rattle.ada_typed.proofs.Lying.{IsOperable}
 
 -- Where nothing passes a test, nothing is found among what passes it.
-none_among : (test among : Exception → Bool) (xs : List Exception) → ((e : Exception) → test e ≡ false) → list_any among (filter test xs) ≡ false
+pub none_among : (test among : Exception → Bool) (xs : List Exception) → ((e : Exception) → test e ≡ false) → list_any among (filter test xs) ≡ false
 none_among test among [] none = refl
 none_among test among (x ∷ xs) none = rw (none x) (none_among test among xs none)
 
--- Where no access type designates what has controlled parts, a frugal body calls nothing implicitly (4.8, 7.6): what is known of implicit calls changes nothing of
--- what it raises.
-module _ (p : ProgramForm) (types_fit : list_all (type_fits p.types) p.types ≡ true) (bare : NoAccessToParts p.types) where
-  does_nothing : (d : Deed) (operation : Operation) (r : ℕ) → is_some (finalization_of p.types r) ≡ false → does_by p d (callee.Parts operation (record { 0 = r })) ≡ false
+no_no : (b : Bool) → not b ≡ true → b ≡ false
+no_no true e = absurd (cc e)
+no_no false e = refl
+
+-- A frugal body calls nothing implicitly (4.8, 7.6), since what it allocates has no controlled parts: what is known of implicit calls changes nothing of what it raises.
+module _ (p : ProgramForm) (types_fit : list_all (type_fits p.types) p.types ≡ true) where
+  -- Nothing is done for a record without controlled parts.
+  pub does_nothing : (d : Deed) (operation : Operation) (r : ℕ) → is_some (finalization_of p.types r) ≡ false → does_by p d (callee.Parts operation (record { 0 = r })) ≡ false
   does_nothing d operation r none = by (does_by p d c) refl
     where
       c : Callee
@@ -68,22 +68,45 @@ module _ (p : ProgramForm) (types_fit : list_all (type_fits p.types) p.types ≡
       by false is = refl
       by true is = let some = does_parted p types_fit d operation r ((counts_are_enough p d c).0 is) in absurd (cc (none, some))
 
-  -- The creation of an object that an access value designates does nothing, whatever is asked for.
-  pub created_nothing : (d : Deed) (access : ℕ) (o : Option TypeForm) → slice_get p.types access ≡ o → is_some (designated_in o) ≡ true → creation_does (does_by p d) (record_in access o) ≡ false
-  created_nothing d access None at is = refl
-  created_nothing d access (Some (record_of name parts components finalization)) at is = absurd (cc is)
-  created_nothing d access (Some (access_to name designated pool)) at is =
-      let none = bare access name designated pool at in
-      rw (does_nothing d Initialize designated none, does_nothing d Finalize designated none) refl
-  created_nothing d access (Some (object_of record_type)) at is = absurd (cc is)
+  -- Nor is it for an object that an access value designates, if these have none.
+  pub bare_does_nothing : (d : Deed) (operation : Operation) (access : ℕ) (o : Option TypeForm) → is_bare_access p.types o ≡ true → parts_do (does_by p d) operation (record_in access o) ≡ false
+  bare_does_nothing d operation access None is = absurd (cc is)
+  bare_does_nothing d operation access (Some (record_of name parts components finalization)) is = absurd (cc is)
+  bare_does_nothing d operation access (Some (access_to name designated pool)) is = does_nothing d operation designated (no_no (is_some (finalization_of p.types designated)) is)
+  bare_does_nothing d operation access (Some (object_of record_type)) is = absurd (cc is)
 
-  starts_none : (among : Exception → Bool) (access : ℕ) → is_access p.types access ≡ true → list_any among ((implicit_of p).start_raises access) ≡ false
+  -- So its creation does nothing, whatever is asked for.
+  pub created_nothing : (d : Deed) (access : ℕ) → has_bare_objects p.types access ≡ true → creation_does (does_by p d) (record_at p.types access) ≡ false
+  created_nothing d access is =
+      let o = slice_get p.types access in
+      rw (bare_does_nothing d Initialize access o is, bare_does_nothing d Finalize access o is) refl
+
+  starts_none : (among : Exception → Bool) (access : ℕ) → has_bare_objects p.types access ≡ true → list_any among ((implicit_of p).start_raises access) ≡ false
   starts_none among access is =
-      none_among (λ e. creation_does (does_by p (Raises e)) (record_at p.types access)) among (exceptions_of p) (λ e. created_nothing (Raises e) access (slice_get p.types access) refl is)
+      none_among (λ e. creation_does (does_by p (Raises e)) (record_at p.types access)) among (exceptions_of p) (λ e. created_nothing (Raises e) access is)
+
+  starts_same : (among : Exception → Bool) (right : RightForm) → allocates_bare p.types right ≡ true → right_starts (implicit_of p) among right ≡ right_starts no_implicit among right
+  starts_same among nothing is = refl
+  starts_same among (value_of path) is = refl
+  starts_same among (allocates access items) is = starts_none among access is
+  starts_same among (allocates_default access) is = starts_none among access is
+  starts_same among (computes e) is = refl
+
+  declaration_same : (among : Exception → Bool) (d : DeclarationForm) → is_frugal_declaration p.types d ≡ true
+      → declaration_raises (implicit_of p) among d ≡ declaration_raises no_implicit among d
+  declaration_same among (creates_pool pool) is = refl
+  declaration_same among (collects access) is = refl
+  declaration_same among (declares x right) is = ap (λ (b : Bool). right_raises among right || b) (starts_same among right is)
+  declaration_same among (declares_record x object initial) is = absurd (cc is)
+
+  declarations_same : (among : Exception → Bool) (ds : List DeclarationForm) → are_frugal_declarations p.types ds ≡ true
+      → declarations_raise (implicit_of p) among ds ≡ declarations_raise no_implicit among ds
+  declarations_same among [] is = refl
+  declarations_same among (d ∷ ds) is = let both = apart _ _ is in rw (declaration_same among d both.0, declarations_same among ds both.1) refl
 
   -- The procedures that it may call are known to raise the same, as far as they are frugal: then it raises the same.
-  module _ (frugal : List Bool) (first second : List Effect) (callable : List Profile)
-      (called : (procedure : ℕ) (profile : Profile) → slice_get callable procedure ≡ Some profile → slice_index_or frugal procedure false ≡ true → (among : Exception → Bool)
+  module _ (marks : List Bool) (first second : List Effect) (callable : List Profile)
+      (called : (procedure : ℕ) (profile : Profile) → slice_get callable procedure ≡ Some profile → slice_index_or marks procedure false ≡ true → (among : Exception → Bool)
       → call_raises (slice_get first procedure) among ≡ call_raises (slice_get second procedure) among) where
     abbrev before : Effects
     before = known_of (implicit_of p) first
@@ -91,49 +114,21 @@ module _ (p : ProgramForm) (types_fit : list_all (type_fits p.types) p.types ≡
     abbrev after : Effects
     after = known_of no_implicit second
 
-    module _ (variables : List VariableForm) (variables_fit : list_all (variable_fits p.types) variables ≡ true) where
-      starts_same : (among : Exception → Bool) (kind : Option VariableKind) (right : RightForm) → KindFits p.types kind → right_fits p.types variables kind right ≡ true
-          → right_starts (implicit_of p) among right ≡ right_starts no_implicit among right
-      starts_same among kind nothing fits taken = refl
-      starts_same among kind (value_of path) fits taken = refl
-      starts_same among kind (allocates access items) fits taken = starts_none among access (allocates_access p.types types_fit variables variables_fit kind access items fits taken)
-      starts_same among kind (allocates_default access) fits taken = starts_none among access (default_access p.types types_fit variables variables_fit kind access fits taken)
-      starts_same among kind (computes e) fits taken = refl
+    abbrev thrift : Thrift
+    thrift = record { types = p.types; procedures = marks }
 
-      declaration_same : (among : Exception → Bool) (d : DeclarationForm) → is_frugal_declaration d ≡ true → initial_fits p.types variables d ≡ true
-          → declaration_raises (implicit_of p) among d ≡ declaration_raises no_implicit among d
-      declaration_same among (creates_pool pool) is fits = refl
-      declaration_same among (collects access) is fits = refl
-      declaration_same among (declares x right) is fits =
-          ap (λ (b : Bool). right_raises among right || b)
-          (starts_same among (variable_kind variables x) right (variable_fits_kind p.types types_fit variables variables_fit x) (apart _ _ (apart _ _ fits).0).1)
-      declaration_same among (declares_record x object initial) is fits = absurd (cc is)
-
-      each_same : (among : Exception → Bool) (ds : List DeclarationForm) → are_frugal_declarations ds ≡ true → list_all (initial_fits p.types variables) ds ≡ true
-          → declarations_raise (implicit_of p) among ds ≡ declarations_raise no_implicit among ds
-      each_same among [] is fits = refl
-      each_same among (d ∷ ds) is fits =
-          let both = apart _ _ is in
-          let two = apart _ _ fits in
-          rw (declaration_same among d both.0 two.0, each_same among ds both.1 two.1) refl
-
-      declarations_same : (among : Exception → Bool) (ds : List DeclarationForm) → are_frugal_declarations ds ≡ true → declarations_fit p.types variables ds ≡ true
-          → declarations_raise (implicit_of p) among ds ≡ declarations_raise no_implicit among ds
-      declarations_same among ds is fits = each_same among ds is (apart _ _ fits).1
-
+    module _ (variables : List VariableForm) where
       call_same : (among : Exception → Bool) (procedure : ℕ) (actuals : List ActualForm) (o : Option Profile) → slice_get callable procedure ≡ o → suits_profile p.types variables o actuals ≡ true
-          → slice_index_or frugal procedure false ≡ true → call_raises (slice_get first procedure) among ≡ call_raises (slice_get second procedure) among
+          → slice_index_or marks procedure false ≡ true → call_raises (slice_get first procedure) among ≡ call_raises (slice_get second procedure) among
       call_same among procedure actuals None at fits is = absurd (cc fits)
       call_same among procedure actuals (Some profile) at fits is = called procedure profile at is among
 
       mutual
-        stmt_same : (inside : Bool) (f : StmtForm) (among : Exception → Bool) → is_frugal_stmt frugal f ≡ true → statement_fits p.types variables p.texts p.exceptions callable inside f ≡ true
+        stmt_same : (inside : Bool) (f : StmtForm) (among : Exception → Bool) → is_frugal_stmt thrift f ≡ true → statement_fits p.types variables p.texts p.exceptions callable inside f ≡ true
             → stmt_raises before among f ≡ stmt_raises after among f
         stmt_same inside skips among is fits = refl
         stmt_same inside (assigns target right) among is fits =
-            let kind = path_kind p.types variables target in
-            ap (λ (b : Bool). ((among ConstraintError && path_raises target) || right_raises among right) || b)
-            (starts_same among kind right (path_fits_kind p.types types_fit variables variables_fit target) (apart _ _ fits).0)
+            ap (λ (b : Bool). ((among ConstraintError && path_raises target) || right_raises among right) || b) (starts_same among right is)
         stmt_same inside (assigns_record target items) among is fits = refl
         stmt_same inside (frees access path) among is fits = refl
         stmt_same inside (gets target) among is fits = refl
@@ -153,12 +148,12 @@ module _ (p : ProgramForm) (types_fit : list_all (type_fits p.types) p.types ≡
             let fits_two = apart _ _ fits in
             let fits_three = apart _ _ fits_two.0 in
             rw (
-              declarations_same among ds three.0 fits_three.0,
+              declarations_same among ds three.0,
               stmts_same inside fs (untaken hs among) three.1 fits_three.1,
               handlers_same inside hs among two.1 fits_two.1,
             ) refl
 
-        stmts_same : (inside : Bool) (fs : StmtsForm) (among : Exception → Bool) → are_frugal frugal fs ≡ true → stmts_fit p.types variables p.texts p.exceptions callable inside fs ≡ true
+        stmts_same : (inside : Bool) (fs : StmtsForm) (among : Exception → Bool) → are_frugal thrift fs ≡ true → stmts_fit p.types variables p.texts p.exceptions callable inside fs ≡ true
             → stmts_raise before among fs ≡ stmts_raise after among fs
         stmts_same inside no_stmts among is fits = refl
         stmts_same inside (a_stmt f fs) among is fits =
@@ -166,7 +161,7 @@ module _ (p : ProgramForm) (types_fit : list_all (type_fits p.types) p.types ≡
             let two = apart _ _ fits in
             rw (stmt_same inside f among both.0 two.0, stmts_same inside fs among both.1 two.1) refl
 
-        branches_same : (inside : Bool) (branches : BranchesForm) (among : Exception → Bool) → are_frugal_branches frugal branches ≡ true
+        branches_same : (inside : Bool) (branches : BranchesForm) (among : Exception → Bool) → are_frugal_branches thrift branches ≡ true
             → branches_fit p.types variables p.texts p.exceptions callable inside branches ≡ true → branches_raise before among branches ≡ branches_raise after among branches
         branches_same inside (otherwise fs) among is fits = stmts_same inside fs among is fits
         branches_same inside (a_branch e fs branches) among is fits =
@@ -175,7 +170,7 @@ module _ (p : ProgramForm) (types_fit : list_all (type_fits p.types) p.types ≡
             let three = apart _ _ two.0 in
             rw (stmts_same inside fs among both.0 three.1, branches_same inside branches among both.1 two.1) refl
 
-        handlers_same : (inside : Bool) (hs : HandlersForm) (among : Exception → Bool) → are_frugal_handlers frugal hs ≡ true
+        handlers_same : (inside : Bool) (hs : HandlersForm) (among : Exception → Bool) → are_frugal_handlers thrift hs ≡ true
             → handlers_fit p.types variables p.texts p.exceptions callable inside hs ≡ true → handlers_raise before among hs ≡ handlers_raise after among hs
         handlers_same inside no_handlers among is fits = refl
         handlers_same inside (a_handler choices fs hs) among is fits =
@@ -185,58 +180,57 @@ module _ (p : ProgramForm) (types_fit : list_all (type_fits p.types) p.types ≡
             rw (stmts_same inside fs among both.0 three.1, handlers_same inside hs among both.1 two.1) refl
 
     -- So it is with a body.
-    body_same : (b : BodyForm) → is_frugal_body frugal b ≡ true → body_fits p.types p.texts p.exceptions callable b ≡ true → (among : Exception → Bool)
+    body_same : (b : BodyForm) → is_frugal_body thrift b ≡ true → body_fits p.types p.texts p.exceptions callable b ≡ true → (among : Exception → Bool)
         → body_raises before b among ≡ body_raises after b among
     body_same b is fits among =
         let two = apart _ _ is in
         let three = apart _ _ two.0 in
         let five = apart _ _ fits in
         let four = apart _ _ five.0 in
-        let declared = apart _ _ four.0 in
-        let variables_fit = (apart _ _ declared.0).0 in
         rw (
-          declarations_same b.variables variables_fit among b.declarations three.0 declared.1,
-          stmts_same b.variables variables_fit false b.statements (untaken b.handlers among) three.1 four.1,
-          handlers_same b.variables variables_fit false b.handlers among two.1 five.1,
+          declarations_same among b.declarations three.0,
+          stmts_same b.variables false b.statements (untaken b.handlers among) three.1 four.1,
+          handlers_same b.variables false b.handlers among two.1 five.1,
         ) refl
 
 -- Of procedures it is known whether they are frugal, and what they raise by either knowledge: of a frugal one the same.
 abbrev Agree : List Bool → List Effect → List Effect → Type 0
 Agree [] [] [] = Unit {0}
-Agree (x ∷ frugal) (a ∷ first) (b ∷ second) = (x ≡ true → (among : Exception → Bool) → a.raises among ≡ b.raises among) × Agree frugal first second
-Agree frugal first second = ⊥
+Agree (x ∷ marks) (a ∷ first) (b ∷ second) = (x ≡ true → (among : Exception → Bool) → a.raises among ≡ b.raises among) × Agree marks first second
+Agree marks first second = ⊥
 
-agree_at : (frugal : List Bool) (first second : List Effect) → Agree frugal first second → (i : ℕ) → slice_index_or frugal i false ≡ true → (among : Exception → Bool)
+agree_at : (marks : List Bool) (first second : List Effect) → Agree marks first second → (i : ℕ) → slice_index_or marks i false ≡ true → (among : Exception → Bool)
     → call_raises (slice_get first i) among ≡ call_raises (slice_get second i) among
 agree_at [] [] [] agree i is among = refl
 agree_at [] [] (b ∷ second) agree i is among = absurd agree
 agree_at [] (a ∷ first) second agree i is among = absurd agree
-agree_at (x ∷ frugal) [] second agree i is among = absurd agree
-agree_at (x ∷ frugal) (a ∷ first) [] agree i is among = absurd agree
-agree_at (x ∷ frugal) (a ∷ first) (b ∷ second) agree zero is among = agree.0 is among
-agree_at (x ∷ frugal) (a ∷ first) (b ∷ second) agree (suc i) is among = agree_at frugal first second agree.1 i is among
+agree_at (x ∷ marks) [] second agree i is among = absurd agree
+agree_at (x ∷ marks) (a ∷ first) [] agree i is among = absurd agree
+agree_at (x ∷ marks) (a ∷ first) (b ∷ second) agree zero is among = agree.0 is among
+agree_at (x ∷ marks) (a ∷ first) (b ∷ second) agree (suc i) is among = agree_at marks first second agree.1 i is among
 
-agree_more : (frugal : List Bool) (first second : List Effect) → Agree frugal first second → (x : Bool) (a b : Effect) → (x ≡ true → (among : Exception → Bool) → a.raises among ≡ b.raises among)
-    → Agree (frugal ++ x ∷ []) (first ++ a ∷ []) (second ++ b ∷ [])
+agree_more : (marks : List Bool) (first second : List Effect) → Agree marks first second → (x : Bool) (a b : Effect) → (x ≡ true → (among : Exception → Bool) → a.raises among ≡ b.raises among)
+    → Agree (marks ++ x ∷ []) (first ++ a ∷ []) (second ++ b ∷ [])
 agree_more [] [] [] agree x a b same = (same, tt)
 agree_more [] [] (c ∷ second) agree x a b same = absurd agree
 agree_more [] (c ∷ first) second agree x a b same = absurd agree
-agree_more (y ∷ frugal) [] second agree x a b same = absurd agree
-agree_more (y ∷ frugal) (c ∷ first) [] agree x a b same = absurd agree
-agree_more (y ∷ frugal) (c ∷ first) (d ∷ second) agree x a b same = (agree.0, agree_more frugal first second agree.1 x a b same)
+agree_more (y ∷ marks) [] second agree x a b same = absurd agree
+agree_more (y ∷ marks) (c ∷ first) [] agree x a b same = absurd agree
+agree_more (y ∷ marks) (c ∷ first) (d ∷ second) agree x a b same = (agree.0, agree_more marks first second agree.1 x a b same)
 
 -- So it is with all procedures, each behind those before it.
-module _ (p : ProgramForm) (well : IsWellFormed p) (bare : NoAccessToParts p.types) where
-  all_agree : (bs : List BodyForm) (callable : List Profile) (frugal : List Bool) (first second : List Effect) → bodies_fit p.types p.texts p.exceptions callable bs ≡ true → Agree frugal first second
-      → Agree (frugal_from frugal bs) (effects_from p.types (implicit_of p) first bs) (effects_from p.types no_implicit second bs)
-  all_agree [] callable frugal first second fits agree = agree
-  all_agree (b ∷ bs) callable frugal first second fits agree =
+module _ (p : ProgramForm) (well : IsWellFormed p) where
+  all_agree : (bs : List BodyForm) (callable : List Profile) (marks : List Bool) (first second : List Effect) → bodies_fit p.types p.texts p.exceptions callable bs ≡ true → Agree marks first second
+      → Agree (frugal_from p.types marks bs) (effects_from p.types (implicit_of p) first bs) (effects_from p.types no_implicit second bs)
+  all_agree [] callable marks first second fits agree = agree
+  all_agree (b ∷ bs) callable marks first second fits agree =
+      let frugal : Thrift = record { types = p.types; procedures = marks } in
       let two = apart (body_fits p.types p.texts p.exceptions callable b) (bodies_fit p.types p.texts p.exceptions (callable ++ profile_of b ∷ []) bs) fits in
       let one = effect_of p.types (known_of (implicit_of p) first) b in
       let other = effect_of p.types (known_of no_implicit second) b in
-      all_agree bs (callable ++ profile_of b ∷ []) (frugal ++ is_frugal_body frugal b ∷ []) (first ++ one ∷ []) (second ++ other ∷ []) two.1
-      (agree_more frugal first second agree (is_frugal_body frugal b) one other
-      (λ is among. body_same p well.types_fit bare frugal first second callable (λ procedure profile at. agree_at frugal first second agree procedure) b is two.0 among))
+      all_agree bs (callable ++ profile_of b ∷ []) (marks ++ is_frugal_body frugal b ∷ []) (first ++ one ∷ []) (second ++ other ∷ []) two.1
+      (agree_more marks first second agree (is_frugal_body frugal b) one other
+      (λ is among. body_same p well.types_fit marks first second callable (λ procedure profile at. agree_at marks first second agree procedure) b is two.0 among))
 
   -- What calls of a frugal procedure are known to raise, they are known to raise without what is called implicitly.
   calls_agree : (i : ℕ) → slice_index_or (frugal_procedures p) i false ≡ true → (among : Exception → Bool)
@@ -244,7 +238,7 @@ module _ (p : ProgramForm) (well : IsWellFormed p) (bare : NoAccessToParts p.typ
   calls_agree = agree_at (frugal_procedures p) (effects_of (implicit_of p) p).calls (own_effects p).calls (all_agree p.bodies [] [] [] [] well.bodies_fit tt)
 
   -- A procedure before a body is known to that body as to all.
-  known_before : (number procedure : ℕ) (o : Option BodyForm) (profile : Profile) → slice_get (take number p.bodies) procedure ≡ o → option_map profile_of o ≡ Some profile
+  pub known_before : (number procedure : ℕ) (o : Option BodyForm) (profile : Profile) → slice_get (take number p.bodies) procedure ≡ o → option_map profile_of o ≡ Some profile
       → slice_get (effects_from p.types (implicit_of p) [] (take number p.bodies)) procedure ≡ slice_get (effects_of (implicit_of p) p).calls procedure
   known_before number procedure None profile at is = absurd (cc is)
   known_before number procedure (Some c) profile at is =
@@ -255,17 +249,15 @@ module _ (p : ProgramForm) (well : IsWellFormed p) (bare : NoAccessToParts p.typ
       here ∙ ap (λ (bs : List BodyForm). Some (effect_of p.types (known_of implicit (effects_from p.types implicit [] bs)) c)) (taken_before number p.bodies procedure c at) ∙ sym whole
 
 -- A body that may raise one of some exceptions may raise one of more.
-raises_more : (p : ProgramForm) (b : BodyForm) (among more : Exception → Bool) → Within among more → body_raises (own_effects p) b among ≡ true → body_raises (own_effects p) b more ≡ true
-raises_more p b among more within h =
-    let es = own_effects p in
-    let all = program_each no_implicit p in
+pub raises_more : (es : Effects) → AllEach es.calls → (b : BodyForm) (among more : Exception → Bool) → Within among more → body_raises es b among ≡ true → body_raises es b more ≡ true
+raises_more es all b among more within h =
     let ds = b.declarations in
     let fs = b.statements in
     let hs = b.handlers in
-    either (declarations_raise no_implicit among ds || stmts_raise es (untaken hs among) fs) (handlers_raise es among hs)
-    (declarations_raise no_implicit more ds || stmts_raise es (untaken hs more) fs) (handlers_raise es more hs)
-    (either (declarations_raise no_implicit among ds) (stmts_raise es (untaken hs among) fs) (declarations_raise no_implicit more ds) (stmts_raise es (untaken hs more) fs)
-    (declarations_stay no_implicit among more within ds) (stmts_stay es all fs (untaken hs among) (untaken hs more) (within_untaken hs among more within)))
+    either (declarations_raise es.implicit among ds || stmts_raise es (untaken hs among) fs) (handlers_raise es among hs)
+    (declarations_raise es.implicit more ds || stmts_raise es (untaken hs more) fs) (handlers_raise es more hs)
+    (either (declarations_raise es.implicit among ds) (stmts_raise es (untaken hs among) fs) (declarations_raise es.implicit more ds) (stmts_raise es (untaken hs more) fs)
+    (declarations_stay es.implicit among more within ds) (stmts_stay es all fs (untaken hs among) (untaken hs more) (within_untaken hs among more within)))
     (handlers_stay es all hs among more within) h
 
 -- What is false never holds.
@@ -274,9 +266,9 @@ never true is not_so = cc not_so
 never false is not_so = cc is
 
 -- So no exception comes out of a silent one.
-pub silent_frugal : (p : ProgramForm) → IsWellFormed p → NoAccessToParts p.types → (number : ℕ) (b : BodyForm) → slice_get p.bodies number ≡ Some b → is_frugal_body (frugal_procedures p) b ≡ true
+pub silent_frugal : (p : ProgramForm) → IsWellFormed p → (number : ℕ) (b : BodyForm) → slice_get p.bodies number ≡ Some b → is_frugal_body (thrift_of p) b ≡ true
     → body_raises (own_effects p) b (λ x. true) ≡ false → (e : Exception) → body_among (implicit_of p) (seen_in (Some number) p) e ≡ true → ⊥
-silent_frugal p well bare number b there frugal silent e among =
+silent_frugal p well number b there frugal silent e among =
     let callable = [] ++ map profile_of (take number p.bodies) in
     let first = effects_from p.types (implicit_of p) [] (take number p.bodies) in
     let second = (own_effects p).calls in
@@ -286,10 +278,10 @@ silent_frugal p well bare number b there frugal silent e among =
     → call_raises (slice_get first procedure) some ≡ call_raises (slice_get second procedure) some =
     λ procedure profile at is some.
     ap (λ (o : Option Effect). call_raises o some)
-    (known_before p well bare number procedure (slice_get (take number p.bodies) procedure) profile refl (sym (slice_get-map profile_of (take number p.bodies) procedure) ∙ at))
-    ∙ calls_agree p well bare procedure is some in
-    let own : body_raises (own_effects p) b (is_same e) ≡ true = sym (body_same p well.types_fit bare (frugal_procedures p) first second callable known b frugal fits (is_same e)) ∙ raised in
-    never (body_raises (own_effects p) b (λ x. true)) (raises_more p b (is_same e) (λ x. true) (λ x is. refl) own) silent
+    (known_before p well number procedure (slice_get (take number p.bodies) procedure) profile refl (sym (slice_get-map profile_of (take number p.bodies) procedure) ∙ at))
+    ∙ calls_agree p well procedure is some in
+    let own : body_raises (own_effects p) b (is_same e) ≡ true = sym (body_same p well.types_fit (frugal_procedures p) first second callable known b frugal fits (is_same e)) ∙ raised in
+    never (body_raises (own_effects p) b (λ x. true)) (raises_more (own_effects p) (program_each no_implicit p) b (is_same e) (λ x. true) (λ x is. refl) own) silent
 
 -- What a body may raise, calls of its procedure are known to raise: so it comes out of its procedure.
 raised_done : (p : ProgramForm) → IsWellFormed p → (number : ℕ) (b : BodyForm) → slice_get p.bodies number ≡ Some b → (e : Exception) → body_among (implicit_of p) (seen_in (Some number) p) e ≡ true
@@ -321,12 +313,11 @@ starts_let program well access of part number b operable overrides there e among
 
 -- What comes out of the body of such an operation may come out of the treatment that calls it: of an Initialize what the creation of the object may raise, and of a
 -- Finalize nothing (7.6, 7.6.1).
-pub touches_let : (program : Program) → IsWellFormed (program_form program) → may_be_frugal (program_form program) ≡ true → (access of part number : ℕ) (b : BodyForm) → IsOperable (program_form program).types access of part
-    → (treatment : Treatment) → MayTouch treatment → LetsNone (program_form program) treatment b → IsCalled (operations_of program.types.items of) treatment number → slice_get (body_forms program) number ≡ Some b → is_frugal_body (frugal_procedures (program_form program)) b ≡ true
+pub touches_let : (program : Program) → IsWellFormed (program_form program) → (access of part number : ℕ) (b : BodyForm) → IsOperable (program_form program).types access of part
+    → (treatment : Treatment) → MayTouch treatment → LetsNone (program_form program) treatment b → IsCalled (operations_of program.types.items of) treatment number → slice_get (body_forms program) number ≡ Some b → is_frugal_body (thrift_of (program_form program)) b ≡ true
     → (e : Exception) → body_among (implicit_of (program_form program)) (seen_in (Some number) (program_form program)) e ≡ true → lets_out (implicit_of (program_form program)) access treatment e ≡ true
-touches_let program well may access of part number b operable (begins Creation done) touch lets called there frugal e among = starts_let program well access of part number b operable called there e among
-touches_let program well may access of part number b operable (begins Copy done) touch lets called there frugal e among = absurd touch
-touches_let program well may access of part number b operable (begins (Adjustment n) done) touch lets called there frugal e among = absurd touch
-touches_let program well may access of part number b operable (ends cause) touch lets called there frugal e among =
-    let p = program_form program in
-    absurd (silent_frugal p well (no_access_to_parts p may) number b there frugal lets e among)
+touches_let program well access of part number b operable (begins Creation done) touch lets called there frugal e among = starts_let program well access of part number b operable called there e among
+touches_let program well access of part number b operable (begins Copy done) touch lets called there frugal e among = absurd touch
+touches_let program well access of part number b operable (begins (Adjustment n) done) touch lets called there frugal e among = absurd touch
+touches_let program well access of part number b operable (ends cause) touch lets called there frugal e among =
+    absurd (silent_frugal (program_form program) well number b there frugal lets e among)

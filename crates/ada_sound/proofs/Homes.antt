@@ -80,31 +80,31 @@ same_one (Some n) (Some m) e = eq-eqb n m (cc e)
 abbrev pub Pooled : List TypeForm → List Object → Type 0
 Pooled types heap = (o : Id) (object : Object) → object_at heap o ≡ Some object → is_access types object.cell.access ≡ true → (pool : ℕ) × (object.cell.home.pool ≡ Some pool)
 
--- An object that is under way is of no access type.
-abbrev pub NoneIsUnder : List TypeForm → (under : List Id) → List Object → Type 0
-NoneIsUnder types under heap = (o : Id) (x : Object) → IsUnder under o → object_at heap o ≡ Some x → is_access types x.cell.access ≡ false
+-- An object that is under way is of no type of which objects may be freed next.
+abbrev pub NoneIsUnder : (may : ℕ → Bool) → (under : List Id) → List Object → Type 0
+NoneIsUnder may under heap = (o : Id) (x : Object) → IsUnder under o → object_at heap o ≡ Some x → may x.cell.access ≡ false
 
--- Objects of access types are from pools, and no access type has two open collections; and those that are in their collections have the values of all
--- their parts. None is under way.
-pub record HaveHomes (types : List TypeForm) (under : List Id) (heap : List Object) (masters : List Master) : Type 0 where
+-- Objects of access types are from pools, and no access type has two open collections; and those of the types of which objects may be freed next, which are in
+-- their collections, have the values of all their parts. None of these is under way.
+pub record HaveHomes (may : ℕ → Bool) (types : List TypeForm) (under : List Id) (heap : List Object) (masters : List Master) : Type 0 where
   pub pooled : Pooled types heap
   pub lone : AllPairs CollectTwoTypes (items_of masters)
-  pub stand : AllStand types heap
-  pub aside : NoneIsUnder types under heap
+  pub stand : AllStand may types heap
+  pub aside : NoneIsUnder may under heap
 
--- So one that is there is in its collection, and has the values of all its parts.
-pub stands_there : {types : List TypeForm} {under : List Id} {heap : List Object} {masters : List Master} (o : Id) (x : Object) → HaveHomes types under heap masters → Stored under heap masters → object_at heap o ≡ Some x → is_there x.stage ≡ true → is_access types x.cell.access ≡ true → (x.listed ≡ true) × (all_alive x.cell.parts ≡ true)
-stands_there {under = under} o x homes stored found there is =
+-- So one of these that is there is in its collection, and has the values of all its parts.
+pub stands_there : {may : ℕ → Bool} {types : List TypeForm} {under : List Id} {heap : List Object} {masters : List Master} (o : Id) (x : Object) → HaveHomes may types under heap masters → Stored under heap masters → object_at heap o ≡ Some x → is_there x.stage ≡ true → is_access types x.cell.access ≡ true → may x.cell.access ≡ true → (x.listed ≡ true) × (all_alive x.cell.parts ≡ true)
+stands_there {under = under} o x homes stored found there is freely =
     let exists = (stored.sane o x found).there_exists there in
     let listed = by ((stored.sane o x found).out_listed (exists_out o x found exists stored)) in
-    (listed, homes.stand o x found listed is)
+    (listed, homes.stand o x found listed is freely)
   where
     by : (x.listed ≡ true) ⊎ IsUnder under o → x.listed ≡ true
     by (inl listed) = listed
-    by (inr one) = let other = homes.aside o x one found in absurd (cc (is, other))
+    by (inr one) = let other = homes.aside o x one found in absurd (cc (freely, other))
 
 -- What is freed by the instance for its own access type goes back to its own pool.
-pub freed_home : {under : List Id} {types : List TypeForm} {heap : List Object} {masters : List Master} (access : ℕ) (o : Id) (x : Object) → HaveHomes types under heap masters → Stored under heap masters → object_at heap o ≡ Some x → x.stage ≡ Existing → is_access types x.cell.access ≡ true → x.cell.access ≡ access → Some (pool_freed_to (home_of access masters)) ≡ x.cell.home.pool
+pub freed_home : {may : ℕ → Bool} {under : List Id} {types : List TypeForm} {heap : List Object} {masters : List Master} (access : ℕ) (o : Id) (x : Object) → HaveHomes may types under heap masters → Stored under heap masters → object_at heap o ≡ Some x → x.stage ≡ Existing → is_access types x.cell.access ≡ true → x.cell.access ≡ access → Some (pool_freed_to (home_of access masters)) ≡ x.cell.home.pool
 freed_home {masters = masters} access o x homes stored found exists is own =
     let from = homes.pooled o x found is in
     let housed : HasItem x.cell.home.item access (Some from.0) (items_of masters) = rw (own, from.1) at ((stored.sane o x found).housed (exists_out o x found exists stored)) in

@@ -85,13 +85,14 @@ Roomed below ms [] = ms ≡ below
 Roomed below [] (gone ∷ rooms) = ⊥
 Roomed below (m ∷ ms) (gone ∷ rooms) = ItemsAmong m.items gone.types × Roomed below ms rooms
 
--- A caller, whose activation is suspended: what is known of implicit calls; the program as its body sees it, and what is known where flow comes to a place
+-- A caller, whose activation is suspended: what is known of implicit calls; the program as its body sees it, which items go first where a master is left, and what is known where flow comes to a place
 -- in it; the actual parameters of its call, their values, what refers to the components that get something back, the objects to which all that refers leads, those that are under
 -- way, as a treatment finalizes them, and what the procedure keeps of the parameters; what is left to do once the call has come to its end, the masters that are entered then, and their rooms; what its variables hold, and what is
 -- known of them behind the call, as if nothing were handed over.
 pub record Caller : Type 1 where
   pub implicit : Implicit
   pub program : ProgramForm
+  pub ahead : Owned → Bool
   pub At : Control → Holds → Type 0
   pub actuals : List ActualForm
   pub passed : List Value
@@ -109,11 +110,12 @@ pub record Caller : Type 1 where
 abbrev pub waiting_holds : Caller → Holds
 waiting_holds w = left_unkept [] w.actuals w.before
 
--- What is known of implicit calls, the program as the running body sees it, what is known where flow comes to a place in it, and its callers, the nearest
--- one first; and which of its variables stand for components that the body tracks (7.6).
+-- What is known of implicit calls, the program as the running body sees it, which items go first where a master is left (7.6.1), what is known where flow comes to a
+-- place in it, and its callers, the nearest one first; and which of its variables stand for components that the body tracks (7.6).
 pub record Known : Type 1 where
   pub implicit : Implicit
   pub program : ProgramForm
+  pub ahead : Owned → Bool
   pub At : Control → Holds → Type 0
   pub callers : List Caller
   pub tracked : List ℕ
@@ -1050,7 +1052,7 @@ pub record Parting (known : Known) (heap : List Object) (places : List Value) (m
   pub holds : Holds
   pub stored : Stored (outers known).under heap masters
   pub roomed : Roomed (below known) masters rooms
-  pub fit : Fit known.program.types known.program.variables (outers known) (sparing heap (innermost masters)) heap places holds
+  pub fit : Fit known.program.types known.program.variables (outers known) (sparing known.ahead heap (innermost masters)) heap places holds
   pub rest : more rooms holds
 
 -- No place is relied on to name an object that is under way, if there is one, and no call refers to it.
@@ -1078,14 +1080,34 @@ abbrev pub gone_in : (under : Option Id) → List Object → List Object
 gone_in None heap = heap
 gone_in (Some o) heap = on_object finished heap (Names o)
 
+-- Of what the finalization of an object under way may free, if there is one, no suspended activation and no variable has an alias, and the running body may free it
+-- (7.6.1).
+abbrev pub FreesWell : Known → List Object → (under : Option Id) → Holds → Type 0
+FreesWell known heap None holds = Unit {0}
+FreesWell known heap (Some o) holds =
+    (object : Object) → object_at heap o ≡ Some object
+    → Spares known (known.implicit.end_frees object.cell.access) × Unaliased known.program.variables (known.implicit.end_frees object.cell.access) holds
+
+-- A component that is freed is of the type of the object under way, if there is one.
+abbrev pub IsNamedIn : Known → List Object → (holder : Value) → (c : ℕ) → (under : Option Id) → Type 0
+IsNamedIn known heap v c None = Unit {0}
+IsNamedIn known heap Null c (Some o) = ⊥
+IsNamedIn known heap (Names p) c (Some o) =
+    (holder : Object) × (object : Object) × (object_at heap p ≡ Some holder) × (object_at heap o ≡ Some object)
+    × (component_access known.program.types holder c ≡ Some object.cell.access)
+IsNamedIn known heap (Scalar v) c (Some o) = ⊥
+IsNamedIn known heap (Part p place) c (Some o) = ⊥
+
 -- What is behind an object under way, by what ends it: a Free, whose variable or component becomes null; the leaving of a master, at the object's
 -- home; or an exception that came out of its initialization, and goes on (7.6.1): then the object counts as gone already, if an allocator made it. A component
 -- that is freed counts as null already, and its object is another one.
 abbrev pub ClearsTo : Known → (under : Option Id) → List Object → List Value → List Master → Control → Type 0
 ClearsTo known under heap places masters [] = ⊥
-ClearsTo known under heap places masters (Clears x ∷ k) = Freed known under none_spared heap (slice_set places x Null) masters (RunsOn known k)
+ClearsTo known under heap places masters (Clears x ∷ k) =
+    Freed known under none_spared heap (slice_set places x Null) masters (λ rooms holds. RunsOn known k rooms holds × FreesWell known heap under holds)
 ClearsTo known under heap places masters (ClearsIn o c ∷ k) =
-    IsHolder heap o × IsOther o under × Freed known under none_spared (store heap o c Null) places masters (RunsOn known k)
+    IsHolder heap o × IsOther o under × IsNamedIn known heap o c under
+    × Freed known under none_spared (store heap o c Null) places masters (RunsOn known k)
 ClearsTo known under heap places masters (f ∷ k) = ⊥
 
 -- The newest of these items has this number.
@@ -1096,7 +1118,7 @@ IsNewest number (i ∷ is) = i.number ≡ number
 abbrev pub LeavesTo : Known → (under : Option Id) → List Object → List Value → List Master → Control → Type 0
 LeavesTo known under heap places masters [] = ⊥
 LeavesTo known under heap places masters (Leaves mode ∷ k) =
-    Freed known under (sparing heap (innermost masters)) heap places masters (RunsOn known (Leaves mode ∷ k))
+    Freed known under (sparing known.ahead heap (innermost masters)) heap places masters (RunsOn known (Leaves mode ∷ k))
 LeavesTo known under heap places masters (f ∷ k) = ⊥
 
 -- What goes on came out of the initialization of an object of this type (7.6).
@@ -1315,7 +1337,7 @@ BeginsBy known v (Adjustment number) k heap places masters =
 -- So it does behind that of any object.
 abbrev pub BegunTo : Known → Value → Birth → Control → List Object → (places operands : List Value) → List Master → Type 0
 BegunTo known v by k heap places operands masters =
-    BeginsBy known v by k heap places masters ⊎ (IsCollected heap masters v × NamesTo known k heap places operands masters)
+    BeginsBy known v by k heap places masters ⊎ ((by ≡ Creation) × IsCollected heap masters v × NamesTo known k heap places operands masters)
 
 -- Behind the finalization of an object stands its end.
 abbrev pub EndsTo : Known → Value → Control → List Object → List Value → List Master → Type 0
@@ -1513,7 +1535,7 @@ Ready known s = IsActive s.activations × ReadyIn known s.mode s.control s.heap 
 
 -- A caller as the body at work.
 abbrev pub known_of : Caller → List Caller → Known
-known_of w ws = record { implicit = w.implicit; program = w.program; At = w.At; callers = ws; tracked = [] }
+known_of w ws = record { implicit = w.implicit; program = w.program; ahead = w.ahead; At = w.At; callers = ws; tracked = [] }
 
 -- The variable that an actual parameter hands over to a formal one of mode `in out` of an access type, if it does; and that of a formal parameter, by its
 -- number.

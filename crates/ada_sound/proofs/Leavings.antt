@@ -9,20 +9,19 @@ use Rattle.ada_program.specs.ProgramForm.{TypeForm, VariableForm}
 use Rattle.ada_program.specs.WellFormed.{kind_among, access_of, is_this, reached_components}
 use Rattle.ada_flow.specs.declared.rule.Hold.{Hold}
 use Rattle.ada_flow.specs.declared.rule.Hold.TheVariants as hold
-use Rattle.ada_effects.specs.Effects.{Implicit, endings_free}
-use Rattle.ada_flow.specs.Flow.{Holds, hold_at, variable_access, if_own, is_as_good, are_as_good, is_among, Gone, gone_with_both, without_types, without_variables, without_freed, left, left_finalized}
+use Rattle.ada_flow.specs.Flow.{Holds, hold_at, variable_access, if_own, is_as_good, are_as_good, is_among, Gone, gone_with_both, without_types, without_variables, left}
 use Rattle.ada_meaning.specs.declared.state.Id.{Id}
 use Rattle.ada_meaning.specs.declared.state.Value.{Value}
 use Rattle.ada_meaning.specs.declared.state.Value.TheVariants.{Null, Names}
-use Rattle.ada_meaning.specs.State.{Item, Master}
+use Rattle.ada_meaning.specs.State.{Item, Master, Owned}
 use Rattle.ada_meaning.specs.Named.{Object, object_at}
 use Rattle.ada_scopes.specs.Scopes.{is_innermost}
 use Rattle.ada_owners.specs.Places.{is_there, Place, variable, component, elsewhere, component_in, value_at, access_at}
 use Rattle.ada_owners.specs.Reliance.{component_kind, IsOf, Says, Owns, Borrows, component_hold}
 use Rattle.ada_owners.proofs.Ends.{IsUnnamed}
-use Rattle.ada_sound.proofs.Fits.{IsReferred, IsUnreferred, Outsiders, Fit, IsRelied, outer_hold, hold_in, stacked, outer_value, outer_value_at, place_at, objects_left, sparing, kinds_of, lies_among, hand_is_unnamed}
+use Rattle.ada_sound.proofs.Fits.{IsReferred, IsUnreferred, Outsiders, Fit, IsRelied, outer_hold, hold_in, stacked, outer_value, outer_value_at, place_at, first_left, sparing, kinds_of, lies_among, hand_is_unnamed}
 use Rattle.ada_sound.proofs.Stored.{IsUnder}
-use Rattle.ada_sound.proofs.Orderings.{AsGood, as_good, good_here, good_lost, good_losing, good_to_lost, without_freed_good}
+use Rattle.ada_sound.proofs.Orderings.{AsGood, as_good, good_here, good_lost, good_losing, good_to_lost}
 use Rattle.ada_sound.proofs.Raising.{both}
 use Rattle.ada_sound.proofs.Values.{read_other, same_or_not, lost_here}
 use Rattle.ada_sound.proofs.Invariant.{AllAmong, NamesNone}
@@ -167,12 +166,6 @@ left_losing variables gone holds x among =
     variables_less gone.variables (without_types variables gone.types (slice_set holds x hold.Lost)) kept
     (rw (one_apart variables gone.types holds x) (good_losing x kept kept (lost_type variables gone.types holds x among) (as_good kept)))
 
--- What is left behind blocks whose objects are finalized is less than what is left behind others.
-pub finalized_less : (variables : List VariableForm) (implicit : Implicit) (gone : Gone) (holds : Holds) → AsGood (left variables gone holds) (left_finalized variables implicit gone holds)
-finalized_less variables implicit gone holds =
-    let may = endings_free implicit gone.types in
-    left_less variables gone holds (without_freed variables may holds) (without_freed_good variables may holds)
-
 -- Flow compares each variable.
 pub good_all : (holds other : Holds) → AsGood holds other → are_as_good holds other ≡ true
 good_all holds [] good = refl
@@ -244,16 +237,16 @@ pub component_borrows : (b : Bool) → Borrows (component_hold b) → ⊥
 component_borrows true b = b
 component_borrows false b = b
 
--- The newest item goes: that of an object, whose name no component holds, or, once no object is left, a collection.
-abbrev pub GoesInOrder : List TypeForm → Item → List Item → Type 0
-GoesInOrder types item items =
-    (objects_left (item ∷ items) ≡ false)
+-- The newest item goes: one whose objects no component names, as that of an object, or, once none is left of those that go first, a collection.
+abbrev pub GoesInOrder : (ahead : Owned → Bool) → List TypeForm → Item → List Item → Type 0
+GoesInOrder ahead types item items =
+    (first_left ahead (item ∷ items) ≡ false)
     ⊎ ((access : ℕ) (pool : Option ℕ) → Houses item.owned access pool
     → (holder c : ℕ) → access_of (kind_among (reached_components types holder) c) ≡ Some access → ⊥)
 
-abbrev pub AreInOrder : List TypeForm → List Item → Type 0
-AreInOrder types [] = Unit {0}
-AreInOrder types (i ∷ is) = GoesInOrder types i is
+abbrev pub AreInOrder : (ahead : Owned → Bool) → List TypeForm → List Item → Type 0
+AreInOrder ahead types [] = Unit {0}
+AreInOrder ahead types (i ∷ is) = GoesInOrder ahead types i is
 
 -- What a variable of a suspended activation is relied on to name, what a call refers to, and what is under way has no home in the innermost master.
 abbrev pub NamedBelow : Outsiders → List Object → List Master → Type 0
@@ -266,7 +259,7 @@ NamedBelow outer heap ms =
 
 -- A member of the newest collection of the innermost master, of a type of which no variable is relied on to name an object, is in hand where nothing relies on the
 -- components of that master's objects.
-module _ (types : List TypeForm) (variables : List VariableForm) (outer : Outsiders) (heap : List Object) (places : List Value) (holds : Holds) (number : ℕ) (item : Item) (items : List Item) (ms : List Master) (gone : List ℕ) (fit : Fit types variables outer (sparing heap (item ∷ items)) heap places holds) (none : NamesNone variables gone holds) (held : HeldIn heap (record { number = number; items = item ∷ items } ∷ ms)) (below : NamedBelow outer heap (record { number = number; items = item ∷ items } ∷ ms)) (o : Id) (x : Object) (found : object_at heap o ≡ Some x) (there : is_there x.stage ≡ true) (home : x.cell.home.item ≡ item.number) (among : is_among gone (Some x.cell.access) ≡ true) (pool : Option ℕ) (houses : Houses item.owned x.cell.access pool) (order : GoesInOrder types item items) where
+module _ (ahead : Owned → Bool) (types : List TypeForm) (variables : List VariableForm) (outer : Outsiders) (heap : List Object) (places : List Value) (holds : Holds) (number : ℕ) (item : Item) (items : List Item) (ms : List Master) (gone : List ℕ) (fit : Fit types variables outer (sparing ahead heap (item ∷ items)) heap places holds) (none : NamesNone variables gone holds) (held : HeldIn heap (record { number = number; items = item ∷ items } ∷ ms)) (below : NamedBelow outer heap (record { number = number; items = item ∷ items } ∷ ms)) (o : Id) (x : Object) (found : object_at heap o ≡ Some x) (there : is_there x.stage ≡ true) (home : x.cell.home.item ≡ item.number) (among : is_among gone (Some x.cell.access) ≡ true) (pool : Option ℕ) (houses : Houses item.owned x.cell.access pool) (order : GoesInOrder ahead types item items) where
   access_here : access_at heap o ≡ Some x.cell.access
   access_here = rw (found, there) refl
 
@@ -292,10 +285,10 @@ module _ (types : List TypeForm) (variables : List VariableForm) (outer : Outsid
   no_kind c (Some u) None none is of = of
   no_kind c (Some u) (Some t) none is of = let here = access_here in none t u c is (cc (here, of))
 
-  no_component : (p : Id) (c : ℕ) → GoesInOrder types item items → Owns (hold_in outer (sparing heap (item ∷ items)) holds (component p c)) → component_in (object_at heap p) c ≡ Names o → ⊥
+  no_component : (p : Id) (c : ℕ) → GoesInOrder ahead types item items → Owns (hold_in outer (sparing ahead heap (item ∷ items)) holds (component p c)) → component_in (object_at heap p) c ≡ Names o → ⊥
   no_component p c (inl left) own names = no_holder p c (object_at heap p) refl (rw left at own) names
   no_component p c (inr none) own names =
-      let of = says_of heap (component_hold (sparing heap (item ∷ items) p)) (component_kind (kinds_of types variables outer) (access_at heap p) c) o (owns_relied (component_hold (sparing heap (item ∷ items) p)) own) (fit.owners.fit.relied (component p c) o names) in
+      let of = says_of heap (component_hold (sparing ahead heap (item ∷ items) p)) (component_kind (kinds_of types variables outer) (access_at heap p) c) o (owns_relied (component_hold (sparing ahead heap (item ∷ items) p)) own) (fit.owners.fit.relied (component p c) o names) in
       no_kind c (access_at heap p) (component_kind (kinds_of types variables outer) (access_at heap p) c) (λ t u d is same. none x.cell.access pool houses u d (rw same at is)) refl of
 
   no_name : (y : ℕ) → IsRelied (hold_at holds y) → place_at places y ≡ Names o → ⊥
@@ -308,18 +301,18 @@ module _ (types : List TypeForm) (variables : List VariableForm) (outer : Outsid
   no_elsewhere d y is names =
       below.0 d y o x is (sym (outer_value_at heap places outer d y) ∙ names) found (rw (eq-eqb item.number x.cell.home.item (sym home)) refl)
 
-  no_borrower : (q : Place) → Borrows (hold_in outer (sparing heap (item ∷ items)) holds q) → value_at heap (stacked places outer) q ≡ Names o → ⊥
+  no_borrower : (q : Place) → Borrows (hold_in outer (sparing ahead heap (item ∷ items)) holds q) → value_at heap (stacked places outer) q ≡ Names o → ⊥
   no_borrower (variable y) b names = no_name y (borrows_relied (hold_at holds y) b) names
-  no_borrower (component p c) b names = component_borrows (sparing heap (item ∷ items) p) b
+  no_borrower (component p c) b names = component_borrows (sparing ahead heap (item ∷ items) p) b
   no_borrower (elsewhere d y) b names = no_elsewhere d y (borrows_relied (outer_hold (slice_get outer.suspended d) y) b) names
 
-  no_owner : (q : Place) → Owns (hold_in outer (sparing heap (item ∷ items)) holds q) → value_at heap (stacked places outer) q ≡ Names o → ⊥
+  no_owner : (q : Place) → Owns (hold_in outer (sparing ahead heap (item ∷ items)) holds q) → value_at heap (stacked places outer) q ≡ Names o → ⊥
   no_owner (variable y) own names = no_name y (owns_relied (hold_at holds y) own) names
   no_owner (component p c) own names = no_component p c order own names
   no_owner (elsewhere d y) own names = no_elsewhere d y (owns_relied (outer_hold (slice_get outer.suspended d) y) own) names
 
-  pub taken_unnamed : IsUnnamed heap (stacked places outer) (hold_in outer (sparing heap (item ∷ items)) holds) o
-  taken_unnamed = hand_is_unnamed outer types variables (sparing heap (item ∷ items)) heap places holds (Some x.cell.access) o (record {
+  pub taken_unnamed : IsUnnamed heap (stacked places outer) (hold_in outer (sparing ahead heap (item ∷ items)) holds) o
+  taken_unnamed = hand_is_unnamed outer types variables (sparing ahead heap (item ∷ items)) heap places holds (Some x.cell.access) o (record {
     hand = record {
       right = λ p e. let same : o ≡ p = name_is o p e in rw (← same) access_here;
       free = λ p e q own names. let same : o ≡ p = name_is o p e in no_owner q own (rw (← same) at names);

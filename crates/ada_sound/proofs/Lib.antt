@@ -1,3 +1,5 @@
+-- what goes first where a master is left
+pub mod Ahead
 -- what is relied on in a run
 pub mod Fits
 -- what objects are after a step
@@ -102,6 +104,8 @@ pub mod Nestings
 pub mod Targets
 -- what ends
 pub mod Endings
+-- a variable that is freed, while a Finalize runs that touches storage
+pub mod Emptying
 -- an exception comes out of an initialization
 pub mod Undone
 -- controlled parts are initialized and finalized
@@ -161,6 +165,10 @@ pub mod FrugalLeaves
 pub mod FrugalUseParts
 pub mod FrugalUseEnds
 pub mod FrugalUseLets
+mod FrugalUseFrees
+-- what comes out of operations that are in use
+mod QuietEffects
+mod StartsInUse
 -- what is finalized at an assignment
 pub mod AssignedParts
 -- what Free of a component does
@@ -241,6 +249,14 @@ pub mod AdjustingGoes
 pub mod Starts
 -- one step
 pub mod Steps
+-- collections are created in order
+pub mod CollectsApart
+-- while objects are treated, and masters are left
+pub mod CollectsApartTreatments
+-- whatever the next step is
+pub mod CollectsApartSteps
+-- in whole runs: the items of each master are apart
+pub mod CollectsApartRuns
 -- objects go first, then collections
 pub mod InOrder
 -- of which records a treatment speaks
@@ -322,6 +338,8 @@ pub mod ExampleControlled
 pub mod ExampleOperations
 pub mod ExampleUndone
 pub mod ExampleTidying
+-- one that allocates objects with such a Finalize
+pub mod ExampleBoxing
 pub mod ExampleOverwriting
 pub mod ExampleEmptying
 pub mod ExampleAllocating
@@ -337,3 +355,5 @@ pub mod Agreeing
 pub mod Covered
 -- the laws
 pub mod Headline
+-- objects without controlled parts
+pub mod BareObjects

@@ -1,6 +1,6 @@
 -- A simple body (7.6) is one of which the laws on tracked components speak.
 
-use Rattle.std.proofs.Common.{◌≡◌, ℕ, zero, suc, ◌<◌, not, Bool, true, false, List, [], ◌∷◌, length, drop, refl, sym, ap, ◌∙◌, arith, subst}
+use Rattle.std.proofs.Common.{◌≡◌, ℕ, zero, suc, ◌<◌, Bool, true, false, List, [], ◌∷◌, length, drop, refl, sym, ap, ◌∙◌, arith, subst}
 use Rattle.std.specs.Prelude.{if◌then◌else◌, Option, Some, None, is_some}
 use Rattle.std.specs.List.{list_all, slice_get}
 use Rattle.ada_program.specs.declared.program.ComponentKind.{ComponentKind}
@@ -18,15 +18,14 @@ use Rattle.ada_tracked.specs.Simple.{IsVariable, IsFrom}
 use Rattle.ada_judged.specs.Fitting.{TracksComponents}
 use Rattle.ada_judged.specs.Obeying.{PathIsOrderly, ExpressionIsOrderly, LinksAreOrderly, ConditionIsOrderly, ItemIsOrderly, ItemsAreOrderly, RightIsOrderly, DeclarationIsOrderly, DeclarationsAreOrderly, StatementIsOrderly, StatementsAreOrderly, BranchesAreOrderly, HandlersAreOrderly, BodyIsOrderly}
 use Rattle.ada_judged.proofs.FittingRecords.{statements_record}
-use Rattle.ada_quiet.specs.Simple as quiet
+use Rattle.ada_quiet.specs.Bare.{has_bare_objects}
 use Rattle.ada_quiet.specs.Simple.{is_plain_item, is_simple_right, is_simple_declaration, are_simple_declarations, is_simple_stmt, are_simple, are_simple_branches, are_simple_handlers, is_simple_body}
 use Rattle.ada_typed.proofs.Bodies.{SeenFits, seen_fits, seen_as}
 use Rattle.ada_typed.proofs.Operators.{typed, unary_operand, binary_operand, chain_left}
-use Rattle.ada_typed.proofs.Values as values
 use Rattle.ada_sound.proofs.OperationStarts.{apart}
 use Rattle.ada_sound.proofs.Roots.{none_behind}
 use Rattle.ada_sound.proofs.SimpleBodies.{simple_parts}
-use Rattle.ada_sound.proofs.WatchedBy.{holds_no_record}
+use Rattle.ada_sound.proofs.WatchedBy.{hold_bare}
 
 -- What is held is there, and no record (3.3.1).
 abbrev is_value : Option VariableKind → Bool
@@ -197,17 +196,17 @@ module _ (types : List TypeForm) (tracks : Tracks) (own : List VariableForm) (tr
   scalar_orderly t (allocates_default access) fit = tt
   scalar_orderly t (computes e) fit = typed_orderly t e fit
 
-  value_orderly : (access : ℕ) (right : RightForm) → access_fits types own access right ≡ true → is_simple_right right ≡ true → RightIsOrderly tracks right
+  value_orderly : (access : ℕ) (right : RightForm) → access_fits types own access right ≡ true → is_simple_right types right ≡ true → RightIsOrderly tracks right
   value_orderly access nothing fit simple = tt
   value_orderly access (value_of path) fit simple = access_orderly access path fit
   value_orderly access (allocates t items) fit simple =
       let all = apart _ _ fit in
       let two = apart _ _ all.0 in
-      filled_orderly (reached_components types access) items two.1 simple
+      filled_orderly (reached_components types access) items two.1 (apart (has_bare_objects types t) (list_all is_plain_item items) simple).1
   value_orderly access (allocates_default t) fit simple = tt
   value_orderly access (computes e) fit simple = absurd (cc fit)
 
-  right_orderly : (found : Option VariableKind) (right : RightForm) → right_fits types own found right ≡ true → is_simple_right right ≡ true → RightIsOrderly tracks right
+  right_orderly : (found : Option VariableKind) (right : RightForm) → right_fits types own found right ≡ true → is_simple_right types right ≡ true → RightIsOrderly tracks right
   right_orderly None right fit simple = absurd (cc fit)
   right_orderly (Some variable.Integer) right fit simple = scalar_orderly Integer right fit
   right_orderly (Some variable.Boolean) right fit simple = scalar_orderly Boolean right fit
@@ -215,7 +214,7 @@ module _ (types : List TypeForm) (tracks : Tracks) (own : List VariableForm) (tr
   right_orderly (Some (variable.Record object)) right fit simple = absurd (cc fit)
 
   -- Declarations of variables (3.3.1).
-  declaration_orderly : (d : DeclarationForm) → initial_fits types own d ≡ true → is_simple_declaration d ≡ true → DeclarationIsOrderly tracks d
+  declaration_orderly : (d : DeclarationForm) → initial_fits types own d ≡ true → is_simple_declaration types d ≡ true → DeclarationIsOrderly tracks d
   declaration_orderly (creates_pool p) fit simple = tt
   declaration_orderly (collects access) fit simple = tt
   declaration_orderly (declares x right) fit simple =
@@ -224,20 +223,20 @@ module _ (types : List TypeForm) (tracks : Tracks) (own : List VariableForm) (tr
       (variable_orderly x (right_value types own (variable_kind own x) right two.1), right_orderly (variable_kind own x) right two.1 simple)
   declaration_orderly (declares_record x t initial) fit simple = absurd (cc simple)
 
-  initials_orderly : (ds : List DeclarationForm) → list_all (initial_fits types own) ds ≡ true → are_simple_declarations ds ≡ true → DeclarationsAreOrderly tracks ds
+  initials_orderly : (ds : List DeclarationForm) → list_all (initial_fits types own) ds ≡ true → are_simple_declarations types ds ≡ true → DeclarationsAreOrderly tracks ds
   initials_orderly [] fit simple = tt
   initials_orderly (d ∷ ds) fit simple =
       let fits = apart _ _ fit in
       let simples = apart _ _ simple in
       (declaration_orderly d fits.0 simples.0, initials_orderly ds fits.1 simples.1)
 
-  declarations_orderly : (ds : List DeclarationForm) → declarations_fit types own ds ≡ true → are_simple_declarations ds ≡ true → DeclarationsAreOrderly tracks ds
+  declarations_orderly : (ds : List DeclarationForm) → declarations_fit types own ds ≡ true → are_simple_declarations types ds ≡ true → DeclarationsAreOrderly tracks ds
   declarations_orderly ds fit simple = initials_orderly ds (apart _ _ fit).1 simple
 
   -- Statements (5.1).
   module _ (texts exceptions : List (List ℕ)) (callable : List Profile) where
     mutual
-      statement_orderly : (inside : Bool) (f : StmtForm) → statement_fits types own texts exceptions callable inside f ≡ true → is_simple_stmt f ≡ true → StatementIsOrderly tracks f
+      statement_orderly : (inside : Bool) (f : StmtForm) → statement_fits types own texts exceptions callable inside f ≡ true → is_simple_stmt types f ≡ true → StatementIsOrderly tracks f
       statement_orderly inside skips fit simple = tt
       statement_orderly inside (assigns target right) fit simple =
           let fits = (apart _ _ fit).0 in
@@ -274,14 +273,14 @@ module _ (types : List TypeForm) (tracks : Tracks) (own : List VariableForm) (tr
           let firsts = apart _ _ simples.0 in
           (declarations_orderly ds fronts.0 firsts.0, statements_orderly inside fs fronts.1 firsts.1, handlers_orderly inside hs fits.1 simples.1)
 
-      statements_orderly : (inside : Bool) (fs : StmtsForm) → stmts_fit types own texts exceptions callable inside fs ≡ true → are_simple fs ≡ true → StatementsAreOrderly tracks fs
+      statements_orderly : (inside : Bool) (fs : StmtsForm) → stmts_fit types own texts exceptions callable inside fs ≡ true → are_simple types fs ≡ true → StatementsAreOrderly tracks fs
       statements_orderly inside no_stmts fit simple = tt
       statements_orderly inside (a_stmt f fs) fit simple =
           let fits = apart _ _ fit in
           let simples = apart _ _ simple in
           (statement_orderly inside f fits.0 simples.0, statements_orderly inside fs fits.1 simples.1)
 
-      branches_orderly : (inside : Bool) (branches : BranchesForm) → branches_fit types own texts exceptions callable inside branches ≡ true → are_simple_branches branches ≡ true → BranchesAreOrderly tracks branches
+      branches_orderly : (inside : Bool) (branches : BranchesForm) → branches_fit types own texts exceptions callable inside branches ≡ true → are_simple_branches types branches ≡ true → BranchesAreOrderly tracks branches
       branches_orderly inside (otherwise fs) fit simple = statements_orderly inside fs fit simple
       branches_orderly inside (a_branch e fs branches) fit simple =
           let fits = apart _ _ fit in
@@ -289,7 +288,7 @@ module _ (types : List TypeForm) (tracks : Tracks) (own : List VariableForm) (tr
           let simples = apart _ _ simple in
           (typed_orderly Boolean e fronts.0, statements_orderly inside fs fronts.1 simples.0, branches_orderly inside branches fits.1 simples.1)
 
-      handlers_orderly : (inside : Bool) (hs : HandlersForm) → handlers_fit types own texts exceptions callable inside hs ≡ true → are_simple_handlers hs ≡ true → HandlersAreOrderly tracks hs
+      handlers_orderly : (inside : Bool) (hs : HandlersForm) → handlers_fit types own texts exceptions callable inside hs ≡ true → are_simple_handlers types hs ≡ true → HandlersAreOrderly tracks hs
       handlers_orderly inside no_handlers fit simple = tt
       handlers_orderly inside (a_handler choices fs hs) fit simple =
           let fits = apart _ _ fit in
@@ -300,31 +299,17 @@ module _ (types : List TypeForm) (tracks : Tracks) (own : List VariableForm) (tr
 -- In a well-formed program a simple body is orderly, if it tracks components of its formal parameter.
 pub orderly_body :
     (p : ProgramForm) → IsWellFormed p → (number : ℕ) (b : BodyForm) → slice_get p.bodies number ≡ Some b → (tracks : Tracks) → TracksComponents p.types tracks b.variables
-    → is_simple_body b ≡ true → BodyIsOrderly tracks b
+    → is_simple_body p.types b ≡ true → BodyIsOrderly tracks b
 orderly_body p well number b there tracks tracking is =
     let own = seen_by number b p in
     let fit : SeenFits own = subst SeenFits (seen_as p number b there) (seen_fits p well (Some number)) in
-    let parts = simple_parts b is in
+    let parts = simple_parts p.types b is in
     record {
       declarations = initials_orderly p.types tracks b.variables tracking b.declarations fit.initials_fit parts.declarations;
       statements = statements_orderly p.types tracks b.variables tracking p.texts p.exceptions (callable_in own) false b.statements fit.statements_fit parts.statements;
       handlers = handlers_orderly p.types tracks b.variables tracking p.texts p.exceptions (callable_in own) false b.handlers fit.handlers_fit parts.handlers;
     }
 
--- A variable that is no record object or record parameter holds no record.
-kind_same : (kind : VariableKind) → values.is_record_kind kind ≡ quiet.is_record_kind kind
-kind_same variable.Integer = refl
-kind_same variable.Boolean = refl
-kind_same (variable.Access access) = refl
-kind_same (variable.Record object) = refl
-
-none_same : (variables : List VariableForm) → list_all (λ x. not (quiet.is_record_kind x.kind)) variables ≡ true → list_all holds_no_record variables ≡ true
-none_same [] none = refl
-none_same (x ∷ variables) none =
-    let both = apart _ _ none in
-    let first : holds_no_record x ≡ true = ap not (kind_same x.kind) ∙ both.0 in
-    rw (first, none_same variables both.1) refl
-
--- No variable of it but the formal parameter holds a record.
-pub lone_body : (b : BodyForm) → is_simple_body b ≡ true → list_all holds_no_record (drop 1 b.variables) ≡ true
-lone_body b is = none_same (drop 1 b.variables) (simple_parts b is).variables
+-- Each variable of it but the formal parameter holds an Integer, a Boolean, or values of an access type whose objects have no controlled parts.
+pub lone_body : (types : List TypeForm) (b : BodyForm) → is_simple_body types b ≡ true → hold_bare types (drop 1 b.variables) ≡ true
+lone_body types b is = (simple_parts types b is).variables

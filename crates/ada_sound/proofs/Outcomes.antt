@@ -6,9 +6,9 @@ use Rattle.ada_text.specs.declared.spot.Spot.{Spot}
 use Rattle.ada_program.specs.declared.program.Exception.{Exception}
 use Rattle.ada_program.specs.Form.{ExpressionForm, RightForm, nothing, value_of, allocates, allocates_default, computes}
 use Rattle.ada_program.specs.ProgramForm.{VariableForm}
-use Rattle.ada_effects.specs.Effects.{expression_raises, endings_free, Implicit}
+use Rattle.ada_effects.specs.Effects.{expression_raises, Implicit}
 use Rattle.ada_flow.specs.declared.rule.Rule.TheVariants.{LoopState, FormalNotOwned}
-use Rattle.ada_flow.specs.Flow.{Holds, Outcome, faults, goes, Breach, join, join_option, also_raises, then_flow, raising_if, ends_with, unless_broken, using_paths, uses_in, broken_among, computed, either_of, are_as_good, unless_worse, ends_turn, left_with, without_freed, without_freed_option, loses, initializes, finalizes, Gone, left, left_option, leaves_block, leaves_finalized, left_finalized, handled, all_give_back, ends_body, return_flow}
+use Rattle.ada_flow.specs.Flow.{Holds, Outcome, faults, goes, Breach, join, join_option, also_raises, then_flow, raising_if, ends_with, unless_broken, using_paths, uses_in, broken_among, computed, either_of, are_as_good, unless_worse, ends_turn, left_with, without_freed, without_freed_option, loses, initializes, finalizes, Gone, left, left_option, leaves_block, handled, all_give_back, ends_body, return_flow}
 use Rattle.ada_flow.specs.Tracking.{no_tracks}
 use Rattle.ada_sound.proofs.Orderings.{AsGood, as_good, as_good_then, good_each, join_left, join_right, without_freed_good}
 use Rattle.ada_sound.proofs.Invariant.{Known, Control, Rooms, GoesBy, Goes, To, Ways, Raised, MayReturn, NoneBroken, RunsOn, RunsAfter}
@@ -166,10 +166,6 @@ initializes_after known (allocates_default access) o k rooms raised downs g =
     loses_to known.program.variables (known.implicit.start_frees access) o (RunsOn known k rooms) raised downs g
 initializes_after known (computes e) o k rooms raised downs g = g
 
-pub finalizes_to : (variables : List VariableForm) (implicit : Implicit) (access : Option ℕ) (o : Outcome) (more raised : Holds → Type 0) → Down raised → Goes (finalizes variables implicit access o) more raised → Goes o (To more) raised
-finalizes_to variables implicit None o more raised downs g = goes_map o more raised (To more) raised (to_here more) (λ h r. r) g
-finalizes_to variables implicit (Some t) o more raised downs g = loses_to variables (implicit.end_frees t) o more raised downs g
-
 -- A block: it is left both ways.
 block_some : (variables : List VariableForm) (gone : Gone) (o : Option Holds) (more : Holds → Type 0) → GoesBy (left_option variables gone o) more → GoesBy o (λ h. more (left variables gone h))
 block_some variables gone None more g = g
@@ -178,13 +174,6 @@ block_some variables gone (Some h) more g = g
 pub block_goes : (variables : List VariableForm) (gone : Gone) (o : Outcome) (more raised : Holds → Type 0) → Goes (leaves_block variables gone o) more raised → Goes o (λ h. more (left variables gone h)) (λ h. raised (left variables gone h))
 block_goes variables gone (faults spot rule) more raised g = g
 block_goes variables gone (goes normal raising) more raised g = (block_some variables gone normal more g.0, block_some variables gone raising raised g.1)
-
--- A block whose objects are finalized as it is left.
-pub finalized_goes : (variables : List VariableForm) (implicit : Implicit) (gone : Gone) (o : Outcome) (more raised : Holds → Type 0) → Goes (leaves_finalized variables implicit gone o) more raised → Goes o (λ h. more (left_finalized variables implicit gone h)) (λ h. raised (left_finalized variables implicit gone h))
-finalized_goes variables implicit gone o more raised g =
-    let may = endings_free implicit gone.types in
-    loses_goes variables may o (λ h. more (left variables gone h)) (λ h. raised (left variables gone h))
-    (block_goes variables gone (loses variables may o) more raised g)
 
 -- The end of a body: there formal parameters give back what they owe.
 owed_goes : (owed : List ℕ) (spot : Spot) (holds : Holds) (raising : Option Holds) (more raised : Holds → Type 0) → Goes (ends_body owed spot (goes (Some holds) raising)) more raised → (more holds × (all_give_back owed holds ≡ true)) × GoesBy raising raised

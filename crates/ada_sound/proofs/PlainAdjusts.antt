@@ -1,14 +1,14 @@
 -- The Adjust of a part is called that tracks components (7.6), where each component of the object counts as an owner of what it names: what is known where those
 -- that it tracks count as null.
 
-use Rattle.std.proofs.Common.{◌≡◌, ℕ, ◌+◌, ◌≤◌, true, false, List, ◌∷◌, refl, sym, subst, ap, ◌∙◌, inl, inr, arith}
+use Rattle.std.proofs.Common.{◌≡◌, ℕ, ◌+◌, ◌≤◌, true, List, ◌∷◌, refl, sym, subst, ap, ◌∙◌, inl, inr, arith}
 use Rattle.std.specs.Prelude.{Option, Some, None}
 use Rattle.ada_parts.specs.Part as parts
 use Rattle.ada_program.proofs.Shapes.{same_number}
 use Rattle.ada_program.specs.Controlled.{operations_of}
 use Rattle.ada_program.specs.declared.program.Program.{Program}
 use Rattle.ada_program.specs.ProgramForm.{ProgramForm, TypeForm, body_forms, program_form}
-use Rattle.ada_program.specs.WellFormed.{IsWellFormed, is_access, object_named, part_count, parts_named}
+use Rattle.ada_program.specs.WellFormed.{IsWellFormed, object_named, part_count, parts_named}
 use Rattle.ada_meaning.proofs.Places.{numbers_are_alone}
 use Rattle.ada_flow.specs.Flow.{Holds}
 use Rattle.ada_meaning.specs.declared.event.Birth.{Birth}
@@ -19,14 +19,12 @@ use Rattle.ada_meaning.specs.declared.state.Value.{Value}
 use Rattle.ada_meaning.specs.declared.state.Value.TheVariants.{Names, Part}
 use Rattle.ada_meaning.specs.Frame.{Treatment, begins, ends}
 use Rattle.ada_meaning.specs.Frame as frame
-use Rattle.ada_meaning.specs.Law.{items_of}
 use Rattle.ada_meaning.specs.Named.{Object, State, named, object_at}
 use Rattle.ada_meaning.specs.Run.{Event}
 use Rattle.ada_meaning.specs.State.{Activation, Master}
 use Rattle.ada_meaning.specs.Step.{operating}
 use Rattle.ada_owners.specs.Places.{is_there}
-use Rattle.ada_quiet.specs.InUse.{may_be_frugal, may_track}
-use Rattle.ada_scopes.proofs.Homes.{ItemsFit}
+use Rattle.ada_quiet.specs.InUse.{may_track}
 use Rattle.ada_tracked.specs.Frames.{blanked, watched}
 use Rattle.ada_typed.proofs.Evaluations.{own_access}
 use Rattle.ada_typed.proofs.Inner.{lies_at}
@@ -35,7 +33,6 @@ use Rattle.ada_typed.specs.Holding.{WalksTo, cells_of}
 use Rattle.ada_sound.proofs.Callers.{Suspension, known_in}
 use Rattle.ada_sound.proofs.CopiedOwners.{BeginsCopy, OnlyPart, SeesToOwners, hiding, part_owners}
 use Rattle.ada_sound.proofs.CopiedWell.{named_one}
-use Rattle.ada_sound.proofs.FrugalUseParts.{operable_is_object}
 use Rattle.ada_sound.proofs.HiddenOwners.{components_there, hide_set, names_hidden, stored_hidden}
 use Rattle.ada_sound.proofs.Invariant.{Adjusted, AdjustsAside, BegunTo, Control, Known, Rooms, RunsOn, TreatsBy, Working}
 use Rattle.ada_sound.proofs.OnlyParts.{IsControlled, controlled_counts, walked_counts}
@@ -46,21 +43,20 @@ use Rattle.ada_sound.proofs.OperationStarts.{live_there}
 use Rattle.ada_sound.proofs.QuietOperations.{AdjustsCopy, AdjustsOwn}
 use Rattle.ada_sound.proofs.Ready.{at_work, running}
 use Rattle.ada_sound.proofs.Returns.{same_types}
-use Rattle.ada_sound.proofs.TouchingRests.{none_collected}
-use Rattle.ada_sound.proofs.Trackers.{frugal_too}
 use Rattle.ada_sound.proofs.TracksAs.{own_sees}
 use Rattle.ada_sound.proofs.TracksWell.{copied_alone, one_part_each}
 use Rattle.ada_sound.proofs.Treatments.{Begins, BeginsAdjust, BeginsPart}
 
 -- An object is treated that a record was copied to.
 module _ (known : Known) (o : Id) (x : Object) (heap : List Object) (found : object_at heap o ≡ Some x) (places operands : List Value) (masters : List Master) (k : Control) where
-  -- What is behind that goes on, since no allocator made the object, which is of no access type; and of what its adjustment may free there is no alias.
-  copied_works : (by : Birth) → BeginsCopy by → is_access known.program.types x.cell.access ≡ false → ItemsFit known.program.types (items_of masters) → BegunTo known (Names o) by k heap places operands masters
+  -- What is behind that goes on, since it is no allocator that makes the object; and of what its adjustment may free there is no alias.
+  copied_works : (by : Birth) → BeginsCopy by → BegunTo known (Names o) by k heap places operands masters
       → Working known heap places masters (λ rooms holds. RunsOn known k rooms holds × AdjustsAside known x.cell.access holds)
-  copied_works Creation copies object fits begun = absurd copies
-  copied_works Copy copies object fits (inl w) = at_work w (w.rest.0, w.rest.1 o x refl found)
-  copied_works (Adjustment n) copies object fits (inl w) = at_work w (w.rest.0, w.rest.1 o x refl found)
-  copied_works by copies object fits (inr (collected, r)) = let home = collected o x refl found in absurd (none_collected known o x heap found places operands masters object fits masters fits home.0 home.1)
+  copied_works Creation copies begun = absurd copies
+  copied_works Copy copies (inl w) = at_work w (w.rest.0, w.rest.1 o x refl found)
+  copied_works (Adjustment n) copies (inl w) = at_work w (w.rest.0, w.rest.1 o x refl found)
+  copied_works Copy copies (inr r) = let made = r.0 in absurd (cc made)
+  copied_works (Adjustment n) copies (inr r) = let made = r.0 in absurd (cc made)
 
   -- So it does where the components of access types of a record in the object count as null.
   hidden_works : {more : Rooms → Holds → Type 0} (r first : ℕ) → Working known heap places masters more → Working known (blanked (hiding known.program.types r first o) heap) places masters more
@@ -96,10 +92,6 @@ module _ (program : Program) (well : IsWellFormed (program_form program)) (may :
   abbrev IsOperated : Treatment → Id → ℕ → Type 0
   IsOperated by o of = OperatedAs p.types v treatment (cells_of s.heap) k by o of
 
-  -- Controlled parts lie in declared objects alone.
-  frugal : may_be_frugal p ≡ true
-  frugal = frugal_too p may
-
   -- The controlled parts of a record that lies in an object are among those of the object.
   parts_walked : (object : Option ℕ) (r first part : ℕ) → WalksTo p.types object (Some r) first part → part + part_count p.types r ≤ parts_named p.types object
   parts_walked None r first part walks = absurd walks
@@ -128,7 +120,7 @@ module _ (program : Program) (well : IsWellFormed (program_form program)) (may :
         },
       )
 
-  module _ (fits : ItemsFit p.types (items_of s.masters)) (e : Event) (after : State) (c : Begins known a rest s program.types.items (body_forms program) k IsOperated e after) (own : AdjustsOwn p.types c.of c.number) where
+  module _ (e : Event) (after : State) (c : Begins known a rest s program.types.items (body_forms program) k IsOperated e after) (own : AdjustsOwn p.types c.of c.number) where
     abbrev same : known.program.types ≡ p.types
     same = same_types a.procedure p
 
@@ -150,10 +142,6 @@ module _ (program : Program) (well : IsWellFormed (program_form program)) (may :
       of_type : c.x.cell.access ≡ operated.0
       of_type = own_access s.heap c.o operated.0 c.x operated.2 found
 
-      -- The object is of no access type.
-      declared : is_access p.types c.x.cell.access ≡ false
-      declared = rw of_type (operable_is_object program well frugal operated.0 c.of operated.1 operated.3)
-
       treats : TreatsBy known (Names c.o) (begins by done) k s.heap a.places a.operands s.masters
       treats = subst (λ (heap : List Object). TreatsBy known (Names c.o) (begins by done) k heap a.places a.operands s.masters) heap_so (subst (λ (t : Treatment). TreatsBy known (Names c.o) t k c.heap a.places a.operands s.masters) is c.treats)
 
@@ -163,9 +151,7 @@ module _ (program : Program) (well : IsWellFormed (program_form program)) (may :
           hidden_adjusted known c.o c.x s.heap found a.places a.operands s.masters k own.record_type c.of only.0 (live_there c.x.stage c.live)
           (subst (λ (types : List TypeForm). OnlyPart types c.x.cell.access own.record_type c.of only.0) (sym same)
           (subst (λ (access : ℕ). OnlyPart p.types access own.record_type c.of only.0) (sym of_type) only.1))
-          (copied_works known c.o c.x s.heap found a.places a.operands s.masters k by copies
-          (subst (λ (types : List TypeForm). is_access types c.x.cell.access ≡ false) (sym same) declared)
-          (subst (λ (types : List TypeForm). ItemsFit types (items_of s.masters)) (sym same) fits) treats.0)
+          (copied_works known c.o c.x s.heap found a.places a.operands s.masters k by copies treats.0)
 
       -- The part that begins, and the state in which the body does.
       part : BeginsPart c.o c.x c.place by done c.of k c.behind
@@ -209,8 +195,8 @@ module _ (program : Program) (well : IsWellFormed (program_form program)) (may :
 
   -- The same call, where the components of access types of the record count as null.
   pub plain_adjusts :
-      ItemsFit p.types (items_of s.masters) → (e : Event) (after : State)
+      (e : Event) (after : State)
       → (c : Begins (known_in program a.procedure gs) a rest s program.types.items (body_forms program) k IsOperated e after)
       → AdjustsCopy c.treatment → AdjustsOwn p.types c.of c.number
       → BeginsAdjust (known_in program a.procedure gs) a rest s program.types.items (body_forms program) v k IsOperated e after
-  plain_adjusts fits e after c copies own = by_treatment fits e after c own c.treatment refl copies
+  plain_adjusts e after c copies own = by_treatment e after c own c.treatment refl copies

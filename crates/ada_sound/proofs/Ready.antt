@@ -93,7 +93,7 @@ module _ (known : Known) where
 
   -- Where a master is to be left, nothing relies on the components of its objects.
   pub parts : {heap : List Object} {places : List Value} {ms : List Master} {more : Rooms → Holds → Type 0} → Working known heap places ms more → Parting known heap places ms more
-  parts {heap} {places} {ms} w = record { rooms = w.rooms; holds = w.holds; stored = w.stored; roomed = w.roomed; fit = spare_fit (sparing heap (innermost ms)) w.fit; rest = w.rest }
+  parts {heap} {places} {ms} w = record { rooms = w.rooms; holds = w.holds; stored = w.stored; roomed = w.roomed; fit = spare_fit (sparing known.ahead heap (innermost ms)) w.fit; rest = w.rest }
 
   pub runs_ready : (k : Control) (heap : List Object) (places operands : List Value) (ms : List Master) → Working known heap places ms (RunsOn known k) → ReadyIn known Running k heap places operands ms
   runs_ready [] heap places operands ms w = (left_stored known Running heap ms w.rooms w.holds w.rest w.stored, none_left known Running ms w.rooms w.holds w.roomed w.rest)
@@ -175,7 +175,7 @@ module _ (known : Known) where
 
   begun_ready : (v : Value) (by : Birth) (k : Control) (heap : List Object) (places operands : List Value) (ms : List Master) → BegunTo known v by k heap places operands ms → ReadyIn known Running k heap places operands ms
   begun_ready v by k heap places operands ms (inl b) = runs_ready k heap places operands ms (begins_work v by k heap places ms b)
-  begun_ready v by k heap places operands ms (inr r) = names_ready k heap places operands ms r.1
+  begun_ready v by k heap places operands ms (inr r) = names_ready k heap places operands ms r.2
 
   ends_ready : (v : Value) (k : Control) (heap : List Object) (places operands : List Value) (ms : List Master) → EndsTo known v k heap places ms → ReadyIn known Running k heap places operands ms
   ends_ready v [] heap places operands ms r = absurd r

@@ -157,7 +157,7 @@ module _ (known : Known) (a : Activation Value) (rest : List (Activation Value))
       }))
       (root_follows path.root path.spot kept.0 w.fit)
 
-  module _ (types : List TypeDefinition) (access c : ℕ) (k : Control) (below : List Value) (homes : HaveHomes known.program.types (outers known).under s.heap s.masters) where
+  module _ (types : List TypeDefinition) (access c : ℕ) (k : Control) (below : List Value) (may : ℕ → Bool) (homes : HaveHomes may known.program.types (outers known).under s.heap s.masters) (freely : may access ≡ true) where
     -- The component is null: nothing happens.
     null_freed : (o : Id) → IsThere s.heap o → Working known s.heap a.places s.masters (Releasing known s.heap (Names o) [] access c k) → Stepped known s.heap (Followed (Names o)) (running k (record a { operands = below }) rest s)
     null_freed o there w =
@@ -165,11 +165,16 @@ module _ (known : Known) (a : Activation Value) (rest : List (Activation Value))
         (tt, runs_ready known k s.heap a.places below s.masters (record { rooms = w.rooms; holds = w.rest.runs.0; stored = w.stored; roomed = w.roomed; fit = weaker_fit w.rest.runs.0 w.rest.runs.1 (behind_fit w.rest.access w.fit); rest = w.rest.runs.2 }))
         (followed o there w.stored)
 
+    -- The component is of the type that is freed.
+    names_own : (o : Id) (object : Object) → object_at s.heap o ≡ Some object → (w : Working known s.heap a.places s.masters (Releasing known s.heap (Names o) [] access c k)) → component_access known.program.types object c ≡ w.rest.access
+    names_own o object found w =
+        let here = w.rest.is_from o object refl found in
+        sym (selected_access known.program.types w.rest.from object c here) ∙ w.rest.of_type
+
     -- What the component names has the component's access type, and is another object than its own.
     named_type : (o : Id) (object : Object) (p : Id) → object_at s.heap o ≡ Some object → is_there object.stage ≡ true → slice_get object.cell.values c ≡ Some (Names p) → (w : Working known s.heap a.places s.masters (Releasing known s.heap (Names o) [] access c k)) → IsOf (access_at s.heap) w.rest.access p
     named_type o object p found listed at w =
-        let here = w.rest.is_from o object refl found in
-        let same : component_access known.program.types object c ≡ w.rest.access = sym (selected_access known.program.types w.rest.from object c here) ∙ w.rest.of_type in
+        let same = names_own o object found w in
         rw same at (component_is o object c (Names p) p refl found listed at refl w.fit)
 
     other_type : (u : ℕ) (from : Option VariableKind) (t : ℕ) → access_of from ≡ Some u → PassesNone known.program.types from (c ∷ []) (Some t) → u ≢ t
@@ -189,10 +194,11 @@ module _ (known : Known) (a : Activation Value) (rest : List (Activation Value))
         let elsewhere = stored_elsewhere s.heap o object c p there.object (parted there.object) found there.found apart in
         let after = part_fit p there.object elsewhere.1 unnamed.0 in
         let aside = same_unnamed (store s.heap (Names o) c Null) p there.object elsewhere.1 p unnamed.1 (parted there.object) refl (λ c. refl) in
-        let stands = stands_there p there.object homes w.stored there.found there.there (rw there.access (w.rest.own t is_t)) in
-        let runs : To (RunsOn known k w.rooms) (behind_end known.program.variables (Some t) w.holds) = rw is_t at w.rest.runs in
         let by_own : t ≡ access = let own = w.rest.frees_own in cc (is_t, own) in
+        let stands = stands_there p there.object homes w.stored there.found there.there (rw there.access (w.rest.own t is_t)) (rw (there.access, by_own) freely) in
+        let runs : To (RunsOn known k w.rooms) (behind_end known.program.variables (Some t) w.holds) = rw is_t at w.rest.runs in
         let home = freed_home access p there.object homes w.stored there.found exists (rw there.access (w.rest.own t is_t)) (there.access ∙ by_own) in
+        let leads : component_access known.program.types object c ≡ Some there.object.cell.access = names_own o object found w ∙ (is_t ∙ ap Some (sym there.access)) in
         let under : Ending known p (GivesBack (Names p) (Freeing s.next) (Some (pool_freed_to (home_of access s.masters))) ∷ ClearsIn (Names o) c ∷ k) (slice_set s.heap p.0 (parted there.object)) a.places s.masters = record {
           object = parted there.object;
           found = set_here s.heap p.0 there.object (parted there.object) there.found;
@@ -206,6 +212,7 @@ module _ (known : Known) (a : Activation Value) (rest : List (Activation Value))
             (
               (object, elsewhere.0, held),
               (λ same. apart (cc same)),
+              (object, parted there.object, elsewhere.0, set_here s.heap p.0 there.object (parted there.object) there.found, leads),
               record {
                 rooms = w.rooms;
                 holds = runs.0;

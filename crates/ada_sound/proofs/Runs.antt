@@ -43,11 +43,12 @@ use Rattle.ada_typed.proofs.Kept.{behind_call, crosses, is_treatment, Keeps, Eac
 use Rattle.ada_typed.proofs.KeptSteps.{step_keeps, pass_keeps}
 use Rattle.ada_typed.proofs.Runs.{step_typed}
 use Rattle.ada_scopes.specs.Scopes.{InnermostHeldInside, is_innermost, Holds as HoldsName}
-use Rattle.ada_scopes.proofs.Components.{AreOfKinds, collect_two, held_outside, held_inside, items_fit}
+use Rattle.ada_scopes.proofs.Components.{AreOfKinds, collect_two, held_outside, held_inside}
 use Rattle.ada_scopes.proofs.Runs.{step_nested}
 use Rattle.ada_sound.proofs.Items.{NoMaster, HasItem, has_after, items_fall}
 use Rattle.ada_sound.proofs.Stored.{IsUnder, Stored, there_listed}
 use Rattle.ada_sound.proofs.Leavings.{HeldIn}
+use Rattle.ada_sound.proofs.CollectsApartRuns.{apart_where_reached}
 use Rattle.ada_sound.proofs.InOrder.{in_order}
 use Rattle.ada_sound.proofs.Sees.{reaches_in, may_call, adjust_overridden}
 use Rattle.ada_sound.proofs.TracksWell.{copies_at, allocates_at, called_apart}
@@ -76,6 +77,7 @@ use Rattle.ada_sound.proofs.Calls.{calls_to, references}
 use Rattle.ada_sound.proofs.Waiting.{SameBody, stands_kept}
 use Rattle.ada_sound.proofs.Ready.{at_work}
 use Rattle.ada_sound.proofs.Below.{named_below}
+use Rattle.ada_sound.proofs.Standing.{any_type, any_freed}
 use Rattle.ada_sound.proofs.Steps as inside
 use Rattle.ada_sound.proofs.StoredStates.{IsStored, ready_stored}
 use Rattle.ada_sound.proofs.Finalization.{finalizes_in}
@@ -296,13 +298,14 @@ unfolding next
 ordinary program s sound o inner n is same =
     let known = known_in program (running_procedure s) o.suspensions in
     fine_in program s o.suspensions o.stands o.calm o.settled n same
-    (subst (λ (coming : Next). Fine known s.heap s.masters coming) is (inside.fine known (copies_at program (running_procedure s) o.suspensions sound.well sound.obeys.0) program.types.items (reaches_in program (running_procedure s) o.suspensions) (body_forms program) (may_call program (running_procedure s) o.suspensions sound.well) s (allocates_at program (running_procedure s) o.suspensions s sound.well sound.obeys.0 sound.apart) inner sound.typed.inside (own_bodies (program_form program) sound.frees_own (running_procedure s)) (collect_two (program_form program) s sound.nested) (finalizes_in program sound.well s sound.reached sound.typed o.calm known.program.types)
+    (subst (λ (coming : Next). Fine known s.heap s.masters coming) is (inside.fine known (copies_at program (running_procedure s) o.suspensions sound.well sound.obeys.0) any_type program.types.items (reaches_in program (running_procedure s) o.suspensions) (body_forms program) (may_call program (running_procedure s) o.suspensions sound.well) s (allocates_at program (running_procedure s) o.suspensions s sound.well sound.obeys.0 sound.apart) inner sound.typed.inside (own_bodies (program_form program) sound.frees_own (running_procedure s)) (collect_two (program_form program) s sound.nested) (finalizes_in program sound.well s sound.reached sound.typed o.calm known.program.types)
     (λ p x under found. absurd (none_is_under program (running_procedure s) o.suspensions o.settled p under))
+    (λ runs. any_freed s.control)
     (λ left behind runs at_leaving.
     let parting = rw (runs, at_leaving) at (o.ready.1) in (
       held_there s.heap s.masters (rw o.settled at parting.stored) (held_inside_it program s sound o),
       named_below known s.heap o.stands.standing.waiting o.stands.standing.low left behind s.masters parting,
-      in_order program sound.well s sound.nested known.program.types (same_types (running_procedure s) (program_form program)) s.masters refl,
+      in_order program sound.well s sound.nested (apart_where_reached program s sound.reached) known.program.types (same_types (running_procedure s) (program_form program)) s.masters refl,
     ))
     o.ready))
 
@@ -390,9 +393,9 @@ module _ (program : Program) (a : Activation Value) (rest : List (Activation Val
       covered = told_covered program e c.tells;
     }))
     begun_as e after is c (inr (inr (copies, tracks, own))) =
-        begins_adjusting e after is (plain_adjusts program sound.well tracks.0 a rest s k v treatment o.suspensions (items_fit (program_form program) whole sound.nested) e after c copies own)
+        begins_adjusting e after is (plain_adjusts program sound.well tracks.0 a rest s k v treatment o.suspensions e after c copies own)
     begun_as e after is c (inr (inl (touches, may, frugal, silent))) = inr (inr (inl (record {
-      body = touching_starts program a rest s k v treatment tasks o.suspensions may whole refl refl sound calm_here o.calm o.settled (restand Running (Treats v treatment tasks) o.suspensions o.stands) e after c touches silent frugal
+      body = touching_starts program a rest s k v treatment tasks o.suspensions whole refl refl sound calm_here o.calm o.settled (restand Running (Treats v treatment tasks) o.suspensions o.stands) e after c touches may silent frugal
           (step_typed program sound.well whole after settled e sound.typed (rw is (refl, refl)));
       alters = rw c.is c.alters;
       says = told_says e s.heap after c.tells _ _;

@@ -1,6 +1,6 @@
 -- Declarations and statements begin.
 
-use Rattle.std.proofs.Common.{◌≡◌, ◌≢◌, ℕ, ◌+◌, Bool, true, false, ◌&&◌, ◌||◌, not, List, [], ◌∷◌, refl, sym, ap, ◌∙◌, inl, inr}
+use Rattle.std.proofs.Common.{subst, ◌≡◌, ◌≢◌, ℕ, ◌+◌, Bool, true, false, ◌&&◌, ◌||◌, not, List, [], ◌∷◌, refl, sym, ap, ◌∙◌, inl, inr}
 use Rattle.std.specs.Prelude.{ℤ, pos, ◌+ℤ◌, int_le, ◌==◌, if◌then◌else◌, Option, Some, None, is_some}
 use Rattle.std.specs.List.{slice_set, list_all}
 use Rattle.std.proofs.lemmas.Bool.{eq-eqb, and_parts}
@@ -14,7 +14,7 @@ use Rattle.ada_program.specs.Freed.{statement_frees_own, statements_free_own}
 use Rattle.ada_program.specs.Typed.{pool_named}
 use Rattle.ada_program.specs.ProgramForm.{BodyForm}
 use Rattle.ada_effects.specs.Effects.{effects_of, stmt_raises, expression_raises, path_raises, condition_raises, right_raises, right_starts, ending_frees}
-use Rattle.ada_flow.specs.Flow.{Holds, uses_in_target, uses_in_start, initializes, ends_with, bounds_flow, gives, gives_seen, gets_path, frees_seen, leaves_path, clears, begins_pair, exit_of, declared_at, collected, gone_with, computed}
+use Rattle.ada_flow.specs.Flow.{Holds, Outcome, hold_at, loses, finalizes, released, without_freed, uses_in_target, uses_in_start, initializes, ends_with, bounds_flow, gives, gives_seen, gets_path, frees_seen, leaves_path, clears, begins_pair, exit_of, declared_at, collected, gone_with, computed}
 use Rattle.ada_flow.specs.Tracking.{no_tracks}
 use Rattle.ada_meaning.specs.declared.state.Value.{Value}
 use Rattle.ada_meaning.specs.declared.state.Mode.TheVariants.{Raising, Exiting, Returning}
@@ -28,9 +28,11 @@ use Rattle.ada_typed.specs.Holding.{cells_of}
 use Rattle.ada_typed.proofs.OfKinds.{record_initial_is_of_kind, initial_is_of_kind, statement_is_of_kind, statements_are_of_kind}
 use Rattle.ada_typed.proofs.Values.{AreHeld}
 use Rattle.ada_sound.proofs.Fits.{is_object, weaker_fit, put_lost}
-use Rattle.ada_sound.proofs.Orderings.{good_losing}
+use Rattle.ada_sound.proofs.Orderings.{good_losing, without_freed_good}
+use Rattle.ada_sound.proofs.LeftFinalized.{freed_none}
 use Rattle.ada_sound.proofs.Assigned.{this_is, freed_at}
 use Rattle.ada_sound.proofs.Homes.{HaveHomes}
+use Rattle.ada_sound.proofs.Standing.{FreesAmong}
 use Rattle.ada_sound.proofs.Roots.{root_object, value_root, right_leads, integer_leads}
 use Rattle.ada_sound.proofs.Copied.{record_there}
 use Rattle.ada_sound.proofs.Records.{has_place, record_fine}
@@ -39,11 +41,11 @@ use Rattle.ada_sound.proofs.RecordAssignments.{copy_begins}
 use Rattle.ada_sound.proofs.Invariant.{outers, Spares, owed_by, Known, Where, below, Control, Rooms, Roomed, Goes, To, Raised, Doing, Choosing, TurnsTo, condition_among, assignment_among, component_among, Counting, Elaborating, Handled, Outside, RunsOn, RunsAfter, Deciding, TurningOn, ExitingTo, Computing, IsOne, Pairs, Takes, Working, Resumes, EvaluatesTo, Fine, ways}
 use Rattle.ada_sound.proofs.Ready.{running, at_work, with_less, at_less, stays, lost_stored, ready_on, runs_on, jumps, jumps_less}
 use Rattle.ada_sound.proofs.Nestings.{Starting, starts, others_do, branch_does, chooses_from, repeats_from, turn_runs, counts_from, count_runs, exit_parts, encloses_from}
-use Rattle.ada_sound.proofs.Outcomes.{return_goes, goes_map, to_before, raised_before, raised_less, then_goes, using_goes, computed_goes, initializes_after, finalizes_to}
+use Rattle.ada_sound.proofs.Outcomes.{Down, return_goes, goes_map, to_before, raised_before, raised_less, then_goes, using_goes, computed_goes, initializes_after, loses_goes, before_lost}
 use Rattle.ada_sound.proofs.Raising.{or_left, or_right, same_here}
 use Rattle.ada_sound.proofs.Leavings.{all_among}
 use Rattle.ada_sound.proofs.Targets.{component_begins, get_begins, half_begins}
-use Rattle.ada_sound.proofs.Frees.{free_fine}
+use Rattle.ada_sound.proofs.Frees.{FreesTo, free_fine}
 use Rattle.ada_sound.proofs.Releases.{free_begins}
 use Rattle.ada_sound.proofs.CallStatements.{MayCall, call_begins}
 use Rattle.ada_sound.proofs.CopiedOwners.{CopiesWell}
@@ -223,13 +225,31 @@ module _ (known : Known) where
         let cleared = begins_pair (assigns target right) fs in
         component_begins known a rest s cleared c cs target right fs k is whole (at_work w (w.rest, pairs_component c cs target right fs k is))
 
-    frees_fine : (defined : List TypeDefinition) (cs : List ℕ) (access : ℕ) (path : PathForm) (fs : StmtsForm) (k : Control) → HaveHomes known.program.types (outers known).under s.heap s.masters → is_freed_by known.program.types access (path_access known.program.types known.program.variables path) ≡ true → is_this access (path_access known.program.types known.program.variables path) ≡ true → Spares known (λ t. is_this t (path_access known.program.types known.program.variables path)) → path.selectors ≡ cs → Working known s.heap a.places s.masters (λ rooms holds. Goes (frees_seen known.program.types known.program.variables no_tracks false known.implicit cs path holds) (To (RunsOn known (Does fs ∷ k) rooms)) (Raised (free_among path) (ways known k rooms))) → Fine known s.heap s.masters (frees_next named defined cs access path.root (running (Does fs ∷ k) a rest s))
-    frees_fine defined [] access path fs k homes freed by_own spares is w =
+    -- What flow says of a Free, in the midst of which operations may free objects: no alias of these is left behind it (7.6.1).
+    frees_goes : (access : Option ℕ) (t : ℕ) (o : Outcome) (k : Control) (rooms : Rooms) (raised : Holds → Type 0) → access ≡ Some t → Spares known (known.implicit.end_frees t) → Down raised → Goes (finalizes known.program.variables known.implicit access o) (RunsOn known k rooms) raised → Goes o (To (FreesTo known t k rooms)) raised
+    frees_goes access t o k rooms raised is spares downs g =
+        let may = known.implicit.end_frees t in
+        let variables = known.program.variables in
+        let lost : Goes (loses variables may o) (RunsOn known k rooms) raised = rw is at g in
+        goes_map o (λ h. RunsOn known k rooms (without_freed variables may h)) (λ h. raised (without_freed variables may h)) (To (FreesTo known t k rooms)) raised
+        (λ h m. (without_freed variables may h, without_freed_good variables may h, (m, spares, freed_none variables may h)))
+        (before_lost variables may raised downs)
+        (loses_goes variables may o (RunsOn known k rooms) raised lost)
+
+    -- Where a component is freed, that is not asked for.
+    frees_less : (t : ℕ) (o : Outcome) (k : Control) (rooms : Rooms) (raised : Holds → Type 0) → Goes o (To (FreesTo known t k rooms)) raised → Goes o (To (RunsOn known k rooms)) raised
+    frees_less t o k rooms raised g =
+        goes_map o (To (FreesTo known t k rooms)) raised (To (RunsOn known k rooms)) raised (λ h m. (m.0, m.1, m.2.0)) (λ h r. r) g
+
+    frees_fine : (may : ℕ → Bool) (defined : List TypeDefinition) (cs : List ℕ) (access : ℕ) (path : PathForm) (fs : StmtsForm) (k : Control) → HaveHomes may known.program.types (outers known).under s.heap s.masters → may access ≡ true → is_freed_by known.program.types access (path_access known.program.types known.program.variables path) ≡ true → is_this access (path_access known.program.types known.program.variables path) ≡ true → Spares known (λ t. is_this t (path_access known.program.types known.program.variables path)) → path.selectors ≡ cs → Working known s.heap a.places s.masters (λ rooms holds. Goes (frees_seen known.program.types known.program.variables no_tracks false known.implicit cs path holds) (To (FreesTo known access (Does fs ∷ k) rooms)) (Raised (free_among path) (ways known k rooms))) → Fine known s.heap s.masters (frees_next named defined cs access path.root (running (Does fs ∷ k) a rest s))
+    frees_fine may defined [] access path fs k homes freely freed by_own spares is w =
         let own = freed_at known.program.types known.program.variables access path freed in
         let at : path_access known.program.types known.program.variables path ≡ Some access = this_is access (path_access known.program.types known.program.variables path) by_own in
         let one : own.0 ≡ access = let other = own.1 in cc (at, other) in
-        free_fine known a rest s defined access path.root (value_root known.program.types known.program.variables path own.0 is own.1) path.spot fs k (λ rooms. Raised (free_among path) (ways known k rooms)) homes own.0 one (sym (ap (λ (cs : List ℕ). access_of (selectors_kind known.program.types (variable_kind known.program.variables path.root) cs)) is) ∙ own.2) own.3 (spares own.0 (ap (is_this own.0) own.1 ∙ eq-eqb own.0 own.0 refl)) w
-    frees_fine defined (c ∷ cs) access path fs k homes freed by_own spares is w = free_begins known a rest s c cs access path fs k (free_among path) (λ may. may) freed by_own spares is w
+        free_fine known a rest s defined access path.root (value_root known.program.types known.program.variables path own.0 is own.1) path.spot fs k (λ rooms. Raised (free_among path) (ways known k rooms)) may homes freely own.0 one (sym (ap (λ (cs : List ℕ). access_of (selectors_kind known.program.types (variable_kind known.program.variables path.root) cs)) is) ∙ own.2) own.3 (spares own.0 (ap (is_this own.0) own.1 ∙ eq-eqb own.0 own.0 refl)) (at_work w (subst (λ (t : ℕ). Goes (released known.program.variables path.root path.spot w.holds (hold_at w.holds path.root)) (To (FreesTo known t (Does fs ∷ k) w.rooms)) (Raised (free_among path) (ways known k w.rooms))) (sym one) w.rest))
+    frees_fine may defined (c ∷ cs) access path fs k homes freely freed by_own spares is w =
+        free_begins known a rest s c cs access path fs k (free_among path) (λ may. may) freed by_own spares is
+        (at_work w (frees_less access (frees_seen known.program.types known.program.variables no_tracks false known.implicit (c ∷ cs) path w.holds) (Does fs ∷ k) w.rooms (Raised (free_among path) (ways known k w.rooms)) w.rest))
 
     gets_fine : (cs : List ℕ) (target : PathForm) (input : List ℤ) (fs : StmtsForm) (k : Control) → target.selectors ≡ cs → (target.of_record ≡ true → is_object known.program.variables target.root ≡ true) → Working known s.heap a.places s.masters (λ rooms holds. Goes (gets_path no_tracks cs target holds) (RunsOn known (Does fs ∷ k) rooms) (Raised (get_among target) (ways known k rooms))) → Fine known s.heap s.masters (gets_next named cs target.root input (running (Does fs ∷ k) a rest s))
     gets_fine (c ∷ cs) target input fs k is whole w =
@@ -324,9 +344,9 @@ module _ (known : Known) where
         (first.0, (λ may. first.2 may ConstraintError (or_left (expression_raises low) (expression_raises high) may)), (second.0, (λ may. second.2 may ConstraintError (or_right (expression_raises low) (expression_raises high) may)), (λ v. second.1)))
 
     -- Statements.
-    stmt_fine : (defined : List TypeDefinition) → Reaches known defined → (bodies : List BodyForm) → CopiesWell known.program.types → (inside : Bool) (here : Where) (f : StmtForm) → (is_call f ≡ true → MayCall known bodies) → (fs : StmtsForm) (k : Control) → HaveHomes known.program.types (outers known).under s.heap s.masters → statement_is_of_kind known.program.types known.program.variables known.program.texts known.program.exceptions (callable_in known.program) inside f ≡ true → statement_frees_own known.program.types known.program.variables f ≡ true → Working known s.heap a.places s.masters (λ rooms holds. Starting known here f fs k (ways known k rooms) holds) → Fine known s.heap s.masters (stmt_next named defined bodies f (running (Does fs ∷ k) a rest s))
-    stmt_fine defined reaches bodies copies inside here skips calling fs k homes fits own w = runs_on known (Does fs ∷ k) a rest s (at_work w w.rest.1.0) Quiet tt
-    stmt_fine defined reaches bodies copies inside here (assigns target right) calling fs k homes fits own w =
+    stmt_fine : (may : ℕ → Bool) (defined : List TypeDefinition) → Reaches known defined → (bodies : List BodyForm) → CopiesWell known.program.types → (inside : Bool) (here : Where) (f : StmtForm) → (is_call f ≡ true → MayCall known bodies) → (fs : StmtsForm) (k : Control) → HaveHomes may known.program.types (outers known).under s.heap s.masters → FreesAmong may (Does (a_stmt f fs) ∷ k) → statement_is_of_kind known.program.types known.program.variables known.program.texts known.program.exceptions (callable_in known.program) inside f ≡ true → statement_frees_own known.program.types known.program.variables f ≡ true → Working known s.heap a.places s.masters (λ rooms holds. Starting known here f fs k (ways known k rooms) holds) → Fine known s.heap s.masters (stmt_next named defined bodies f (running (Does fs ∷ k) a rest s))
+    stmt_fine may defined reaches bodies copies inside here skips calling fs k homes freely fits own w = runs_on known (Does fs ∷ k) a rest s (at_work w w.rest.1.0) Quiet tt
+    stmt_fine may defined reaches bodies copies inside here (assigns target right) calling fs k homes freely fits own w =
         let types = known.program.types in
         let variables = known.program.variables in
         let leads = right_leads types variables (path_kind types variables target) right (and_parts (right_fits types variables (path_kind types variables target) right) (lends_to variables (names_borrower variables target) right) fits).0 in
@@ -337,7 +357,7 @@ module _ (known : Known) where
         let goes_on = initializes_after known right flow (Does fs ∷ k) w.rooms (Raised among out) (raised_before among out) used.1 in
         assign_fine target.selectors target right fs k refl (root_object types variables target leads.0 leads.1)
         (at_work w goes_on)
-    stmt_fine defined reaches bodies copies inside here (assigns_record target items) calling fs k homes fits own w =
+    stmt_fine may defined reaches bodies copies inside here (assigns_record target items) calling fs k homes freely fits own w =
         assigned_fine (has_parts defined target.record_type) refl
       where
         two : (is_record_path known.program.types known.program.variables target ≡ true) × (record_fits known.program.types known.program.variables target.record_type items ≡ true)
@@ -350,35 +370,37 @@ module _ (known : Known) where
         assigned_fine : (parts : Bool) → has_parts defined target.record_type ≡ parts → Fine known s.heap s.masters (record_assign_next named parts target items (running (Does fs ∷ k) a rest s))
         assigned_fine true has = copy_begins known a rest s copies target items fs k w.rest.4 two.0 two.1 (at_work w w.rest.1)
         assigned_fine false has = record_begins known a rest s copies target items fs k (bare (number_of defined (Some target.record_type)) refl has) (record_there known.program.types known.program.variables target two.0) (at_work w w.rest.1)
-    stmt_fine defined reaches bodies copies inside here (frees access path) calling fs k homes fits own w =
+    stmt_fine may defined reaches bodies copies inside here (frees access path) calling fs k homes freely fits own w =
         let types = known.program.types in
         let variables = known.program.variables in
         let freed = path_access types variables path in
         let out = ways known k w.rooms in
-        let goes_on = finalizes_to variables known.implicit freed (frees_seen types variables no_tracks false known.implicit path.selectors path w.holds) (RunsOn known (Does fs ∷ k) w.rooms) (Raised (free_among path) out) (raised_before (free_among path) out) w.rest.1 in
-        frees_fine defined path.selectors access path fs k homes (and_parts _ _ fits).0 own (λ t i. w.rest.4 t (or_left (is_this t freed) (ending_frees known.implicit t freed) i)) refl (at_work w goes_on)
-    stmt_fine defined reaches bodies copies inside here (gets target) calling fs k homes fits own w = (
+        let at : freed ≡ Some access = this_is access freed own in
+        let ending : Spares known (known.implicit.end_frees access) = λ t i. w.rest.4 t (or_right (is_this t freed) (ending_frees known.implicit t freed) (rw at i)) in
+        let goes_on = frees_goes freed access (frees_seen types variables no_tracks false known.implicit path.selectors path w.holds) (Does fs ∷ k) w.rooms (Raised (free_among path) out) at ending (raised_before (free_among path) out) w.rest.1 in
+        frees_fine may defined path.selectors access path fs k homes freely (and_parts _ _ fits).0 own (λ t i. w.rest.4 t (or_left (is_this t freed) (ending_frees known.implicit t freed) i)) refl (at_work w goes_on)
+    stmt_fine may defined reaches bodies copies inside here (gets target) calling fs k homes freely fits own w = (
         let types = known.program.types in
         let variables = known.program.variables in
         let leads = integer_leads (path_kind types variables target) fits in
         gets_fine target.selectors target s.input fs k refl (root_object types variables target leads.0 leads.1) (at_work w w.rest.1)
         )
-    stmt_fine defined reaches bodies copies inside here (writes e) calling fs k homes fits own w =
+    stmt_fine may defined reaches bodies copies inside here (writes e) calling fs k homes freely fits own w =
         let h = computed_goes e w.holds (RunsOn known (Does fs ∷ k) w.rooms) (Raised (λ x. is_same x ConstraintError && expression_raises e) (ways known k w.rooms)) w.rest.1 in
         ready_on known (Computes e ∷ Writes ∷ Does fs ∷ k) a rest s a.operands (at_work w (h.0, (λ may. h.2 may ConstraintError may), h.1))
-    stmt_fine defined reaches bodies copies inside here (writes_text text) calling fs k homes fits own w = runs_on known (Does fs ∷ k) a rest s (at_work w w.rest.1.0) (Line _) tt
-    stmt_fine defined reaches bodies copies inside here (chooses branches) calling fs k homes fits own w = branches_fine branches (Does fs ∷ k) (at_work w (chooses_from known here branches fs k (ways known k w.rooms) w.holds w.rest))
-    stmt_fine defined reaches bodies copies inside here (repeats condition body end_spot) calling fs k homes fits own w =
+    stmt_fine may defined reaches bodies copies inside here (writes_text text) calling fs k homes freely fits own w = runs_on known (Does fs ∷ k) a rest s (at_work w w.rest.1.0) (Line _) tt
+    stmt_fine may defined reaches bodies copies inside here (chooses branches) calling fs k homes freely fits own w = branches_fine branches (Does fs ∷ k) (at_work w (chooses_from known here branches fs k (ways known k w.rooms) w.holds w.rest))
+    stmt_fine may defined reaches bodies copies inside here (repeats condition body end_spot) calling fs k homes freely fits own w =
         runs_on known (Repeats condition body ∷ Does fs ∷ k) a rest s (at_work w (repeats_from known here condition body end_spot fs k (ways known k w.rooms) w.holds w.rest)) Quiet tt
-    stmt_fine defined reaches bodies copies inside here (counts x low high body end_spot) calling fs k homes fits own w =
+    stmt_fine may defined reaches bodies copies inside here (counts x low high body end_spot) calling fs k homes freely fits own w =
         ready_on known (Computes low ∷ Computes high ∷ Ranges x body ∷ Does fs ∷ k) a rest s a.operands
         (at_work w (bounds_fine x low high body fs k w.rooms w.holds (counts_from known here x low high body end_spot fs k (ways known k w.rooms) w.holds w.rest)))
-    stmt_fine defined reaches bodies copies inside here (exits condition spot) calling fs k homes fits own w =
+    stmt_fine may defined reaches bodies copies inside here (exits condition spot) calling fs k homes freely fits own w =
         exit_fine condition (Does fs ∷ k) (at_work w (exit_parts known here.start here.inside condition spot w.holds (RunsOn known (Does fs ∷ k) w.rooms) (Raised (λ e. is_same e ConstraintError && condition_raises condition) (ways known k w.rooms)) (ways known k w.rooms).exited w.rest.1 (w.rest.2 refl)))
-    stmt_fine defined reaches bodies copies inside here (calls procedure actuals) calling fs k homes fits own w = call_begins known bodies (calling refl) here procedure actuals fs k a rest s fits w
-    stmt_fine defined reaches bodies copies inside here (returns spot) calling fs k homes fits own w = jumps known (Does fs ∷ k) a rest s Returning (at_work w (w.rest.3 w.holds (return_goes known.program.variables (owed_by known) here.within spot w.holds (Doing known fs k (ways known k w.rooms)) (Raised (λ e. stmt_raises (effects_of known.implicit known.program) (is_same e) (returns spot)) (ways known k w.rooms)) w.rest.1)))
-    stmt_fine defined reaches bodies copies inside here (raises e) calling fs k homes fits own w = jumps_less known (Does fs ∷ k) a rest s (Raising e) (at_work w (w.rest.1.1 e (same_here e)))
-    stmt_fine defined reaches bodies copies inside here (encloses ds body hs) calling fs k homes fits own w =
+    stmt_fine may defined reaches bodies copies inside here (calls procedure actuals) calling fs k homes freely fits own w = call_begins known bodies (calling refl) here procedure actuals fs k a rest s fits w
+    stmt_fine may defined reaches bodies copies inside here (returns spot) calling fs k homes freely fits own w = jumps known (Does fs ∷ k) a rest s Returning (at_work w (w.rest.3 w.holds (return_goes known.program.variables (owed_by known) here.within spot w.holds (Doing known fs k (ways known k w.rooms)) (Raised (λ e. stmt_raises (effects_of known.implicit known.program) (is_same e) (returns spot)) (ways known k w.rooms)) w.rest.1)))
+    stmt_fine may defined reaches bodies copies inside here (raises e) calling fs k homes freely fits own w = jumps_less known (Does fs ∷ k) a rest s (Raising e) (at_work w (w.rest.1.1 e (same_here e)))
+    stmt_fine may defined reaches bodies copies inside here (encloses ds body hs) calling fs k homes freely fits own w =
         stays known Quiet _ (
           tt,
           record {
@@ -391,7 +413,7 @@ module _ (known : Known) where
           },
         ) tt
 
-    pub stmts_fine : (defined : List TypeDefinition) → Reaches known defined → (bodies : List BodyForm) → CopiesWell known.program.types → (inside : Bool) (fs : StmtsForm) → (begins_call fs ≡ true → MayCall known bodies) → (k : Control) → HaveHomes known.program.types (outers known).under s.heap s.masters → statements_are_of_kind known.program.types known.program.variables known.program.texts known.program.exceptions (callable_in known.program) inside fs ≡ true → statements_free_own known.program.types known.program.variables fs ≡ true → Resumes known s.heap a.places s.masters (Does fs ∷ k) → Fine known s.heap s.masters (stmts_next named defined bodies fs (running k a rest s))
-    stmts_fine defined reaches bodies copies inside fs calling k homes fits own (inr h) = half_begins known a rest s defined bodies fs k h
-    stmts_fine defined reaches bodies copies inside no_stmts calling k homes fits own (inl w) = runs_on known k a rest s (at_less w w.rest.2.0) Quiet tt
-    stmts_fine defined reaches bodies copies inside (a_stmt f fs) calling k homes fits own (inl w) = stmt_fine defined reaches bodies copies inside w.rest.0 f calling fs k homes (and_parts _ _ fits).0 (and_parts _ _ own).0 (at_work w (starts known f fs k (ways known k w.rooms) w.holds w.rest))
+    pub stmts_fine : (may : ℕ → Bool) (defined : List TypeDefinition) → Reaches known defined → (bodies : List BodyForm) → CopiesWell known.program.types → (inside : Bool) (fs : StmtsForm) → (begins_call fs ≡ true → MayCall known bodies) → (k : Control) → HaveHomes may known.program.types (outers known).under s.heap s.masters → FreesAmong may (Does fs ∷ k) → statements_are_of_kind known.program.types known.program.variables known.program.texts known.program.exceptions (callable_in known.program) inside fs ≡ true → statements_free_own known.program.types known.program.variables fs ≡ true → Resumes known s.heap a.places s.masters (Does fs ∷ k) → Fine known s.heap s.masters (stmts_next named defined bodies fs (running k a rest s))
+    stmts_fine may defined reaches bodies copies inside fs calling k homes freely fits own (inr h) = half_begins known a rest s defined bodies fs k h
+    stmts_fine may defined reaches bodies copies inside no_stmts calling k homes freely fits own (inl w) = runs_on known k a rest s (at_less w w.rest.2.0) Quiet tt
+    stmts_fine may defined reaches bodies copies inside (a_stmt f fs) calling k homes freely fits own (inl w) = stmt_fine may defined reaches bodies copies inside w.rest.0 f calling fs k homes freely (and_parts _ _ fits).0 (and_parts _ _ own).0 (at_work w (starts known f fs k (ways known k w.rooms) w.holds w.rest))

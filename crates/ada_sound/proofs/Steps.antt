@@ -37,7 +37,7 @@ use Rattle.ada_typed.proofs.Kept.{crosses as crosses_by, is_treatment}
 use Rattle.ada_sound.proofs.Calm.{ends_operation, operation_ends_there}
 use Rattle.ada_meaning.specs.declared.state.Id.{Id}
 use Rattle.ada_sound.proofs.Homes.{Pooled, NoneIsUnder, HaveHomes}
-use Rattle.ada_sound.proofs.Standing.{AllStand, FinalizesBy, FinalizesIn}
+use Rattle.ada_sound.proofs.Standing.{AllStand, FinalizesBy, FinalizesIn, FreesAmong}
 use Rattle.ada_sound.proofs.Invariant.{innermost, Known, outers, Control, ReadyBy, ReadyIn, IsActive, Ready, Fine}
 use Rattle.ada_sound.proofs.Ready.{running, at_work, at_less, runs_on, goes_in_mode}
 use Rattle.ada_sound.proofs.Raising.{unary_only, binary_only}
@@ -117,16 +117,16 @@ heap_typed p s (typed.operated kinds r ended) = heap_typed_by p s.heap r.filled
 heap_typed p s (typed.out_of_operation e kinds j ended) = heap_typed_by p s.heap j.filled
 
 -- What a step needs of a state besides: where words go back to, that no component refers to a record, that the running body frees by the instances for what
--- it frees, and that no object of an access type is under way.
-pub record StateTyped (p : ProgramForm) (under : List Id) (heap : List Object) (masters : List Master) : Type 0 where
+-- it frees, and that no object is under way that may be freed next.
+pub record StateTyped (p : ProgramForm) (may : ℕ → Bool) (under : List Id) (heap : List Object) (masters : List Master) : Type 0 where
   pub pooled : Pooled p.types heap
   pub lone : AllPairs CollectTwoTypes (items_of masters)
   pub plain : ArePlain heap
   pub own : OwnBody p
-  pub aside : NoneIsUnder p.types under heap
+  pub aside : NoneIsUnder may under heap
 
 -- Where something is freed, it goes back home.
-homes_in : {p : ProgramForm} {under : List Id} {heap : List Object} {masters : List Master} → StateTyped p under heap masters → AllStand p.types heap → HaveHomes p.types under heap masters
+homes_in : {p : ProgramForm} {may : ℕ → Bool} {under : List Id} {heap : List Object} {masters : List Master} → StateTyped p may under heap masters → AllStand may p.types heap → HaveHomes may p.types under heap masters
 homes_in kept stand = record { pooled = kept.pooled; lone = kept.lone; stand = stand; aside = kept.aside }
 
 -- Does the next step begin the body of a call, or does it come to the end of one; or is it one of a treatment, which may call an operation?
@@ -142,7 +142,7 @@ abbrev pub calls_next : Control → Bool
 calls_next (Does fs ∷ k) = begins_call fs
 calls_next k = false
 
-module _ (known : Known) (copies : CopiesWell known.program.types) where
+module _ (known : Known) (copies : CopiesWell known.program.types) (may : ℕ → Bool) where
   module _ (types : List TypeDefinition) (reaches : Reaches known types) (bodies : List BodyForm) (k : Control) (a : Activation Value) (rest : List (Activation Value)) (s : State) where
     -- Frames that take an operand, which is there.
     path_fine : (plain : ArePlain s.heap) (cs : List ℕ) (operands : List Value) → RunsTyped known s.heap (Follows cs ∷ k) a.places operands → ReadyBy known (Follows cs) k s.heap a.places operands s.masters → Fine known s.heap s.masters (frame_next named types bodies (Follows cs) (running k (record a { operands = operands }) rest s))
@@ -176,83 +176,83 @@ module _ (known : Known) (copies : CopiesWell known.program.types) where
         let computed : AreComputed known.program.types (cells_of s.heap) (lies_in u ∷ lies_in u ∷ fits.0) (v ∷ below) = rw (fits.2) at (t.2) in
         assigns_fine known a rest s types reaches k u (v ∷ below) computed.0 (second_refers u fits.0 below computed.1) r
 
-    frame_fine : (f : Frame Value) → (calls_next (f ∷ k) ≡ true → MayCall known bodies) → AllocatesBare known.program.types (f ∷ k) → crosses Running (f ∷ k) ≡ false → RunsTyped known s.heap (f ∷ k) a.places a.operands → StateTyped known.program (outers known).under s.heap s.masters → FinalizesBy known.program.types types bodies f (running k a rest s) → ((mode : Mode) (behind : Control) → f ∷ k ≡ Leaves mode ∷ behind → HeldIn s.heap s.masters × NamedBelow (outers known) s.heap s.masters × AreInOrder known.program.types (innermost s.masters)) → ReadyBy known f k s.heap a.places a.operands s.masters → Fine known s.heap s.masters (frame_next named types bodies f (running k a rest s))
-    frame_fine (Elaborates ds fs hs) calling bare inner t kept well low r = declarations_fine known a rest s copies fs hs k types ds t.3 t.1.2 r
-    frame_fine (Does fs) calling bare inner t kept well low r = stmts_fine known a rest s types reaches bodies copies t.1.1 fs calling k (homes_in kept well) t.1.2.0 (t.1.2.1 kept.own) r
-    frame_fine (Decides fs branches) calling bare inner t kept well low r = decided_fine known (record a { operands = older a.operands }) rest s fs branches (named.reads_boolean (first_or Null a.operands)) k r
-    frame_fine (Repeats condition body) calling bare inner t kept well low r = repeats_fine known a rest s condition body k r
-    frame_fine (Turns e body) calling bare inner t kept well low r = turned_fine known (record a { operands = older a.operands }) rest s e body (named.reads_boolean (first_or Null a.operands)) k r
-    frame_fine (Ranges x body) calling bare inner t kept well low r = ranges_fine known (record a { operands = older (older a.operands) }) rest s x body (named.reads_integer (first_or Null (older a.operands))) (named.reads_integer (first_or Null a.operands)) k r
-    frame_fine (Counts x next last body) calling bare inner t kept well low r = counts_fine known a rest s x next last body k r
-    frame_fine Exits calling bare inner t kept well low r = exited_fine known (record a { operands = older a.operands }) rest s (named.reads_boolean (first_or Null a.operands)) k r
-    frame_fine (Handles hs) calling bare inner t kept well low r = runs_on known k a rest s (at_less r r.rest) Quiet tt
-    frame_fine Closes calling bare inner t kept well low r = closes_fine known k a rest s Running r
-    frame_fine (Leaves mode) calling bare inner t kept well low r = leave_fine known types mode k a rest s s.masters r (low mode k refl).0 (low mode k refl).1 (low mode k refl).2
-    frame_fine (Calls procedure b actuals) calling bare inner t kept well low r = absurd (cc inner)
-    frame_fine (Returns actuals references) calling bare inner t kept well low r = absurd (cc inner)
-    frame_fine (Evaluates right) calling bare inner t kept well low r = evaluates_fine known k a rest s kept.plain types reaches right (λ access items is. bare access items k (ap (λ (r : RightForm). Evaluates r ∷ k) is)) t.0 t.1 r
-    frame_fine (Computes e) calling bare inner t kept well low r = expression_fine known k a rest s e t.1.0 t.1.1 r
-    frame_fine (Follows cs) calling bare inner t kept well low r = path_fine kept.plain cs a.operands t r
-    frame_fine (TestsNull equal) calling bare inner t kept well low r = null_test_fine known k a rest s (older a.operands) r equal (named.reads_null (first_or Null a.operands))
-    frame_fine (Refers p) calling bare inner t kept well low r = refers_fine known k a rest s p t.1.1 r
-    frame_fine (RefersIn place u) calling bare inner t kept well low r = referred_fine known k a rest s place u (width_of types u) (first_or Null a.operands) (older a.operands) r
-    frame_fine (Opens path) calling bare inner t kept well low r = opens_fine known k a rest s path t.1.0 t.1.1 r
-    frame_fine (OpensIn c) calling bare inner t kept well low r = opened_fine known k a rest s c (first_or Null a.operands) (older a.operands) r
-    frame_fine (Continues links) calling bare inner t kept well low r = chain_fine links a.operands t r
-    frame_fine (Applies operator) calling bare inner t kept well low r =
+    frame_fine : (f : Frame Value) → (calls_next (f ∷ k) ≡ true → MayCall known bodies) → AllocatesBare known.program.types (f ∷ k) → crosses Running (f ∷ k) ≡ false → RunsTyped known s.heap (f ∷ k) a.places a.operands → StateTyped known.program may (outers known).under s.heap s.masters → FinalizesBy may known.program.types types bodies f (running k a rest s) → FreesAmong may (f ∷ k) → ((mode : Mode) (behind : Control) → f ∷ k ≡ Leaves mode ∷ behind → HeldIn s.heap s.masters × NamedBelow (outers known) s.heap s.masters × AreInOrder known.ahead known.program.types (innermost s.masters)) → ReadyBy known f k s.heap a.places a.operands s.masters → Fine known s.heap s.masters (frame_next named types bodies f (running k a rest s))
+    frame_fine (Elaborates ds fs hs) calling bare inner t kept well freely low r = declarations_fine known a rest s copies fs hs k types ds t.3 t.1.2 r
+    frame_fine (Does fs) calling bare inner t kept well freely low r = stmts_fine known a rest s may types reaches bodies copies t.1.1 fs calling k (homes_in kept well) freely t.1.2.0 (t.1.2.1 kept.own) r
+    frame_fine (Decides fs branches) calling bare inner t kept well freely low r = decided_fine known (record a { operands = older a.operands }) rest s fs branches (named.reads_boolean (first_or Null a.operands)) k r
+    frame_fine (Repeats condition body) calling bare inner t kept well freely low r = repeats_fine known a rest s condition body k r
+    frame_fine (Turns e body) calling bare inner t kept well freely low r = turned_fine known (record a { operands = older a.operands }) rest s e body (named.reads_boolean (first_or Null a.operands)) k r
+    frame_fine (Ranges x body) calling bare inner t kept well freely low r = ranges_fine known (record a { operands = older (older a.operands) }) rest s x body (named.reads_integer (first_or Null (older a.operands))) (named.reads_integer (first_or Null a.operands)) k r
+    frame_fine (Counts x next last body) calling bare inner t kept well freely low r = counts_fine known a rest s x next last body k r
+    frame_fine Exits calling bare inner t kept well freely low r = exited_fine known (record a { operands = older a.operands }) rest s (named.reads_boolean (first_or Null a.operands)) k r
+    frame_fine (Handles hs) calling bare inner t kept well freely low r = runs_on known k a rest s (at_less r r.rest) Quiet tt
+    frame_fine Closes calling bare inner t kept well freely low r = closes_fine known k a rest s Running r
+    frame_fine (Leaves mode) calling bare inner t kept well freely low r = leave_fine known types mode k a rest s s.masters r (low mode k refl).0 (low mode k refl).1 (low mode k refl).2
+    frame_fine (Calls procedure b actuals) calling bare inner t kept well freely low r = absurd (cc inner)
+    frame_fine (Returns actuals references) calling bare inner t kept well freely low r = absurd (cc inner)
+    frame_fine (Evaluates right) calling bare inner t kept well freely low r = evaluates_fine known k a rest s kept.plain types reaches right (λ access items is. bare access items k (ap (λ (r : RightForm). Evaluates r ∷ k) is)) t.0 t.1 r
+    frame_fine (Computes e) calling bare inner t kept well freely low r = expression_fine known k a rest s e t.1.0 t.1.1 r
+    frame_fine (Follows cs) calling bare inner t kept well freely low r = path_fine kept.plain cs a.operands t r
+    frame_fine (TestsNull equal) calling bare inner t kept well freely low r = null_test_fine known k a rest s (older a.operands) r equal (named.reads_null (first_or Null a.operands))
+    frame_fine (Refers p) calling bare inner t kept well freely low r = refers_fine known k a rest s p t.1.1 r
+    frame_fine (RefersIn place u) calling bare inner t kept well freely low r = referred_fine known k a rest s place u (width_of types u) (first_or Null a.operands) (older a.operands) r
+    frame_fine (Opens path) calling bare inner t kept well freely low r = opens_fine known k a rest s path t.1.0 t.1.1 r
+    frame_fine (OpensIn c) calling bare inner t kept well freely low r = opened_fine known k a rest s c (first_or Null a.operands) (older a.operands) r
+    frame_fine (Continues links) calling bare inner t kept well freely low r = chain_fine links a.operands t r
+    frame_fine (Applies operator) calling bare inner t kept well freely low r =
         let left = first_or Null (older a.operands) in
         let right = first_or Null a.operands in
         outcome_fine known k a rest s (older (older a.operands)) (at_work r r.rest.1) (binary_raises operator) (named.binary operator left right) (binary_only operator left right) r.rest.0
-    frame_fine (AppliesAlone operator) calling bare inner t kept well low r =
+    frame_fine (AppliesAlone operator) calling bare inner t kept well freely low r =
         let operand = first_or Null a.operands in
         outcome_fine known k a rest s (older a.operands) (at_work r r.rest.1) (unary_raises operator) (named.unary operator operand) (unary_only operator operand) r.rest.0
-    frame_fine (Fills items) calling bare inner t kept well low r = items_fine known k a rest s items t.1.0 t.1.1 r
-    frame_fine (Copies first u) calling bare inner t kept well low r = copies_fine known types reaches k a rest s first u (first_or Null a.operands) (older a.operands) r
-    frame_fine (Creates access count) calling bare inner t kept well low r = creates_fine known k a rest s types access count (words_of types access) t.0 t.1 t.2 r
-    frame_fine (Stores x) calling bare inner t kept well low r = stores_fine known k a rest s kept.plain x (first_or Null a.operands) (older a.operands) r
-    frame_fine (Targets c right) calling bare inner t kept well low r = found_fine c right a.operands t r
-    frame_fine (StoresIn o c) calling bare inner t kept well low r = put_fine o c a.operands t r
-    frame_fine (TargetsRecord first u items) calling bare inner t kept well low r = record_found first u items a.operands t r
-    frame_fine (StoresRecord o first count) calling bare inner t kept well low r = store_record_fine known types reaches k a rest s o first count t.0 t.1 t.2 r
-    frame_fine (Assigns u) calling bare inner t kept well low r = assigned_by u a.operands t r
-    frame_fine (Receives c) calling bare inner t kept well low r = receive_fine known k a rest s (first_or Null a.operands) (older a.operands) c r
-    frame_fine (FreesIn access c) calling bare inner t kept well low r = free_in_fine known a rest s types access c k (older a.operands) (homes_in kept well) (first_or Null a.operands) r
-    frame_fine (Declares x) calling bare inner t kept well low r = declares_fine known k a rest s kept.plain x (first_or Null a.operands) (older a.operands) r
-    frame_fine (DeclaresRecord x u) calling bare inner t kept well low r = recorded_fine known k a rest s types reaches x u t.0 t.1 t.2 t.3 r
-    frame_fine (Treats v treatment tasks) calling bare inner t kept well low r = absurd (cc inner)
-    frame_fine (frame.Awaits v by done of part tasks) calling bare inner t kept well low r = absurd (t.1)
-    frame_fine frame.Confines calling bare inner t kept well low r = absurd (t.1)
-    frame_fine (frame.Resumes mode) calling bare inner t kept well low r = goes_in_mode known k a rest s mode (at_less r r.rest)
-    frame_fine Writes calling bare inner t kept well low r = writes_fine known k a rest s kept.plain (named.reads_integer (first_or Null a.operands)) (older a.operands) r
-    frame_fine (Ends v) calling bare inner t kept well low r = ends_fine known a rest s v k r
-    frame_fine (GivesBack v cause pool) calling bare inner t kept well low r = backs_fine known a rest s v cause pool k r
-    frame_fine (Clears x) calling bare inner t kept well low r = stores_fine known k a rest s kept.plain x Null a.operands (inl r)
-    frame_fine (ClearsIn o c) calling bare inner t kept well low r = clear_fine known k a rest s o c r
+    frame_fine (Fills items) calling bare inner t kept well freely low r = items_fine known k a rest s items t.1.0 t.1.1 r
+    frame_fine (Copies first u) calling bare inner t kept well freely low r = copies_fine known types reaches k a rest s first u (first_or Null a.operands) (older a.operands) r
+    frame_fine (Creates access count) calling bare inner t kept well freely low r = creates_fine known k a rest s types access count (words_of types access) t.0 t.1 t.2 r
+    frame_fine (Stores x) calling bare inner t kept well freely low r = stores_fine known k a rest s kept.plain x (first_or Null a.operands) (older a.operands) r
+    frame_fine (Targets c right) calling bare inner t kept well freely low r = found_fine c right a.operands t r
+    frame_fine (StoresIn o c) calling bare inner t kept well freely low r = put_fine o c a.operands t r
+    frame_fine (TargetsRecord first u items) calling bare inner t kept well freely low r = record_found first u items a.operands t r
+    frame_fine (StoresRecord o first count) calling bare inner t kept well freely low r = store_record_fine known types reaches k a rest s o first count t.0 t.1 t.2 r
+    frame_fine (Assigns u) calling bare inner t kept well freely low r = assigned_by u a.operands t r
+    frame_fine (Receives c) calling bare inner t kept well freely low r = receive_fine known k a rest s (first_or Null a.operands) (older a.operands) c r
+    frame_fine (FreesIn access c) calling bare inner t kept well freely low r = free_in_fine known a rest s types access c k (older a.operands) may (homes_in kept well) freely (first_or Null a.operands) r
+    frame_fine (Declares x) calling bare inner t kept well freely low r = declares_fine known k a rest s kept.plain x (first_or Null a.operands) (older a.operands) r
+    frame_fine (DeclaresRecord x u) calling bare inner t kept well freely low r = recorded_fine known k a rest s types reaches x u t.0 t.1 t.2 t.3 r
+    frame_fine (Treats v treatment tasks) calling bare inner t kept well freely low r = absurd (cc inner)
+    frame_fine (frame.Awaits v by done of part tasks) calling bare inner t kept well freely low r = absurd (t.1)
+    frame_fine frame.Confines calling bare inner t kept well freely low r = absurd (t.1)
+    frame_fine (frame.Resumes mode) calling bare inner t kept well freely low r = goes_in_mode known k a rest s mode (at_less r r.rest)
+    frame_fine Writes calling bare inner t kept well freely low r = writes_fine known k a rest s kept.plain (named.reads_integer (first_or Null a.operands)) (older a.operands) r
+    frame_fine (Ends v) calling bare inner t kept well freely low r = ends_fine known a rest s v k r
+    frame_fine (GivesBack v cause pool) calling bare inner t kept well freely low r = backs_fine known a rest s v cause pool k r
+    frame_fine (Clears x) calling bare inner t kept well freely low r = stores_fine known k a rest s kept.plain x Null a.operands (inl r)
+    frame_fine (ClearsIn o c) calling bare inner t kept well freely low r = clear_fine known k a rest s o c r
 
-  mode_fine : (types : List TypeDefinition) → Reaches known types → (bodies : List BodyForm) (mode : Mode) (k : Control) → (calls_next k ≡ true → MayCall known bodies) → AllocatesBare known.program.types k → (a : Activation Value) (rest : List (Activation Value)) (s : State) → crosses mode k ≡ false → (mode ≡ Running → ends_operation k ≡ false → RunsTyped known s.heap k a.places a.operands) → StateTyped known.program (outers known).under s.heap s.masters → FinalizesIn known.program.types types bodies mode k (record s { activations = a ∷ rest }) → ((left : Mode) (behind : Control) → mode ≡ Running → k ≡ Leaves left ∷ behind → HeldIn s.heap s.masters × NamedBelow (outers known) s.heap s.masters × AreInOrder known.program.types (innermost s.masters)) → ReadyIn known mode k s.heap a.places a.operands s.masters → Fine known s.heap s.masters (mode_next named types bodies mode (record s { mode = mode; control = k; activations = a ∷ rest }))
-  mode_fine types reaches bodies Running [] calling bare a rest s inner t kept well low r = r
-  mode_fine types reaches bodies Running (frame.Awaits v by done of part tasks ∷ k) calling bare a rest s inner t kept well low r = awaits_fine known a rest s types bodies k (λ treatment o of. Unit {0}) v by done of part tasks r.0 r.1
-  mode_fine types reaches bodies Running (frame.Confines ∷ k) calling bare a rest s inner t kept well low r = confines_fine known a rest s k r
-  mode_fine types reaches bodies Running (f ∷ k) calling bare a rest s inner t kept well low r = frame_fine types reaches bodies k a rest s f calling bare inner (t refl refl) kept well (λ left behind is. low left behind refl is) r
-  mode_fine types reaches bodies (Raising e) [] calling bare a rest s inner t kept well low r = r
-  mode_fine types reaches bodies (Raising e) (f ∷ k) calling bare a rest s inner t kept well low r = raising_fine known k a rest s e f inner r
-  mode_fine types reaches bodies Exiting [] calling bare a rest s inner t kept well low r = tt
-  mode_fine types reaches bodies Exiting (f ∷ k) calling bare a rest s inner t kept well low r = exiting_fine known k a rest s f inner r
-  mode_fine types reaches bodies Returning [] calling bare a rest s inner t kept well low r = r
-  mode_fine types reaches bodies Returning (f ∷ k) calling bare a rest s inner t kept well low r = returning_fine known k a rest s f inner r
+  mode_fine : (types : List TypeDefinition) → Reaches known types → (bodies : List BodyForm) (mode : Mode) (k : Control) → (calls_next k ≡ true → MayCall known bodies) → AllocatesBare known.program.types k → (a : Activation Value) (rest : List (Activation Value)) (s : State) → crosses mode k ≡ false → (mode ≡ Running → ends_operation k ≡ false → RunsTyped known s.heap k a.places a.operands) → StateTyped known.program may (outers known).under s.heap s.masters → FinalizesIn may known.program.types types bodies mode k (record s { activations = a ∷ rest }) → (mode ≡ Running → FreesAmong may k) → ((left : Mode) (behind : Control) → mode ≡ Running → k ≡ Leaves left ∷ behind → HeldIn s.heap s.masters × NamedBelow (outers known) s.heap s.masters × AreInOrder known.ahead known.program.types (innermost s.masters)) → ReadyIn known mode k s.heap a.places a.operands s.masters → Fine known s.heap s.masters (mode_next named types bodies mode (record s { mode = mode; control = k; activations = a ∷ rest }))
+  mode_fine types reaches bodies Running [] calling bare a rest s inner t kept well freely low r = r
+  mode_fine types reaches bodies Running (frame.Awaits v by done of part tasks ∷ k) calling bare a rest s inner t kept well freely low r = awaits_fine known a rest s types bodies k (λ treatment o of. Unit {0}) v by done of part tasks r.0 r.1
+  mode_fine types reaches bodies Running (frame.Confines ∷ k) calling bare a rest s inner t kept well freely low r = confines_fine known a rest s k r
+  mode_fine types reaches bodies Running (f ∷ k) calling bare a rest s inner t kept well freely low r = frame_fine types reaches bodies k a rest s f calling bare inner (t refl refl) kept well (freely refl) (λ left behind is. low left behind refl is) r
+  mode_fine types reaches bodies (Raising e) [] calling bare a rest s inner t kept well freely low r = r
+  mode_fine types reaches bodies (Raising e) (f ∷ k) calling bare a rest s inner t kept well freely low r = raising_fine known k a rest s e f inner r
+  mode_fine types reaches bodies Exiting [] calling bare a rest s inner t kept well freely low r = tt
+  mode_fine types reaches bodies Exiting (f ∷ k) calling bare a rest s inner t kept well freely low r = exiting_fine known k a rest s f inner r
+  mode_fine types reaches bodies Returning [] calling bare a rest s inner t kept well freely low r = r
+  mode_fine types reaches bodies Returning (f ∷ k) calling bare a rest s inner t kept well freely low r = returning_fine known k a rest s f inner r
 
-  active_fine : (types : List TypeDefinition) → Reaches known types → (bodies : List BodyForm) (all : List (Activation Value)) (s : State) → (calls_next s.control ≡ true → MayCall known bodies) → AllocatesBare known.program.types s.control → IsActive all → crosses s.mode s.control ≡ false → (s.mode ≡ Running → ends_operation s.control ≡ false → RunsTyped known s.heap s.control (places_of all) (operands_of all)) → StateTyped known.program (outers known).under s.heap s.masters → FinalizesIn known.program.types types bodies s.mode s.control (record s { activations = all }) → ((left : Mode) (behind : Control) → s.mode ≡ Running → s.control ≡ Leaves left ∷ behind → HeldIn s.heap s.masters × NamedBelow (outers known) s.heap s.masters × AreInOrder known.program.types (innermost s.masters)) → Ready known (record s { activations = all }) → Fine known s.heap s.masters (mode_next named types bodies s.mode (record s { activations = all }))
-  active_fine types reaches bodies [] s calling bare i inner t kept well low r = absurd i
-  active_fine types reaches bodies (a ∷ rest) s calling bare i inner t kept well low r = mode_fine types reaches bodies s.mode s.control calling bare a rest s inner t kept well low r.1
+  active_fine : (types : List TypeDefinition) → Reaches known types → (bodies : List BodyForm) (all : List (Activation Value)) (s : State) → (calls_next s.control ≡ true → MayCall known bodies) → AllocatesBare known.program.types s.control → IsActive all → crosses s.mode s.control ≡ false → (s.mode ≡ Running → ends_operation s.control ≡ false → RunsTyped known s.heap s.control (places_of all) (operands_of all)) → StateTyped known.program may (outers known).under s.heap s.masters → FinalizesIn may known.program.types types bodies s.mode s.control (record s { activations = all }) → (s.mode ≡ Running → FreesAmong may s.control) → ((left : Mode) (behind : Control) → s.mode ≡ Running → s.control ≡ Leaves left ∷ behind → HeldIn s.heap s.masters × NamedBelow (outers known) s.heap s.masters × AreInOrder known.ahead known.program.types (innermost s.masters)) → Ready known (record s { activations = all }) → Fine known s.heap s.masters (mode_next named types bodies s.mode (record s { activations = all }))
+  active_fine types reaches bodies [] s calling bare i inner t kept well freely low r = absurd i
+  active_fine types reaches bodies (a ∷ rest) s calling bare i inner t kept well freely low r = mode_fine types reaches bodies s.mode s.control calling bare a rest s inner t kept well freely low r.1
 
   -- One step keeps the invariant, where no body begins and none ends; what calls rely on need hold only where one is next.
-  pub fine_unless_called : (types : List TypeDefinition) → Reaches known types → (bodies : List BodyForm) (s : State) → (calls_next s.control ≡ true → MayCall known bodies) → AllocatesBare known.program.types s.control → crosses s.mode s.control ≡ false → typed.TypedIn known.program s → OwnBody known.program → AllPairs CollectTwoTypes (items_of s.masters) → FinalizesIn known.program.types types bodies s.mode s.control s → NoneIsUnder known.program.types (outers known).under s.heap → ((left : Mode) (behind : Control) → s.mode ≡ Running → s.control ≡ Leaves left ∷ behind → HeldIn s.heap s.masters × NamedBelow (outers known) s.heap s.masters × AreInOrder known.program.types (innermost s.masters)) → Ready known s → Fine known s.heap s.masters (next types bodies s)
+  pub fine_unless_called : (types : List TypeDefinition) → Reaches known types → (bodies : List BodyForm) (s : State) → (calls_next s.control ≡ true → MayCall known bodies) → AllocatesBare known.program.types s.control → crosses s.mode s.control ≡ false → typed.TypedIn known.program s → OwnBody known.program → AllPairs CollectTwoTypes (items_of s.masters) → FinalizesIn may known.program.types types bodies s.mode s.control s → NoneIsUnder may (outers known).under s.heap → (s.mode ≡ Running → FreesAmong may s.control) → ((left : Mode) (behind : Control) → s.mode ≡ Running → s.control ≡ Leaves left ∷ behind → HeldIn s.heap s.masters × NamedBelow (outers known) s.heap s.masters × AreInOrder known.ahead known.program.types (innermost s.masters)) → Ready known s → Fine known s.heap s.masters (next types bodies s)
   unfolding next
-  fine_unless_called types reaches bodies s calling bare inner typing own lone well aside low r =
+  fine_unless_called types reaches bodies s calling bare inner typing own lone well aside freely low r =
       let heap = heap_typed known.program s typing in
-      active_fine types reaches bodies s.activations s calling bare r.0 inner (runs_typed known s typing) (record { pooled = heap.0; lone = lone; plain = heap.1; own = own; aside = aside }) well low r
+      active_fine types reaches bodies s.activations s calling bare r.0 inner (runs_typed known s typing) (record { pooled = heap.0; lone = lone; plain = heap.1; own = own; aside = aside }) well freely low r
 
   -- So it does where what calls rely on holds.
-  pub fine : (types : List TypeDefinition) → Reaches known types → (bodies : List BodyForm) → MayCall known bodies → (s : State) → AllocatesBare known.program.types s.control → crosses s.mode s.control ≡ false → typed.TypedIn known.program s → OwnBody known.program → AllPairs CollectTwoTypes (items_of s.masters) → FinalizesIn known.program.types types bodies s.mode s.control s → NoneIsUnder known.program.types (outers known).under s.heap → ((left : Mode) (behind : Control) → s.mode ≡ Running → s.control ≡ Leaves left ∷ behind → HeldIn s.heap s.masters × NamedBelow (outers known) s.heap s.masters × AreInOrder known.program.types (innermost s.masters)) → Ready known s → Fine known s.heap s.masters (next types bodies s)
-  fine types reaches bodies calling s bare inner typing own lone well aside low r =
-      fine_unless_called types reaches bodies s (λ next. calling) bare inner typing own lone well aside low r
+  pub fine : (types : List TypeDefinition) → Reaches known types → (bodies : List BodyForm) → MayCall known bodies → (s : State) → AllocatesBare known.program.types s.control → crosses s.mode s.control ≡ false → typed.TypedIn known.program s → OwnBody known.program → AllPairs CollectTwoTypes (items_of s.masters) → FinalizesIn may known.program.types types bodies s.mode s.control s → NoneIsUnder may (outers known).under s.heap → (s.mode ≡ Running → FreesAmong may s.control) → ((left : Mode) (behind : Control) → s.mode ≡ Running → s.control ≡ Leaves left ∷ behind → HeldIn s.heap s.masters × NamedBelow (outers known) s.heap s.masters × AreInOrder known.ahead known.program.types (innermost s.masters)) → Ready known s → Fine known s.heap s.masters (next types bodies s)
+  fine types reaches bodies calling s bare inner typing own lone well aside freely low r =
+      fine_unless_called types reaches bodies s (λ next. calling) bare inner typing own lone well aside freely low r

@@ -1,14 +1,16 @@
 -- The body of an operation runs that touches storage (7.6, 7.6.1, 13.11.2): an Initialize of an object that a declaration creates, or a Finalize of one at the
--- leaving of its master, or where another record is assigned to it. What holds there, and what is kept of all that waits for it.
+-- leaving of its master, or where a variable is freed that names it, or another record is assigned to it. What holds there, and what is kept of all that waits
+-- for it.
 
 use Rattle.std.proofs.Common.{◌≡◌, ◌≢◌, ℕ, true, false, List, [], ◌∷◌, ◌++◌, ◌⊎◌, Option, drop, length, suc, take}
 use Rattle.std.specs.Prelude.{Bool, Some}
 use Rattle.std.specs.List.{slice_get, slice_set, list_any}
 use Rattle.ada_program.specs.declared.program.Exception.{Exception}
-use Rattle.ada_quiet.specs.InUse.{may_be_frugal}
+use Rattle.ada_quiet.specs.Bare.{has_bare_objects}
+use Rattle.ada_quiet.specs.InUse.{may_end_frugally}
 use Rattle.ada_program.specs.declared.program.Program.{Program}
 use Rattle.ada_program.specs.ProgramForm.{program_form, seen_in}
-use Rattle.ada_program.specs.WellFormed.{is_access, variable_kind, reached_components}
+use Rattle.ada_program.specs.WellFormed.{variable_kind, reached_components}
 use Rattle.ada_deeds.specs.Implicit.{implicit_of}
 use Rattle.ada_effects.specs.Effects.{Implicit, assignment_frees}
 use Rattle.ada_flow.specs.declared.rule.Hold.TheVariants as hold
@@ -21,7 +23,7 @@ use Rattle.ada_meaning.specs.declared.state.Place.{Place}
 use Rattle.ada_meaning.specs.declared.state.Value.{Value}
 use Rattle.ada_meaning.specs.declared.state.Value.TheVariants.{Names, Part, Null}
 use Rattle.ada_meaning.specs.Finalization.{NothingTreated}
-use Rattle.ada_meaning.specs.Frame.{Treatment, begins, ends, Leaves, Ends, GivesBack, Resumes, StoresRecord, Copies}
+use Rattle.ada_meaning.specs.Frame.{Treatment, begins, ends, Leaves, Ends, GivesBack, Clears, Resumes, StoresRecord, Copies}
 use Rattle.ada_meaning.specs.Heap.{Home}
 use Rattle.ada_meaning.specs.State.{Master}
 use Rattle.ada_meaning.specs.Named.{Object, State, object_at}
@@ -30,11 +32,11 @@ use Rattle.ada_sound.proofs.Bodies.{IsBody}
 use Rattle.ada_sound.proofs.Callers.{Suspension, known_in, Stands, callers_of}
 use Rattle.ada_sound.proofs.Fits.{Fit, Outsiders, IsPlace, IsRelied, IsSaid, IsUnreferred, none_spared, outer_hold, outer_value, place_at, Reference, IsReferred}
 use Rattle.ada_sound.proofs.FrugalControl.{Frugally}
-use Rattle.ada_sound.proofs.Invariant.{body_among, Control, Rooms, Roomed, RunsOn, Known, IsNewest, Ready, Spares, StartsTo, Unaliased, below, innermost, outers, BeginsWell, CameOut, To, By, ways, IsAwaited, under_in, AssignsWell, IsCopied, LiesAmong, RunsBehind, AdjustedBehind}
+use Rattle.ada_sound.proofs.Invariant.{body_among, Control, Rooms, Roomed, RunsOn, Known, IsNewest, Ready, Spares, StartsTo, Unaliased, below, innermost, outers, BeginsWell, CameOut, To, By, ways, IsAwaited, under_in, AssignsWell, IsCopied, LiesAmong, RunsBehind, AdjustedBehind, IsCovered}
 use Rattle.ada_sound.proofs.Operating.{WaitsFor, IsCalm, lets_out}
 use Rattle.ada_sound.proofs.Stored.{Stored}
 use Rattle.ada_sound.specs.Agreement.{running_procedure}
-use Rattle.ada_quiet.specs.Frugal.{frugal_procedures}
+use Rattle.ada_quiet.specs.Frugal.{thrift_of}
 use Rattle.ada_finalized.specs.Law.{NothingBegins}
 use Rattle.ada_meaning.specs.declared.event.Cause.{Cause}
 use Rattle.ada_meaning.specs.Step.{first_or, operands_of}
@@ -84,6 +86,30 @@ pub record Undoes (known : Known) (object : Id) (access : ℕ) (home : Home) (pl
   pub unreferred : IsUnreferred (outers known) object
   pub untreated : NothingTreated rest
 
+-- What is behind the finalization of an object that a variable names which is freed: the end of the object, and then the variable becomes null. It names the object
+-- still while a Finalize of that runs, and counts as lost then; once it is null, what is known of it is known again.
+pub record Empties (known : Known) (object : Id) (access : ℕ) (home : Home) (places : List Value) (after : Control) (rooms : Rooms) (holds : Holds) : Type 0 where
+  pub number : ℕ
+  pub x : ℕ
+  pub rest : Control
+  pub before : Holds
+  pub is : after ≡ Ends (Names object) ∷ GivesBack (Names object) (Freeing number) home.pool ∷ Clears x ∷ rest
+  pub lost : holds ≡ slice_set before x hold.Lost
+  pub runs : RunsOn known rest rooms before
+  pub well : Spares known (known.implicit.end_frees access) × Unaliased known.program.variables (known.implicit.end_frees access) before
+  pub covered : IsCovered known.implicit known.program (Freeing number) access
+  pub said : IsSaid (place_at (outers known).given x) (hold_at before x) Null
+  pub fits : hold_at before x ≢ hold.Lost → IsPlace known.program.types (outers known).referenced (variable_kind known.program.variables x) Null
+  pub nowhere : IsNamedNowhere (outers known) (slice_set places x Null) before object
+  pub unreferred : IsUnreferred (outers known) object
+  pub untreated : NothingTreated rest
+
+-- What is behind the finalization of an object that ceases to exist then.
+abbrev pub RestsAtEnd : Known → (object : Id) → (access : ℕ) → Home → (places : List Value) → (after : Control) → (lower : List Master) → Rooms → Holds → Type 0
+RestsAtEnd known object access home places after lower rooms holds =
+    Resting known object home places after lower rooms holds
+    ⊎ (Undoes known object access home places after rooms holds ⊎ Empties known object access home places after rooms holds)
+
 -- The components of a record of this type in the object get those of another one, which are Integers and Booleans, or an Adjust sees to them, and then what is
 -- left goes on (5.2).
 abbrev pub StoresInto : Known → (object : Id) → (access record_type : ℕ) → Control → Rooms → Holds → Type 0
@@ -113,22 +139,22 @@ pub record Overwrites (known : Known) (object : Id) (access : ℕ) (operands : L
 -- What is behind a finalization, by its cause.
 abbrev pub RestsBy : Known → Cause → (object : Id) → (access : ℕ) → Home → (places operands : List Value) → (also : List Reference) → (after : Control) → (lower : List Master) → Rooms → Holds → Type 0
 RestsBy known (Leaving m item) object access home places operands also after lower rooms holds =
-    (also ≡ []) × (Resting known object home places after lower rooms holds ⊎ Undoes known object access home places after rooms holds)
+    (also ≡ []) × RestsAtEnd known object access home places after lower rooms holds
 RestsBy known (Freeing number) object access home places operands also after lower rooms holds =
-    (also ≡ []) × (Resting known object home places after lower rooms holds ⊎ Undoes known object access home places after rooms holds)
+    (also ≡ []) × RestsAtEnd known object access home places after lower rooms holds
 RestsBy known (Assigning number) object access home places operands also after lower rooms holds = Overwrites known object access operands also after rooms holds
 RestsBy known (Undoing number) object access home places operands also after lower rooms holds =
-    (also ≡ []) × (Resting known object home places after lower rooms holds ⊎ Undoes known object access home places after rooms holds)
+    (also ≡ []) × RestsAtEnd known object access home places after lower rooms holds
 
 -- What is behind the body, by what it is called for; and to which other objects the activation that waits refers.
 abbrev pub Rests : Known → Treatment → (object : Id) → (access : ℕ) → Home → (places operands : List Value) → (also : List Reference) → (after : Control) → (lower : List Master) → Rooms → Holds → Type 0
 Rests known (begins by done) object access home places operands also after lower rooms holds = (by ≡ Creation) × (also ≡ []) × Starting known object access places after rooms holds
 Rests known (ends cause) object access home places operands also after lower rooms holds = RestsBy known cause object access home places operands also after lower rooms holds
 
--- What is known of the activation that waits, whatever the body is called for: the object is of no access type, and no other object begins behind it; and what each
--- variable holds is as it is said of it.
+-- What is known of the activation that waits, whatever the body is called for: the object has controlled parts, or is a declared one, so that no component names it;
+-- no other object begins behind it; and what each variable holds is as it is said of it.
 pub record Paused (known : Known) (object : Id) (access : ℕ) (places : List Value) (after : Control) (lower : List Master) (rooms : Rooms) (holds : Holds) : Type 0 where
-  pub declared : is_access known.program.types access ≡ false
+  pub parted : has_bare_objects known.program.types access ≡ false
   pub untreated : (v : Value) → v ≢ Names object → NothingBegins v after
   pub roomed : Roomed (below known) lower rooms
   pub said : (x : ℕ) → IsSaid (place_at (outers known).given x) (hold_at holds x) (place_at places x)
@@ -164,7 +190,7 @@ pub record Enters (known : Known) (treatment : Treatment) (o : Id) (x : Object) 
   pub rooms : Rooms
   pub holds : Holds
   pub also : List Reference
-  pub there : (p : Id) (t : ℕ) → IsReferred also p t → (access_at heap p ≡ Some t) × (is_access known.program.types t ≡ false)
+  pub there : (p : Id) (t : ℕ) → IsReferred also p t → (access_at heap p ≡ Some t) × (has_bare_objects known.program.types t ≡ false)
   pub waits : Paused known o x.cell.access places after masters rooms holds
   pub rests : Rests known treatment o x.cell.access x.cell.home places operands also after masters rooms holds
   pub fit : Fit known.program.types known.program.variables (outers known) none_spared heap places holds
@@ -228,7 +254,7 @@ pub record Touching (program : Program) (s : State) : Type 0 where
   pub kept : Keeping
   pub rooms : Rooms
   pub holds : Holds
-  pub frugal : Frugally (frugal_procedures (program_form program)) lower behind s
+  pub frugal : Frugally (thrift_of (program_form program)) lower behind s
   pub waits : Paused (known_in program procedure suspensions) object access places after lower rooms holds
   pub also : List Reference
   pub operands : List Value
@@ -237,7 +263,7 @@ pub record Touching (program : Program) (s : State) : Type 0 where
   pub stands : Stands program (inner ++ resting procedure places treatment object access also place behind lower kept rooms holds ∷ suspensions) s
   pub calm : IsCalm (behind_call behind)
   pub settled : under_in (callers_of program suspensions) ≡ []
-  pub may : may_be_frugal (program_form program) ≡ true
+  pub may : may_end_frugally (program_form program) ≡ true
   pub lets : (e : Exception) → body_among (implicit_of (program_form program)) (seen_in (Some number) (program_form program)) e ≡ true → lets_out (implicit_of (program_form program)) access treatment e ≡ true
   pub ready : Ready (known_in program (running_procedure s) (inner ++ resting procedure places treatment object access also place behind lower kept rooms holds ∷ suspensions)) s
 

@@ -14,8 +14,9 @@ use Rattle.ada_program.specs.declared.program.TypeNo.{TypeNo}
 use Rattle.ada_program.specs.declared.program.VariableKind.TheVariants as variable_kinds
 use Rattle.ada_program.specs.ProgramForm.{TypeForm, VariableForm, BodyForm, ProgramForm, program_form, body_forms, main_body, seen_in, seen_by}
 use Rattle.ada_program.specs.WellFormed.{IsWellFormed, formal_kinds, is_access, variable_kind}
-use Rattle.ada_quiet.specs.Frugal.{is_frugal_body, frugal_procedures}
-use Rattle.ada_quiet.specs.InUse.{may_be_frugal}
+use Rattle.ada_quiet.specs.Bare.{has_bare_objects}
+use Rattle.ada_quiet.specs.Frugal.{is_frugal_body, thrift_of}
+use Rattle.ada_quiet.specs.InUse.{may_end_frugally}
 use Rattle.ada_flow.specs.declared.rule.Hold.TheVariants as hold
 use Rattle.ada_flow.specs.declared.rule.Region.TheVariants.{Whole}
 use Rattle.ada_flow.specs.Flow.{formal_hold, Holds, body_keeps, first_holds, gone_with, hold_at, keeping_of, variable_access}
@@ -36,6 +37,7 @@ use Rattle.ada_typed.proofs.Bodies.{seen_as}
 use Rattle.ada_typed.proofs.Kept.{behind_call}
 use Rattle.ada_sound.proofs.Activations.{called_fit}
 use Rattle.ada_sound.proofs.Alters.{Alters}
+use Rattle.ada_sound.proofs.BareObjects.{frugal_frees_bare}
 use Rattle.ada_sound.proofs.Bodies.{IsBody, seen_is}
 use Rattle.ada_sound.proofs.BodyRuns.{body_runs}
 use Rattle.ada_sound.proofs.Calls.{home_low, relied_says}
@@ -92,7 +94,7 @@ referred_split [] others o t is = inr is
 referred_split (r ∷ first) others o t (inl same) = inl (inl same)
 referred_split (r ∷ first) others o t (inr is) = elim (referred_split first others o t is) [ inl one ↦ inl (inr one) | inr other ↦ inr other ]
 
-module _ (program : Program) (well : IsWellFormed (program_form program)) (obeys : Obeys program) (number : ℕ) (apart : is_tracker (program_form program) number ≡ false) (b : BodyForm) (there : slice_get (body_forms program) number ≡ Some b) (may : may_be_frugal (program_form program) ≡ true) (frugal : is_frugal_body (frugal_procedures (program_form program)) b ≡ true) (lone : IsAlone b) (a : Activation Value) (rest : List (Activation Value)) (gs : List Suspension) (s : State) (k : Control) (o : Id) (x : Object) (heap : List Object) (found : object_at heap o ≡ Some x) (exists : is_there x.stage ≡ true) (place : Place)
+module _ (program : Program) (well : IsWellFormed (program_form program)) (obeys : Obeys program) (number : ℕ) (apart : is_tracker (program_form program) number ≡ false) (b : BodyForm) (there : slice_get (body_forms program) number ≡ Some b) (may : may_end_frugally (program_form program) ≡ true) (frugal : is_frugal_body (thrift_of (program_form program)) b ≡ true) (lone : IsAlone b) (a : Activation Value) (rest : List (Activation Value)) (gs : List Suspension) (s : State) (k : Control) (o : Id) (x : Object) (heap : List Object) (found : object_at heap o ≡ Some x) (exists : is_there x.stage ≡ true) (place : Place)
     (within : IsWithin (program_form program).types (variable_kind b.variables 0) x.cell.access place.component) (treatment : Treatment) (at : Enters (known_in program a.procedure gs) treatment o x k heap a.places a.operands s.masters) (behind : Control) where
   abbrev p : ProgramForm
   p = program_form program
@@ -149,24 +151,28 @@ module _ (program : Program) (well : IsWellFormed (program_form program)) (obeys
   -- What the body may free is what the treatment of the object may.
   module _ (frees : (t : ℕ) → CoveredIn (implicit_of p) own t → at.may t ≡ true) (lets : (e : Exception) → body_among (implicit_of p) own e ≡ true → lets_out (implicit_of p) x.cell.access treatment e ≡ true) where
     no_outer : (t : ℕ) → CoveredIn (implicit_of p) own t → NoOuterAlias known.program.types (outers body) t
-    no_outer t may = (
+    no_outer t may' = (
       (λ d y of b'. (by_depth d y of b')),
       (λ p' is access. by_reference p' is access),
     )
       where
         ends : at.may t ≡ true
-        ends = frees t may
+        ends = frees t may'
 
         by_depth : (d y : ℕ) → outer_access (slice_get (outers body).suspended d) y ≡ Some t → Borrows (outer_hold (slice_get (outers body).suspended d) y) → ⊥
         by_depth zero y of b' = at.unaliased y t of ends b'
         by_depth (suc d) y of b' = (at.spares t ends).0.0 d y of b'
 
+        -- What the body may free has no controlled parts, and what the treatment refers to does.
+        bare : has_bare_objects known.program.types t ≡ true
+        bare = subst (λ (types : List TypeForm). has_bare_objects types t ≡ true) (sym (same_types a.procedure p)) (frugal_frees_bare program well number b there frugal t may')
+
         by_reference : (p' : Id) → IsReferred (outers body).referenced p' t → is_access known.program.types t ≡ true → ⊥
-        by_reference p' (inl (same, of)) access = let object = at.waits.declared in cc (rw of at object, access)
+        by_reference p' (inl (same, of)) access = let parted = at.waits.parted in cc (rw of at parted, bare)
         by_reference p' (inr is) access = by (referred_split at.also (outers known).referenced p' t is)
           where
             by : IsReferred at.also p' t ⊎ IsReferred (outers known).referenced p' t → ⊥
-            by (inl other) = let none = (at.there p' t other).1 in cc (none, access)
+            by (inl other) = let parted = (at.there p' t other).1 in cc (parted, bare)
             by (inr outer) = (at.spares t ends).0.1 p' outer access
 
     spares : Spares body (body_frees own.types (effects_of (implicit_of p) own) (main_body own))
@@ -238,7 +244,7 @@ module _ (program : Program) (well : IsWellFormed (program_form program)) (obeys
           kept = waiting.kept;
           rooms = at.rooms;
           holds = at.holds;
-          frugal = frugal_starts (frugal_procedures p) number b frugal (Part o place) behind (record s { activations = a ∷ rest; heap = heap; mode = Running });
+          frugal = frugal_starts (thrift_of p) number b frugal (Part o place) behind (record s { activations = a ∷ rest; heap = heap; mode = Running });
           waits = at.waits;
           also = at.also;
           operands = a.operands;

@@ -3,13 +3,14 @@
 
 use Rattle.ada_sound.proofs.Leavings.{owns_relied, borrows_relied, component_borrows}
 use Rattle.ada_meaning.specs.Heap.{Home}
-use Rattle.std.proofs.Common.{◌≡◌, ℕ, Bool, true, false, List, [], ◌∷◌, ◌++◌, refl, sym, ap, ◌∙◌, subst, inl, inr, slice_set, drop, length, ◌⊎◌, suc}
+use Rattle.std.proofs.Common.{◌≡◌, ℕ, Bool, true, false, List, [], ◌∷◌, ◌++◌, refl, sym, ap, ◌∙◌, subst, inl, inr, slice_set, drop, length, suc}
 use Rattle.std.specs.Prelude.{Option, Some, None}
-use Rattle.std.specs.List.{list_all, slice_get}
+use Rattle.std.specs.List.{slice_get}
 use Rattle.ada_program.specs.declared.program.Exception.{Exception}
 use Rattle.ada_program.specs.declared.program.Program.{Program}
 use Rattle.ada_program.specs.ProgramForm.{TypeForm, program_form, body_forms, seen_in}
-use Rattle.ada_program.specs.WellFormed.{IsWellFormed, type_fits, is_access}
+use Rattle.ada_program.specs.WellFormed.{IsWellFormed, access_of, kind_among, reached_components}
+use Rattle.ada_quiet.specs.Bare.{has_bare_objects}
 use Rattle.ada_deeds.specs.Implicit.{implicit_of}
 use Rattle.ada_flow.specs.Flow.{Holds, hold_at}
 use Rattle.ada_meaning.specs.declared.event.Cause.{Cause}
@@ -37,10 +38,11 @@ use Rattle.ada_owners.proofs.Kernel as kernel
 use Rattle.ada_owners.proofs.Objects.{present_at}
 use Rattle.ada_sound.proofs.Activations.{returned_fit}
 use Rattle.ada_sound.proofs.Callers.{rest_of, Suspension, caller_of, known_in, Stands, AreOf, callers_of}
-use Rattle.ada_sound.proofs.Touching.{IsNamedNowhere, Touching, Resting, Rests, Starting, under_way, Undoes, origin, called_by, Overwrites, RestsBy, StoresInto}
+use Rattle.ada_sound.proofs.BareObjects.{components_are_bare}
+use Rattle.ada_sound.proofs.Emptying.{null_again}
+use Rattle.ada_sound.proofs.Touching.{IsNamedNowhere, Touching, Empties, Resting, Rests, RestsAtEnd, Starting, under_way, Undoes, origin, called_by, Overwrites, RestsBy, StoresInto}
 use Rattle.ada_sound.proofs.Fits.{Fit, kinds_of, hold_in, stacked, none_spared, sparing, outer_hold, outer_value_at, spare_fit, weaker_fit, IsReferred, Reference}
-use Rattle.ada_sound.proofs.InOrder.{component_is_access}
-use Rattle.ada_sound.proofs.Invariant.{AllWait, Control, Known, OfItsType, Rooms, RunsBehind, GoesOn, Working, Ending, EndsTo, ReadyIn, TreatsBy, innermost, outer_of, outers, IsLive, Beginning, StartsTo, BeginsWell, Ready, IsActive, AreSuspended, CopiesBehind, EndsBy, LiesIn, StoresBehind}
+use Rattle.ada_sound.proofs.Invariant.{AllWait, Control, Known, OfItsType, Rooms, RunsBehind, GoesOn, Working, Ending, EndsTo, ReadyIn, TreatsBy, innermost, outer_of, outers, IsLive, Beginning, StartsTo, BeginsWell, Ready, IsActive, AreSuspended, CopiesBehind, EndsBy, LiesIn, StoresBehind, FreesWell, IsCovered, Spares, Unaliased}
 use Rattle.ada_sound.proofs.Operating.{behind_operation, lets_out, WaitsFor}
 use Rattle.ada_sound.proofs.Waiting.{stands_behind}
 use Rattle.ada_sound.proofs.Returns.{CrossesTo, same_types}
@@ -52,16 +54,16 @@ use Rattle.ada_sound.specs.Agreement.{running_procedure, IsBehind}
 use Rattle.ada_sound.proofs.Bodies.{IsBody}
 use Rattle.ada_sound.proofs.TouchingRests.{IsEnd}
 
--- No place names an object of a type of which no component is, where no variable is relied on to name it.
-module _ (known : Known) (heap : List Object) (held : List Value) (holds : Holds) (spared : Id → Bool) (fit : Fit known.program.types known.program.variables (outers known) spared heap held holds) (types_fit : list_all (type_fits known.program.types) known.program.types ≡ true) (o : Id) (access : ℕ) (there : access_at heap o ≡ Some access) (declared : is_access known.program.types access ≡ false) (nowhere : IsNamedNowhere (outers known) held holds o) where
+-- No place names an object of a type of which no component is, as it has controlled parts, where no variable is relied on to name it.
+module _ (known : Known) (heap : List Object) (held : List Value) (holds : Holds) (spared : Id → Bool) (fit : Fit known.program.types known.program.variables (outers known) spared heap held holds) (bare : (holder c access : ℕ) → access_of (kind_among (reached_components known.program.types holder) c) ≡ Some access → has_bare_objects known.program.types access ≡ true) (o : Id) (access : ℕ) (there : access_at heap o ≡ Some access) (not_bare : has_bare_objects known.program.types access ≡ false) (nowhere : IsNamedNowhere (outers known) held holds o) where
   of_no_component : (holder kind : Option ℕ) (c : ℕ) → component_kind (kinds_of known.program.types known.program.variables (outers known)) holder c ≡ kind → IsOf (access_at heap) kind o → ⊥
   of_no_component None None c is of = of
   of_no_component None (Some t) c is of = cc is
   of_no_component (Some u) None c is of = of
   of_no_component (Some u) (Some t) c is of =
-      let one = component_is_access known.program.types types_fit u c t is in
+      let one = bare u c t is in
       let same : t ≡ access = cc (of, there) in
-      let none : is_access known.program.types t ≡ false = rw same declared in
+      let none : has_bare_objects known.program.types t ≡ false = rw same not_bare in
       cc (one, none)
 
   no_owner : (q : Place) → Owns (hold_in (outers known) spared holds q) → value_at heap (stacked held (outers known)) q ≡ Names o → ⊥
@@ -175,8 +177,10 @@ module _ (program : Program) (well : IsWellFormed (program_form program)) (s : S
       (λ x. inr (inl (refl, refl))) (subst (λ (types : List TypeForm). Fit types running.program.variables (outers running) none_spared s.heap (places s) works.holds) same_here works.fit)
       f.waits.said f.waits.objects
 
-  own_types_fit : list_all (type_fits own.program.types) own.program.types ≡ true
-  own_types_fit = subst (λ (types : List TypeForm). list_all (type_fits types) types ≡ true) (sym (same_types f.procedure (program_form program))) well.types_fit
+  own_bare : (holder c access : ℕ) → access_of (kind_among (reached_components own.program.types holder) c) ≡ Some access → has_bare_objects own.program.types access ≡ true
+  own_bare =
+      subst (λ (types : List TypeForm). (holder c access : ℕ) → access_of (kind_among (reached_components types holder) c) ≡ Some access → has_bare_objects types access ≡ true)
+      (sym (same_types f.procedure (program_form program))) (components_are_bare program well f.may)
 
   there : access_at s.heap f.object ≡ Some f.access
   there = works.fit.referred f.object f.access (inl (refl, refl))
@@ -188,8 +192,8 @@ module _ (program : Program) (well : IsWellFormed (program_form program)) (s : S
       (works.stored.sane f.object f.x f.found).there_exists (rw same at present.there)
 
   -- No place names the object, where nothing is relied on to name it.
-  unnamed_by : (holds : Holds) (spared : Id → Bool) → Fit own.program.types own.program.variables (outers own) spared s.heap f.places holds → IsNamedNowhere (outers own) f.places holds f.object → IsUnnamed s.heap (stacked f.places (outers own)) (hold_in (outers own) spared holds) f.object
-  unnamed_by holds spared fit nowhere = unnamed_here own s.heap f.places holds spared fit own_types_fit f.object f.access there f.waits.declared nowhere
+  unnamed_by : (held : List Value) (holds : Holds) (spared : Id → Bool) → Fit own.program.types own.program.variables (outers own) spared s.heap held holds → IsNamedNowhere (outers own) held holds f.object → IsUnnamed s.heap (stacked held (outers own)) (hold_in (outers own) spared holds) f.object
+  unnamed_by held holds spared fit nowhere = unnamed_here own s.heap held holds spared fit own_bare f.object f.access there f.waits.parted nowhere
 
   own_stored : (treatment : Treatment) → f.treatment ≡ treatment → Stored (under_way treatment f.object ++ (outers own).under) s.heap f.lower
   own_stored treatment is = subst (λ (by : Treatment). Stored (under_way by f.object ++ (outers own).under) s.heap f.lower) is works.stored
@@ -203,7 +207,7 @@ module _ (program : Program) (well : IsWellFormed (program_form program)) (s : S
   -- The object is to cease to exist, and its words go back, before what is left of its master.
   resting_ends : (cause : Cause) → IsEnd cause → f.treatment ≡ ends cause → (r : Resting own f.object f.home f.places f.after f.lower f.rooms f.holds) → Ending own f.object (frame.GivesBack (Names f.object) (Leaving r.master r.item) f.home.pool ∷ frame.Leaves r.mode ∷ r.rest) s.heap f.places f.lower
   resting_ends cause end is r =
-      let fit = spare_fit (sparing s.heap (innermost f.lower)) own_fit in
+      let fit = spare_fit (sparing own.ahead s.heap (innermost f.lower)) own_fit in
       record {
         object = f.x;
         found = f.found;
@@ -222,7 +226,7 @@ module _ (program : Program) (well : IsWellFormed (program_form program)) (s : S
               holds = f.holds;
               roomed = f.waits.roomed;
               fit = fit;
-              aside = (unnamed_by f.holds (sparing s.heap (innermost f.lower)) fit r.nowhere, r.unreferred);
+              aside = (unnamed_by f.places f.holds (sparing own.ahead s.heap (innermost f.lower)) fit r.nowhere, r.unreferred);
               rest = r.runs;
             },
           ),
@@ -250,12 +254,44 @@ module _ (program : Program) (well : IsWellFormed (program_form program)) (s : S
           holds = f.holds;
           roomed = f.waits.roomed;
           fit = own_fit;
-          aside = (unnamed_by f.holds none_spared own_fit r.nowhere, r.unreferred);
+          aside = (unnamed_by f.places f.holds none_spared own_fit r.nowhere, r.unreferred);
           rest = (r.runs, r.well);
         }),
       ),
     );
   }
+
+  -- So it is, before the variable becomes null that is freed.
+  emptying_ends : (cause : Cause) → IsEnd cause → f.treatment ≡ ends cause → (r : Empties own f.object f.access f.home f.places f.after f.rooms f.holds) → Ending own f.object (frame.GivesBack (Names f.object) (Freeing r.number) f.home.pool ∷ frame.Clears r.x ∷ r.rest) s.heap f.places f.lower
+  emptying_ends cause end is r =
+      let lost = subst (λ (holds : Holds). Fit own.program.types own.program.variables (outers own) none_spared s.heap f.places holds) r.lost own_fit in
+      let fit = null_again r.x lost r.said r.fits in
+      record {
+        object = f.x;
+        found = f.found;
+        exists = exists_still;
+        parted = parted cause end is;
+        stored = end_stored cause end is;
+        covered = subst (λ (t : ℕ). IsCovered own.implicit own.program (Freeing r.number) t) (sym f.of_access) r.covered;
+        rest = (
+          refl,
+          ap (λ (home : Home). home.pool) (sym f.at_home),
+          record {
+            rooms = f.rooms;
+            holds = r.before;
+            roomed = f.waits.roomed;
+            fit = fit;
+            aside = (unnamed_by (slice_set f.places r.x Null) r.before none_spared fit r.nowhere, r.unreferred);
+            rest = (r.runs, frees_well r.before r.well);
+          },
+        );
+      }
+    where
+      frees_well : (holds : Holds) → Spares own (own.implicit.end_frees f.access) × Unaliased own.program.variables (own.implicit.end_frees f.access) holds → FreesWell own s.heap (Some f.object) holds
+      frees_well holds well object at =
+          let one : f.x ≡ object = let here = f.found in cc (here, at) in
+          let of : f.access ≡ object.cell.access = sym f.of_access ∙ ap (λ (x : Object). x.cell.access) one in
+          subst (λ (t : ℕ). Spares own (own.implicit.end_frees t) × Unaliased own.program.variables (own.implicit.end_frees t) holds) of well
 
   -- Its initialization goes on, or what is left does.
   beginning : (done : List parts.Part) → f.treatment ≡ begins Creation done → Starting own f.object f.access f.places f.after f.rooms f.holds → Beginning own (Names f.object) f.after s.heap f.places f.lower
@@ -272,17 +308,18 @@ module _ (program : Program) (well : IsWellFormed (program_form program)) (s : S
         stored = own_stored (begins Creation done) is;
         roomed = f.waits.roomed;
         fit = own_fit;
-        aside = (unnamed_by (slice_set f.holds r.x hold.Lost) none_spared (weaker_fit (slice_set f.holds r.x hold.Lost) less own_fit) r.nowhere, r.unreferred);
+        aside = (unnamed_by f.places (slice_set f.holds r.x hold.Lost) none_spared (weaker_fit (slice_set f.holds r.x hold.Lost) less own_fit) r.nowhere, r.unreferred);
         runs = r.runs;
         undone = subst (λ (t : ℕ). StartsTo own t f.after f.rooms (slice_set f.holds r.x hold.Lost)) (sym f.of_access) r.undone;
         well = subst (λ (t : ℕ). BeginsWell own t f.holds) (sym f.of_access) r.well;
       }
 
   -- The end of the object is next behind its finalization.
-  ends_next : (cause : Cause) → IsEnd cause → f.treatment ≡ ends cause → Resting own f.object f.home f.places f.after f.lower f.rooms f.holds ⊎ Undoes own f.object f.access f.home f.places f.after f.rooms f.holds
+  ends_next : (cause : Cause) → IsEnd cause → f.treatment ≡ ends cause → RestsAtEnd own f.object f.access f.home f.places f.after f.lower f.rooms f.holds
       → EndsTo own (Names f.object) f.after s.heap f.places f.lower
   ends_next cause end is (inl r) = ends_first own f.object f.after _ s.heap f.places f.lower r.is (resting_ends cause end is r)
-  ends_next cause end is (inr r) = ends_first own f.object f.after _ s.heap f.places f.lower r.is (undoing_ends cause end is r)
+  ends_next cause end is (inr (inl r)) = ends_first own f.object f.after _ s.heap f.places f.lower r.is (undoing_ends cause end is r)
+  ends_next cause end is (inr (inr r)) = ends_first own f.object f.after _ s.heap f.places f.lower r.is (emptying_ends cause end is r)
 
   -- The copy is next, where a record in the object is assigned to.
   operands_are : f.operands ≡ b.operands

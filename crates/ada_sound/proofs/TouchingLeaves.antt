@@ -14,7 +14,7 @@ use Rattle.ada_sound.proofs.Invariant.{Control, RunsOn, innermost, outers}
 use Rattle.ada_sound.proofs.Leavings.{HeldIn, NamedBelow}
 use Rattle.ada_sound.proofs.Operating.{AreVariables}
 use Rattle.ada_sound.specs.Agreement.{running_procedure}
-use Rattle.ada_quiet.specs.Frugal.{frugal_procedures}
+use Rattle.ada_quiet.specs.Frugal.{thrift_of}
 use Rattle.ada_sound.proofs.Below.{named_below}
 
 -- While the body of an operation that touches storage runs, or one that it has called, the master that is left holds nothing; and what callers rely on lies in
@@ -23,7 +23,7 @@ pub touching_leaves : (program : Program) (s : State) (f : Touching program s) â
 touching_leaves program s f runs left k leaves =
     let known = known_in program (running_procedure s) (waiting_for program s f) in
     let parting = rw (runs, leaves) at f.ready.1 in
-    let inner = leaves_own (frugal_procedures (program_form program)) f.behind s.mode left k f.frugal.upper f.lower (rw leaves at f.frugal.frugal) f.frugal.own in
+    let inner = leaves_own (thrift_of (program_form program)) f.behind s.mode left k f.frugal.upper f.lower (rw leaves at f.frugal.frugal) f.frugal.own in
     let own : AreVariables (innermost s.masters) = rw f.frugal.masters inner in
     let more = RunsOn known (Leaves left âˆ· k) in
     (held_in_none known s.heap _ s.masters more parting own, named_below known s.heap f.stands.standing.waiting f.stands.standing.low left k s.masters parting)

@@ -1,11 +1,13 @@
--- An operation that touches storage is called for an object whose master is left (7.6.1), for one that a declaration creates (7.6), or for one of which a record is
--- assigned to (5.2): what is behind that.
+-- An operation that touches storage is called for an object whose master is left (7.6.1), for one that a variable names which is freed (13.11.2), for one that a
+-- declaration creates (7.6), or for one of which a record is assigned to (5.2): what is behind that.
 
 use Rattle.std.proofs.Common.{◌≡◌, ℕ, Bool, true, false, List, [], ◌∷◌, ◌++◌, refl, sym, subst, ◌∙◌, ◌⊎◌, inl, inr, slice_set, eqb-true, None, ap, ◌≢◌}
 use Rattle.std.specs.Prelude.{Option, Some, ◌==◌, if◌then◌else◌}
-use Rattle.std.specs.List.{slice_get}
-use Rattle.ada_program.specs.ProgramForm.{TypeForm}
-use Rattle.ada_program.specs.WellFormed.{is_access}
+use Rattle.std.specs.List.{slice_get, list_any}
+use Rattle.ada_program.specs.WellFormed.{access_of, is_access, kind_among, reached_components}
+use Rattle.ada_program.specs.declared.program.Exception.{Exception}
+use Rattle.ada_program.specs.Handling.{is_same}
+use Rattle.ada_quiet.specs.Bare.{has_bare_objects}
 use Rattle.ada_flow.specs.declared.rule.Hold.{Hold}
 use Rattle.ada_flow.specs.declared.rule.Hold.TheVariants as hold
 use Rattle.ada_flow.specs.Flow.{Holds, Gone as GoneWith, hold_at, is_among}
@@ -18,7 +20,7 @@ use Rattle.ada_meaning.specs.declared.state.Value.{Value}
 use Rattle.ada_meaning.specs.declared.state.Value.TheVariants.{Names, Null, Part, Scalar}
 use Rattle.ada_meaning.specs.Finalization.{NothingTreated}
 use Rattle.ada_parts.specs.Part as parts
-use Rattle.ada_meaning.specs.Frame.{Copies, Ends, GivesBack, Leaves, Resumes, ends, begins, StoresRecord}
+use Rattle.ada_meaning.specs.Frame.{Clears, ClearsIn, Copies, Ends, GivesBack, Leaves, Resumes, ends, begins, StoresRecord}
 use Rattle.ada_meaning.specs.Law.{items_of}
 use Rattle.ada_meaning.specs.State.{Owned, declared, collection, record_object, storage_pool, Item, Master, Destination, home_among, collection_in, home_of, destination}
 use Rattle.ada_meaning.specs.Named.{Object, object_at}
@@ -27,11 +29,12 @@ use Rattle.ada_owners.specs.Reliance.{Owns, Borrows}
 use Rattle.ada_owners.proofs.Ends.{IsUnnamed}
 use Rattle.ada_scopes.proofs.Homes.{OwnedFits, ItemsFit, fit_after}
 use Rattle.ada_sound.proofs.Endings.{among_by}
-use Rattle.ada_sound.proofs.Touching.{IsNamedNowhere, Enters, Paused, Resting, ended_object, RestsBy, StoresInto, Undoes, ended_frees}
+use Rattle.ada_sound.proofs.Emptying.{lost_fit, lost_unaliased, null_there}
+use Rattle.ada_sound.proofs.Touching.{IsNamedNowhere, Enters, Paused, Resting, RestsAtEnd, ended_object, RestsBy, StoresInto, ended_frees}
 use Rattle.ada_sound.proofs.FrugalUseEnds.{any_end}
 use Rattle.ada_effects.specs.Effects.{endings_free, Implicit, assignment_frees}
-use Rattle.ada_sound.proofs.Fits.{IsRelied, Outsiders, hold_in, none_spared, objects_left, outer_hold, outer_value_at, respare, sparing, stacked, IsReferred, Reference}
-use Rattle.ada_sound.proofs.Invariant.{Behind, CopiesBehind, Control, Ending, EndingBy, EndsTo, Freed, IsCopied, IsNewest, Known, LeavesTo, Roomed, Rooms, RunsOn, ThenBack, TreatsBy, WillBeCovered, below, innermost, outers, Beginning, CameOut, ResumesTo, BeginsWell, To, HasCollection, By, ways, gone_in, LiesAmong, LiesIn, StoresBehind}
+use Rattle.ada_sound.proofs.Fits.{IsRelied, Outsiders, hold_in, none_spared, first_left, outer_hold, outer_value_at, respare, sparing, stacked, IsReferred, Reference}
+use Rattle.ada_sound.proofs.Invariant.{Behind, CopiesBehind, Control, Ending, EndingBy, EndsTo, Freed, IsCopied, IsNewest, Known, LeavesTo, Roomed, Rooms, RunsOn, ThenBack, TreatsBy, WillBeCovered, below, innermost, outers, Beginning, CameOut, ResumesTo, BeginsWell, To, HasCollection, By, ways, gone_in, LiesAmong, LiesIn, StoresBehind, ClearsTo, FreesWell, IsCovered, IsNamedIn}
 use Rattle.ada_sound.proofs.Items.{Counted, HasItem, Houses, newest_is}
 use Rattle.ada_sound.proofs.Stored.{Stored, exists_out}
 use Rattle.ada_finalized.proofs.Standing.{nothing_begins, AdjustsAlone}
@@ -49,7 +52,7 @@ IsEnd (Assigning number) = ⊥
 IsEnd (Undoing number) = Unit {0}
 
 rests_at_end : (known : Known) (cause : Cause) → IsEnd cause → (o : Id) (access : ℕ) (home : Home) (places operands : List Value) (after : Control) (lower : List Master) (rooms : Rooms) (holds : Holds)
-    → Resting known o home places after lower rooms holds ⊎ Undoes known o access home places after rooms holds → RestsBy known cause o access home places operands [] after lower rooms holds
+    → RestsAtEnd known o access home places after lower rooms holds → RestsBy known cause o access home places operands [] after lower rooms holds
 rests_at_end known (Leaving m item) end o access home places operands after lower rooms holds r = (refl, r)
 rests_at_end known (Freeing number) end o access home places operands after lower rooms holds r = (refl, r)
 rests_at_end known (Assigning number) end o access home places operands after lower rooms holds r = absurd end
@@ -89,41 +92,33 @@ named_nowhere outer spared heap places holds o none = record {
       );
 }
 
--- The newest item is that of the object, which is of no access type.
-is_object_left : (types : List TypeForm) (i : Item) (is : List Item) (access : ℕ) (pool : Option ℕ) → is_access types access ≡ false → (owned : Owned) → i.owned ≡ owned → Houses owned access pool → OwnedFits types owned → objects_left (i ∷ is) ≡ true
-is_object_left types i is access pool object (declared x) own houses fits = absurd houses
-is_object_left types i is access pool object (storage_pool declaration number) own houses fits = absurd houses
-is_object_left types i is access pool object (record_object t) own houses fits = rw own refl
-is_object_left types i is access pool object (collection t p) own houses fits = let same = houses.0 in absurd (cc (rw same at fits, object))
-
-module _ (types : List TypeForm) (under : List Id) (heap : List Object) (o : Id) (x : Object) (found : object_at heap o ≡ Some x) (out : x.out ≡ true) (object : is_access types x.cell.access ≡ false) (m : Master) (ms : List Master) (stored : Stored under heap (m ∷ ms)) (fits : ItemsFit types (items_of (m ∷ ms))) where
-  -- It is the home of the object, so it is of a type that the master may own.
+module _ (known : Known) (under : List Id) (heap : List Object) (o : Id) (x : Object) (found : object_at heap o ≡ Some x) (out : x.out ≡ true) (ahead : (owned : Owned) → Houses owned x.cell.access x.cell.home.pool → OwnedFits known.program.types owned → known.ahead owned ≡ true) (m : Master) (ms : List Master) (stored : Stored under heap (m ∷ ms)) (fits : ItemsFit known.program.types (items_of (m ∷ ms))) where
+  -- The newest item is the home of the object, so it is of a type that the master may own; and it goes first.
   newest_houses : (i : Item) (is : List Item) → m.items ≡ i ∷ is → i.number ≡ x.cell.home.item → Houses i.owned x.cell.access x.cell.home.pool
   newest_houses i is at same =
       newest_is x.cell.home.item x.cell.access x.cell.home.pool i (is ++ items_of ms) (sym same)
       (subst (λ (items : List Item). Counted (items ++ items_of ms)) at stored.counted)
       (subst (λ (items : List Item). HasItem x.cell.home.item x.cell.access x.cell.home.pool (items ++ items_of ms)) at ((stored.sane o x found).housed out))
 
-  left_by : (is : List Item) → m.items ≡ is → IsNewest x.cell.home.item is → objects_left is ≡ true
+  left_by : (is : List Item) → m.items ≡ is → IsNewest x.cell.home.item is → first_left known.ahead is ≡ true
   left_by [] at newest = absurd newest
   left_by (i ∷ is) at newest =
-      is_object_left types i is x.cell.access x.cell.home.pool object i.owned refl (newest_houses i is at newest)
-      (subst (λ (items : List Item). ItemsFit types (items ++ items_of ms)) at fits).0
+      rw (ahead i.owned (newest_houses i is at newest) (subst (λ (items : List Item). ItemsFit known.program.types (items ++ items_of ms)) at fits).0) refl
 
   among_gone : (below : List Master) (gone : GoneWith) (rooms : Rooms) → Roomed below (m ∷ ms) (gone ∷ rooms) → (is : List Item) → m.items ≡ is → IsNewest x.cell.home.item is → is_among gone.types (Some x.cell.access) ≡ true
   among_gone below gone rooms roomed [] at newest = absurd newest
   among_gone below gone rooms roomed (i ∷ is) at newest =
       among_by i.owned x.cell.access x.cell.home.pool gone.types (newest_houses i is at newest) (rw at at (roomed.0)).0
 
-module _ (known : Known) (o : Id) (x : Object) (heap : List Object) (found : object_at heap o ≡ Some x) (places operands : List Value) (masters : List Master) (object : is_access known.program.types x.cell.access ≡ false) (fits : ItemsFit known.program.types (items_of masters)) where
+module _ (known : Known) (o : Id) (x : Object) (heap : List Object) (found : object_at heap o ≡ Some x) (places operands : List Value) (masters : List Master) (not_bare : has_bare_objects known.program.types x.cell.access ≡ false) (fits : ItemsFit known.program.types (items_of masters)) where
   -- No other object is referred to.
-  none_others : (p : Id) (t : ℕ) → IsReferred [] p t → (access_at heap p ≡ Some t) × (is_access known.program.types t ≡ false)
+  none_others : (p : Id) (t : ℕ) → IsReferred [] p t → (access_at heap p ≡ Some t) × (has_bare_objects known.program.types t ≡ false)
   none_others p t none = absurd none
 
   -- A collection is one of an access type.
-  none_among : (is rest : List Item) (later : Option Destination) (d : Destination) → ItemsFit known.program.types (is ++ rest) → home_among x.cell.access is later ≡ Some d → later ≡ Some d
-  none_among [] rest later d fit at = at
-  none_among (i ∷ is) rest later d fit at = by i.owned refl at (none_among is rest later d fit.1)
+  none_among : is_access known.program.types x.cell.access ≡ false → (is rest : List Item) (later : Option Destination) (d : Destination) → ItemsFit known.program.types (is ++ rest) → home_among x.cell.access is later ≡ Some d → later ≡ Some d
+  none_among object [] rest later d fit at = at
+  none_among object (i ∷ is) rest later d fit at = by i.owned refl at (none_among object is rest later d fit.1)
     where
       by : (owned : Owned) → i.owned ≡ owned → collection_in x.cell.access i owned (home_among x.cell.access is later) ≡ Some d → (home_among x.cell.access is later ≡ Some d → later ≡ Some d) → later ≡ Some d
       by (declared y) own at' more = more at'
@@ -139,23 +134,23 @@ module _ (known : Known) (o : Id) (x : Object) (heap : List Object) (found : obj
               let access : is_access known.program.types t ≡ true = rw own at fits in
               absurd (cc (rw (← one) at access, object))
 
-  pub none_collected : (ms : List Master) → ItemsFit known.program.types (items_of ms) → (d : Destination) → home_of x.cell.access ms ≡ Some d → ⊥
-  none_collected [] fit d at = cc at
-  none_collected (m ∷ ms) fit d at =
-      none_collected ms (fit_after known.program.types m.items (items_of ms) fit) d (none_among m.items (items_of ms) (home_of x.cell.access ms) d fit at)
+  pub none_collected : is_access known.program.types x.cell.access ≡ false → (ms : List Master) → ItemsFit known.program.types (items_of ms) → (d : Destination) → home_of x.cell.access ms ≡ Some d → ⊥
+  none_collected object [] fit d at = cc at
+  none_collected object (m ∷ ms) fit d at =
+      none_collected object ms (fit_after known.program.types m.items (items_of ms) fit) d (none_among object m.items (items_of ms) (home_of x.cell.access ms) d fit at)
 
-  -- The master is left.
-  module _ (mode : Mode) (rest : Control) (master : ℕ) (newest : IsNewest x.cell.home.item (innermost masters)) (untreated : NothingTreated rest) (stored : Stored (o ∷ (outers known).under) heap masters) (out : x.out ≡ true) (r : Freed known (Some o) (sparing heap (innermost masters)) heap places masters (RunsOn known (Leaves mode ∷ rest))) where
-    left_over : (ms : List Master) → masters ≡ ms → objects_left (innermost ms) ≡ true
+  -- The master is left: the home of the object is among what goes first.
+  module _ (ahead : (owned : Owned) → Houses owned x.cell.access x.cell.home.pool → OwnedFits known.program.types owned → known.ahead owned ≡ true) (mode : Mode) (rest : Control) (master : ℕ) (newest : IsNewest x.cell.home.item (innermost masters)) (untreated : NothingTreated rest) (stored : Stored (o ∷ (outers known).under) heap masters) (out : x.out ≡ true) (r : Freed known (Some o) (sparing known.ahead heap (innermost masters)) heap places masters (RunsOn known (Leaves mode ∷ rest))) where
+    left_over : (ms : List Master) → masters ≡ ms → first_left known.ahead (innermost ms) ≡ true
     left_over [] at = absurd (rw at at newest)
-    left_over (m ∷ ms) at = left_by known.program.types (o ∷ (outers known).under) heap o x found out object m ms (rw at at stored) (rw at at fits) m.items refl (rw at at newest)
+    left_over (m ∷ ms) at = left_by known (o ∷ (outers known).under) heap o x found out ahead m ms (rw at at stored) (rw at at fits) m.items refl (rw at at newest)
 
-    left : objects_left (innermost masters) ≡ true
+    left : first_left known.ahead (innermost masters) ≡ true
     left = left_over masters refl
 
     among_by_rooms : (gone : GoneWith) (inner : Rooms) (ms : List Master) → masters ≡ ms → Roomed (below known) ms (gone ∷ inner) → is_among gone.types (Some x.cell.access) ≡ true
     among_by_rooms gone inner [] at roomed = absurd (rw at at newest)
-    among_by_rooms gone inner (m ∷ ms) at roomed = among_gone known.program.types (o ∷ (outers known).under) heap o x found out object m ms (rw at at stored) (rw at at fits) (below known) gone inner roomed m.items refl (rw at at newest)
+    among_by_rooms gone inner (m ∷ ms) at roomed = among_gone known (o ∷ (outers known).under) heap o x found out ahead m ms (rw at at stored) (rw at at fits) (below known) gone inner roomed m.items refl (rw at at newest)
 
     -- What is left of the master behind the end of the object.
     abbrev behind_it : Control
@@ -171,14 +166,14 @@ module _ (known : Known) (o : Id) (x : Object) (heap : List Object) (found : obj
       own_item = refl;
       newest = newest;
       runs = r.rest;
-      nowhere = named_nowhere (outers known) (sparing heap (innermost masters)) heap places r.holds o r.aside.0;
+      nowhere = named_nowhere (outers known) (sparing known.ahead heap (innermost masters)) heap places r.holds o r.aside.0;
       unreferred = r.aside.1;
       untreated = untreated;
     }
 
     paused_here : Paused known o x.cell.access places behind_it masters r.rooms r.holds
     paused_here = record {
-      declared = object;
+      parted = not_bare;
       untreated = λ v ne. nothing_begins v rest untreated;
       roomed = r.roomed;
       said = r.fit.said;
@@ -194,7 +189,7 @@ module _ (known : Known) (o : Id) (x : Object) (heap : List Object) (found : obj
       there = none_others;
       waits = paused_here;
       rests = rests_at_end known cause end o x.cell.access x.cell.home places operands behind_it masters r.rooms r.holds (inl resting_here);
-      fit = respare (sparing heap (innermost masters)) none_spared (λ k c p e. rw left refl) r.fit;
+      fit = respare (sparing known.ahead heap (innermost masters)) none_spared (λ k c p e. rw left refl) r.fit;
       stored = stored_at_end cause end o (outers known).under heap masters stored;
       may = endings_free known.implicit gone.types;
       includes = λ t is. any_end (λ u. known.implicit.end_frees u t) x.cell.access gone.types (among_by_rooms gone inner masters refl roomed) (frees_at_end known.implicit cause end x.cell.access behind_it t is);
@@ -205,12 +200,15 @@ module _ (known : Known) (o : Id) (x : Object) (heap : List Object) (found : obj
     at_rest_here : (cause : Cause) → IsEnd cause → Enters known (ends cause) o x behind_it heap places operands masters
     at_rest_here cause end = by_rooms cause end r.rooms refl r.roomed r.rest
 
-  -- In a program in which operations may touch storage, nothing else ends an object with controlled parts than the leaving of its master, and an exception out of
-  -- its initialization: it is not freed.
-  module _ (starts : (access t : ℕ) → known.implicit.end_frees access t ≡ true → known.implicit.start_frees access t ≡ true) (way : Cause) (end : IsEnd way) where
+  -- In a program in which operations may touch storage, an object with controlled parts ends where its master is left, where a variable is freed that names it, and
+  -- where an exception comes out of the initialization of a declared one: no component names it, and none comes out where an allocator made it.
+  module _ (ahead : (owned : Owned) → Houses owned x.cell.access x.cell.home.pool → OwnedFits known.program.types owned → known.ahead owned ≡ true)
+      (bare : (holder c access : ℕ) → access_of (kind_among (reached_components known.program.types holder) c) ≡ Some access → has_bare_objects known.program.types access ≡ true)
+      (silent : is_access known.program.types x.cell.access ≡ true → (e : Exception) → list_any (is_same e) (known.implicit.start_raises x.cell.access) ≡ false)
+      (starts : (access t : ℕ) → known.implicit.end_frees access t ≡ true → known.implicit.start_frees access t ≡ true) (way : Cause) (end : IsEnd way) where
     leaving : (m item : ℕ) (pool : Option ℕ) (k : Control) → item ≡ x.cell.home.item → pool ≡ x.cell.home.pool → IsNewest x.cell.home.item (innermost masters) → Stored (o ∷ (outers known).under) heap masters → x.out ≡ true → NothingTreated k → LeavesTo known (Some o) heap places masters k → Enters known (ends way) o x (Ends (Names o) ∷ GivesBack (Names o) (Leaving m item) pool ∷ k) heap places operands masters
     leaving m item pool [] own from newest stored out untreated r = absurd r
-    leaving m item pool (Leaves mode ∷ rest) own from newest stored out untreated r = rw (own, from) (at_rest_here mode rest m newest untreated stored out r way end)
+    leaving m item pool (Leaves mode ∷ rest) own from newest stored out untreated r = rw (own, from) (at_rest_here ahead mode rest m newest untreated stored out r way end)
     leaving m item pool (f ∷ k) own from newest stored out untreated r = absurd r
 
     undone : (number : ℕ) (mode : Mode) (rest : Control) → NothingTreated rest → Stored (o ∷ (outers known).under) heap masters → CameOut known x.cell.access mode
@@ -222,13 +220,13 @@ module _ (known : Known) (o : Id) (x : Object) (heap : List Object) (found : obj
       also = [];
       there = none_others;
       waits = record {
-        declared = object;
+        parted = not_bare;
         untreated = λ v ne. nothing_begins v rest untreated;
         roomed = r.roomed;
         said = r.fit.said;
         objects = r.fit.objects;
       };
-      rests = rests_at_end known way end o x.cell.access x.cell.home places operands (Ends (Names o) ∷ GivesBack (Names o) (Undoing number) x.cell.home.pool ∷ Resumes mode ∷ rest) masters r.rooms r.holds (inr (record {
+      rests = rests_at_end known way end o x.cell.access x.cell.home places operands (Ends (Names o) ∷ GivesBack (Names o) (Undoing number) x.cell.home.pool ∷ Resumes mode ∷ rest) masters r.rooms r.holds (inr (inl (record {
         number = number;
         mode = mode;
         rest = rest;
@@ -239,7 +237,7 @@ module _ (known : Known) (o : Id) (x : Object) (heap : List Object) (found : obj
         nowhere = named_nowhere (outers known) none_spared heap places r.holds o r.aside.0;
         unreferred = r.aside.1;
         untreated = untreated;
-      }));
+      })));
       fit = r.fit;
       stored = stored_at_end way end o (outers known).under heap masters stored;
       may = known.implicit.start_frees x.cell.access;
@@ -260,13 +258,77 @@ module _ (known : Known) (o : Id) (x : Object) (heap : List Object) (found : obj
             → ((HasCollection masters access × Freed known None none_spared (gone_in (Some o) heap) places masters (λ rooms holds. To (By mode (ways known rest rooms)) holds))
             ⊎ Freed known (Some o) none_spared heap places masters (λ rooms holds. To (By mode (ways known rest rooms)) holds × BeginsWell known access holds))
             → Enters known (ends way) o x (Ends (Names o) ∷ GivesBack (Names o) (Undoing number) pool ∷ Resumes mode ∷ rest) heap places operands masters
-        by same came' (inl (open_one, freed)) = let home : HasCollection masters x.cell.access = rw same at open_one in absurd (none_collected masters fits home.0 home.1)
+        by same came' (inl (open_one, freed)) = collected (is_access known.program.types x.cell.access) refl
+          where
+            collected : (b : Bool) → is_access known.program.types x.cell.access ≡ b → Enters known (ends way) o x (Ends (Names o) ∷ GivesBack (Names o) (Undoing number) pool ∷ Resumes mode ∷ rest) heap places operands masters
+            collected true object = let raised : CameOut known x.cell.access mode = rw same at came' in let none = silent object raised.0 in let some = raised.2 in absurd (cc (none, some))
+            collected false object = let home : HasCollection masters x.cell.access = rw same at open_one in absurd (none_collected object masters fits home.0 home.1)
         by same came' (inr freed) = rw from (undone number mode rest untreated stored (rw same at came') (rw same at freed))
     undoing number pool (f ∷ k) from untreated stored r = absurd r
 
+    -- A variable is freed that names it.
+    emptying : (number y : ℕ) (k : Control) → IsCovered known.implicit known.program (Freeing number) x.cell.access → NothingTreated k → Stored (o ∷ (outers known).under) heap masters
+        → Freed known (Some o) none_spared heap (slice_set places y Null) masters (λ rooms holds. RunsOn known k rooms holds × FreesWell known heap (Some o) holds)
+        → Enters known (ends way) o x (Ends (Names o) ∷ GivesBack (Names o) (Freeing number) x.cell.home.pool ∷ Clears y ∷ k) heap places operands masters
+    emptying number y k covered untreated stored r =
+        let well = r.rest.1 x found in
+        let fit = lost_fit y r.fit in
+        record {
+          rooms = r.rooms;
+          holds = slice_set r.holds y hold.Lost;
+          also = [];
+          there = none_others;
+          waits = record {
+            parted = not_bare;
+            untreated = λ v ne. nothing_begins v k untreated;
+            roomed = r.roomed;
+            said = fit.said;
+            objects = fit.objects;
+          };
+          rests = rests_at_end known way end o x.cell.access x.cell.home places operands (Ends (Names o) ∷ GivesBack (Names o) (Freeing number) x.cell.home.pool ∷ Clears y ∷ k) masters r.rooms (slice_set r.holds y hold.Lost) (inr (inr (record {
+            number = number;
+            x = y;
+            rest = k;
+            before = r.holds;
+            is = refl;
+            lost = refl;
+            runs = r.rest.0;
+            well = well;
+            covered = covered;
+            said = rw (null_there places y) at (r.fit.said y);
+            fits = λ ne. rw (null_there places y) at (r.fit.objects y ne);
+            nowhere = named_nowhere (outers known) none_spared heap (slice_set places y Null) r.holds o r.aside.0;
+            unreferred = r.aside.1;
+            untreated = untreated;
+          })));
+          fit = fit;
+          stored = stored_at_end way end o (outers known).under heap masters stored;
+          may = known.implicit.end_frees x.cell.access;
+          includes = λ t is. frees_at_end known.implicit way end x.cell.access (Ends (Names o) ∷ GivesBack (Names o) (Freeing number) x.cell.home.pool ∷ Clears y ∷ k) t is;
+          spares = well.0;
+          unaliased = lost_unaliased known.program.variables (known.implicit.end_frees x.cell.access) r.holds y well.1;
+        }
+
+    -- No component names it.
+    never_named : (v : Value) (c : ℕ) → IsNamedIn known heap v c (Some o) → ⊥
+    never_named Null c r = r
+    never_named (Names p) c (holder, object, at, there, is) =
+        let one : object ≡ x = cc (there, found) in
+        let none : has_bare_objects known.program.types x.cell.access ≡ true = rw one at (bare holder.cell.access c object.cell.access is) in
+        cc (none, not_bare)
+    never_named (Scalar n) c r = r
+    never_named (Part p place) c r = r
+
+    freeing : (number : ℕ) (pool : Option ℕ) (k : Control) → pool ≡ x.cell.home.pool → IsCovered known.implicit known.program (Freeing number) x.cell.access → NothingTreated k → Stored (o ∷ (outers known).under) heap masters → ClearsTo known (Some o) heap places masters k
+        → Enters known (ends way) o x (Ends (Names o) ∷ GivesBack (Names o) (Freeing number) pool ∷ k) heap places operands masters
+    freeing number pool [] from covered untreated stored r = absurd r
+    freeing number pool (Clears y ∷ k) from covered untreated stored r = rw from (emptying number y k covered untreated stored r)
+    freeing number pool (ClearsIn v c ∷ k) from covered untreated stored r = absurd (never_named v c r.2)
+    freeing number pool (f ∷ k) from covered untreated stored r = absurd r
+
     by_cause : (cause : Cause) (pool : Option ℕ) (k : Control) → pool ≡ x.cell.home.pool → WillBeCovered known.implicit known.program x.cell.access (GivesBack (Names o) cause pool ∷ k) → Stored (o ∷ (outers known).under) heap masters → x.out ≡ true → NothingTreated k → Behind known cause (Some o) x.cell.home.item heap places masters k → Enters known (ends way) o x (Ends (Names o) ∷ GivesBack (Names o) cause pool ∷ k) heap places operands masters
     by_cause (Leaving m item) pool k from covered stored out untreated b = leaving m item pool k b.0 from b.1 stored out untreated b.2
-    by_cause (Freeing number) pool k from covered stored out untreated b = let free = covered.1 in absurd (cc (free, object))
+    by_cause (Freeing number) pool k from covered stored out untreated b = freeing number pool k from covered untreated stored b
     by_cause (Assigning number) pool k from covered stored out untreated b = absurd b
     by_cause (Undoing number) pool k from covered stored out untreated b = undoing number pool k from untreated stored b
 
@@ -288,10 +350,10 @@ module _ (known : Known) (o : Id) (x : Object) (heap : List Object) (found : obj
     ends_by (Ends w ∷ k) r untreated = ending_of w k r.0 r.1 (untreated w k refl)
     ends_by (f ∷ k) r untreated = absurd r
 
-  -- A record in the object is assigned to (5.2, 7.6): another record of its type lies in an object that is of no access type, either.
-  module _ (number : ℕ) (lies : (access t : ℕ) → IsCopied known t → LiesAmong known access t → is_access known.program.types access ≡ false) where
-    one_other : (source : Reference) → access_at heap source.object ≡ Some source.access → is_access known.program.types source.access ≡ false
-        → (p : Id) (t : ℕ) → IsReferred (source ∷ []) p t → (access_at heap p ≡ Some t) × (is_access known.program.types t ≡ false)
+  -- A record in the object is assigned to (5.2, 7.6): another record of its type lies in an object that has controlled parts, too.
+  module _ (number : ℕ) (lies : (access t : ℕ) → IsCopied known t → LiesAmong known access t → has_bare_objects known.program.types access ≡ false) where
+    one_other : (source : Reference) → access_at heap source.object ≡ Some source.access → has_bare_objects known.program.types source.access ≡ false
+        → (p : Id) (t : ℕ) → IsReferred (source ∷ []) p t → (access_at heap p ≡ Some t) × (has_bare_objects known.program.types t ≡ false)
     one_other source there of p t (inl (same, one)) = (rw (← same, ← one) there, rw (← one) of)
     one_other source there of p t (inr none) = absurd none
 
@@ -333,7 +395,7 @@ module _ (known : Known) (o : Id) (x : Object) (heap : List Object) (found : obj
               also = source ∷ [];
               there = one_other source there (lies y.cell.access t copied among);
               waits = record {
-                declared = object;
+                parted = not_bare;
                 untreated = others;
                 roomed = w.roomed;
                 said = w.fit.said;
@@ -379,7 +441,7 @@ module _ (known : Known) (o : Id) (x : Object) (heap : List Object) (found : obj
         also = [];
         there = none_others;
         waits = record {
-          declared = object;
+          parted = not_bare;
           untreated = λ v ne. nothing_begins v k untreated;
           roomed = b.roomed;
           said = b.fit.said;
@@ -405,6 +467,6 @@ module _ (known : Known) (o : Id) (x : Object) (heap : List Object) (found : obj
         unaliased = well.1;
       }
 
-  pub at_start : (done : List parts.Part) (k : Control) → TreatsBy known (Names o) (begins Creation done) k heap places operands masters → NothingTreated k → Enters known (begins Creation done) o x k heap places operands masters
-  at_start done k (inl b, may) untreated = begins_here done k untreated b
-  at_start done k (inr (collected, r), may) untreated = let home = collected o x refl found in absurd (none_collected masters fits home.0 home.1)
+  pub at_start : is_access known.program.types x.cell.access ≡ false → (done : List parts.Part) (k : Control) → TreatsBy known (Names o) (begins Creation done) k heap places operands masters → NothingTreated k → Enters known (begins Creation done) o x k heap places operands masters
+  at_start object done k (inl b, may) untreated = begins_here done k untreated b
+  at_start object done k (inr (creation, collected, r), may) untreated = let home = collected o x refl found in absurd (none_collected object masters fits home.0 home.1)

@@ -1,10 +1,12 @@
 -- What the laws of finalization say while the body of an operation runs that touches storage (7.6, 7.6.1): of the objects that stand, and of the one that is treated.
 
-use Rattle.std.proofs.Common.{◌≡◌, Bool, true, false, List, [], ◌∷◌, refl, sym, subst, inl, inr, ◌≢◌, Some, ◌⊎◌}
+use Rattle.std.proofs.Common.{◌≡◌, ℕ, Bool, true, false, List, [], ◌∷◌, refl, sym, subst, inl, inr, ◌≢◌, Some}
 use Rattle.ada_program.specs.declared.program.Program.{Program}
 use Rattle.ada_program.specs.declared.program.TypeDefinition.{TypeDefinition}
 use Rattle.ada_program.specs.ProgramForm.{TypeForm, BodyForm, program_form, body_forms}
-use Rattle.ada_program.specs.WellFormed.{IsWellFormed, is_access}
+use Rattle.ada_program.specs.Form.{a_stmt, frees}
+use Rattle.ada_program.specs.WellFormed.{IsWellFormed}
+use Rattle.ada_quiet.specs.Bare.{has_bare_objects}
 use Rattle.ada_parts.specs.Task.{Task}
 use Rattle.ada_finalized.proofs.Standing.{nothing_begins, listed_stand, none_runs_on_listed}
 use Rattle.ada_finalized.specs.Law.{NothingBegins, NoOperationRunsOn, finalized_before}
@@ -20,21 +22,22 @@ use Rattle.ada_meaning.specs.State.{Master}
 use Rattle.ada_meaning.specs.Step.{treating}
 use Rattle.ada_meaning.specs.Named.{State, Object, object_at}
 use Rattle.ada_sound.proofs.Finalization.{parts_alive}
-use Rattle.ada_sound.proofs.Touching.{Touching, Resting, RestsBy, Undoes}
+use Rattle.ada_sound.proofs.Touching.{Touching, RestsAtEnd, RestsBy}
 use Rattle.ada_sound.proofs.FrugalControl.{Frugal, FrugalLeads}
 use Rattle.ada_sound.proofs.Invariant.{Control}
 use Rattle.ada_meaning.specs.declared.state.Id.{Id}
-use Rattle.ada_sound.proofs.Standing.{AllStand, FinalizesBy, FinalizesIn}
+use Rattle.ada_sound.proofs.OperationStarts.{apart}
+use Rattle.ada_sound.proofs.Standing.{AllStand, FinalizesBy, FinalizesIn, FreesAmong}
 use Rattle.ada_sound.proofs.Starts.{IsReached}
 use Rattle.ada_sound.proofs.Operating.{WaitsFor}
 use Rattle.ada_sound.proofs.Returns.{same_types}
 use Rattle.ada_sound.proofs.Callers.{known_in}
-use Rattle.ada_quiet.specs.Frugal.{frugal_procedures}
+use Rattle.ada_quiet.specs.Frugal.{Thrift, are_frugal, thrift_of}
 use Rattle.ada_meaning.specs.Finalization.{NothingTreated}
 use Rattle.ada_sound.proofs.TouchingRests.{IsEnd}
 
 -- In front of the end of a frugal body, nothing begins.
-module _ (frugal : List Bool) where
+module _ (frugal : Thrift) where
   leads_begin : (v : Value) (behind k : Control) (ms : List Master) → NothingBegins v behind → FrugalLeads frugal behind k ms → NothingBegins v k
   leads_begin v behind [] ms none q = absurd q
   leads_begin v behind (frame.Returns actuals references ∷ k) ms none (inl q) = subst (NothingBegins v) (sym q.2) none
@@ -76,14 +79,23 @@ module _ (program : Program) (s : State) (f : Touching program s) where
 
   -- What is left to do initializes and adjusts no other object.
   begins_nothing : (v : Value) → (v ≢ Names f.object) → NothingBegins v s.control
-  begins_nothing v ne = frugal_begin (frugal_procedures (program_form program)) v f.behind s.mode s.control f.frugal.upper (waits_begin v ne f.treatment f.awaited) f.frugal.frugal
+  begins_nothing v ne = frugal_begin (thrift_of (program_form program)) v f.behind s.mode s.control f.frugal.upper (waits_begin v ne f.treatment f.awaited) f.frugal.frugal
 
   -- Where an object is finalized that then ceases to exist, it does so to none.
   finalizes_nothing : (cause : Cause) → f.treatment ≡ ends cause → NothingTreated f.after → (v : Value) → NothingBegins v s.control
   finalizes_nothing cause is untreated v =
       let waits : WaitsFor (program_form program).types f.object f.of (ends cause) f.after f.behind = rw is at f.awaited in
       let behind = subst (NothingBegins v) (sym waits.1) (treating_begin v (Names f.object) cause waits.0 f.after (nothing_begins v f.after untreated)) in
-      frugal_begin (frugal_procedures (program_form program)) v f.behind s.mode s.control f.frugal.upper behind f.frugal.frugal
+      frugal_begin (thrift_of (program_form program)) v f.behind s.mode s.control f.frugal.upper behind f.frugal.frugal
+
+-- What a frugal body frees has no controlled parts.
+pub frees_bare : (frugal : Thrift) (behind : Control) (mode : Mode) (k : Control) (ms : List Master) → Frugal frugal behind mode k ms → FreesAmong (has_bare_objects frugal.types) k
+frees_bare frugal behind mode [] ms q = tt
+frees_bare frugal behind mode (frame.Does (a_stmt (frees access path) fs) ∷ k) ms (inl q) = (apart (has_bare_objects frugal.types access) (are_frugal frugal fs) q.0).0
+frees_bare frugal behind mode (frame.Does (a_stmt (frees access path) fs) ∷ k) ms (inr (runs, leaving)) = absurd leaving
+frees_bare frugal behind mode (frame.FreesIn access c ∷ k) ms (inl q) = q.0
+frees_bare frugal behind mode (frame.FreesIn access c ∷ k) ms (inr (runs, leaving)) = absurd leaving
+frees_bare frugal behind mode (f ∷ k) ms q = tt
 
 -- Each object that may be freed stands.
 module _ (program : Program) (well : IsWellFormed (program_form program)) (s : State) (reached : IsReached program s) (f : Touching program s) where
@@ -93,39 +105,47 @@ module _ (program : Program) (well : IsWellFormed (program_form program)) (s : S
   abbrev bodies : List BodyForm
   bodies = body_forms program
 
-  -- The object that is treated is of no access type.
-  other_object : (forms : List TypeForm) → forms ≡ (program_form program).types → (o : Id) (x : Object) → object_at s.heap o ≡ Some x → is_access forms x.cell.access ≡ true → Names o ≡ Names f.object → ⊥
-  other_object forms are o x found of same =
+  -- What the body may free, or one that it calls, has no controlled parts.
+  abbrev pub may_free : ℕ → Bool
+  may_free t = has_bare_objects (program_form program).types t
+
+  -- The object that is treated does, or is a declared one.
+  other_object : (o : Id) (x : Object) → object_at s.heap o ≡ Some x → may_free x.cell.access ≡ true → Names o ≡ Names f.object → ⊥
+  other_object o x found bare same =
       let one : o ≡ f.object = cc same in
       let x_is : x ≡ f.x = let here = f.found in let there = found in cc (one, here, there) in
-      let declared = f.waits.declared in
-      let object : is_access (program_form program).types f.access ≡ false = rw (same_types f.procedure (program_form program)) at declared in
-      let access : is_access (program_form program).types f.access ≡ true = rw (are, x_is, f.of_access) at of in
-      cc (object, access)
+      let parted = f.waits.parted in
+      let not_bare : may_free f.access ≡ false = rw (same_types f.procedure (program_form program)) at parted in
+      let both : may_free f.access ≡ true = rw (x_is, f.of_access) at bare in
+      cc (not_bare, both)
 
-  stand : (forms : List TypeForm) → forms ≡ (program_form program).types → AllStand forms s.heap
-  stand forms are o x found listed of =
+  stand : (forms : List TypeForm) → AllStand may_free forms s.heap
+  stand forms o x found listed of bare =
       parts_alive program well s reached o x found
-      (listed_stand program reached.0 reached.1 s reached.2 o x found listed (begins_nothing program s f (Names o) (other_object forms are o x found of)))
+      (listed_stand program reached.0 reached.1 s reached.2 o x found listed (begins_nothing program s f (Names o) (other_object o x found bare)))
 
   by_frame :
-      (g : Frame Value) (k : Control) (mode : Mode) (ms : List Master) → Frugal (frugal_procedures (program_form program)) f.behind mode (g ∷ k) ms → (forms : List TypeForm) → forms ≡ (program_form program).types
-      → FinalizesBy forms types bodies g (record s { mode = Running; control = k })
-  by_frame (frame.Does fs) k mode ms q forms are = stand forms are
-  by_frame (frame.FreesIn access c) k mode ms q forms are = stand forms are
-  by_frame (frame.Treats v treatment tasks) k mode ms (inl q) forms are = absurd q.0
-  by_frame (frame.Treats v treatment tasks) k mode ms (inr (runs, leaving)) forms are = absurd leaving
-  by_frame g k mode ms q forms are = tt
+      (g : Frame Value) (k : Control) (mode : Mode) (ms : List Master) → Frugal (thrift_of (program_form program)) f.behind mode (g ∷ k) ms → (forms : List TypeForm)
+      → FinalizesBy may_free forms types bodies g (record s { mode = Running; control = k })
+  by_frame (frame.Does fs) k mode ms q forms = stand forms
+  by_frame (frame.FreesIn access c) k mode ms q forms = stand forms
+  by_frame (frame.Treats v treatment tasks) k mode ms (inl q) forms = absurd q.0
+  by_frame (frame.Treats v treatment tasks) k mode ms (inr (runs, leaving)) forms = absurd leaving
+  by_frame g k mode ms q forms = tt
 
-  by_mode : (mode : Mode) (k : Control) (ms : List Master) → Frugal (frugal_procedures (program_form program)) f.behind mode k ms → (forms : List TypeForm) → forms ≡ (program_form program).types → FinalizesIn forms types bodies mode k s
-  by_mode Running [] ms q forms are = tt
-  by_mode Running (g ∷ k) ms q forms are = by_frame g k Running ms q forms are
-  by_mode (Raising e) k ms q forms are = tt
-  by_mode Exiting k ms q forms are = tt
-  by_mode Returning k ms q forms are = tt
+  by_mode : (mode : Mode) (k : Control) (ms : List Master) → Frugal (thrift_of (program_form program)) f.behind mode k ms → (forms : List TypeForm) → FinalizesIn may_free forms types bodies mode k s
+  by_mode Running [] ms q forms = tt
+  by_mode Running (g ∷ k) ms q forms = by_frame g k Running ms q forms
+  by_mode (Raising e) k ms q forms = tt
+  by_mode Exiting k ms q forms = tt
+  by_mode Returning k ms q forms = tt
 
-  pub touching_stands : (forms : List TypeForm) → forms ≡ (program_form program).types → FinalizesIn forms types bodies s.mode s.control s
-  touching_stands forms are = by_mode s.mode s.control f.frugal.upper f.frugal.frugal forms are
+  pub touching_stands : (forms : List TypeForm) → FinalizesIn may_free forms types bodies s.mode s.control s
+  touching_stands forms = by_mode s.mode s.control f.frugal.upper f.frugal.frugal forms
+
+  -- What is freed next is of such a type.
+  pub touching_frees : FreesAmong may_free s.control
+  touching_frees = frees_bare (thrift_of (program_form program)) f.behind s.mode s.control f.frugal.upper f.frugal.frugal
 
 -- An object that is finalized has left its collection by the end of the body.
 pub touching_unlisted :
@@ -139,9 +159,10 @@ touching_unlisted program s reached f ends_next cause end is = go f.x.listed ref
     EndsObject : Type 0
     EndsObject = (finalized_before f.after ≡ Names f.object) × NothingTreated f.after
 
-    before_by : Resting (known_in program f.procedure f.suspensions) f.object f.home f.places f.after f.lower f.rooms f.holds ⊎ Undoes (known_in program f.procedure f.suspensions) f.object f.access f.home f.places f.after f.rooms f.holds → EndsObject
+    before_by : RestsAtEnd (known_in program f.procedure f.suspensions) f.object f.access f.home f.places f.after f.lower f.rooms f.holds → EndsObject
     before_by (inl resting) = rw (resting.is) (refl, resting.untreated)
-    before_by (inr undoes) = rw (undoes.is) (refl, undoes.untreated)
+    before_by (inr (inl undoes)) = rw (undoes.is) (refl, undoes.untreated)
+    before_by (inr (inr empties)) = rw (empties.is) (refl, empties.untreated)
 
     before_end : (by : Cause) → IsEnd by → RestsBy (known_in program f.procedure f.suspensions) by f.object f.access f.home f.places f.operands f.also f.after f.lower f.rooms f.holds → EndsObject
     before_end (Leaving m item) e r = before_by r.1

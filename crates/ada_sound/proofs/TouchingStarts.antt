@@ -1,7 +1,8 @@
 -- The treatment of an object calls an operation that touches storage: its body begins in a sound state (7.6, 7.6.1).
 
-use Rattle.std.proofs.Common.{◌≡◌, ℕ, true, false, List, ◌∷◌, refl, sym, ap, subst, ◌∙◌, []}
+use Rattle.std.proofs.Common.{◌≡◌, ℕ, Bool, true, false, not, ◌&&◌, List, ◌∷◌, refl, sym, ap, subst, ◌∙◌, []}
 use Rattle.std.specs.Prelude.{Option, Some, None}
+use Rattle.std.specs.List.{list_any}
 use Rattle.std.specs.Option.{option_map}
 use Rattle.std.proofs.lemmas.Option.{slice_get-map}
 use Rattle.ada_deeds.specs.Implicit.{implicit_of}
@@ -11,9 +12,11 @@ use Rattle.ada_parts.specs.Task.{Task}
 use Rattle.ada_program.specs.declared.program.Program.{Program}
 use Rattle.ada_program.specs.Controlled.{operations_of}
 use Rattle.ada_program.specs.ProgramForm.{TypeForm, ProgramForm, program_form, body_forms, seen_by, seen_in}
-use Rattle.ada_program.specs.WellFormed.{finalization_of, is_access, variable_kind, object_named, IsWellFormed}
-use Rattle.ada_quiet.specs.Frugal.{is_frugal_body, frugal_procedures}
-use Rattle.ada_quiet.specs.InUse.{may_be_frugal}
+use Rattle.ada_program.specs.Handling.{is_same}
+use Rattle.ada_program.specs.WellFormed.{access_of, finalization_of, is_access, kind_among, variable_kind, object_named, reached_components, IsWellFormed}
+use Rattle.ada_quiet.specs.Bare.{has_bare_objects}
+use Rattle.ada_quiet.specs.Frugal.{is_frugal_body, thrift_of}
+use Rattle.ada_quiet.specs.InUse.{may_allocate_parts, may_end_frugally}
 use Rattle.ada_meaning.specs.declared.event.Birth.TheVariants.{Creation, Copy, Adjustment}
 use Rattle.ada_program.specs.declared.program.Exception.{Exception}
 use Rattle.ada_meaning.specs.declared.state.Id.{Id}
@@ -23,30 +26,33 @@ use Rattle.ada_meaning.specs.declared.state.Value.TheVariants.{Names, Part}
 use Rattle.ada_meaning.specs.Frame.{Treatment, Treats, begins, ends, Copies, Ends}
 use Rattle.ada_meaning.specs.Heap.{Cell}
 use Rattle.ada_meaning.specs.Law.{items_of}
-use Rattle.ada_meaning.specs.State.{Activation}
+use Rattle.ada_meaning.specs.State.{Activation, Owned, declared, collection, record_object, storage_pool}
 use Rattle.ada_meaning.specs.Step.{operating}
 use Rattle.ada_meaning.specs.Named.{Object, State, object_at, named}
 use Rattle.ada_meaning.specs.Run.{Event}
 use Rattle.ada_scopes.proofs.Components.{items_fit}
-use Rattle.ada_scopes.proofs.Homes.{ItemsFit}
+use Rattle.ada_scopes.proofs.Homes.{ItemsFit, OwnedFits}
 use Rattle.ada_typed.specs.Holding.{Designates, cells_of, PartsLie}
 use Rattle.ada_typed.proofs.Bodies.{seen_as}
 use Rattle.ada_typed.proofs.Control as typed
 use Rattle.ada_typed.proofs.Kept.{behind_call}
+use Rattle.ada_typed.proofs.Lying.{IsOperable}
 use Rattle.ada_typed.proofs.Overridings.{OperationFor, beginning_for, ending_for}
 use Rattle.ada_sound.proofs.Alters.{Alters}
 use Rattle.ada_sound.proofs.Callers.{Suspension, known_in, Stands, callers_of}
 use Rattle.ada_sound.proofs.Touching.{Enters, Touching}
 use Rattle.ada_sound.proofs.Trackers.{touches_apart}
 use Rattle.ada_sound.proofs.TouchingBegins.{IsAlone, alone, touching_begins}
-use Rattle.ada_sound.proofs.TouchingRests.{assigns_by, at_start, ends_by}
+use Rattle.ada_sound.proofs.TouchingRests.{IsEnd, assigns_by, at_start, ends_by}
 use Rattle.ada_sound.proofs.Fits.{IsWithin}
-use Rattle.ada_sound.proofs.AssignedParts.{copied_in_object, treated_frees_of, IsAssignedBehind}
-use Rattle.ada_sound.proofs.QuietOperations.{LetsNone, MayTouch}
-use Rattle.ada_sound.proofs.FrugalUseParts.{operable_is_object, no_access_to_parts}
+use Rattle.ada_sound.proofs.AssignedParts.{treated_frees_of, IsAssignedBehind}
+use Rattle.ada_sound.proofs.BareObjects.{allocated_is_bare, allocated_raises_nothing, components_are_bare, holder_is_not_bare, operable_is_not_bare}
+use Rattle.ada_sound.proofs.QuietOperations.{LetsNone, MayBeFrugal, MayTouch, ends_frugally}
+use Rattle.ada_sound.proofs.FrugalUseParts.{operable_is_object}
+use Rattle.ada_sound.proofs.Items.{Houses}
 use Rattle.ada_sound.proofs.FrugalUseEnds.{ends_in_starts}
 use Rattle.ada_sound.proofs.FrugalUseLets.{touches_let}
-use Rattle.ada_sound.proofs.Invariant.{Control, CoveredIn, IsCopied, Known, TreatsBy, body_among, under_in, LiesAmong}
+use Rattle.ada_sound.proofs.Invariant.{Control, CoveredIn, EndsTo, IsCopied, Known, TreatsBy, body_among, under_in, LiesAmong}
 use Rattle.ada_sound.proofs.Operated.{OperatedAs}
 use Rattle.ada_sound.proofs.Operating.{IsCalled, IsCalm, lets_out, WaitsFor}
 use Rattle.ada_sound.proofs.OperationBegins.{formal_holds, formal_within}
@@ -78,7 +84,7 @@ operation_for program well of number (begins Copy done) may called = absurd may
 operation_for program well of number (begins (Adjustment n) done) may called = absurd may
 operation_for program well of number (ends cause) may called = ending_for (program_form program) program.types.items refl well.operations_fit of number called
 
-module _ (program : Program) (a : Activation Value) (rest : List (Activation Value)) (s : State) (k : Control) (v : Value) (treatment : Treatment) (tasks : List Task) (gs : List Suspension) (may : may_be_frugal (program_form program) ≡ true) where
+module _ (program : Program) (a : Activation Value) (rest : List (Activation Value)) (s : State) (k : Control) (v : Value) (treatment : Treatment) (tasks : List Task) (gs : List Suspension) where
   abbrev p : ProgramForm
   p = program_form program
 
@@ -90,13 +96,13 @@ module _ (program : Program) (a : Activation Value) (rest : List (Activation Val
     abbrev IsOperated : Treatment → Id → ℕ → Type 0
     IsOperated by object of = OperatedAs p.types v treatment (cells_of s.heap) k by object of
 
-    -- A record with controlled parts lies in no object that an access value designates.
-    lies_declared : (access t : ℕ) → IsCopied known t → LiesAmong known access t → is_access known.program.types access ≡ false
-    lies_declared access t (f, is, limited) (first, part, lies) =
+    -- An object in which a record with controlled parts lies has some.
+    lies_parted : (access t : ℕ) → IsCopied known t → LiesAmong known access t → has_bare_objects known.program.types access ≡ false
+    lies_parted access t (f, is, limited) (first, part, lies) =
         let same = same_types a.procedure p in
         let found : finalization_of p.types t ≡ Some f = subst (λ (types : List TypeForm). finalization_of types t ≡ Some f) same is in
         let lie : PartsLie p.types (object_named p.types (Some access)) (Some t) first part = subst (λ (types : List TypeForm). PartsLie types (object_named types (Some access)) (Some t) first part) same lies in
-        subst (λ (types : List TypeForm). is_access types access ≡ false) (sym same) (copied_in_object program sound.well (no_access_to_parts p may) t f found access first part lie)
+        subst (λ (types : List TypeForm). has_bare_objects types access ≡ false) (sym same) (holder_is_not_bare program sound.well t f found access first part lie)
 
     -- The record that is copied behind an assignment has some.
     copied_behind : (u : Value) (by : Treatment) (j : Control) (heap : List Object) → TreatsBy known u by j heap a.places a.operands s.masters → IsAssignedBehind p.types by j
@@ -122,32 +128,78 @@ module _ (program : Program) (a : Activation Value) (rest : List (Activation Val
         let fits : ItemsFit p.types (items_of whole.masters) = items_fit p whole sound.nested in
         subst (λ (types : List TypeForm). ItemsFit types (items_of s.masters)) (sym (same_types a.procedure p)) (rw same at fits)
 
-    -- What waits for it, by what is treated.
-    enters : (o : Id) (x : Object) (heap : List Object) → v ≡ Names o → object_at heap o ≡ Some x → is_access known.program.types x.cell.access ≡ false → (by : Treatment) → by ≡ treatment → MayTouch by → TreatsBy known (Names o) by k heap a.places a.operands s.masters → Enters known by o x k heap a.places a.operands s.masters
-    enters o x heap named found object (begins Creation done) one may' treats =
-        at_start known o x heap found a.places a.operands s.masters object fits_here done k treats
-        (untreated_start program sound.reached.0 sound.reached.1 whole still sound.reached.2 v Creation done tasks k (control_by (begins Creation done) one))
-    enters o x heap named found object (begins Copy done) one may' treats = absurd may'
-    enters o x heap named found object (begins (Adjustment n) done) one may' treats = absurd may'
-    enters o x heap named found object (ends (Leaving m item)) one may' treats =
-        ends_by known o x heap found a.places a.operands s.masters object fits_here (ends_in_starts p) (Leaving m item) tt k treats (ended_untreated (Leaving m item) one)
-    enters o x heap named found object (ends (Freeing number)) one may' treats =
-        ends_by known o x heap found a.places a.operands s.masters object fits_here (ends_in_starts p) (Freeing number) tt k treats (ended_untreated (Freeing number) one)
-    enters o x heap named found object (ends (Assigning number)) one may' treats =
-        assigns_by known o x heap found a.places a.operands s.masters object fits_here number lies_declared k treats
-        (λ first t behind at. subst (λ (u : Value). AdjustsAlone u behind) named
-        (adjusts_alone program sound.reached.0 sound.reached.1 whole still sound.reached.2 v (Assigning number) tasks first t behind
-        (control_by (ends (Assigning number)) one ∙ ap (λ (j : Control). Treats v (ends (Assigning number)) tasks ∷ j) at)))
-    enters o x heap named found object (ends (Undoing number)) one may' treats =
-        ends_by known o x heap found a.places a.operands s.masters object fits_here (ends_in_starts p) (Undoing number) tt k treats (ended_untreated (Undoing number) one)
+    -- An object is a declared one where an Initialize is called for it that touches storage.
+    abbrev IsDeclaredAt : Treatment → (access : ℕ) → Type 0
+    IsDeclaredAt (begins by done) access = is_access known.program.types access ≡ false
+    IsDeclaredAt (ends cause) access = Unit {0}
 
-    pub touching_starts : (e : Event) (after : State) (c : Begins known a rest s program.types.items (body_forms program) k IsOperated e after) → MayTouch c.treatment → LetsNone p c.treatment c.b → is_frugal_body (frugal_procedures p) c.b ≡ true → typed.Typed p after → Touching program after
-    touching_starts e after c touches silent frugal typing =
+    declared_at : (by : Treatment) → MayBeFrugal p by → (access of part : ℕ) → IsOperable p.types access of part → IsDeclaredAt by access
+    declared_at (begins by done) may access of part operable =
+        subst (λ (types : List TypeForm). is_access types access ≡ false) (sym (same_types a.procedure p)) (operable_is_object program sound.well may access of part operable)
+    declared_at (ends cause) may access of part operable = tt
+
+    -- What waits for it, by what is treated.
+    module _ (may : may_end_frugally p ≡ true) (o : Id) (x : Object) (heap : List Object) (named : v ≡ Names o) (found : object_at heap o ≡ Some x) (not_bare : has_bare_objects known.program.types x.cell.access ≡ false) where
+      -- The home of the object goes first where its master is left.
+      goes_ahead : (owned : Owned) → Houses owned x.cell.access x.cell.home.pool → OwnedFits known.program.types owned → known.ahead owned ≡ true
+      goes_ahead (declared y) houses fits = absurd houses
+      goes_ahead (record_object t) houses fits = refl
+      goes_ahead (storage_pool declaration number) houses fits = absurd houses
+      goes_ahead (collection t pool) houses fits = by (may_allocate_parts p) refl
+        where
+          parted : has_bare_objects p.types t ≡ false
+          parted =
+              subst (λ (types : List TypeForm). has_bare_objects types t ≡ false) (same_types a.procedure p)
+              (subst (λ (access : ℕ). has_bare_objects known.program.types access ≡ false) (sym houses.0) not_bare)
+
+          of_access : is_access p.types t ≡ true
+          of_access = subst (λ (types : List TypeForm). is_access types t ≡ true) (same_types a.procedure p) fits
+
+          by : (b : Bool) → may_allocate_parts p ≡ b → (may_allocate_parts p && not (has_bare_objects p.types t)) ≡ true
+          by true allocates = rw (allocates, parted) refl
+          by false none = let bare = allocated_is_bare program sound.well may none t of_access in absurd (cc (bare, parted))
+
+      -- No component is of its type.
+      bare_components : (holder c access : ℕ) → access_of (kind_among (reached_components known.program.types holder) c) ≡ Some access → has_bare_objects known.program.types access ≡ true
+      bare_components =
+          subst (λ (types : List TypeForm). (holder c access : ℕ) → access_of (kind_among (reached_components types holder) c) ≡ Some access → has_bare_objects types access ≡ true)
+          (sym (same_types a.procedure p)) (components_are_bare program sound.well may)
+
+      -- No exception comes out of the initialization of one that an allocator creates.
+      allocated_silently : is_access known.program.types x.cell.access ≡ true → (e : Exception) → list_any (is_same e) (known.implicit.start_raises x.cell.access) ≡ false
+      allocated_silently is e =
+          let same = same_types a.procedure p in
+          allocated_raises_nothing program sound.well sound.in_use may x.cell.access
+          (subst (λ (types : List TypeForm). is_access types x.cell.access ≡ true) same is) (subst (λ (types : List TypeForm). has_bare_objects types x.cell.access ≡ false) same not_bare) e
+
+      ends_for : (cause : Cause) → IsEnd cause → ends cause ≡ treatment → EndsTo known (Names o) k heap a.places s.masters → Enters known (ends cause) o x k heap a.places a.operands s.masters
+      ends_for cause end one treats =
+          ends_by known o x heap found a.places a.operands s.masters not_bare fits_here goes_ahead bare_components allocated_silently (ends_in_starts p) cause end k treats (ended_untreated cause one)
+
+      enters : (by : Treatment) → by ≡ treatment → MayTouch by → IsDeclaredAt by x.cell.access → TreatsBy known (Names o) by k heap a.places a.operands s.masters → Enters known by o x k heap a.places a.operands s.masters
+      enters (begins Creation done) one may' object treats =
+          at_start known o x heap found a.places a.operands s.masters not_bare fits_here object done k treats
+          (untreated_start program sound.reached.0 sound.reached.1 whole still sound.reached.2 v Creation done tasks k (control_by (begins Creation done) one))
+      enters (begins Copy done) one may' object treats = absurd may'
+      enters (begins (Adjustment n) done) one may' object treats = absurd may'
+      enters (ends (Leaving m item)) one may' object treats = ends_for (Leaving m item) tt one treats
+      enters (ends (Freeing number)) one may' object treats = ends_for (Freeing number) tt one treats
+      enters (ends (Assigning number)) one may' object treats =
+          assigns_by known o x heap found a.places a.operands s.masters not_bare fits_here number lies_parted k treats
+          (λ first t behind at. subst (λ (u : Value). AdjustsAlone u behind) named
+          (adjusts_alone program sound.reached.0 sound.reached.1 whole still sound.reached.2 v (Assigning number) tasks first t behind
+          (control_by (ends (Assigning number)) one ∙ ap (λ (j : Control). Treats v (ends (Assigning number)) tasks ∷ j) at)))
+      enters (ends (Undoing number)) one may' object treats = ends_for (Undoing number) tt one treats
+
+    pub touching_starts : (e : Event) (after : State) (c : Begins known a rest s program.types.items (body_forms program) k IsOperated e after) → MayTouch c.treatment → MayBeFrugal p c.treatment → LetsNone p c.treatment c.b → is_frugal_body (thrift_of p) c.b ≡ true → typed.Typed p after → Touching program after
+    touching_starts e after c touches may_be silent frugal typing =
         let operated = c.operated.1 in
         let of_type : c.x.cell.access ≡ operated.0 = kept_type s.heap c.heap e c.o c.x operated.0 c.alters c.found operated.2 in
-        let object : is_access p.types c.x.cell.access ≡ false = rw of_type (operable_is_object program sound.well may operated.0 c.of operated.1 operated.3) in
+        let may = ends_frugally p c.treatment may_be in
+        let parted : has_bare_objects p.types c.x.cell.access ≡ false = rw of_type (operable_is_not_bare program sound.well operated.0 c.of operated.1 operated.3) in
         let at : Enters known c.treatment c.o c.x k c.heap a.places a.operands s.masters =
-        enters c.o c.x c.heap c.operated.3 c.found (subst (λ (types : List TypeForm). is_access types c.x.cell.access ≡ false) (sym (same_types a.procedure p)) object) c.treatment c.operated.0 touches c.treats in
+        enters may c.o c.x c.heap c.operated.3 c.found (subst (λ (types : List TypeForm). has_bare_objects types c.x.cell.access ≡ false) (sym (same_types a.procedure p)) parted) c.treatment c.operated.0 touches
+        (declared_at c.treatment may_be c.x.cell.access c.of operated.1 (rw of_type operated.3)) c.treats in
         let operation = operation_for program sound.well c.of c.number c.treatment touches c.called in
         let body : operation.body ≡ c.b = let found = operation.there in let there = c.there in cc (found, there) in
         let lone : IsAlone c.b = alone c.b operation.object (rw body at operation.formals) in
@@ -161,6 +213,6 @@ module _ (program : Program) (a : Activation Value) (rest : List (Activation Val
         let frees : (t : ℕ) → CoveredIn (implicit_of p) (seen_in (Some c.number) p) t → at.may t ≡ true =
         λ t covered. at.includes t (treated_frees_of program sound.well c.x.cell.access c.of operated.1 c.number c.b (rw of_type operated.3) c.treatment k (rw (c.operated.0) (c.operated.2)) (copied_behind (Names c.o) c.treatment k c.heap c.treats) touches c.called c.there t covered) in
         let lets : (raised : Exception) → body_among (implicit_of p) (seen_in (Some c.number) p) raised ≡ true → lets_out (implicit_of p) c.x.cell.access c.treatment raised ≡ true =
-        touches_let program sound.well may c.x.cell.access c.of operated.1 c.number c.b (rw of_type operated.3) c.treatment touches silent c.called c.there frugal in
+        touches_let program sound.well c.x.cell.access c.of operated.1 c.number c.b (rw of_type operated.3) c.treatment touches silent c.called c.there frugal in
         rw c.is (touching_begins program sound.well sound.obeys c.number (touches_apart program sound.obeys.0 c.of c.number c.treatment touches c.called) c.b c.there may frugal lone a rest gs s k c.o c.x c.heap c.found (live_there c.x.stage c.live) c.place within c.treatment at c.behind frees lets e c.of c.alters waits (is_awaited p.types c.o c.of c.treatment k c.behind waits) stands
         (calm_behind p.types c.o c.of c.treatment k c.behind waits calm) settled)

@@ -1,13 +1,13 @@
 -- Each step of the body of an operation that touches storage, or of one that it has called, and their ends (7.6, 7.6.1).
 
-use Rattle.std.proofs.Common.{◌≡◌, ℕ, Bool, false, List, [], ◌∷◌, refl, sym, ap, subst, ◌∙◌, ◌⊎◌, inl, inr, ◌++◌, drop, length, suc, zero}
+use Rattle.std.proofs.Common.{◌≡◌, ℕ, false, List, [], ◌∷◌, refl, sym, ap, subst, ◌∙◌, ◌⊎◌, inl, inr, ◌++◌, drop, length, suc, zero}
 use Rattle.std.specs.Prelude.{Option, Some}
 use Rattle.ada_program.specs.declared.program.Exception.{Exception}
 use Rattle.ada_program.specs.declared.program.Program.{Program}
 use Rattle.ada_program.specs.declared.program.TypeDefinition.{TypeDefinition}
 use Rattle.ada_program.specs.Form.{ActualForm}
 use Rattle.ada_program.specs.ProgramForm.{ProgramForm, BodyForm, program_form, body_forms, seen_in}
-use Rattle.ada_program.specs.WellFormed.{is_access}
+use Rattle.ada_quiet.specs.Bare.{has_bare_objects}
 use Rattle.ada_meaning.specs.declared.event.Cause.TheVariants.{Leaving, Freeing, Assigning, Undoing}
 use Rattle.ada_meaning.specs.declared.state.Id.{Id}
 use Rattle.ada_meaning.specs.declared.state.Mode.{Mode}
@@ -20,7 +20,7 @@ use Rattle.ada_meaning.specs.State.{Activation, Master}
 use Rattle.ada_meaning.specs.Step.{halts, moves, tells, asks, picks, older, procedure_of, storing, frame_next, pass_next, jump_next, mode_next, operands_of}
 use Rattle.ada_meaning.specs.Named.{Object, State, Next, named, object_at, next}
 use Rattle.ada_meaning.specs.Run.{Event}
-use Rattle.ada_quiet.specs.Frugal.{frugal_procedures}
+use Rattle.ada_quiet.specs.Frugal.{Thrift, thrift_of}
 use Rattle.ada_scopes.proofs.Components.{collect_two}
 use Rattle.ada_typed.proofs.Bodies.{own_bodies}
 use Rattle.ada_typed.proofs.Kept.{behind_call, crosses, is_treatment, Each, Keeps}
@@ -31,7 +31,7 @@ use Rattle.ada_sound.proofs.Callers.{Suspension, callers_of, known_in, Stands, A
 use Rattle.ada_sound.proofs.Calls.{calls_to, waiting}
 use Rattle.ada_sound.proofs.FrugalControl.{Frugally, GoesFrugally, Frugal, FrugalLeads, is_return_first, frugal_ends, frugal_returns, never_awaited}
 use Rattle.ada_sound.proofs.FrugalSteps.{frugal_goes}
-use Rattle.ada_sound.proofs.FrugalUseParts.{no_access_to_parts}
+use Rattle.ada_sound.proofs.CollectsApartRuns.{apart_where_reached}
 use Rattle.ada_sound.proofs.InOrder.{in_order}
 use Rattle.ada_sound.proofs.Invariant.{CallsOn, Control, Fine, GoesOn, IsAwaited, Stepped, Working, under_in}
 use Rattle.ada_sound.proofs.Operating.{InBody, IsCalm, StepsTo}
@@ -46,7 +46,7 @@ use Rattle.ada_sound.proofs.Stored.{IsUnder}
 use Rattle.ada_sound.proofs.Touching.{AreCalls, Touching, called_by, origin, waiting_for, under_way}
 use Rattle.ada_sound.proofs.TouchingEnds.{touching_ends}
 use Rattle.ada_sound.proofs.TouchingLeaves.{touching_leaves}
-use Rattle.ada_sound.proofs.TouchingStands.{touching_stands, touching_unlisted}
+use Rattle.ada_sound.proofs.TouchingStands.{touching_frees, touching_stands, touching_unlisted}
 use Rattle.ada_sound.proofs.Waiting.{SameBody, stands_kept}
 
 -- The body runs behind a step, or one that it has called; and what that does to objects.
@@ -72,12 +72,12 @@ operands_behind count after before same =
     behind_older count after ∙ (ap (λ (all : List (Activation Value)). operands_of (drop count all)) same ∙ sym (behind_older count before))
 
 -- Where components get something back, that goes on in front.
-storing_leads : (frugal : List Bool) (behind : Control) (references : List Value) (k : Control) (ms : List Master) → FrugalLeads frugal behind k ms → FrugalLeads frugal behind (storing named references k) ms
+storing_leads : (frugal : Thrift) (behind : Control) (references : List Value) (k : Control) (ms : List Master) → FrugalLeads frugal behind k ms → FrugalLeads frugal behind (storing named references k) ms
 storing_leads frugal behind [] k ms q = q
 storing_leads frugal behind (v ∷ vs) k ms q = (tt, storing_leads frugal behind vs k ms q)
 
 -- Behind the end of a body that was called, the body goes on that called it.
-back_frugal : (frugal : List Bool) (behind : Control) (mode : Mode) (references : List Value) (k : Control) (ms : List Master) → FrugalLeads frugal behind k ms → Frugal frugal behind (behind_mode mode) (behind_frames mode references k) ms
+back_frugal : (frugal : Thrift) (behind : Control) (mode : Mode) (references : List Value) (k : Control) (ms : List Master) → FrugalLeads frugal behind k ms → Frugal frugal behind (behind_mode mode) (behind_frames mode references k) ms
 back_frugal frugal behind Running references k ms q = inl (storing_leads frugal behind references k ms q)
 back_frugal frugal behind (Raising e) references k ms q = inl q
 back_frugal frugal behind Exiting references k ms q = inl q
@@ -87,8 +87,8 @@ module _ (program : Program) (s : State) (f : Touching program s) where
   abbrev p : ProgramForm
   p = program_form program
 
-  abbrev frugal : List Bool
-  frugal = frugal_procedures p
+  abbrev frugal : Thrift
+  frugal = thrift_of p
 
   -- Whatever is called from now on, and whoever goes on: the same object is treated.
   touching_on :
@@ -158,7 +158,7 @@ module _ (program : Program) (s : State) (f : Touching program s) where
   stays_next (asks request answered) same fine goes = λ granted. inl (stays_on Quiet (answered granted) (same granted) (fine granted) (goes granted))
   stays_next (picks n taken) same fine goes = goes
 
-  -- The object is of no access type, and no other is under way.
+  -- No other object than the one that is treated is under way; and no body frees objects of its type.
   settled_none : (inner : List Suspension) → AreCalls inner → under_in (callers_of program (inner ++ origin program s f ∷ f.suspensions)) ≡ under_way f.treatment f.object
   settled_none [] calls = by f.treatment
     where
@@ -180,23 +180,21 @@ module _ (program : Program) (s : State) (f : Touching program s) where
   treated_is (ends (Undoing number)) q (inl same) = same
   treated_is (ends (Undoing number)) q (inr none) = absurd none
 
-  treated_at : (types : List _) → types ≡ p.types → (q : Id) (y : Object) → f.object ≡ q → object_at s.heap q ≡ Some y → is_access types y.cell.access ≡ false
-  treated_at types are q y same found =
+  treated_at : (q : Id) (y : Object) → f.object ≡ q → object_at s.heap q ≡ Some y → has_bare_objects p.types y.cell.access ≡ false
+  treated_at q y same found =
       let one : y ≡ f.x = let here = f.found in cc (rw same at here, found) in
-      let declared = f.waits.declared in
-      let object : is_access p.types f.access ≡ false = rw (same_types f.procedure p) at declared in
-      rw (are, one, f.of_access) object
+      let parted = f.waits.parted in
+      let not_bare : has_bare_objects p.types f.access ≡ false = rw (same_types f.procedure p) at parted in
+      rw (one, f.of_access) not_bare
 
-  none_is_under : (q : Id) (y : Object) → IsUnder (under_in (callers_of program (waiting_for program s f))) q → object_at s.heap q ≡ Some y → is_access (seen_in (running_procedure s) p).types y.cell.access ≡ false
-  none_is_under q y under found =
-      treated_at (seen_in (running_procedure s) p).types (same_types (running_procedure s) p) q y (treated_is f.treatment q (rw (settled_none f.inner f.calls) at under)) found
+  none_is_under : (q : Id) (y : Object) → IsUnder (under_in (callers_of program (waiting_for program s f))) q → object_at s.heap q ≡ Some y → has_bare_objects p.types y.cell.access ≡ false
+  none_is_under q y under found = treated_at q y (treated_is f.treatment q (rw (settled_none f.inner f.calls) at under)) found
 
   module _ (sound : Sound program s) (not_end : is_return_first s.control ≡ false) where
     -- What is left to do is so behind each step but the end of a body.
     goes_on : GoesFrugally frugal f.lower f.behind (next program.types.items (body_forms program) s)
     goes_on =
-        frugal_goes program sound.well (no_access_to_parts p f.may) f.lower f.behind s f.frugal (λ actuals references k is. absurd (let end = not_end in cc (rw is at end)))
-        sound.typed.inside (known_in program (running_procedure s) (waiting_for program s f)) refl f.ready
+        frugal_goes program sound.frees_own f.lower f.behind s f.frugal (λ actuals references k is. absurd (let end = not_end in cc (rw is at end))) sound.typed.inside
 
     -- Where no body begins and none ends.
     inner_step : inside.crosses s.mode s.control ≡ false → Each (SameBody s) (next program.types.items (body_forms program) s) → GoesTouching program s (next program.types.items (body_forms program) s)
@@ -204,12 +202,13 @@ module _ (program : Program) (s : State) (f : Touching program s) where
         let running = running_procedure s in
         let known = known_in program running (waiting_for program s f) in
         stays_next (next program.types.items (body_forms program) s) same
-        (inside.fine known (copies_at program running (waiting_for program s f) sound.well sound.obeys.0) program.types.items (reaches_in program running (waiting_for program s f)) (body_forms program) (may_call program running (waiting_for program s f) sound.well) s
+        (inside.fine known (copies_at program running (waiting_for program s f) sound.well sound.obeys.0) (has_bare_objects p.types) program.types.items (reaches_in program running (waiting_for program s f)) (body_forms program) (may_call program running (waiting_for program s f) sound.well) s
         (allocates_at program running (waiting_for program s f) s sound.well sound.obeys.0 sound.apart) none sound.typed.inside (own_bodies p sound.frees_own running) (collect_two p s sound.nested)
-        (touching_stands program sound.well s sound.reached f known.program.types (same_types running p)) none_is_under
+        (touching_stands program sound.well s sound.reached f known.program.types) none_is_under
+        (λ runs. touching_frees program sound.well s sound.reached f)
         (λ left behind runs at. (
         let leaves = touching_leaves program s f runs left behind at in
-        (leaves.0, leaves.1, in_order program sound.well s sound.nested known.program.types (same_types running p) s.masters refl)
+        (leaves.0, leaves.1, in_order program sound.well s sound.nested (apart_where_reached program s sound.reached) known.program.types (same_types running p) s.masters refl)
         ))
         f.ready)
         goes_on
@@ -287,7 +286,7 @@ module _ (program : Program) (a : Activation Value) (k : Control) (s : State) wh
           let control = same_control program a.procedure g (gs ++ behind_it) mode actuals references k w.rooms w.holds w.rest in
           let none : IsAwaited k → ⊥ = λ awaited. calls.0 (subst IsAwaited control awaited) in
           let placed = placed_in (seen_in a.procedure (program_form program)) a (b ∷ rest) ending refl sound.typed.inside in
-          let leads = frugal_returns (frugal_procedures (program_form program)) f.behind mode actuals references k f.frugal.upper (is_awaited (program_form program).types f.object f.of f.treatment f.after f.behind f.awaited) none f.frugal.frugal in
+          let leads = frugal_returns (thrift_of (program_form program)) f.behind mode actuals references k f.frugal.upper (is_awaited (program_form program).types f.object f.of f.treatment f.after f.behind f.awaited) none f.frugal.frugal in
           touching_on program ending f gs Quiet back calls.2
           (ap (λ (running : Option ℕ). called_by running gs) (back_runs mode actuals a.places b rest ∙ stands.bodies.0) ∙ operates)
           (back_operands (length gs) mode actuals a.places b rest ∙ computed)
@@ -295,7 +294,7 @@ module _ (program : Program) (a : Activation Value) (k : Control) (s : State) wh
             upper = f.frugal.upper;
             masters = f.frugal.masters;
             own = f.frugal.own;
-            frugal = back_frugal (frugal_procedures (program_form program)) f.behind mode references k f.frugal.upper leads;
+            frugal = back_frugal (thrift_of (program_form program)) f.behind mode references k f.frugal.upper leads;
           })
           (left_to program a actuals references k s mode b rest g (gs ++ behind_it) (restand mode (Returns actuals references) (b ∷ rest) (g ∷ gs ++ behind_it) stands) none placed w)
 
@@ -304,7 +303,7 @@ module _ (program : Program) (a : Activation Value) (k : Control) (s : State) wh
       own_ends none w is =
           let control = same_control program a.procedure (origin program ending f) f.suspensions mode actuals references k w.rooms w.holds w.rest in
           let awaited : IsAwaited k = subst IsAwaited (sym control) (is_awaited (program_form program).types f.object f.of f.treatment f.after f.behind f.awaited) in
-          let end = frugal_ends (frugal_procedures (program_form program)) f.behind mode actuals references k f.frugal.upper awaited f.frugal.frugal in
+          let end = frugal_ends (thrift_of (program_form program)) f.behind mode actuals references k f.frugal.upper awaited f.frugal.frugal in
           let next_is : ending.control ≡ Returns [] [] ∷ f.behind = rw (end.0, end.1, end.2) refl in
           let masters_are : ending.masters ≡ f.lower = f.frugal.masters ∙ ap (λ (upper : List Master). upper ++ f.lower) end.3 in
           let ended = touching_ends program sound.well ending f (touching_unlisted program ending sound.reached f next_is) a b rest refl none next_is masters_are in
@@ -351,8 +350,8 @@ module _ (program : Program) (a : Activation Value) (k : Control) (s : State) wh
         (calls_to program number b given k a rest gs s w ready.rest.1 (inside.heap_typed (seen_in a.procedure (program_form program)) (whole Running (Calls number b given)) sound.typed.inside).1 stands
         (runs_called program number b given k a gs s sound.well sound.obeys (called_apart program (whole Running (Calls number b given)) number b given k refl sound.obeys.0 sound.apart) w stands.body ready.rest.1 rest stands)))
       where
-        calls_back : (ms : List Master) → Frugal (frugal_procedures (program_form program)) f.behind Running (Calls number b given ∷ k) ms → IsAwaited k → ⊥
-        calls_back ms (inl q) awaited = never_awaited (frugal_procedures (program_form program)) f.behind k ms awaited q.1
+        calls_back : (ms : List Master) → Frugal (thrift_of (program_form program)) f.behind Running (Calls number b given ∷ k) ms → IsAwaited k → ⊥
+        calls_back ms (inl q) awaited = never_awaited (thrift_of (program_form program)) f.behind k ms awaited q.1
         calls_back ms (inr (runs, leaving)) awaited = leaving
 
     -- A frame at which no body begins and none ends.
@@ -376,7 +375,7 @@ module _ (program : Program) (a : Activation Value) (k : Control) (s : State) wh
     running_step (Returns actuals references) sound f = body_ends Running actuals references rest sound f f.ready.1 refl
     running_step (frame.Treats v treatment tasks) sound f = absurd (by f.frugal.upper f.frugal.frugal)
       where
-        by : (ms : List Master) → Frugal (frugal_procedures (program_form program)) f.behind Running (frame.Treats v treatment tasks ∷ k) ms → ⊥
+        by : (ms : List Master) → Frugal (thrift_of (program_form program)) f.behind Running (frame.Treats v treatment tasks ∷ k) ms → ⊥
         by ms (inl q) = q.0
         by ms (inr (runs, leaving)) = leaving
     running_step g sound f = frame_on g refl refl refl sound f
@@ -397,14 +396,14 @@ module _ (program : Program) (a : Activation Value) (k : Control) (s : State) wh
     returning_step g sound f = passed_on Returning g refl refl _ refl refl sound f
 
 -- Nothing is left to do of no body.
-nothing_left : (frugal : List Bool) (behind : Control) (mode : Mode) (ms : List Master) → Frugal frugal behind mode [] ms → ⊥
+nothing_left : (frugal : Thrift) (behind : Control) (mode : Mode) (ms : List Master) → Frugal frugal behind mode [] ms → ⊥
 nothing_left frugal behind mode ms (inl q) = q
 nothing_left frugal behind mode ms (inr (runs, leaving)) = leaving
 
 -- Any step while the body of such an operation runs, or one that it has called.
 step_by : (program : Program) (mode : Mode) (k : Control) (all : List (Activation Value)) (s : State) → (sound : Sound program (with_parts mode k all s)) (f : Touching program (with_parts mode k all s)) → GoesTouching program (with_parts mode k all s) (mode_next named program.types.items (body_forms program) mode (with_parts mode k all s))
 step_by program mode k [] s sound f = absurd f.ready.0
-step_by program mode [] (a ∷ rest) s sound f = absurd (nothing_left (frugal_procedures (program_form program)) f.behind mode f.frugal.upper f.frugal.frugal)
+step_by program mode [] (a ∷ rest) s sound f = absurd (nothing_left (thrift_of (program_form program)) f.behind mode f.frugal.upper f.frugal.frugal)
 step_by program Running (g ∷ k) (a ∷ rest) s sound f = running_step program a k s rest g sound f
 step_by program (Raising e) (g ∷ k) (a ∷ rest) s sound f = raising_step program a k s rest e g sound f
 step_by program Exiting (g ∷ k) (a ∷ rest) s sound f = exiting_step program a k s rest g sound f

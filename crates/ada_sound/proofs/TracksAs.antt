@@ -40,8 +40,8 @@ uses_body p (Some procedure) number b is there uses =
     let same : procedure.0 ≡ number = cc is in
     let body : slice_get p.bodies procedure.0 ≡ Some b = rw same there in
     let all = rw body at uses in
-    let three = apart (may_track p && is_simple_body b) (not (body_raises (own_effects p) b (λ e. true))) all in
-    let both = apart (may_track p) (is_simple_body b) three.0 in
+    let three = apart (may_track p && is_simple_body p.types b) (not (body_raises (own_effects p) b (λ e. true))) all in
+    let both = apart (may_track p) (is_simple_body p.types b) three.0 in
     (both.0, both.1, no_no (body_raises (own_effects p) b (λ e. true)) three.1)
 
 -- What some type of a program has makes a procedure one that tracks.

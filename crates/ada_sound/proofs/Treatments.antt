@@ -46,7 +46,7 @@ use Rattle.ada_typed.proofs.Parts.{shown_shapes}
 use Rattle.ada_sound.proofs.CopiedOwners.{BeginsCopy, SeesToOwners, Leads, now, later}
 use Rattle.ada_sound.proofs.Invariant.{outers, Adjusted, AdjustsAside, AdjustsTo, Known, Control, OfItsType, Rooms, RunsBehind, RunsOn, Working, IsHolder, IsPlainIn, IsAdjustedIn, IsLive, NamesTo, BeginsBy, BegunTo, EndsTo, StoresBehind, CopiesBehind, TreatsBy, ThenBack, Ending, ConfinesBy, EndsWell, Stepped, Fine, IsOfAssigned, IsOfCopied, LiesIn}
 use Rattle.ada_sound.proofs.Ready.{running, at_work, stays, treats_ready, adjusts_ready, type_set}
-use Rattle.ada_sound.proofs.Endings.{swapped, gone_still, under_set, behind_set}
+use Rattle.ada_sound.proofs.Endings.{swapped, gone_still, under_set, frees_set, named_set, behind_set}
 use Rattle.ada_sound.proofs.Undone.{beginning_set, collected_set, undo_set}
 use Rattle.ada_sound.proofs.Operating.{StaysLive, WaitsFor, IsCalled}
 use Rattle.ada_meaning.specs.declared.event.Cause.TheVariants.{Leaving, Freeing, Assigning, Undoing}
@@ -130,7 +130,7 @@ module _ (change : PartState → PartState) (part : ℕ) where
         behind_set known o x (treated change part x) heap found refl (Some o) (Some o) (λ w holder other. (other, other))
             (λ objects held at spared holds f aside. (treated_fit change part o x at f, (same_unnamed objects o x at o aside.0 (treated change part x) refl (λ c. refl), aside.1)))
             (λ spared held holds f. gone_still heap o x (treated change part x) found (λ objects. Fit known.program.types known.program.variables (outers known) spared objects held holds) (gone_fit heap o x (treated change part x) found) f)
-            (under_set heap o x (treated change part x) found refl) cause x.cell.home.item places ms k r.2,
+            (under_set heap o x (treated change part x) found refl) (frees_set known heap o x (treated change part x) found refl) (λ w d holder other. named_set known heap o x (treated change part x) found refl w d other) cause x.cell.home.item places ms k r.2,
       )
       then_set places (f ∷ k) r = absurd r
 
@@ -190,7 +190,7 @@ module _ (change : PartState → PartState) (part : ℕ) where
 
     begun_set : (v : Value) (by : Birth) (places operands : List Value) (k : Control) → v ≡ Names o → BegunTo known v by k heap places operands ms → BegunTo known v by k (slice_set heap o.0 (treated change part x)) places operands ms
     begun_set v by places operands k is (inl b) = inl (begins_set v by places k is b)
-    begun_set v by places operands k is (inr r) = inr (collected_set heap ms o x (treated change part x) found refl v is r.0, names_set places operands k r.1)
+    begun_set v by places operands k is (inr r) = inr (r.0, collected_set heap ms o x (treated change part x) found refl v is r.1, names_set places operands k r.2)
 
     -- So does what is copied to a record that is assigned to.
     lies_set : (t : ℕ) (v : Value) → LiesIn known heap t v → LiesIn known (slice_set heap o.0 (treated change part x)) t v

@@ -1,7 +1,7 @@
--- The object whose components a body tracks (7.6) is watched: its components are there, and nothing but the formal parameter leads to it. It is a declared one,
--- and no access value names a declared object (3.10).
+-- The object whose components a body tracks (7.6) is watched: its components are there, and nothing but the formal parameter leads to it. It has controlled parts,
+-- and no component, and no other variable of the body, names such an object (3.10).
 
-use Rattle.std.proofs.Common.{◌≡◌, ℕ, zero, suc, ◌+◌, ◌<◌, ◌||◌, not, Bool, true, false, List, [], ◌∷◌, length, drop, Option, Some, arith, refl, sym, ap, ◌∙◌, subst}
+use Rattle.std.proofs.Common.{◌≡◌, ℕ, zero, suc, ◌+◌, ◌<◌, Bool, true, false, List, [], ◌∷◌, length, drop, Option, Some, arith, refl, sym, ap, ◌∙◌, subst}
 use Rattle.std.specs.Prelude.{◌==◌}
 use Rattle.std.specs.List.{list_all, slice_get}
 use Rattle.ada_program.specs.declared.program.ComponentKind.{ComponentKind}
@@ -10,7 +10,7 @@ use Rattle.ada_program.specs.declared.program.TypeNo.{TypeNo}
 use Rattle.ada_program.specs.declared.program.VariableKind.{VariableKind}
 use Rattle.ada_program.specs.declared.program.VariableKind.TheVariants as variable
 use Rattle.ada_program.specs.ProgramForm.{TypeForm, VariableForm, ProgramForm}
-use Rattle.ada_program.specs.WellFormed.{is_access, variable_kind_fits, is_access_kind, variable_fits, variable_kind, held_kind, component_kind, kind_among}
+use Rattle.ada_program.specs.WellFormed.{access_of, reached_components, variable_kind, held_kind, component_kind, kind_among}
 use Rattle.ada_meaning.specs.declared.state.Id.{Id}
 use Rattle.ada_meaning.specs.declared.state.Place.{Place}
 use Rattle.ada_meaning.specs.declared.state.Stage.TheVariants.{Existing}
@@ -28,18 +28,19 @@ use Rattle.ada_typed.proofs.Bodies.{TablesFit}
 use Rattle.ada_typed.proofs.Control as typed
 use Rattle.ada_typed.proofs.Evaluations.{cell_at}
 use Rattle.ada_typed.proofs.Operators.{and_left, and_right}
-use Rattle.ada_typed.proofs.Values.{is_record_kind, AreHeld, filled_at, component_held}
+use Rattle.ada_typed.proofs.Values.{AreHeld, filled_at, component_held}
 use Rattle.ada_sound.proofs.Calm.{filled_in}
-use Rattle.ada_sound.proofs.FrugalFrees.{component_access}
+use Rattle.ada_quiet.specs.Bare.{has_bare_objects}
+use Rattle.ada_quiet.specs.Simple.{is_bare_kind}
 use Rattle.ada_sound.proofs.JudgedTyped.{AreAccess, watched_of_access, read_there, formal_lies, active_held}
 
--- A variable holds no record.
-abbrev pub holds_no_record : VariableForm → Bool
-holds_no_record x = not (is_record_kind x.kind)
+-- Each of these variables holds an Integer, a Boolean, or values of an access type whose objects have no controlled parts.
+abbrev pub hold_bare : List TypeForm → List VariableForm → Bool
+hold_bare types ys = list_all (λ y. is_bare_kind types y.kind) ys
 
-module _ (types : List TypeForm) (heap : List Object) (o : Id) (x : Object) (there : object_at heap o ≡ Some x) (declared : is_access types x.cell.access ≡ false) where
-  -- No access value names a declared object.
-  access_other : (access : ℕ) → is_access types access ≡ true → (v : Value) → IsAccess (cells_of heap) access v → IsOther o v
+module _ (types : List TypeForm) (heap : List Object) (o : Id) (x : Object) (there : object_at heap o ≡ Some x) (parted : has_bare_objects types x.cell.access ≡ false) where
+  -- No value names it of an access type whose objects are bare.
+  access_other : (access : ℕ) → has_bare_objects types access ≡ true → (v : Value) → IsAccess (cells_of heap) access v → IsOther o v
   access_other access is Null has = refl
   access_other access is (Names p) has = by (p.0 == o.0) refl
     where
@@ -50,63 +51,55 @@ module _ (types : List TypeForm) (heap : List Object) (o : Id) (x : Object) (the
       by false e = e
       by true e =
           let one : has.0 ≡ x.cell = some_same (sym has.1 ∙ ap (λ (i : ℕ). slice_get (cells_of heap) i) (is_same p.0 o.0 e) ∙ cell_at heap o.0 x there) in
-          let of : is_access types x.cell.access ≡ true = ap (λ (c : Cell Value). is_access types c.access) (sym one) ∙ ap (is_access types) has.2 ∙ is in
-          absurd (cc (of, declared))
+          let of : has_bare_objects types x.cell.access ≡ true = ap (λ (c : Cell Value). has_bare_objects types c.access) (sym one) ∙ ap (has_bare_objects types) has.2 ∙ is in
+          absurd (cc (of, parted))
   access_other access is (Scalar v) has = refl
   access_other access is (Part p place) has = absurd has
 
   -- Nor does a value of another kind, but a record's.
-  kind_other : (kind : VariableKind) (v : Value) → is_record_kind kind ≡ false → ((access : TypeNo) → kind ≡ variable.Access access → is_access types access.0 ≡ true) → HasKind types (cells_of heap) kind v → IsOther o v
-  kind_other variable.Integer Null none each has = refl
-  kind_other variable.Integer (Names p) none each has = absurd has
-  kind_other variable.Integer (Scalar v) none each has = refl
-  kind_other variable.Integer (Part p place) none each has = absurd has
-  kind_other variable.Boolean Null none each has = refl
-  kind_other variable.Boolean (Names p) none each has = absurd has
-  kind_other variable.Boolean (Scalar v) none each has = refl
-  kind_other variable.Boolean (Part p place) none each has = absurd has
-  kind_other (variable.Access access) v none each has = access_other access.0 (each access refl) v has
-  kind_other (variable.Record object) v none each has = absurd (cc none)
+  kind_other : (kind : VariableKind) (v : Value) → is_bare_kind types kind ≡ true → HasKind types (cells_of heap) kind v → IsOther o v
+  kind_other variable.Integer Null bare has = refl
+  kind_other variable.Integer (Names p) bare has = absurd has
+  kind_other variable.Integer (Scalar v) bare has = refl
+  kind_other variable.Integer (Part p place) bare has = absurd has
+  kind_other variable.Boolean Null bare has = refl
+  kind_other variable.Boolean (Names p) bare has = absurd has
+  kind_other variable.Boolean (Scalar v) bare has = refl
+  kind_other variable.Boolean (Part p place) bare has = absurd has
+  kind_other (variable.Access access) v bare has = access_other access.0 bare v has
+  kind_other (variable.Record object) v bare has = absurd (cc bare)
 
-  component_plain : (k : ComponentKind) → is_record_kind (held_kind k) ≡ false
-  component_plain (component.Integer initial) = refl
-  component_plain (component.Boolean initial) = refl
-  component_plain (component.Access access) = refl
+  component_bare : (k : ComponentKind) → ((access : TypeNo) → held_kind k ≡ variable.Access access → has_bare_objects types access.0 ≡ true) → is_bare_kind types (held_kind k) ≡ true
+  component_bare (component.Integer initial) each = refl
+  component_bare (component.Boolean initial) each = refl
+  component_bare (component.Access access) each = each access refl
 
   -- So it is with what components hold.
-  components_other : (ks : List ComponentKind) (vs : List Value) → ((c : ℕ) (access : TypeNo) → component_kind (slice_get ks c) ≡ Some (variable.Access access) → is_access types access.0 ≡ true) → HaveKinds types (cells_of heap) ks vs → AreOther o vs
+  components_other : (ks : List ComponentKind) (vs : List Value) → ((c : ℕ) (access : TypeNo) → component_kind (slice_get ks c) ≡ Some (variable.Access access) → has_bare_objects types access.0 ≡ true) → HaveKinds types (cells_of heap) ks vs → AreOther o vs
   components_other [] [] each have = tt
   components_other [] (v ∷ vs) each have = absurd have
   components_other (k ∷ ks) [] each have = absurd have
   components_other (k ∷ ks) (v ∷ vs) each have =
-      (kind_other (held_kind k) v (component_plain k) (λ access is. each 0 access (ap (λ (kind : VariableKind). Some kind) is)) have.0, components_other ks vs (λ c access is. each (suc c) access is) have.1)
+      (kind_other (held_kind k) v (component_bare k (λ access is. each 0 access (ap (λ (kind : VariableKind). Some kind) is))) have.0, components_other ks vs (λ c access is. each (suc c) access is) have.1)
 
-  -- And with what variables hold other than records.
-  fitting_access : (y : VariableForm) → variable_fits types y ≡ true → (access : TypeNo) → y.kind ≡ variable.Access access → is_access types access.0 ≡ true
-  fitting_access y fit access is = ap (variable_kind_fits types) (sym is) ∙ and_left (variable_kind_fits types y.kind) (not y.borrows || is_access_kind y.kind) fit
-
-  not_true : (b : Bool) → not b ≡ true → b ≡ false
-  not_true true h = absurd (cc h)
-  not_true false h = refl
-
-  variables_other : (ys : List VariableForm) (vs : List Value) → length vs ≡ length ys → list_all holds_no_record ys ≡ true → list_all (variable_fits types) ys ≡ true → AreHeld types (cells_of heap) ys vs → AreOther o vs
-  variables_other [] [] count none fit held = tt
-  variables_other [] (v ∷ vs) count none fit held = absurd (omega (arith, count))
-  variables_other (y ∷ ys) [] count none fit held = absurd held
-  variables_other (y ∷ ys) (v ∷ vs) count none fit held =
+  -- And with what variables hold.
+  variables_other : (ys : List VariableForm) (vs : List Value) → length vs ≡ length ys → hold_bare types ys ≡ true → AreHeld types (cells_of heap) ys vs → AreOther o vs
+  variables_other [] [] count bare held = tt
+  variables_other [] (v ∷ vs) count bare held = absurd (omega (arith, count))
+  variables_other (y ∷ ys) [] count bare held = absurd held
+  variables_other (y ∷ ys) (v ∷ vs) count bare held =
       let fewer : length vs ≡ length ys = omega (arith, count) in (
-        kind_other y.kind v (not_true (is_record_kind y.kind) (and_left (holds_no_record y) (list_all holds_no_record ys) none))
-            (fitting_access y (and_left (variable_fits types y) (list_all (variable_fits types) ys) fit)) held.0,
-        variables_other ys vs fewer (and_right (holds_no_record y) (list_all holds_no_record ys) none) (and_right (variable_fits types y) (list_all (variable_fits types) ys) fit) held.1,
+        kind_other y.kind v (and_left (is_bare_kind types y.kind) (hold_bare types ys) bare) held.0,
+        variables_other ys vs fewer (and_right (is_bare_kind types y.kind) (hold_bare types ys) bare) held.1,
       )
 
   -- The first variable refers to the record of the object, and no other one leads to it.
-  are_places : (w : View) → w.object ≡ o → (ys : List VariableForm) (vs : List Value) (place : Place) → slice_get vs 0 ≡ Some (Part w.object place) → place.component ≡ w.base → 0 < length ys → length vs ≡ length ys → list_all holds_no_record (drop 1 ys) ≡ true → list_all (variable_fits types) ys ≡ true → AreHeld types (cells_of heap) ys vs → ArePlaces w vs
-  are_places w at_object [] vs place at_first base some count none fit held = absurd (omega (arith, some))
-  are_places w at_object (y ∷ ys) [] place at_first base some count none fit held = absurd (cc)
-  are_places w at_object (y ∷ ys) (v ∷ vs) place at_first base some count none fit held =
+  are_places : (w : View) → w.object ≡ o → (ys : List VariableForm) (vs : List Value) (place : Place) → slice_get vs 0 ≡ Some (Part w.object place) → place.component ≡ w.base → 0 < length ys → length vs ≡ length ys → hold_bare types (drop 1 ys) ≡ true → AreHeld types (cells_of heap) ys vs → ArePlaces w vs
+  are_places w at_object [] vs place at_first base some count bare held = absurd (omega (arith, some))
+  are_places w at_object (y ∷ ys) [] place at_first base some count bare held = absurd (cc)
+  are_places w at_object (y ∷ ys) (v ∷ vs) place at_first base some count bare held =
       let fewer : length vs ≡ length ys = omega (arith, count) in
-      let others : AreOther o vs = variables_other ys vs fewer none (and_right (variable_fits types y) (list_all (variable_fits types) ys) fit) held.1 in
+      let others : AreOther o vs = variables_other ys vs fewer bare held.1 in
       subst (λ (u : Value). ArePlaces w (u ∷ vs)) (sym (value_is at_first)) ((refl, base), subst (λ (i : Id). AreOther i vs) (sym at_object) others)
     where
       value_is : {u : Value} → Some v ≡ Some u → v ≡ u
@@ -169,14 +162,15 @@ pub some_variable : (ys : List VariableForm) (kind : VariableKind) → variable_
 some_variable [] kind is = absurd (cc is)
 some_variable (y ∷ ys) kind is = omega arith
 
--- In a typed state of a body that tracks components, the object in which they lie is watched, where it exists and is a declared one, no two of the components
--- are one, and no other variable of the body holds a record.
+-- In a typed state of a body that tracks components, the object in which they lie is watched, where it exists and has controlled parts, no two of the components
+-- are one, and no component and no other variable of the body is a record or names an object with controlled parts.
 pub watched_by :
     (own : ProgramForm) → TablesFit own → (w : View) → TracksComponents own.types w.tracks own.variables → (s : State) (place : Place) (x : Object) → typed.TypedIn own s
     → slice_get (places s) 0 ≡ Some (Part w.object place) → place.component ≡ w.base → length (places s) ≡ length own.variables
-    → object_at s.heap w.object ≡ Some x → x.stage ≡ Existing → is_access own.types x.cell.access ≡ false → list_all holds_no_record (drop 1 own.variables) ≡ true
+    → object_at s.heap w.object ≡ Some x → x.stage ≡ Existing → has_bare_objects own.types x.cell.access ≡ false → hold_bare own.types (drop 1 own.variables) ≡ true
+    → ((holder c access : ℕ) → access_of (kind_among (reached_components own.types holder) c) ≡ Some access → has_bare_objects own.types access ≡ true)
     → AreApart w.tracks.components → IsWatched w (places s) s.heap
-watched_by own tables w tracking s place x typing at_first base count found exists declared none apart =
+watched_by own tables w tracking s place x typing at_first base count found exists parted bare components apart =
     let cells = cells_of s.heap in
     let filled = filled_in own s typing in
     let held = held_in own s typing in
@@ -192,12 +186,12 @@ watched_by own tables w tracking s place x typing at_first base count found exis
       below = are_below own.types cells lies.ks x.cell.values have (watched w) each;
       apart = apart_shifted w.base w.tracks.components apart;
       no_references = subst (λ (o : Option Object). AreNoReferences (values_at (watched w) (values_of o))) (sym found) (are_no_references own.types cells lies.ks x.cell.values have (watched w) each);
-      variables = are_places own.types s.heap w.object x found declared w refl own.variables (places s) place at_first base (some_variable own.variables (variable.Record tracking.object) tracking.formal) count none tables.variables_fit held;
+      variables = are_places own.types s.heap w.object x found parted w refl own.variables (places s) place at_first base (some_variable own.variables (variable.Record tracking.object) tracking.formal) count bare held;
       count = count ∙ sym tracking.behind;
       components = λ p y at.
           let cell = filled_at own.types cells cells p y.cell filled (cell_at s.heap p y at) in
-          components_other own.types s.heap w.object x found declared cell.0 y.cell.values
-          (λ c access is. component_access own.types tables.types_fit y.cell.access c access (ap (λ (ks : Option (List ComponentKind)). kind_among ks c) cell.1 ∙ is)) cell.2;
+          components_other own.types s.heap w.object x found parted cell.0 y.cell.values
+          (λ c access is. components y.cell.access c access.0 (ap (λ (ks : Option (List ComponentKind)). access_of (kind_among ks c)) cell.1 ∙ ap access_of is)) cell.2;
     }
   where
     some_same : {us vs : List ComponentKind} → Some us ≡ Some vs → us ≡ vs

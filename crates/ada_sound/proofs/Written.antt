@@ -22,7 +22,7 @@ use Rattle.ada_sound.proofs.Stored.{stored_filled}
 use Rattle.ada_sound.proofs.Fits.{Fit, none_spared, store_blank, wrote_unnamed, gone_fit}
 use Rattle.ada_sound.proofs.Invariant.{outers, AdjustsAside, Known, Control, OfItsType, Rooms, RunsBehind, RunsOn, Working, IsHolder, IsPlainIn, IsAdjustedIn, NamesTo, BeginsBy, BegunTo, EndsTo, StoresBehind, CopiesBehind, TreatsBy, ThenBack, Ending, LiesIn}
 use Rattle.ada_sound.proofs.Ready.{at_work, type_set}
-use Rattle.ada_sound.proofs.Endings.{KeepsFit, swapped, gone_still, under_set, behind_set}
+use Rattle.ada_sound.proofs.Endings.{KeepsFit, swapped, gone_still, under_set, frees_set, named_set, behind_set}
 use Rattle.ada_sound.proofs.Undone.{beginning_set, collected_set, undo_set}
 use Rattle.ada_meaning.specs.declared.event.Cause.TheVariants.{Leaving, Freeing, Assigning, Undoing}
 
@@ -109,7 +109,7 @@ module _ (c : ℕ) (v : Value) (nameless : (p : Id) → v ≡ Names p → ⊥) w
         behind_set known o x (wrote x) heap found refl (Some o) (Some o) (λ w holder other. (other, other))
             (λ objects held at spared holds f aside. (wrote_fit known objects held o x at spared holds f, (wrote_unnamed objects o x at o aside.0 c v nameless, aside.1)))
             (λ spared held holds f. gone_still heap o x (wrote x) found (λ objects. Fit known.program.types known.program.variables (outers known) spared objects held holds) (gone_fit heap o x (wrote x) found) f)
-            (under_set heap o x (wrote x) found refl) cause x.cell.home.item places ms k r.2,
+            (under_set heap o x (wrote x) found refl) (frees_set known heap o x (wrote x) found refl) (λ w d holder other. named_set known heap o x (wrote x) found refl w d other) cause x.cell.home.item places ms k r.2,
       )
       then_set places (f ∷ k) r = absurd r
 
@@ -173,7 +173,7 @@ module _ (c : ℕ) (v : Value) (nameless : (p : Id) → v ≡ Names p → ⊥) w
 
     begun_set : (by : Birth) (places operands : List Value) (k : Control) → BegunTo known (Names o) by k heap places operands ms → BegunTo known (Names o) by k (slice_set heap o.0 (wrote x)) places operands ms
     begun_set by places operands k (inl b) = inl (begins_set by places k b)
-    begun_set by places operands k (inr r) = inr (collected_set heap ms o x (wrote x) found refl (Names o) refl r.0, names_set places operands k r.1)
+    begun_set by places operands k (inr r) = inr (r.0, collected_set heap ms o x (wrote x) found refl (Names o) refl r.1, names_set places operands k r.2)
 
     -- So does what is copied to a record that is assigned to.
     lies_set : (t : ℕ) (u : Value) → LiesIn known heap t u → LiesIn known (slice_set heap o.0 (wrote x)) t u

@@ -258,6 +258,60 @@ tidying_events =
     ∷ Left 0
     ∷ []
 
+-- The same types, and type Chest is access Holder; which has number 3; the formal parameter of Finalize is known by type 4. C : Chest has number 0 in the main
+-- procedure.
+
+-- The component Head of the formal parameter of Finalize.
+abbrev pub boxed_head : PathForm
+boxed_head = object_path 0 (0 ∷ [])
+
+-- procedure Finalize (H : in out Holder) is begin Free (H.Head); end Finalize;
+abbrev pub boxing_finalize : BodyForm
+boxing_finalize = operation_body 4 (a_stmt (frees 1 boxed_head) no_stmts) no_handlers
+
+-- The collections of Link and of Chest; C : Chest := new Holder;
+abbrev pub boxing_declarations : List DeclarationForm
+boxing_declarations = collects 1 ∷ collects 3 ∷ declares 0 (allocates_default 3) ∷ []
+
+-- C.Head := new Cell; Free (C); C := new Holder;
+abbrev pub boxing_stmts : StmtsForm
+boxing_stmts =
+    a_stmt (assigns (example_path 0 (0 ∷ [])) (allocates_default 1))
+    (a_stmt (frees 3 (example_path 0 []))
+    (a_stmt (assigns (example_path 0 []) (allocates_default 3)) no_stmts))
+
+-- The first holder, its cell, and the second holder.
+abbrev pub first_box : Value
+first_box = Names (record { 0 = 0 })
+
+abbrev pub boxed_cell : Value
+boxed_cell = Names (record { 0 = 1 })
+
+abbrev pub second_box : Value
+second_box = Names (record { 0 = 2 })
+
+-- The first holder is allocated and initialized, for which nothing is called, and is followed where its Head is found as a target, and where that is written. Free
+-- finalizes it: its Finalize, a master of its own, follows it to what Head names, the words of that cell go back, it is followed where Head becomes null, and the
+-- body is left; then its own words go back. The second one is allocated, and is there when the main procedure is left: then it is finalized, which follows it to a
+-- Head that is null, and its words go back. The collections of both access types are empty then.
+abbrev pub boxing_events : List Event
+boxing_events =
+    Born first_box 0 0 0 1 Creation
+    ∷ replicate 2 (Followed first_box)
+    ++ Finalized first_box 0 0 0 1 (Freeing 1)
+    ∷ Followed first_box
+    ∷ Back boxed_cell 1 2 (Some 0) None (Freeing 3)
+    ∷ Followed first_box
+    ∷ Left 2
+    ∷ Back first_box 3 1 (Some 0) None (Freeing 1)
+    ∷ Born second_box 0 0 0 2 Creation
+    ∷ Finalized second_box 0 0 0 2 (Leaving 0 1)
+    ∷ Followed second_box
+    ∷ Left 4
+    ∷ Back second_box 3 3 (Some 0) None (Leaving 0 1)
+    ∷ Left 0
+    ∷ []
+
 -- The same first two types; and type Tally is new Controlled with record N : Integer; end record; which has number 2, and overrides Finalize by this procedure.
 -- X : Tally and Y : Tally have numbers 0 and 1 in the main procedure.
 

@@ -161,6 +161,10 @@ pub fn premises_are_met()
 /// procedure frees the cell, in a master of its own, which is left before that of Finalize is; then the words of the object
 /// go back. `flow_invariant` speaks of where that Free begins, too.
 ///
+/// And one is accepted that allocates objects with such a Finalize (4.8, 13.11.2, 7.6.1): one is freed, which frees its cell,
+/// before its own words go back; and one is there when the main procedure is left, and is finalized with its collection,
+/// which goes before that of the cells.
+///
 /// And one is accepted whose Initialize touches storage, too (7.6, 4.8): it allocates the cell that its record object owns,
 /// and handles `Storage_Error`, so that the program finishes where the cell is granted, and is freed by Finalize, and where
 /// it is refused, and nothing is freed.
@@ -207,6 +211,12 @@ pub fn operations_are_accepted()
         × (stmt_forms program ≡ operation_examples.tidying_stmts)
         × IsChecked program × FinishesAfter operation_examples.emptying_events program
         × always.InSomeRun program (λ events last. operation_examples.IsSpokenOfInside program last) }
+    ensures boxes { (program : Program)
+        × (operations_of program.types.items 0 ≡ operation_examples.tidying_operations)
+        × (body_forms program ≡ operation_examples.boxing_finalize ∷ [])
+        × (declaration_forms program ≡ operation_examples.boxing_declarations)
+        × (stmt_forms program ≡ operation_examples.boxing_stmts)
+        × IsChecked program × FinishesAfter operation_examples.boxing_events program }
     ensures allocates { (program : Program)
         × (operations_of program.types.items 0 ≡ operation_examples.allocating_operations)
         × (body_forms program ≡ operation_examples.allocating_bodies)

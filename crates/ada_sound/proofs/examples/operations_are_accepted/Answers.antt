@@ -1,8 +1,9 @@
--- By eight programs and their runs.
+-- By nine programs and their runs.
 use Rattle.ada_sound.proofs.ExampleOperations as operations
 use Rattle.ada_sound.proofs.ExampleTidying as tidying
 use Rattle.ada_sound.proofs.ExampleOverwriting as overwriting
 use Rattle.ada_sound.proofs.ExampleEmptying as emptying
+use Rattle.ada_sound.proofs.ExampleBoxing as boxing
 use Rattle.ada_sound.proofs.ExampleAllocating as allocating
 use Rattle.ada_sound.proofs.ExampleUndoing as undoing
 use Rattle.ada_sound.proofs.ExampleDuplicating as duplicating
@@ -49,6 +50,15 @@ returns c = record {
     emptying.emptying_accepted,
     emptying.empties,
     emptying.is_spoken_of,
+  );
+  boxes = (
+    boxing.boxing,
+    boxing.boxing_overrides,
+    boxing.boxing_has,
+    boxing.boxing_declares,
+    boxing.boxing_does,
+    boxing.boxing_accepted,
+    boxing.boxes,
   );
   allocates = (
     allocating.allocating,

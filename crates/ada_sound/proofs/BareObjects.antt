@@ -1,0 +1,117 @@
+-- Where operations may touch storage, what they free has no controlled parts, and neither has what a component names; and what they are called for does, or is a
+-- declared object (7.6, 3.10).
+
+use Rattle.std.proofs.Common.{◌≡◌, ℕ, zero, suc, true, false, ◌&&◌, List, [], ◌∷◌, refl, ap, ◌⊎◌, inl, inr}
+use Rattle.std.specs.Prelude.{Option, Some, None, is_some}
+use Rattle.std.specs.List.{list_all, slice_get, list_any}
+use Rattle.std.proofs.lemmas.Bool.{or_cases}
+use Rattle.ada_deeds.proofs.Naming.{all_at}
+use Rattle.ada_deeds.specs.Implicit.{implicit_of}
+use Rattle.ada_meaning.proofs.Places.{is_declared}
+use Rattle.ada_program.specs.declared.program.ComponentKind.{ComponentKind}
+use Rattle.ada_program.specs.declared.program.ComponentKind.TheVariants as component
+use Rattle.ada_program.specs.declared.program.Exception.{Exception}
+use Rattle.ada_program.specs.declared.program.Finalization.{Finalization}
+use Rattle.ada_program.specs.declared.program.Program.{Program}
+use Rattle.ada_program.specs.Handling.{is_same}
+use Rattle.ada_program.specs.ProgramForm.{TypeForm, record_of, access_to, object_of, BodyForm, ProgramForm, program_form, seen_in}
+use Rattle.ada_program.specs.WellFormed.{IsWellFormed, access_of, components_in, components_reached, designated_in, finalization_in, finalization_of, is_access, kind_among, named_in, object_named, reached_components}
+use Rattle.ada_quiet.specs.Bare.{collections_in_order, has_bare_components, has_bare_objects, is_bare_access, is_bare_component}
+use Rattle.ada_quiet.specs.Frugal.{is_frugal_body, thrift_of}
+use Rattle.ada_quiet.specs.InUse.{designates_no_parts, initializes_quietly, may_allocate_parts, may_be_frugal, may_end_frugally, operations_are_in_use}
+use Rattle.ada_sound.proofs.FrugalFrees.{accepted_access}
+use Rattle.ada_sound.proofs.FrugalUseFrees.{covered_bare}
+use Rattle.ada_sound.proofs.FrugalUseParts.{some_parts, walked_parts}
+use Rattle.ada_sound.proofs.Invariant.{CoveredIn}
+use Rattle.ada_sound.proofs.OperationStarts.{apart}
+use Rattle.ada_sound.proofs.StartsInUse.{starts_raise_none}
+use Rattle.ada_typed.specs.Holding.{PartsLie, WalksTo}
+use Rattle.ada_typed.proofs.Inner.{lies_at}
+use Rattle.ada_typed.proofs.Lying.{IsOperable}
+
+module _ (types : List TypeForm) where
+  -- Where no access type designates a record type with controlled parts, the objects of each are bare.
+  bare_access : list_all (designates_no_parts types) types ≡ true → (t : ℕ) → is_access types t ≡ true → has_bare_objects types t ≡ true
+  bare_access none t is = by (slice_get types t) refl is
+    where
+      by : (o : Option TypeForm) → slice_get types t ≡ o → is_some (designated_in o) ≡ true → is_bare_access types o ≡ true
+      by None at is' = absurd (cc is')
+      by (Some (record_of name parts components finalization)) at is' = absurd (cc is')
+      by (Some (access_to name designated pool)) at is' = all_at (designates_no_parts types) types t (access_to name designated pool) none at
+      by (Some (object_of record_type)) at is' = absurd (cc is')
+
+  -- Where each component holds values of such types, so it is with what one of them is to name.
+  kind_bare : (components : List ComponentKind) (c own : ℕ) → list_all (is_bare_component types) components ≡ true → access_of (kind_among (Some components) c) ≡ Some own → has_bare_objects types own ≡ true
+  kind_bare [] c own all is = absurd (cc is)
+  kind_bare (component.Integer initial ∷ ks) zero own all is = absurd (cc is)
+  kind_bare (component.Boolean initial ∷ ks) zero own all is = absurd (cc is)
+  kind_bare (component.Access access ∷ ks) zero own all is = let same : access.0 ≡ own = cc is in rw (← same) (apart _ _ all).0
+  kind_bare (k ∷ ks) (suc c) own all is = kind_bare ks c own (apart _ _ all).1 is
+
+  components_bare : list_all (has_bare_components types) types ≡ true → (u : Option TypeForm) (t c own : ℕ) → slice_get types t ≡ u → access_of (kind_among (components_in u) c) ≡ Some own → has_bare_objects types own ≡ true
+  components_bare all None t c own at is = absurd (cc is)
+  components_bare all (Some (record_of name parts components finalization)) t c own at is =
+      kind_bare components c own (all_at (has_bare_components types) types t (record_of name parts components finalization) all at) is
+  components_bare all (Some (access_to name designated pool)) t c own at is = absurd (cc is)
+  components_bare all (Some (object_of record_type)) t c own at is = absurd (cc is)
+
+  reached_bare : list_all (has_bare_components types) types ≡ true → (named : Option ℕ) (c own : ℕ) → access_of (kind_among (components_reached types named) c) ≡ Some own → has_bare_objects types own ≡ true
+  reached_bare all None c own is = absurd (cc is)
+  reached_bare all (Some t) c own is = components_bare all (slice_get types t) t c own refl is
+
+  -- An object in which a record with controlled parts lies has some, too.
+  walked_bare : (t first part : ℕ) (o : Option TypeForm) → WalksTo types (named_in o) (Some t) first part → is_some (finalization_of types t) ≡ true → is_bare_access types o ≡ false
+  walked_bare t first part None walks has = refl
+  walked_bare t first part (Some (record_of name parts components finalization)) walks has = refl
+  walked_bare t first part (Some (access_to name designated pool)) walks has = rw (walked_parts types designated first part t walks has) refl
+  walked_bare t first part (Some (object_of record_type)) walks has = refl
+
+module _ (program : Program) (well : IsWellFormed (program_form program)) where
+  abbrev p : ProgramForm
+  p = program_form program
+
+  -- Where objects with controlled parts may be allocated, components name none of these, and each Initialize is quiet.
+  parts_allocated : may_allocate_parts p ≡ true → (list_all (has_bare_components p.types) p.types ≡ true) × (list_all (λ t. initializes_quietly p (finalization_in (Some t))) p.types ≡ true)
+  parts_allocated may =
+      let three = apart (list_all (has_bare_components p.types) p.types && collections_in_order p) (list_all (λ t. initializes_quietly p (finalization_in (Some t))) p.types) may in
+      ((apart (list_all (has_bare_components p.types) p.types) (collections_in_order p) three.0).0, three.1)
+
+  -- What a component is to name has no controlled parts.
+  pub components_are_bare : may_end_frugally p ≡ true → (holder c access : ℕ) → access_of (kind_among (reached_components p.types holder) c) ≡ Some access → has_bare_objects p.types access ≡ true
+  components_are_bare may holder c access is = by (or_cases (may_be_frugal p) (may_allocate_parts p) may)
+    where
+      by : (may_be_frugal p ≡ true) ⊎ (may_allocate_parts p ≡ true) → has_bare_objects p.types access ≡ true
+      by (inl frugal) = bare_access p.types frugal access (accepted_access p.types well.types_fit holder c access is)
+      by (inr parts) = reached_bare p.types (parts_allocated parts).0 (named_in (slice_get p.types holder)) c access is
+
+  -- An object is that of a variable or a component, or it has controlled parts, where an operation is called for one of these.
+  pub operable_is_not_bare : (access of part : ℕ) → IsOperable p.types access of part → has_bare_objects p.types access ≡ false
+  operable_is_not_bare access of part operable =
+      let l = lies_at program well access of part operable.0 in
+      let d = is_declared program l.record_type of l.numbered in
+      walked_bare p.types l.record_type l.first part (slice_get p.types access) l.walk (ap (λ (o : Option TypeForm). is_some (finalization_in o)) d.declares.2)
+
+  -- So it is where a record with controlled parts lies in it.
+  pub holder_is_not_bare : (t : ℕ) (f : Finalization) → finalization_of p.types t ≡ Some f → (access first part : ℕ) → PartsLie p.types (object_named p.types (Some access)) (Some t) first part → has_bare_objects p.types access ≡ false
+  holder_is_not_bare t f is access first part lie =
+      walked_bare p.types t first part (slice_get p.types access) (lie.1 (some_parts p.types well.types_fit t (slice_get p.types t) f refl is)) (ap (λ (o : Option Finalization). is_some o) is)
+
+  -- What a frugal body may free, or one that it calls, has none.
+  pub frugal_frees_bare : (number : ℕ) (b : BodyForm) → slice_get p.bodies number ≡ Some b → is_frugal_body (thrift_of p) b ≡ true → (t : ℕ) → CoveredIn (implicit_of p) (seen_in (Some number) p) t → has_bare_objects p.types t ≡ true
+  frugal_frees_bare number b there frugal t covered = covered_bare p well number b there frugal t covered
+
+  -- No exception comes out of the initialization of what is allocated and has controlled parts.
+  pub allocated_raises_nothing : operations_are_in_use p ≡ true → may_end_frugally p ≡ true → (access : ℕ) → is_access p.types access ≡ true → has_bare_objects p.types access ≡ false → (e : Exception) → list_any (is_same e) ((implicit_of p).start_raises access) ≡ false
+  allocated_raises_nothing used may access is parts e = by (or_cases (may_be_frugal p) (may_allocate_parts p) may)
+    where
+      by : (may_be_frugal p ≡ true) ⊎ (may_allocate_parts p ≡ true) → list_any (is_same e) ((implicit_of p).start_raises access) ≡ false
+      by (inl frugal) = let bare = bare_access p.types frugal access is in absurd (cc (bare, parts))
+      by (inr allocated) = starts_raise_none p well used (parts_allocated allocated).1 access e
+
+  -- Nothing has controlled parts that is allocated, where an Initialize may be frugal.
+  pub allocated_is_bare : may_end_frugally p ≡ true → may_allocate_parts p ≡ false → (access : ℕ) → is_access p.types access ≡ true → has_bare_objects p.types access ≡ true
+  allocated_is_bare may none access is = by (or_cases (may_be_frugal p) (may_allocate_parts p) may)
+    where
+      by : (may_be_frugal p ≡ true) ⊎ (may_allocate_parts p ≡ true) → has_bare_objects p.types access ≡ true
+      by (inl frugal) = bare_access p.types frugal access is
+      by (inr parts) = absurd (cc (none, parts))
