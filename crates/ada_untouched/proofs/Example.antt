@@ -1,0 +1,187 @@
+-- A path is followed, beside a hidden component and a ghost, and into them.
+
+use Rattle.std.proofs.Common.{◌≡◌, ℕ, zero, suc, Bool, true, false, List, [], ◌∷◌, Some, None, refl, ap, ◌∙◌}
+use Rattle.std.specs.Prelude.{◌==◌, ◌&&◌}
+use Rattle.std.specs.List.{slice_get}
+use Rattle.ada_program.specs.Form.{value_of}
+use Rattle.ada_program.specs.ProgramForm.{nowhere}
+use Rattle.ada_meaning.specs.declared.state.Id.{Id}
+use Rattle.ada_meaning.specs.declared.state.Mode.TheVariants.{Running}
+use Rattle.ada_meaning.specs.declared.state.Stage.{Stage}
+use Rattle.ada_meaning.specs.declared.state.Stage.TheVariants.{Existing, Gone}
+use Rattle.ada_meaning.specs.declared.state.Value.{Value}
+use Rattle.ada_meaning.specs.declared.state.Value.TheVariants.{Null, Names}
+use Rattle.ada_meaning.specs.Frame as frame
+use Rattle.ada_meaning.specs.Step.{halts, moves, tells, asks, picks, computed, newest}
+use Rattle.ada_meaning.specs.Named.{Object, State, Next, named, next}
+use Rattle.ada_untouched.specs.Alike.{ValuesAlike, ObjectsAlike, FoundAlike, HeapsAlike, NextAlike}
+use Rattle.ada_untouched.specs.Example.{FollowsBeside, PremisesAreMet, LooksAtGhost, LooksAtHidden, PremiseIsNeeded}
+
+abbrev holder : Id
+holder = record { 0 = 0 }
+
+abbrev other : Id
+other = record { 0 = 1 }
+
+abbrev ghost : Id
+ghost = record { 0 = 2 }
+
+-- An object with these components, which is in its collection, with its words out, or not.
+abbrev an_object : List Value → Stage → Bool → Object
+an_object vs stage there = record {
+  cell = record { access = 0; number = 1; home = record { item = 0; pool = Some 0; subpool = None }; values = vs; parts = [] };
+  stage = stage;
+  listed = there;
+  out = there;
+}
+
+-- The second component of the first object holds this, and the last object exists, or does not.
+abbrev heap_with : Value → Stage → Bool → List Object
+heap_with v stage there =
+    an_object (Names other ∷ v ∷ []) Existing true ∷ an_object (Names holder ∷ []) Existing true ∷ an_object (Null ∷ []) stage there ∷ []
+
+-- A path from a variable is followed next; the first variable holds the name of the first object, and the other one that of the last.
+abbrev reading_path : (root : ℕ) → (selectors : List ℕ) → List Object → State
+reading_path root selectors heap = record {
+  activations = record { procedure = None; places = Names holder ∷ Names ghost ∷ []; operands = [] } ∷ [];
+  masters = [];
+  control = frame.Evaluates (value_of (record { root = root; of_record = false; selectors = selectors; spot = nowhere })) ∷ frame.Stores 1 ∷ [];
+  mode = Running;
+  input = [];
+  next = 0;
+  allocated = 3;
+  born = 0;
+  heap = heap;
+}
+
+abbrev hidden_one : Id → (component : ℕ) → Bool
+hidden_one o c = (o.0 == 0) && (c == 1)
+
+abbrev none_hidden : Id → (component : ℕ) → Bool
+none_hidden o c = false
+
+abbrev one_ghost : Id → Bool
+one_ghost o = o.0 == 2
+
+abbrev no_ghost : Id → Bool
+no_ghost o = false
+
+beside : (v u : Value) → ValuesAlike (hidden_one holder) (Names other ∷ v ∷ []) (Names other ∷ u ∷ [])
+beside v u = record { count = refl; values = at_component }
+  where
+    at_component : (c : ℕ) → hidden_one holder c ≡ false → slice_get (Names other ∷ v ∷ []) c ≡ slice_get (Names other ∷ u ∷ []) c
+    at_component zero shown = refl
+    at_component (suc zero) shown = absurd (cc)
+    at_component (suc (suc c)) shown = refl
+
+itself : (hides : ℕ → Bool) (x : Object) → ObjectsAlike hides false x x
+itself hides x = record { values = record { count = refl; values = λ c shown. refl }; cell = refl; life = refl }
+
+gone_or_not : (hides : ℕ → Bool) (vs : List Value) (stage later : Stage) (there still : Bool) → ObjectsAlike hides true (an_object vs stage there) (an_object vs later still)
+gone_or_not hides vs stage later there still = record { values = record { count = refl; values = λ c shown. refl }; cell = refl; life = tt }
+
+-- The first states are alike but for both.
+alike_but_for_both : HeapsAlike hidden_one one_ghost (heap_with (Names ghost) Existing true) (heap_with Null Gone false)
+alike_but_for_both = record { count = refl; objects = λ o. under o.0 }
+  where
+    under : (i : ℕ) → FoundAlike (hidden_one (record { 0 = i })) (one_ghost (record { 0 = i })) (slice_get (heap_with (Names ghost) Existing true) i) (slice_get (heap_with Null Gone false) i)
+    under zero = record { values = beside (Names ghost) Null; cell = refl; life = refl }
+    under (suc zero) = itself (hidden_one other) (an_object (Names holder ∷ []) Existing true)
+    under (suc (suc zero)) = gone_or_not (hidden_one ghost) (Null ∷ []) Existing Gone true false
+    under (suc (suc (suc i))) = tt
+
+alike_but_for_ghost : HeapsAlike none_hidden one_ghost (heap_with Null Existing true) (heap_with Null Gone false)
+alike_but_for_ghost = record { count = refl; objects = λ o. under o.0 }
+  where
+    under : (i : ℕ) → FoundAlike (none_hidden (record { 0 = i })) (one_ghost (record { 0 = i })) (slice_get (heap_with Null Existing true) i) (slice_get (heap_with Null Gone false) i)
+    under zero = itself (none_hidden holder) (an_object (Names other ∷ Null ∷ []) Existing true)
+    under (suc zero) = itself (none_hidden other) (an_object (Names holder ∷ []) Existing true)
+    under (suc (suc zero)) = gone_or_not (none_hidden ghost) (Null ∷ []) Existing Gone true false
+    under (suc (suc (suc i))) = tt
+
+alike_but_for_hidden : HeapsAlike hidden_one no_ghost (heap_with (Names ghost) Existing true) (heap_with Null Existing true)
+alike_but_for_hidden = record { count = refl; objects = λ o. under o.0 }
+  where
+    under : (i : ℕ) → FoundAlike (hidden_one (record { 0 = i })) (no_ghost (record { 0 = i })) (slice_get (heap_with (Names ghost) Existing true) i) (slice_get (heap_with Null Existing true) i)
+    under zero = record { values = beside (Names ghost) Null; cell = refl; life = refl }
+    under (suc zero) = itself (hidden_one other) (an_object (Names holder ∷ []) Existing true)
+    under (suc (suc zero)) = itself (hidden_one ghost) (an_object (Null ∷ []) Existing true)
+    under (suc (suc (suc i))) = tt
+
+-- The first component of the first object is followed, and then that of the object that it names.
+abbrev before : List Object → State
+before heap = reading_path 0 (0 ∷ 0 ∷ []) heap
+
+abbrev after : List Object → State
+after heap = computed (Names other) (record (before heap) { control = frame.Follows (0 ∷ []) ∷ frame.Stores 1 ∷ [] })
+
+follows_beside :
+    FollowsBeside [] [] hidden_one one_ghost (before (heap_with (Names ghost) Existing true)) (before (heap_with Null Gone false))
+    (after (heap_with (Names ghost) Existing true)) (after (heap_with Null Gone false))
+unfolding next
+follows_beside = record {
+  untouched = (refl, refl);
+  alike = record { rest = refl; heaps = alike_but_for_both };
+  followed = holder;
+  beside = (1, record { is_hidden = refl; differs = λ e. absurd (cc) });
+  ghost = (ghost, record { is_ghost = refl; differs = λ e. absurd (cc) });
+  follows = refl;
+  follows_too = refl;
+  finds = (other, refl);
+  goes_on = (refl, refl);
+}
+
+pub premises_are_met : PremisesAreMet
+premises_are_met = (
+  [],
+  [],
+  hidden_one,
+  one_ghost,
+  before (heap_with (Names ghost) Existing true),
+  before (heap_with Null Gone false),
+  after (heap_with (Names ghost) Existing true),
+  after (heap_with Null Gone false),
+  follows_beside,
+)
+
+-- The ghost is followed.
+abbrev into_ghost : List Object → State
+into_ghost heap = reading_path 1 (0 ∷ []) heap
+
+looks_at_ghost : LooksAtGhost [] [] one_ghost (into_ghost (heap_with Null Existing true)) (into_ghost (heap_with Null Gone false))
+unfolding next
+looks_at_ghost = record {
+  alike = record { rest = refl; heaps = alike_but_for_ghost };
+  goes_on = (ghost, computed Null (record (into_ghost (heap_with Null Existing true)) { control = frame.Stores 1 ∷ [] }), refl);
+  ends = refl;
+}
+
+-- The hidden component is read.
+abbrev into_hidden : List Object → State
+into_hidden heap = reading_path 0 (1 ∷ []) heap
+
+-- The newest operand, where a step is taken.
+abbrev read_by : Next → Value
+read_by (halts h) = Null
+read_by (moves e s) = newest named s
+read_by (tells r e s) = Null
+read_by (asks r answered) = Null
+read_by (picks count taken) = Null
+
+reads_apart :
+    NextAlike hidden_one no_ghost (next [] [] (into_hidden (heap_with (Names ghost) Existing true))) (next [] [] (into_hidden (heap_with Null Existing true)))
+    → ⊥
+unfolding next
+reads_apart p =
+    let null : Null ≡ newest named p.0 = ap read_by p.1 in
+    let name : newest named p.0 ≡ Names ghost = ap (λ (s : State). newest named s) p.2.rest in
+    absurd (cc (null ∙ name))
+
+looks_at_hidden : LooksAtHidden [] [] hidden_one (into_hidden (heap_with (Names ghost) Existing true)) (into_hidden (heap_with Null Existing true))
+looks_at_hidden = record { alike = record { rest = refl; heaps = alike_but_for_hidden }; goes_apart = reads_apart }
+
+pub premise_is_needed : PremiseIsNeeded
+premise_is_needed = (
+  ([], [], one_ghost, into_ghost (heap_with Null Existing true), into_ghost (heap_with Null Gone false), looks_at_ghost),
+  ([], [], hidden_one, into_hidden (heap_with (Names ghost) Existing true), into_hidden (heap_with Null Existing true), looks_at_hidden),
+)

@@ -1,0 +1,52 @@
+-- States that are alike but for some components, which are hidden, and for whether some objects exist, which are ghosts.
+
+use Rattle.std.specs.Prelude.{◌≡◌, ℕ, Bool, true, false, List, length, Option, Some, None}
+use Rattle.std.specs.List.{slice_get}
+use Rattle.ada_meaning.specs.declared.state.Id.{Id}
+use Rattle.ada_meaning.specs.declared.state.Value.{Value}
+use Rattle.ada_meaning.specs.Step.{halts, moves, tells, asks, picks}
+use Rattle.ada_meaning.specs.Named.{Object, State, Next, object_at}
+
+-- As many values, and the same ones in each component that is not hidden.
+pub record ValuesAlike (hides : ℕ → Bool) (vs us : List Value) : Type 0 where
+  pub count : length vs ≡ length us
+  pub values : (component : ℕ) → hides component ≡ false → slice_get vs component ≡ slice_get us component
+
+-- Something holds, except of a ghost.
+abbrev pub UnlessGhost : (ghost : Bool) → Type 0 → Type 0
+UnlessGhost true P = Unit {0}
+UnlessGhost false P = P
+
+-- Two objects that differ at most in the values of hidden components; and, where they are ghosts, in whether the object exists, is in its collection, and
+-- has its words out.
+pub record ObjectsAlike (hides : ℕ → Bool) (ghost : Bool) (x y : Object) : Type 0 where
+  pub values : ValuesAlike hides x.cell.values y.cell.values
+  pub cell : y.cell ≡ record (x.cell) { values = y.cell.values }
+  pub life : UnlessGhost ghost (y ≡ record x { cell = y.cell })
+
+-- Such objects, or none in both places.
+abbrev pub FoundAlike : (hides : ℕ → Bool) → (ghost : Bool) → Option Object → Option Object → Type 0
+FoundAlike hides ghost None None = Unit {0}
+FoundAlike hides ghost None (Some y) = ⊥
+FoundAlike hides ghost (Some x) None = ⊥
+FoundAlike hides ghost (Some x) (Some y) = ObjectsAlike hides ghost x y
+
+-- As many objects, and such ones under each name.
+pub record HeapsAlike (hidden : Id → (component : ℕ) → Bool) (ghosts : Id → Bool) (h k : List Object) : Type 0 where
+  pub count : length h ≡ length k
+  pub objects : (o : Id) → FoundAlike (hidden o) (ghosts o) (object_at h o) (object_at k o)
+
+-- States that are the same but for such heaps.
+pub record StatesAlike (hidden : Id → (component : ℕ) → Bool) (ghosts : Id → Bool) (s t : State) : Type 0 where
+  pub rest : t ≡ record s { heap = t.heap }
+  pub heaps : HeapsAlike hidden ghosts s.heap t.heap
+
+-- What comes next of both: the same, but that the states are alike, whatever is answered.
+abbrev pub NextAlike : (hidden : Id → (component : ℕ) → Bool) → (ghosts : Id → Bool) → Next → Next → Type 0
+NextAlike hidden ghosts (halts h) n = n ≡ halts h
+NextAlike hidden ghosts (moves event s) n = (t : State) × (n ≡ moves event t) × StatesAlike hidden ghosts s t
+NextAlike hidden ghosts (tells request event s) n = (t : State) × (n ≡ tells request event t) × StatesAlike hidden ghosts s t
+NextAlike hidden ghosts (asks request answered) n =
+    (answers : Bool → State) × (n ≡ asks request answers) × ((granted : Bool) → StatesAlike hidden ghosts (answered granted) (answers granted))
+NextAlike hidden ghosts (picks count taken) n =
+    (taking : ℕ → State) × (n ≡ picks count taking) × ((i : ℕ) → StatesAlike hidden ghosts (taken i) (taking i))

@@ -1,0 +1,68 @@
+-- The premises are met, and they are needed.
+
+use Rattle.std.specs.Prelude.{◌≡◌, ℕ, Bool, true, false, List, Option, Some, None}
+use Rattle.std.specs.List.{slice_get}
+use Rattle.ada_program.specs.declared.program.TypeDefinition.{TypeDefinition}
+use Rattle.ada_program.specs.ProgramForm.{BodyForm}
+use Rattle.ada_meaning.specs.declared.event.Halt.TheVariants.{Erroneous}
+use Rattle.ada_meaning.specs.declared.event.Why.TheVariants.{FollowsGone}
+use Rattle.ada_meaning.specs.declared.state.Id.{Id}
+use Rattle.ada_meaning.specs.declared.state.Value.{Value}
+use Rattle.ada_meaning.specs.declared.state.Value.TheVariants.{Names}
+use Rattle.ada_meaning.specs.Event.{Followed}
+use Rattle.ada_meaning.specs.Step.{halts, moves, newest}
+use Rattle.ada_meaning.specs.Named.{Object, State, named, object_at, look, next}
+use Rattle.ada_untouched.specs.Alike.{StatesAlike, NextAlike}
+use Rattle.ada_untouched.specs.Untouched.{Untouched}
+
+-- What lies in a component of an object, if there is one.
+abbrev pub component_in : Option Object → (component : ℕ) → Option Value
+component_in None c = None
+component_in (Some x) c = slice_get x.cell.values c
+
+-- A component of an object is hidden, and holds something else in the other state.
+pub record DifferHidden (hidden : Id → (component : ℕ) → Bool) (s t : State) (o : Id) (component : ℕ) : Type 0 where
+  pub is_hidden : hidden o component ≡ true
+  pub differs : component_in (object_at s.heap o) component ≡ component_in (object_at t.heap o) component → ⊥
+
+-- An object is a ghost, and is looked for in vain in one of the states.
+pub record DifferInGhost (ghosts : Id → Bool) (s t : State) (o : Id) : Type 0 where
+  pub is_ghost : ghosts o ≡ true
+  pub differs : look s.heap (Names o) ≡ look t.heap (Names o) → ⊥
+
+-- A step follows a component of an object, beside a hidden one of the same object that names a ghost in the one state and nothing in the other: both states
+-- take it, and find the name of an object.
+pub record FollowsBeside (types : List TypeDefinition) (bodies : List BodyForm) (hidden : Id → (component : ℕ) → Bool) (ghosts : Id → Bool) (s t after behind : State) : Type 0 where
+  pub untouched : Untouched hidden ghosts s
+  pub alike : StatesAlike hidden ghosts s t
+  pub followed : Id
+  pub beside : (component : ℕ) × DifferHidden hidden s t followed component
+  pub ghost : (o : Id) × DifferInGhost ghosts s t o
+  pub follows : next types bodies s ≡ moves (Followed (Names followed)) after
+  pub follows_too : next types bodies t ≡ moves (Followed (Names followed)) behind
+  pub finds : (o : Id) × (newest named after ≡ Names o)
+  pub goes_on : Untouched hidden ghosts after
+
+-- So it is somewhere.
+abbrev pub PremisesAreMet : Type 0
+PremisesAreMet =
+    (types : List TypeDefinition) × (bodies : List BodyForm) × (hidden : (Id → (component : ℕ) → Bool)) × (ghosts : (Id → Bool)) × (s : State) × (t : State)
+    × (after : State) × (behind : State) × FollowsBeside types bodies hidden ghosts s t after behind
+
+-- States that are alike but for ghosts, of which one goes on and the other ends: the step follows a ghost.
+pub record LooksAtGhost (types : List TypeDefinition) (bodies : List BodyForm) (ghosts : Id → Bool) (s t : State) : Type 0 where
+  pub alike : StatesAlike (λ o component. false) ghosts s t
+  pub goes_on : (o : Id) × (after : State) × (next types bodies s ≡ moves (Followed (Names o)) after)
+  pub ends : next types bodies t ≡ halts (Erroneous FollowsGone)
+
+-- States that are alike but for hidden components, both of which go on, to states that are not alike: the step reads a hidden component.
+pub record LooksAtHidden (types : List TypeDefinition) (bodies : List BodyForm) (hidden : Id → (component : ℕ) → Bool) (s t : State) : Type 0 where
+  pub alike : StatesAlike hidden (λ o. false) s t
+  pub goes_apart : NextAlike hidden (λ o. false) (next types bodies s) (next types bodies t) → ⊥
+
+-- Each of them is somewhere.
+abbrev pub PremiseIsNeeded : Type 0
+PremiseIsNeeded =
+    ((types : List TypeDefinition) × (bodies : List BodyForm) × (ghosts : (Id → Bool)) × (s : State) × (t : State) × LooksAtGhost types bodies ghosts s t)
+    × ((types : List TypeDefinition) × (bodies : List BodyForm) × (hidden : (Id → (component : ℕ) → Bool)) × (s : State) × (t : State)
+    × LooksAtHidden types bodies hidden s t)

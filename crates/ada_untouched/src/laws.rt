@@ -1,0 +1,22 @@
+//! The laws of what a step does not touch. Each is a function that does nothing, and whose contract is the theorem.
+
+ghost use Rattle.ada_untouched.specs.Example.{PremisesAreMet, PremiseIsNeeded};
+ghost use Rattle.ada_untouched.specs.Law.{UntouchedPartsDoNotMatter};
+
+/// Where a step looks neither at a hidden component nor at a ghost, a state that is alike but for these takes the same step: the
+/// same is asked of storage and told to it, the same is shown, and the states behind it are alike again, or both end so.
+pub fn untouched_parts_do_not_matter()
+    ensures { UntouchedPartsDoNotMatter }
+{}
+
+/// The premises are met: a path is followed beside a component that holds something else, and beside an object that is gone
+/// in one of the two states.
+pub fn premises_are_met()
+    ensures { PremisesAreMet }
+{}
+
+/// The premise is needed: where a step looks at a ghost, one state may go on and the other end there; and where it looks at a
+/// hidden component, the states behind it may not be alike.
+pub fn premise_is_needed()
+    ensures { PremiseIsNeeded }
+{}
