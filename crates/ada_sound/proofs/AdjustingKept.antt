@@ -27,8 +27,6 @@ use Rattle.ada_tracked.specs.Law.{IsSilent, Matches}
 use Rattle.ada_tracked.specs.Law as matching
 use Rattle.ada_typed.proofs.Bodies.{TablesFit}
 use Rattle.ada_sound.proofs.Gathered.{AllocatesBare}
-use Rattle.ada_sound.proofs.FormalStays.{SamePlaces, AllSamePlaces}
-use Rattle.ada_sound.proofs.CallsApart.{CallApart, AllCallApart}
 use Rattle.ada_quiet.specs.Apart.{is_tracker, body_calls_apart}
 use Rattle.ada_typed.proofs.Control as typed
 use Rattle.ada_typed.proofs.Kept.{Each}
@@ -136,17 +134,3 @@ each_both P Q (moves e after) p q = (p, q)
 each_both P Q (tells request e after) p q = (p, q)
 each_both P Q (asks request answers) p q = λ granted. (p granted, q granted)
 each_both P Q (picks n taking) p q = λ i lt. (p i lt, q i lt)
-
-pub places_each : (s : State) (n : Next) → AllSamePlaces s n → Each (SamePlaces s) n
-places_each s (halts halt) all = tt
-places_each s (moves e after) all = all
-places_each s (tells request e after) all = all
-places_each s (asks request answers) all = all
-places_each s (picks n taking) all = λ i lt. all i
-
-pub apart_each : (types : List TypeForm) (tracks : ℕ → Bool) (n : Next) → AllCallApart types tracks n → Each (λ (s : State). CallApart types tracks s.control) n
-apart_each types tracks (halts halt) all = tt
-apart_each types tracks (moves e after) all = all
-apart_each types tracks (tells request e after) all = all
-apart_each types tracks (asks request answers) all = all
-apart_each types tracks (picks n taking) all = λ i lt. all i

@@ -46,7 +46,8 @@ use Rattle.ada_sound.proofs.CallsApartSteps.{calls_stay_apart}
 use Rattle.ada_sound.proofs.FormalStays.{SamePlaces, AllSamePlaces, places_stay}
 use Rattle.ada_sound.proofs.Gathered.{AllocatesBare, allocates_bare}
 use Rattle.ada_sound.proofs.Adjusting.{Adjusting, waiting}
-use Rattle.ada_sound.proofs.AdjustingKept.{IsJudged, apart_each, each_both, places_each, alters_matched, says_covered, says_matched, says_silent, standing_kept}
+use Rattle.ada_sound.proofs.Coming.{each_next}
+use Rattle.ada_sound.proofs.AdjustingKept.{IsJudged, each_both, alters_matched, says_covered, says_matched, says_silent, standing_kept}
 use Rattle.ada_sound.proofs.AdjustingSeen.{SameRun, StandsFor, calls_or_copies, each_runs_on, frugal_alone, next_simple, seen_leaves, seen_within, simple_begins, simple_crosses, simple_still, stands_for, within}
 use Rattle.ada_sound.proofs.Alters.{Alters, alters_same}
 use Rattle.ada_sound.proofs.Below.{named_below}
@@ -362,8 +363,8 @@ module _
 
   pub step_on : GoesAdjusting program s (next tds bodies s)
   step_on =
-      next_on (next tds bodies s) (next tds bodies f.t) shown (each_both (SameRun s) (SamePlaces s) (next tds bodies s) real_on (places_each s (next tds bodies s) places_on)) simple_on fine_on frugal_on
-      (each_both (typed.TypedIn known.program) (λ stands. CallApart p.types (is_tracker p) stands.control) (next tds bodies f.t) typed_on (apart_each p.types (is_tracker p) (next tds bodies f.t) apart_on))
+      next_on (next tds bodies s) (next tds bodies f.t) shown (each_both (SameRun s) (SamePlaces s) (next tds bodies s) real_on (each_next (SamePlaces s) (next tds bodies s) places_on)) simple_on fine_on frugal_on
+      (each_both (typed.TypedIn known.program) (λ stands. CallApart p.types (is_tracker p) stands.control) (next tds bodies f.t) typed_on (each_next (λ (stands : State). CallApart p.types (is_tracker p) stands.control) (next tds bodies f.t) apart_on))
 
 -- Each step of the body but its end keeps all that is known while it runs.
 pub adjusting_step :

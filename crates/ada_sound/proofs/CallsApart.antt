@@ -26,10 +26,11 @@ use Rattle.ada_meaning.specs.Frame.{Treatment, Frame}
 use Rattle.ada_meaning.specs.Frame as frame
 use Rattle.ada_meaning.specs.State.{Destination, home_of, pool_freed_to}
 use Rattle.ada_meaning.specs.Heap.{Cell, Found, on_null, on_gone, on_other, finds}
-use Rattle.ada_meaning.specs.Step.{halts, moves, tells, asks, picks, all_tasks, record_tasks, treating, copy_next, record_assign_next, assigns_next, at, held, newest, reading, component_next, follow_next, path_next, before_last, last_of, selected, named_next, holder_next, place_in, record_holder_next, referred_next, refers_next, open_next, opened_next, opens_next, expression_next, null_test_next, is_decided, link_next, links_next, outcome_next, item_next, items_next, copied_next, copies_next, newest_ones, without_newest, record_in, record_target_next, record_stored_next, store_record_next, answered, new_next, right_next, free_next, end_next, same_pool, told_back, given_back, back_next, freeing, freeing_next, freed_next, free_component_next, free_in_next}
+use Rattle.ada_meaning.specs.Step.{halts, moves, all_tasks, record_tasks, treating, copy_next, record_assign_next, assigns_next, at, held, newest, reading, component_next, follow_next, path_next, before_last, last_of, selected, named_next, holder_next, place_in, record_holder_next, referred_next, refers_next, open_next, opened_next, opens_next, expression_next, null_test_next, is_decided, link_next, links_next, outcome_next, item_next, items_next, copied_next, copies_next, newest_ones, without_newest, record_in, record_target_next, record_stored_next, store_record_next, answered, new_next, right_next, free_next, end_next, same_pool, told_back, given_back, back_next, freeing, freeing_next, freed_next, free_component_next, free_in_next}
 use Rattle.ada_meaning.specs.Named.{State, Next, named, whole, base, part_base, inside, look, returned, on_object, reads_boolean}
 use Rattle.ada_meaning.specs.Run.{Event}
 use Rattle.ada_quiet.specs.Apart.{is_bare_right, declare_apart, all_call_apart, branches_call_apart, handlers_call_apart, body_calls_apart}
+use Rattle.ada_sound.proofs.Coming.{AllNext}
 
 module _ (forms : List TypeForm) (tracks : ℕ → Bool) where
   -- Statements that a frame holds call no procedure that tracks; a call is of none, and neither are those of its body. What is evaluated
@@ -56,11 +57,7 @@ module _ (forms : List TypeForm) (tracks : ℕ → Bool) where
 
   -- So it is whatever comes next, and whatever is answered.
   abbrev pub AllCallApart : Next → Type 0
-  AllCallApart (halts halt) = Unit {0}
-  AllCallApart (moves e s) = CallApart s.control
-  AllCallApart (tells request e s) = CallApart s.control
-  AllCallApart (asks request answers) = (granted : Bool) → CallApart (answers granted).control
-  AllCallApart (picks n taking) = (i : ℕ) → CallApart (taking i).control
+  AllCallApart = AllNext (λ (s : State). CallApart s.control)
 
 module _ (forms : List TypeForm) (tracks : ℕ → Bool) where
   -- So it is with a body, or a block, whose declarations are next (3.11).

@@ -8,31 +8,14 @@ use Rattle.ada_program.specs.ProgramForm.{TypeForm, BodyForm, main_body, body_fo
 use Rattle.ada_meaning.specs.declared.state.Value.{Value}
 use Rattle.ada_meaning.specs.Frame.{Frame}
 use Rattle.ada_meaning.specs.Frame as frame
-use Rattle.ada_meaning.specs.Step.{halts, moves, tells, asks, picks}
-use Rattle.ada_meaning.specs.Named.{State, Next, next}
-use Rattle.ada_meaning.specs.Run.{Event, Choice, settled, grants, takes, Leads, Step, Run, here, there, first_state}
+use Rattle.ada_meaning.specs.Named.{State, next}
+use Rattle.ada_meaning.specs.Run.{Event, Choice, Step, Run, here, there, first_state}
 use Rattle.ada_quiet.specs.Apart.{is_bare_right, body_calls_apart}
-use Rattle.ada_sound.proofs.CallsApart.{CallApart, AllCallApart, elaborates_apart}
+use Rattle.ada_sound.proofs.CallsApart.{CallApart, elaborates_apart}
 use Rattle.ada_sound.proofs.CallsApartSteps.{calls_stay_apart}
+use Rattle.ada_sound.proofs.Coming.{led_next}
 
 module _ (forms : List TypeForm) (tracks : ℕ → Bool) where
-  -- So it is where a choice leads.
-  led_apart : (coming : Next) (choice : Choice) (e : Event) (after : State) → AllCallApart forms tracks coming → Leads coming choice e after
-      → CallApart forms tracks after.control
-  led_apart (halts halt) choice e after all leads = absurd leads
-  led_apart (moves shown s) settled e after all leads = rw (leads.1) all
-  led_apart (tells request shown s) settled e after all leads = rw (leads.1) all
-  led_apart (asks request answers) (grants granted) e after all leads = rw (leads.1) (all granted)
-  led_apart (picks n taking) (takes i) e after all leads = rw (leads.2) (all i)
-  led_apart (moves shown s) (grants granted) e after all leads = absurd leads
-  led_apart (moves shown s) (takes i) e after all leads = absurd leads
-  led_apart (tells request shown s) (grants granted) e after all leads = absurd leads
-  led_apart (tells request shown s) (takes i) e after all leads = absurd leads
-  led_apart (asks request answers) settled e after all leads = absurd leads
-  led_apart (asks request answers) (takes i) e after all leads = absurd leads
-  led_apart (picks n taking) settled e after all leads = absurd leads
-  led_apart (picks n taking) (grants granted) e after all leads = absurd leads
-
   -- A call that is next is of no procedure that tracks.
   pub no_tracker_called : (s : State) (number : ℕ) (b : BodyForm) (actuals : List ActualForm) (k : List (Frame Value))
       → s.control ≡ frame.Calls number b actuals ∷ k → CallApart forms tracks s.control → tracks number ≡ false
@@ -48,7 +31,7 @@ module _ (forms : List TypeForm) (tracks : ℕ → Bool) where
     pub step_apart : (s after : State) (choice : Choice) (e : Event) → CallApart forms tracks s.control → Step program s choice e after
         → CallApart forms tracks after.control
     step_apart s after choice e apart step =
-        led_apart (next program.types.items (body_forms program) s) choice e after
+        led_next (λ (coming : State). CallApart forms tracks coming.control) (next program.types.items (body_forms program) s) choice e after
         (calls_stay_apart program.types.items (body_forms program) forms tracks each s apart) step
 
     -- So do some steps.

@@ -28,12 +28,13 @@ use Rattle.ada_meaning.specs.Frame.{Treatment, Frame, is_master}
 use Rattle.ada_meaning.specs.Frame as frame
 use Rattle.ada_meaning.specs.State.{Owned, declared, collection, record_object, storage_pool, Item, Master, Destination, home_of, pool_freed_to}
 use Rattle.ada_meaning.specs.Heap.{Cell, Found, on_null, on_gone, on_other, finds}
-use Rattle.ada_meaning.specs.Step.{halts, moves, tells, asks, picks, all_tasks, record_tasks, older, owning, treating, copy_next, record_assign_next, assigns_next, at, held, newest, reading, component_next, follow_next, path_next, before_last, last_of, selected, named_next, holder_next, place_in, record_holder_next, referred_next, refers_next, open_next, opened_next, opens_next, expression_next, null_test_next, is_decided, link_next, links_next, outcome_next, item_next, items_next, copied_next, copies_next, newest_ones, without_newest, record_in, record_target_next, record_stored_next, store_record_next, answered, new_next, right_next, free_next, end_next, same_pool, told_back, given_back, back_next, freeing, freeing_next, freed_next, free_component_next, free_in_next}
+use Rattle.ada_meaning.specs.Step.{halts, moves, all_tasks, record_tasks, older, owning, treating, copy_next, record_assign_next, assigns_next, at, held, newest, reading, component_next, follow_next, path_next, before_last, last_of, selected, named_next, holder_next, place_in, record_holder_next, referred_next, refers_next, open_next, opened_next, opens_next, expression_next, null_test_next, is_decided, link_next, links_next, outcome_next, item_next, items_next, copied_next, copies_next, newest_ones, without_newest, record_in, record_target_next, record_stored_next, store_record_next, answered, new_next, right_next, free_next, end_next, same_pool, told_back, given_back, back_next, freeing, freeing_next, freed_next, free_component_next, free_in_next}
 use Rattle.ada_meaning.specs.Named.{State, Next, named, whole, base, part_base, inside, look, returned, on_object, reads_boolean}
 use Rattle.ada_meaning.specs.Run.{Event}
 use Rattle.ada_quiet.specs.Bare.{has_bare_objects, is_component_type, collect_in_order, stmts_in_order, branches_in_order, handlers_in_order, body_in_order}
 use Rattle.ada_scopes.proofs.Control.{is_confine, Either}
 use Rattle.ada_sound.proofs.Ahead.{IsApartFrom, IsApart, GoesApart, ItemsApart, MastersApart}
+use Rattle.ada_sound.proofs.Coming.{AllNext, all_next}
 
 -- The items of the innermost master.
 abbrev pub first_items : List Master → List Item
@@ -93,19 +94,11 @@ module _ (forms : List TypeForm) where
 
   -- So it is whatever comes next, and whatever is answered.
   abbrev pub AllOrderly : Next → Type 0
-  AllOrderly (halts halt) = Unit {0}
-  AllOrderly (moves e s) = Stands s
-  AllOrderly (tells request e s) = Stands s
-  AllOrderly (asks request answers) = (granted : Bool) → Stands (answers granted)
-  AllOrderly (picks n taking) = (i : ℕ) → Stands (taking i)
+  AllOrderly = AllNext Stands
 
   -- So it is, or one is being left, whatever comes next.
   abbrev pub AllGood : Next → Type 0
-  AllGood (halts halt) = Unit {0}
-  AllGood (moves e s) = Good s
-  AllGood (tells request e s) = Good s
-  AllGood (asks request answers) = (granted : Bool) → Good (answers granted)
-  AllGood (picks n taking) = (i : ℕ) → Good (taking i)
+  AllGood = AllNext Good
 
   -- An item that is no collection.
   abbrev pub IsOther : Owned → Type 0
@@ -117,11 +110,7 @@ module _ (forms : List TypeForm) where
 module _ (forms : List TypeForm) where
   -- Where none is being left, that is so.
   pub all_good : (coming : Next) → AllOrderly forms coming → AllGood forms coming
-  all_good (halts halt) h = tt
-  all_good (moves e s) h = inr h
-  all_good (tells request e s) h = inr h
-  all_good (asks request answers) h = λ granted. inr (h granted)
-  all_good (picks n taking) h = λ i. inr (h i)
+  all_good coming h = all_next (Stands forms) (Good forms) (λ s stands. inr stands) coming h
 
   -- So the items of each master are apart.
   with_first : (ms : List Master) → ItemsApart forms (first_items ms) → MastersApart forms (older ms) → MastersApart forms ms

@@ -6,34 +6,18 @@ use Rattle.std.proofs.lemmas.Bool.{and_parts}
 use Rattle.ada_program.specs.declared.program.Program.{Program}
 use Rattle.ada_program.specs.Form.{stmt_forms, handler_forms, declaration_forms}
 use Rattle.ada_program.specs.ProgramForm.{TypeForm, main_body, body_forms, program_form}
-use Rattle.ada_meaning.specs.Step.{halts, moves, tells, asks, picks}
-use Rattle.ada_meaning.specs.Named.{State, Next, next}
-use Rattle.ada_meaning.specs.Run.{Event, Choice, settled, grants, takes, Leads, Step, Run, here, there, first_state}
+use Rattle.ada_meaning.specs.Named.{State, next}
+use Rattle.ada_meaning.specs.Run.{Event, Choice, Step, Run, here, there, first_state}
 use Rattle.ada_program.specs.WellFormed.{finalization_in}
 use Rattle.ada_quiet.specs.Bare.{body_in_order, collections_in_order, has_bare_components}
 use Rattle.ada_quiet.specs.InUse.{initializes_quietly, may_allocate_parts}
 use Rattle.ada_sound.proofs.Ahead.{MastersApart}
-use Rattle.ada_sound.proofs.CollectsApart.{Good, AllGood, masters_of, masters_going, elaborates_orderly}
+use Rattle.ada_sound.proofs.CollectsApart.{Good, masters_of, masters_going, elaborates_orderly}
 use Rattle.ada_sound.proofs.CollectsApartSteps.{next_good}
+use Rattle.ada_sound.proofs.Coming.{led_next}
 use Rattle.ada_sound.proofs.Starts.{IsReached}
 
 module _ (forms : List TypeForm) where
-  -- So it is where a choice leads.
-  led_good : (coming : Next) (choice : Choice) (e : Event) (after : State) → AllGood forms coming → Leads coming choice e after → Good forms after
-  led_good (halts halt) choice e after all leads = absurd leads
-  led_good (moves shown s) settled e after all leads = rw (leads.1) all
-  led_good (tells request shown s) settled e after all leads = rw (leads.1) all
-  led_good (asks request answers) (grants granted) e after all leads = rw (leads.1) (all granted)
-  led_good (picks n taking) (takes i) e after all leads = rw (leads.2) (all i)
-  led_good (moves shown s) (grants granted) e after all leads = absurd leads
-  led_good (moves shown s) (takes i) e after all leads = absurd leads
-  led_good (tells request shown s) (grants granted) e after all leads = absurd leads
-  led_good (tells request shown s) (takes i) e after all leads = absurd leads
-  led_good (asks request answers) settled e after all leads = absurd leads
-  led_good (asks request answers) (takes i) e after all leads = absurd leads
-  led_good (picks n taking) settled e after all leads = absurd leads
-  led_good (picks n taking) (grants granted) e after all leads = absurd leads
-
   -- So the collections of each master are apart.
   pub good_apart : (s : State) → Good forms s → MastersApart forms s.masters
   good_apart s (inl goes) = masters_going forms s.control s.masters goes.1
@@ -48,7 +32,7 @@ module _ (forms : List TypeForm) where
     -- A step of the program keeps that.
     pub step_good : (s after : State) (choice : Choice) (e : Event) → Good forms s → Step program s choice e after → Good forms after
     step_good s after choice e good step =
-        led_good (next program.types.items (body_forms program) s) choice e after
+        led_next (Good forms) (next program.types.items (body_forms program) s) choice e after
         (next_good program.types.items (body_forms program) forms each s good) step
 
     -- So do some steps.

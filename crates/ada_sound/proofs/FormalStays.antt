@@ -30,6 +30,7 @@ use Rattle.ada_meaning.specs.Step.{halts, moves, tells, asks, picks, same_pool, 
 use Rattle.ada_meaning.specs.Named.{State, Next, named, whole, inside, look, lent, standing, returned, on_object, reads_integer, reads_boolean, reads_null, unary_given, binary_given, next}
 use Rattle.ada_tracked.specs.Simple.{IsVariable, IsFrom, StatementIsSimple, StatementsAreSimple, FrameIsSimple}
 use Rattle.ada_tracked.specs.Staying.{IsWithinBody}
+use Rattle.ada_sound.proofs.Coming.{AllNext}
 
 -- The running activation has as many variables as before, and the first of them holds what it held.
 pub record SamePlaces (s after : State) : Type 0 where
@@ -38,11 +39,7 @@ pub record SamePlaces (s after : State) : Type 0 where
 
 -- So it is whatever comes next, and whatever is answered.
 abbrev pub AllSamePlaces : (s : State) → Next → Type 0
-AllSamePlaces s (halts h) = Unit {0}
-AllSamePlaces s (moves e after) = SamePlaces s after
-AllSamePlaces s (tells request e after) = SamePlaces s after
-AllSamePlaces s (asks request answers) = (granted : Bool) → SamePlaces s (answers granted)
-AllSamePlaces s (picks count taking) = (i : ℕ) → SamePlaces s (taking i)
+AllSamePlaces s = AllNext (SamePlaces s)
 
 -- How many variables the running activation has, and what the first one holds.
 record Outline : Type 0 where

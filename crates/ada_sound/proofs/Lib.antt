@@ -249,6 +249,8 @@ pub mod AdjustingGoes
 pub mod Starts
 -- one step
 pub mod Steps
+-- what holds of each state that may come next
+pub mod Coming
 -- collections are created in order
 pub mod CollectsApart
 -- while objects are treated, and masters are left
