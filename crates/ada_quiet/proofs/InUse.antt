@@ -11,7 +11,7 @@ use Rattle.ada_program.specs.WellFormed.{finalization_in}
 use Rattle.ada_quiet.specs.Quiet.{is_plain_body, is_plain_procedure, is_quiet_procedure, is_plain_operation, is_quiet_operation, has_quiet_operations, has_access, operation_body, adjust_body, adjusts_access, operations_are_quiet}
 use Rattle.ada_quiet.specs.Frugal.{is_frugal_operation, is_silent_operation}
 use Rattle.ada_quiet.specs.Simple.{is_simple_operation}
-use Rattle.ada_quiet.specs.InUse.{may_be_frugal, may_end_frugally, may_track, uses_initialize, uses_adjust, uses_finalize, uses_operations, operations_are_in_use}
+use Rattle.ada_quiet.specs.InUse.{may_be_frugal, may_track, uses_initialize, uses_adjust, uses_finalize, uses_operations, operations_are_in_use}
 
 -- Of two tests that both hold the first one holds, and so does the second one.
 pub first_of_both : (a b : Bool) → (a && b) ≡ true → a ≡ true
@@ -48,7 +48,7 @@ pub uses_quiet_initialize : (p : ProgramForm) (o : Option ProcedureNo) → is_qu
 uses_quiet_initialize p o h = uses_plain_initialize p o (plain_operation p o h)
 
 pub uses_quiet_finalize : (p : ProgramForm) (o : Option ProcedureNo) → is_quiet_operation p o ≡ true → uses_finalize p o ≡ true
-uses_quiet_finalize p o h = either_first (is_quiet_operation p o) (may_end_frugally p && is_frugal_operation p o && is_silent_operation p o) h
+uses_quiet_finalize p o h = either_first (is_quiet_operation p o) (may_be_frugal p && is_frugal_operation p o && is_silent_operation p o) h
 
 -- A quiet Adjust is in use, but where it overrides that of a type which declares a component of an access type.
 other_chosen : (which one other : Bool) → which ≡ false → other ≡ true → (if which then one else other) ≡ true

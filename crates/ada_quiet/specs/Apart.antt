@@ -1,5 +1,6 @@
--- Procedures that override an Adjust which tracks components stand apart: nothing calls them, and they override no other operation (7.6); and no allocator
--- copies a record with controlled parts, to which no Adjust would see there (4.8).
+-- Operations of controlled types stand apart: nothing calls a procedure that overrides an Adjust which tracks components, and it overrides no other operation (7.6); and no
+-- allocator gives values to the components of an object with controlled parts, or copies a record with some (4.8): so each such object that is allocated is
+-- initialized by default.
 
 use Rattle.std.specs.Prelude.{ℕ, Bool, true, false, ◌&&◌, ◌||◌, not, ◌==◌, List, Option, Some, None, is_some}
 use Rattle.std.specs.List.{list_all, list_any}
@@ -8,6 +9,7 @@ use Rattle.ada_program.specs.declared.program.ProcedureNo.{ProcedureNo}
 use Rattle.ada_program.specs.Form.{ItemForm, null_item, item_of_path, item_of_value, item_of_record, RightForm, nothing, value_of, allocates, allocates_default, computes, StmtForm, skips, assigns, assigns_record, frees, gets, writes, writes_text, chooses, repeats, counts, exits, calls, returns, raises, encloses, StmtsForm, no_stmts, a_stmt, BranchesForm, otherwise, a_branch, HandlersForm, no_handlers, a_handler, DeclarationForm, creates_pool, collects, declares, declares_record}
 use Rattle.ada_program.specs.ProgramForm.{TypeForm, BodyForm, ProgramForm, main_body}
 use Rattle.ada_program.specs.WellFormed.{finalization_in, finalization_of}
+use Rattle.ada_quiet.specs.Bare.{has_bare_objects}
 use Rattle.ada_quiet.specs.Quiet.{has_access}
 
 -- What overrides an operation, if one is overridden, is this procedure.
@@ -31,11 +33,11 @@ is_bare_item types (item_of_path path) = true
 is_bare_item types (item_of_value e) = true
 is_bare_item types (item_of_record path) = not (is_some (finalization_of types path.record_type))
 
--- Nor does what is assigned (5.2), where it is a new object with items for its components (4.8).
+-- Nor does what is assigned (5.2), where it is a new object with items for its components (4.8); and that has no controlled parts.
 abbrev pub is_bare_right : List TypeForm → RightForm → Bool
 is_bare_right types nothing = true
 is_bare_right types (value_of path) = true
-is_bare_right types (allocates access items) = list_all (is_bare_item types) items
+is_bare_right types (allocates access items) = has_bare_objects types access && list_all (is_bare_item types) items
 is_bare_right types (allocates_default access) = true
 is_bare_right types (computes e) = true
 
@@ -53,7 +55,7 @@ declare_apart types ds = list_all (declares_apart types) ds
 -- Of each procedure, by its number, whether it tracks.
 module _ (types : List TypeForm) (tracks : ℕ → Bool) where
   abbrev mutual
-    -- A statement calls no procedure that tracks (6.4), and copies no record with controlled parts in an allocator (4.8).
+    -- A statement calls no procedure that tracks (6.4), and its allocator with items makes no object with controlled parts and copies no record with some (4.8).
     pub calls_apart : StmtForm → Bool
     calls_apart skips = true
     calls_apart (assigns target right) = is_bare_right types right
@@ -102,8 +104,9 @@ operations_apart tracks owns None = true
 operations_apart tracks owns (Some f) =
     overrides_apart tracks f.operations.initialize && (owns || overrides_apart tracks f.operations.adjust) && overrides_apart tracks f.operations.finalize
 
--- What tracks stands apart in a program: no body calls it, and it overrides nothing else; and no allocator copies a record with controlled parts.
-abbrev pub trackers_stand_apart : ProgramForm → Bool
-trackers_stand_apart p =
+-- Operations stand apart in a program: no body calls what tracks, and that overrides nothing else; and no allocator with items makes an object with controlled parts, or copies
+-- a record with some.
+abbrev pub operations_stand_apart : ProgramForm → Bool
+operations_stand_apart p =
     body_calls_apart p.types (is_tracker p) (main_body p) && list_all (body_calls_apart p.types (is_tracker p)) p.bodies
     && list_all (λ t. operations_apart (is_tracker p) (has_access (Some t)) (finalization_in (Some t))) p.types

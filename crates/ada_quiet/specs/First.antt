@@ -13,7 +13,7 @@ use Rattle.ada_program.specs.WellFormed.{finalization_of}
 use Rattle.ada_quiet.specs.Quiet.{is_plain_body, is_quiet_body, is_plain_operation, is_quiet_operation, has_access, operation_body}
 use Rattle.ada_quiet.specs.Frugal.{is_frugal_operation, own_effects, is_silent_body, is_silent_operation}
 use Rattle.ada_quiet.specs.Simple.{is_simple_body, is_simple_operation}
-use Rattle.ada_quiet.specs.InUse.{may_be_frugal, may_end_frugally, may_track}
+use Rattle.ada_quiet.specs.InUse.{may_be_frugal, may_track}
 
 -- A procedure overrides Initialize of some type (7.6).
 abbrev pub Initializes : ProgramForm → (procedure : ProcedureNo) → Type 0
@@ -38,7 +38,7 @@ adjusts_in_use p owns b = if owns then may_track p && is_simple_body p.types b &
 
 -- A body finalizes in use: it is quiet, or frugal and silent, where it may be.
 abbrev pub finalizes_in_use : ProgramForm → (procedure : ProcedureNo) → BodyForm → Bool
-finalizes_in_use p procedure b = is_quiet_body p.types b || (may_end_frugally p && is_frugal_operation p (Some procedure) && is_silent_body (own_effects p) b)
+finalizes_in_use p procedure b = is_quiet_body p.types b || (may_be_frugal p && is_frugal_operation p (Some procedure) && is_silent_body (own_effects p) b)
 
 -- The body of a procedure overrides an operation and is not in use: it overrides Initialize and is neither plain nor frugal, where it may be, or Adjust and
 -- is not quiet, or, of a type with such a component, not simple and silent, or may not track, or Finalize and is neither quiet nor, where it may be, frugal and
@@ -91,10 +91,10 @@ adjusts p tracks owns adjust =
 abbrev pub finalizes : ProgramForm → (frugal : Bool) → Option ProcedureNo → Bool
 finalizes p frugal finalize = is_quiet_operation p finalize || (frugal && is_frugal_operation p finalize && is_silent_operation p finalize)
 
--- The first one of those that override the operations of a type and are not in use, where an Initialize may be frugal or not, so may a Finalize, an Adjust may
--- track or not, and the type declares such a component or does not.
-abbrev pub unused_in : ProgramForm → (frugal ends tracks owns : Bool) → Option Finalization → Option Spot
-unused_in p frugal ends tracks owns None = None
-unused_in p frugal ends tracks owns (Some f) = first_of (start_unless (initializes p frugal f.operations.initialize) (operation_body p f.operations.initialize))
+-- The first one of those that override the operations of a type and are not in use, where an Initialize and a Finalize may be frugal or not, an Adjust may track or not, and the
+-- type declares such a component or does not.
+abbrev pub unused_in : ProgramForm → (frugal tracks owns : Bool) → Option Finalization → Option Spot
+unused_in p frugal tracks owns None = None
+unused_in p frugal tracks owns (Some f) = first_of (start_unless (initializes p frugal f.operations.initialize) (operation_body p f.operations.initialize))
     (first_of (start_unless (adjusts p tracks owns f.operations.adjust) (operation_body p f.operations.adjust))
-    (start_unless (finalizes p ends f.operations.finalize) (operation_body p f.operations.finalize)))
+    (start_unless (finalizes p frugal f.operations.finalize) (operation_body p f.operations.finalize)))

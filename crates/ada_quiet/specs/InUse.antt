@@ -12,7 +12,7 @@ use Rattle.ada_quiet.specs.Quiet.{is_quiet_operation, is_plain_operation, has_ac
 use Rattle.ada_quiet.specs.Bare.{has_bare_components, collections_in_order}
 use Rattle.ada_quiet.specs.Frugal.{is_frugal_operation, is_silent_operation}
 use Rattle.ada_quiet.specs.Simple.{is_simple_operation}
-use Rattle.ada_quiet.specs.Apart.{trackers_stand_apart}
+use Rattle.ada_quiet.specs.Apart.{operations_stand_apart}
 
 -- A type designates no record type with controlled parts (3.10, 7.6), if it is an access type.
 abbrev pub designates_no_parts : List TypeForm → TypeForm → Bool
@@ -20,27 +20,20 @@ designates_no_parts types (record_of name parts components finalization) = true
 designates_no_parts types (access_to name designated pool) = not (is_some (finalization_of types designated))
 designates_no_parts types (object_of record_type) = true
 
--- An Initialize may be frugal in a program whose controlled parts lie in declared objects alone: so it is called at a declaration (7.6), and never where an object
--- is allocated.
-abbrev pub may_be_frugal : ProgramForm → Bool
-may_be_frugal p = list_all (designates_no_parts p.types) p.types
+-- No access type designates a record type with controlled parts (3.10, 7.6), so these lie in declared objects alone.
+abbrev pub allocates_no_parts : ProgramForm → Bool
+allocates_no_parts p = list_all (designates_no_parts p.types) p.types
 
--- The Initialize of a type is quiet, if it has operations.
-abbrev pub initializes_quietly : ProgramForm → Option Finalization → Bool
-initializes_quietly p None = true
-initializes_quietly p (Some f) = is_quiet_operation p f.operations.initialize
-
--- Objects with controlled parts may be allocated beside such operations, where no component names one, so that one is never freed by way of another; their
--- collections are created behind those of components' types, so that they go first where a master is left (7.6.1); and no Initialize touches storage, or lets an
--- exception out.
+-- Objects with controlled parts may be allocated beside operations that touch storage, where no component names one, so that one is never freed by way of
+-- another, and their collections are created behind those of components' types, so that they go first where a master is left (7.6.1).
 abbrev pub may_allocate_parts : ProgramForm → Bool
-may_allocate_parts p =
-    list_all (has_bare_components p.types) p.types && collections_in_order p && list_all (λ t. initializes_quietly p (finalization_in (Some t))) p.types
+may_allocate_parts p = list_all (has_bare_components p.types) p.types && collections_in_order p
 
--- A Finalize may be frugal in a program in which no object with controlled parts is allocated, or each may be: so it is called where an object's master is left, an
--- exception comes out of the initialization of a declared object, another record is assigned to it, or a variable is freed that names it (7.6, 7.6.1, 13.11.2).
-abbrev pub may_end_frugally : ProgramForm → Bool
-may_end_frugally p = may_be_frugal p || may_allocate_parts p
+-- An Initialize and a Finalize may be frugal in a program that allocates no object with controlled parts, or may allocate some beside them, and whose operations
+-- stand apart: so an Initialize is called where an object is declared or allocated (7.6), and a Finalize where an object's master is left, an exception comes out
+-- of the initialization of one (7.6.1), another record is assigned to it, or a variable is freed that names it (13.11.2).
+abbrev pub may_be_frugal : ProgramForm → Bool
+may_be_frugal p = (allocates_no_parts p || may_allocate_parts p) && operations_stand_apart p
 
 -- How many components there are, if they are those of something.
 abbrev pub count_found : Option (List ComponentKind) → ℕ
@@ -76,14 +69,13 @@ is_copied_alone types (record_of name parts components finalization) =
 is_copied_alone types (access_to name designated pool) = true
 is_copied_alone types (object_of record_type) = true
 
--- An Adjust may track its components in a program in which a Finalize may be frugal, no copy of a record has two parts that are adjusted (7.6), and no
--- procedure that tracks is called or overrides another operation, and no allocator copies a record with controlled parts (4.8).
+-- An Adjust may track its components in a program in which a Finalize may be frugal, and no copy of a record has two parts that are adjusted (7.6).
 abbrev pub may_track : ProgramForm → Bool
-may_track p = may_end_frugally p && list_all (is_copied_alone p.types) p.types && trackers_stand_apart p
+may_track p = may_be_frugal p && list_all (is_copied_alone p.types) p.types
 
 -- Finalize is quiet, or frugal and silent, where it may be.
 abbrev pub uses_finalize : ProgramForm → Option ProcedureNo → Bool
-uses_finalize p finalize = is_quiet_operation p finalize || (may_end_frugally p && is_frugal_operation p finalize && is_silent_operation p finalize)
+uses_finalize p finalize = is_quiet_operation p finalize || (may_be_frugal p && is_frugal_operation p finalize && is_silent_operation p finalize)
 
 -- Initialize is plain, and an exception may come out of it, behind which what has begun is finalized; or it is frugal, where it may be (7.6.1).
 abbrev pub uses_initialize : ProgramForm → Option ProcedureNo → Bool

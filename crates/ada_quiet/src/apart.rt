@@ -1,5 +1,6 @@
-//! Where the procedures that override an Adjust which tracks components stand apart (7.6): no body calls them (6.4), and they override
-//! no other operation; and no allocator copies a record with controlled parts (4.8), to which no Adjust would see there.
+//! Where the operations of controlled types stand apart (7.6): no body calls the procedures that override an Adjust which tracks
+//! components (6.4), and they override no other operation; and no allocator gives values to the components of an object with
+//! controlled parts, or copies a record with some (4.8): so each such object that is allocated is initialized by default.
 
 ghost use Rattle.std.specs.Prelude.{◌≡◌, ◌&&◌, ◌||◌, ◌==◌, ℕ, Some, IfOk, OnOk, map};
 ghost use Rattle.std.specs.List.{list_all};
@@ -11,6 +12,7 @@ ghost use Rattle.ada_quiet.specs.Apart as rules;
 ghost use Rattle.ada_quiet.specs.Known.{is_marked};
 ghost use Rattle.ada_quiet.specs.Quiet.{has_access};
 
+use crate::bare::has_bare_objects;
 use crate::marks::{has_mark, mark};
 use crate::operations::have_access;
 use ada_program::parts::finalization_of;
@@ -94,17 +96,20 @@ fn are_bare_items(types: &[TypeDefinition], items: &[Item]) -> bool
     true
 }
 
-/// Whether what is assigned copies none (5.2), where it is a new object with items for its components (4.8).
+/// Whether what is assigned copies none (5.2), where it is a new object with items for its components (4.8), and that has no controlled
+/// parts.
 fn is_bare_right(types: &[TypeDefinition], right: &Right) -> bool
     ensures { result ≡ rules.is_bare_right (types_in types.now) (right_form right.now) }
 {
     match right {
         Right::Null | Right::Path(_) | Right::Default(_) | Right::Value(_) => true,
-        Right::Allocator { access: _, items } => are_bare_items(types, items),
+        Right::Allocator { access, items } => {
+            has_bare_objects(types, *access) && are_bare_items(types, items)
+        }
     }
 }
 
-/// Whether what a variable is given at first copies none, if it is given something (3.3.1).
+/// Whether that is so with what a variable is given at first, if it is given something (3.3.1).
 fn is_bare_initial(types: &[TypeDefinition], initial: &Option<Right>) -> bool
     ensures { result ≡ rules.is_bare_right (types_in types.now) (initial_form initial.now) }
 {
@@ -114,7 +119,7 @@ fn is_bare_initial(types: &[TypeDefinition], initial: &Option<Right>) -> bool
     }
 }
 
-/// Whether what a declaration gives to a variable at first, if it gives something, copies none in an allocator (3.3.1, 4.8).
+/// Whether that is so with what a declaration gives to a variable at first, if it gives something (3.3.1).
 fn declares_apart(types: &[TypeDefinition], declaration: &Declaration) -> bool
     ensures { result ≡ rules.declares_apart (types_in types.now) (declaration_form declaration.now) }
 {
@@ -139,7 +144,8 @@ fn declare_apart(types: &[TypeDefinition], declarations: &[Declaration]) -> bool
     true
 }
 
-/// Whether a statement calls no procedure that is marked (6.4), and copies no record with controlled parts in an allocator (4.8).
+/// Whether a statement calls no procedure that is marked (6.4), and its allocator with items makes no object with controlled parts and
+/// copies no record with some (4.8).
 #[cycle(statements)]
 #[tactic(auto, using(std::proofs::lemmas::Grind::common_steps, ada_program::specs::Form::statement_rules))]
 fn calls_apart(types: &[TypeDefinition], marks: &[bool], statement: &Stmt) -> bool
@@ -306,7 +312,7 @@ fn are_apart(marks: &[bool], types: &[TypeDefinition]) -> bool
 }
 
 /// Whether what is marked stands apart in a program: no body calls it, and it overrides nothing but Adjust of types that declare such a
-/// component; and no allocator copies a record with controlled parts.
+/// component; and no allocator with items makes an object with controlled parts, or copies a record with some.
 fn marked_stand_apart(marks: &[bool], program: &Program) -> bool
     ensures { let p = program_form program.now in
         let tracks = is_marked marks.now in
@@ -318,13 +324,13 @@ fn marked_stand_apart(marks: &[bool], program: &Program) -> bool
         && are_apart(marks, &program.types)
 }
 
-/// Whether what tracks stands apart in a program: no body calls it, and it overrides nothing else; and no allocator copies a record
-/// with controlled parts. Linear in the types, their components, and all bodies.
+/// Whether operations stand apart in a program: no body calls what tracks, and that overrides nothing else; and no allocator with items
+/// makes an object with controlled parts, or copies a record with some. Linear in the types, their components, and all bodies.
 ///
 /// # Errors
 /// `AllocError` where memory was refused.
-pub(crate) fn trackers_stand_apart(alloc: Global, program: &Program) -> Result<bool, AllocError>
-    ensures { IfOk result (λ answer. answer ≡ rules.trackers_stand_apart (program_form program.now)) }
+pub(crate) fn operations_stand_apart(alloc: Global, program: &Program) -> Result<bool, AllocError>
+    ensures { IfOk result (λ answer. answer ≡ rules.operations_stand_apart (program_form program.now)) }
 {
     let marks = trackers(alloc, program)?;
     Ok(marked_stand_apart(&marks, program))

@@ -14,7 +14,7 @@ ghost use Rattle.ada_quiet.specs.Quiet as quiet;
 use crate::known::{Known, frugal_procedures, known_calls};
 use crate::operations::has_access;
 use crate::tracking::may_track;
-use crate::uses::{may_be_frugal, may_end_frugally, uses_adjust, uses_finalize, uses_initialize};
+use crate::uses::{may_be_frugal, uses_adjust, uses_finalize, uses_initialize};
 use ada_effects::{Effects, Implicit};
 use ada_program::parts::finalization_of;
 use ada_program::program::Finalization;
@@ -58,10 +58,8 @@ fn start_unless(program: &Program, fits: bool, operation: Option<ProcedureNo>) -
 /// What operations may do in a program.
 #[derive(Clone, Copy)]
 struct Allowed {
-    /// Whether an Initialize may be frugal.
+    /// Whether an Initialize and a Finalize may be frugal.
     frugal: bool,
-    /// Whether a Finalize may be.
-    ends: bool,
     /// Whether an Adjust may track.
     tracks: bool,
 }
@@ -72,17 +70,11 @@ struct Allowed {
 /// `AllocError` where memory was refused.
 fn allowed_in(alloc: Global, program: &Program) -> Result<Allowed, AllocError>
     ensures frugal { IfOk result (λ allowed. allowed.frugal ≡ in_use.may_be_frugal (program_form program.now)) }
-    ensures ends { IfOk result (λ allowed. allowed.ends ≡ in_use.may_end_frugally (program_form program.now)) }
     ensures tracks { IfOk result (λ allowed. allowed.tracks ≡ in_use.may_track (program_form program.now)) }
 {
-    let frugal = may_be_frugal(program);
-    let ends = may_end_frugally(alloc, program, frugal)?;
-    let tracks = may_track(alloc, program, ends)?;
-    Ok(Allowed {
-        frugal,
-        ends,
-        tracks,
-    })
+    let frugal = may_be_frugal(alloc, program)?;
+    let tracks = may_track(program, frugal);
+    Ok(Allowed { frugal, tracks })
 }
 
 /// The first one of those that override the operations of a type and are not in use, where this is allowed, and the type has such a
@@ -97,7 +89,7 @@ fn unused_in(
 ) -> Result<Option<Spot>, AllocError>
     requires { IsKnown (program_form program.now) known }
     ensures { IfOk result (λ first. first
-        ≡ rules.unused_in (program_form program.now) may.frugal may.ends may.tracks owns finalization) }
+        ≡ rules.unused_in (program_form program.now) may.frugal may.tracks owns finalization) }
 {
     let Some(finalization) = finalization else {
         return Ok(None);
@@ -105,7 +97,7 @@ fn unused_in(
     let operations = finalization.operations;
     let begins = uses_initialize(program, known, may.frugal, operations.initialize);
     let adjusts = uses_adjust(alloc, program, known, may.tracks, owns, operations.adjust)?;
-    let ends = uses_finalize(alloc, program, known, may.ends, operations.finalize)?;
+    let ends = uses_finalize(alloc, program, known, may.frugal, operations.finalize)?;
     let initialize = start_unless(program, begins, operations.initialize);
     let adjust = start_unless(program, adjusts, operations.adjust);
     let finalize = start_unless(program, ends, operations.finalize);
@@ -113,10 +105,10 @@ fn unused_in(
 }
 
 /// Where the first body in the text begins that overrides an operation of a controlled type (7.6) and is not in use: one that
-/// overrides Initialize and is not plain, since it touches storage or calls, nor frugal in a program in which an Initialize may be; one
+/// overrides Initialize and is not plain, since it touches storage or calls, nor frugal in a program in which operations may be; one
 /// that overrides Adjust and is not quiet, since it is not plain or lets an exception out, or, of a type with a component of an access
 /// type, declared in it directly, is not simple and silent, or stands in a program in which an Adjust may not track; or one that
-/// overrides Finalize and is neither quiet nor, where a Finalize may be frugal, frugal and silent. Linear in the types, their
+/// overrides Finalize and is neither quiet nor, where operations may be frugal, frugal and silent. Linear in the types, their
 /// components, and all bodies; a call costs the size of what is known of it.
 ///
 /// # Errors

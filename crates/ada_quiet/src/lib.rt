@@ -11,20 +11,22 @@
 //! quiet one would leave it as it is. A simple body allocates and frees objects without controlled parts, moves and follows, calls
 //! nothing, copies no record, and declares variables alone, none of which is of an access type whose objects have controlled parts.
 //!
-//! An Initialize may be frugal in a program in which no access type designates a record type with controlled parts: then it is called
-//! at a declaration (7.6), and never where an object is allocated (4.8).
-//!
-//! A Finalize may be frugal in such a program, and in one whose access types designate record types with controlled parts, if no
-//! component is of such an access type: then an object with controlled parts is never freed by way of another one; if in each
+//! An Initialize and a Finalize may be frugal in a program in which no access type designates a record type with controlled parts, so
+//! that these lie in declared objects alone. They may be frugal, too, in one whose access types designate such record types, if no
+//! component is of such an access type: then an object with controlled parts is never freed by way of another one; and if in each
 //! declarative part the collections of such access types are created behind those of the types of components (7.6.1): then, where the
-//! master is left, their objects are finalized while each component still names what is there; and if every Initialize is quiet. So a
-//! Finalize is called where an object's master is left, an exception comes out of the initialization of a declared object (7.6.1),
-//! another record is assigned to it (7.6), or a variable is freed that names it (13.11.2), and nowhere else.
+//! master is left, their objects are finalized while each component still names what is there.
+//!
+//! In all these programs operations are to stand apart. No procedure that overrides an Adjust of a type with a component of an access
+//! type, declared in it directly, is called or overrides another operation: so it runs nowhere else. And no allocator gives values to
+//! the components of an object with controlled parts, or copies a record with some, to which no Adjust would see there (4.8): so each
+//! such object that is allocated is initialized by default. So an Initialize is called where an object is declared or allocated (7.6),
+//! and a Finalize where an object's master is left, an exception comes out of the initialization of one (7.6.1), another record is
+//! assigned to it (7.6), or a variable is freed that names it (13.11.2), and nowhere else.
 //!
 //! An Adjust may track where a Finalize may be frugal, if also no record type has two controlled parts, and the elementary components
 //! of each stand in the order of its declared ones, as they do in each program that is resolved: then no other part of a copy is
-//! adjusted before or behind it; and if no procedure that overrides such an Adjust is called or overrides another operation: then it
-//! runs nowhere else; and if no allocator copies a record with controlled parts, to which no Adjust would see there.
+//! adjusted before or behind it.
 //!
 //! A program with another body is refused (F23), since no theorem covers it so far: an Initialize, an Adjust or a Finalize that
 //! touches storage in another program, or allocates or frees objects with controlled parts, an Adjust that touches storage of a type

@@ -1,20 +1,17 @@
-//! Where an Adjust may track the components of access types of its formal parameter (7.6): the copy of a record is alone, the
-//! elementary components of each record type stand in the order of its declared components, and what tracks stands apart.
+//! Where an Adjust may track the components of access types of its formal parameter (7.6): a Finalize may be frugal, the copy of a
+//! record is alone, and the elementary components of each record type stand in the order of its declared components.
 
-ghost use Rattle.std.specs.Prelude.{◌≡◌, ◌&&◌, ◌||◌, ◌==◌, map, IfOk};
+ghost use Rattle.std.specs.Prelude.{◌≡◌, ◌&&◌, ◌||◌, ◌==◌, map};
 ghost use Rattle.std.specs.List.{list_all, list_any};
 ghost use Rattle.std.specs.Option.{option_copied};
 ghost use Rattle.ada_program.specs.Kept.{types_in};
 ghost use Rattle.ada_program.specs.ProgramForm.{part_form, program_form, type_form};
 ghost use Rattle.ada_program.specs.WellFormed as fits;
-ghost use Rattle.ada_quiet.specs.Apart as apart;
 ghost use Rattle.ada_quiet.specs.InUse as rules;
 
-use crate::apart::trackers_stand_apart;
 use ada_program::Program;
 use ada_program::lookup::record_components;
 use ada_program::program::{ComponentKind, Finalization, Part, PartKind, TypeDefinition};
-use std::alloc::{AllocError, Global};
 
 /// How many components there are, if they are those of something.
 fn count_found(components: Option<&[ComponentKind]>) -> usize
@@ -125,15 +122,10 @@ fn are_copied_alone(types: &[TypeDefinition]) -> bool
     true
 }
 
-/// Whether an Adjust may track its components in a program, where a Finalize may be frugal or not: it may be, no copy of a record has
-/// two parts that are adjusted, and no procedure that tracks is called or overrides another operation. Linear in the types, their
-/// components, and all bodies.
-///
-/// # Errors
-/// `AllocError` where memory was refused.
-pub(crate) fn may_track(alloc: Global, program: &Program, ends: bool) -> Result<bool, AllocError>
-    ensures { let p = program_form program.now in
-        IfOk result (λ answer. answer ≡ (ends && list_all (rules.is_copied_alone p.types) p.types && apart.trackers_stand_apart p)) }
+/// Whether an Adjust may track its components in a program, where a Finalize may be frugal or not: it may be, and no copy of a record
+/// has two parts that are adjusted. Linear in the types and their components.
+pub(crate) fn may_track(program: &Program, frugal: bool) -> bool
+    ensures { let p = program_form program.now in result ≡ (frugal && list_all (rules.is_copied_alone p.types) p.types) }
 {
-    Ok(ends && are_copied_alone(&program.types) && trackers_stand_apart(alloc, program)?)
+    frugal && are_copied_alone(&program.types)
 }

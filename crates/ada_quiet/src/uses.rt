@@ -1,13 +1,12 @@
 //! Where an Initialize and a Finalize may be frugal, and where these and an Adjust are in use (7.6, 7.6.1).
 
-ghost use Rattle.std.specs.Prelude.{◌≡◌, ◌||◌, Some, IfOk};
-ghost use Rattle.std.specs.List.{list_all};
+ghost use Rattle.std.specs.Prelude.{◌≡◌, IfOk};
 ghost use Rattle.ada_program.specs.ProgramForm.{program_form, type_form};
-ghost use Rattle.ada_program.specs.WellFormed.{finalization_in};
 ghost use Rattle.ada_quiet.specs.First as first;
 ghost use Rattle.ada_quiet.specs.InUse as rules;
 ghost use Rattle.ada_quiet.specs.Known.{IsKnown};
 
+use crate::apart::operations_stand_apart;
 use crate::bare::have_bare_components;
 use crate::collections::collections_in_order;
 use crate::known::Known;
@@ -16,7 +15,7 @@ use crate::operations::{
     is_silent_operation, is_simple_operation,
 };
 use ada_program::parts::finalization_of;
-use ada_program::program::{Finalization, TypeDefinition};
+use ada_program::program::TypeDefinition;
 use ada_program::{ProcedureNo, Program};
 use std::alloc::{AllocError, Global};
 
@@ -34,9 +33,9 @@ fn designates_no_parts(program: &Program, definition: &TypeDefinition) -> bool
     }
 }
 
-/// Whether an Initialize may be frugal in a program: no access type designates a record type with controlled parts. Linear in the types.
-pub(crate) fn may_be_frugal(program: &Program) -> bool
-    ensures { result ≡ rules.may_be_frugal (program_form program.now) }
+/// Whether no access type designates a record type with controlled parts, so these lie in declared objects alone. Linear in the types.
+fn allocates_no_parts(program: &Program) -> bool
+    ensures { result ≡ rules.allocates_no_parts (program_form program.now) }
 {
     'types: for definition in &program.types {
         if !designates_no_parts(program, definition) {
@@ -46,90 +45,30 @@ pub(crate) fn may_be_frugal(program: &Program) -> bool
     true
 }
 
-/// Whether the Initialize of a type is quiet, if it has operations.
-///
-/// # Errors
-/// `AllocError` where memory for the exceptions that it raises was refused.
-fn initializes_quietly(
-    alloc: Global,
-    program: &Program,
-    finalization: Option<Finalization>,
-) -> Result<bool, AllocError>
-    ensures { IfOk result (λ answer. answer ≡ rules.initializes_quietly (program_form program.now) finalization) }
-{
-    match finalization {
-        None => Ok(true),
-        Some(finalization) => {
-            is_quiet_operation(alloc, program, finalization.operations.initialize)
-        }
-    }
-}
-
-/// Whether that of a type is, if it is a record type.
-fn is_begun_quietly(
-    alloc: Global,
-    program: &Program,
-    definition: &TypeDefinition,
-) -> Result<bool, AllocError>
-    ensures { IfOk result (λ answer. answer
-        ≡ rules.initializes_quietly (program_form program.now) (finalization_in (Some (type_form definition.now)))) }
-{
-    match definition {
-        TypeDefinition::Record {
-            name: _,
-            parts: _,
-            components: _,
-            finalization,
-        } => initializes_quietly(alloc, program, *finalization),
-        TypeDefinition::Access { .. } | TypeDefinition::Object { .. } => Ok(true),
-    }
-}
-
-/// Whether that is so with each type of a program. Linear in the types and the bodies of their operations.
-///
-/// # Errors
-/// `AllocError` where memory for the exceptions that a body raises was refused.
-fn are_begun_quietly(alloc: Global, program: &Program) -> Result<bool, AllocError>
-    ensures { let p = program_form program.now in
-        IfOk result (λ answer. answer ≡ list_all (λ t. rules.initializes_quietly p (finalization_in (Some t))) p.types) }
-{
-    'types: for definition in &program.types {
-        if !is_begun_quietly(alloc, program, definition)? {
-            return Ok(false);
-        }
-    }
-    Ok(true)
-}
-
-/// Whether objects with controlled parts may be allocated beside a frugal Finalize: no component is of an access type that designates
-/// such objects, their collections are created behind those of components' types in each declarative part, and every Initialize is
-/// quiet. Linear in the types, their components, and all bodies.
+/// Whether objects with controlled parts may be allocated beside operations that touch storage: no component is of an access type that
+/// designates such objects, and their collections are created behind those of components' types in each declarative part. Linear in
+/// the types, their components, and all bodies.
 ///
 /// # Errors
 /// `AllocError` where memory was refused.
 fn may_allocate_parts(alloc: Global, program: &Program) -> Result<bool, AllocError>
     ensures { IfOk result (λ answer. answer ≡ rules.may_allocate_parts (program_form program.now)) }
 {
-    Ok(
-        have_bare_components(&program.types)
-            && collections_in_order(alloc, program)?
-            && are_begun_quietly(alloc, program)?,
-    )
+    Ok(have_bare_components(&program.types) && collections_in_order(alloc, program)?)
 }
 
-/// Whether a Finalize may be frugal in a program: an Initialize may be, or objects with controlled parts may be allocated beside it.
-/// Linear in the types, their components, and all bodies.
+/// Whether an Initialize and a Finalize may be frugal in a program: no object with controlled parts is allocated, or each may be, and
+/// operations stand apart. Linear in the types, their components, and all bodies.
 ///
 /// # Errors
 /// `AllocError` where memory was refused.
-pub(crate) fn may_end_frugally(
-    alloc: Global,
-    program: &Program,
-    frugal: bool,
-) -> Result<bool, AllocError>
-    ensures { IfOk result (λ answer. answer ≡ (frugal || rules.may_allocate_parts (program_form program.now))) }
+pub(crate) fn may_be_frugal(alloc: Global, program: &Program) -> Result<bool, AllocError>
+    ensures { IfOk result (λ answer. answer ≡ rules.may_be_frugal (program_form program.now)) }
 {
-    Ok(frugal || may_allocate_parts(alloc, program)?)
+    Ok(
+        (allocates_no_parts(program) || may_allocate_parts(alloc, program)?)
+            && operations_stand_apart(alloc, program)?,
+    )
 }
 
 /// Whether what overrides Initialize is plain, or frugal, where it may be.

@@ -17,7 +17,7 @@ use Rattle.ada_program.specs.WellFormed.{finalization_in, variable_kind, IsWellF
 use Rattle.ada_meaning.specs.Pace.{right_creates, declaration_creates, declarations_create, body_creates, operation_creates, OperationsDeclareNoParts}
 use Rattle.ada_quiet.specs.Quiet.{is_elementary, holds_elementary, is_quiet_right, is_quiet_declaration, are_quiet_declarations, are_quiet, are_quiet_handlers, is_plain_body, is_plain_procedure, is_plain_operation, is_quiet_operation, has_access, operation_body}
 use Rattle.ada_quiet.specs.Bare.{has_bare_objects, allocates_bare}
-use Rattle.ada_quiet.specs.InUse.{may_be_frugal, may_end_frugally, may_track, uses_initialize, uses_adjust, uses_finalize, uses_operations, operations_are_in_use}
+use Rattle.ada_quiet.specs.InUse.{may_be_frugal, may_track, uses_initialize, uses_adjust, uses_finalize, uses_operations, operations_are_in_use}
 use Rattle.ada_quiet.specs.Frugal.{Thrift, is_frugal_declaration, are_frugal_declarations, are_frugal, are_frugal_handlers, is_frugal_body, frugal_procedures, is_frugal_operation, is_silent_operation}
 use Rattle.ada_quiet.specs.Simple.{is_simple_procedure, is_simple_operation}
 use Rattle.ada_quiet.proofs.InUse.{plain_operation}
@@ -167,9 +167,9 @@ module _ (program : Program) (well : IsWellFormed (program_form program)) where
 
   finalize_used : (o : Option ProcedureNo) → uses_finalize p o ≡ true → operation_creates tds p.bodies o ≡ false
   finalize_used o used =
-      let frugal = may_end_frugally p && is_frugal_operation p o in
+      let frugal = may_be_frugal p && is_frugal_operation p o in
       operation_either p tds o (is_quiet_operation p o) (frugal && is_silent_operation p o) (λ quiet. operation_plain p tds o (plain_operation p o quiet))
-      (λ both. operation_frugal o (right_of (may_end_frugally p) (is_frugal_operation p o) (left_of frugal (is_silent_operation p o) both))) used
+      (λ both. operation_frugal o (right_of (may_be_frugal p) (is_frugal_operation p o) (left_of frugal (is_silent_operation p o) both))) used
 
   -- So it is with an Adjust that is in use: it is simple, where it may track, or quiet.
   adjust_used : (owns : Bool) (o : Option ProcedureNo) → uses_adjust p owns o ≡ true → operation_creates tds p.bodies o ≡ false

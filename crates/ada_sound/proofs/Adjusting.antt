@@ -24,7 +24,7 @@ use Rattle.ada_meaning.specs.Step as step
 use Rattle.ada_quiet.specs.Apart.{is_tracker}
 use Rattle.ada_judged.specs.Fitting.{TracksComponents}
 use Rattle.ada_judged.specs.Obeying.{BodyIsOrderly}
-use Rattle.ada_quiet.specs.InUse.{may_end_frugally, may_track}
+use Rattle.ada_quiet.specs.InUse.{may_be_frugal, may_track}
 use Rattle.ada_tracked.specs.Frames.{View}
 use Rattle.ada_tracked.specs.Seen.{Seen}
 use Rattle.ada_tracked.specs.Staying.{BodyIsSimple}
@@ -96,7 +96,7 @@ pub record Adjusting (program : Program) (s : State) : Type 0 where
   pub calm : IsCalm (behind_call behind)
   pub settled : under_in (callers_of program suspensions) ≡ []
   pub tracking : may_track (program_form program) ≡ true
-  pub may : may_end_frugally (program_form program) ≡ true
+  pub may : may_be_frugal (program_form program) ≡ true
   pub silent : (e : Exception) → body_among (implicit_of (program_form program)) (known_judged program number w.tracks []).program e ≡ true → ⊥
   -- what holds of the state that stands for it
   pub bodies : AreOf program (older s.activations) (resting procedure places (begins by done) object access [] place behind lower kept rooms holds ∷ suspensions)

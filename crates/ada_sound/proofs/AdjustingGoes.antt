@@ -61,7 +61,7 @@ use Rattle.ada_sound.proofs.Operating.{StepsTo}
 use Rattle.ada_sound.proofs.Returns.{CrossesTo, same_types}
 use Rattle.ada_sound.proofs.TracksApart.{AreInARow, tracks_apart}
 use Rattle.ada_sound.proofs.TracksWell.{copied_alone, tracked_well}
-use Rattle.ada_sound.proofs.Trackers.{calls_stand_apart}
+use Rattle.ada_sound.proofs.Trackers.{calls_stand_apart, stand_apart}
 use Rattle.ada_sound.proofs.BareObjects.{components_are_bare}
 use Rattle.ada_sound.proofs.FrugalBodies.{calling_none}
 use Rattle.ada_sound.proofs.WatchedBy.{hold_bare, watched_by}
@@ -101,7 +101,7 @@ is_judged program well may frees number b tracks there components orderly =
     record {
       fits = judged_tables p well number b there tracks components;
       covered = λ t covers. judged_covers own tracks (tracks_seen p number b tracks there components) (orderly_seen p number b tracks there orderly) (implicit_of p) t covers;
-      apart = (calls_stand_apart p may).1;
+      apart = (calls_stand_apart p (stand_apart p may)).1;
       stays = λ t typing alone crossing ending.
           each_comes (judged_in tracks own) (next program.types.items (body_forms program) t)
           (judged_stays p well number b there tracks components program.types.items refl t crossing ending typing);

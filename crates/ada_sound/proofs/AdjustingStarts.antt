@@ -33,7 +33,7 @@ use Rattle.ada_meaning.specs.Step.{operating, places}
 use Rattle.ada_quiet.specs.Apart.{body_calls_apart, is_tracker}
 use Rattle.ada_quiet.specs.Bare.{has_bare_objects}
 use Rattle.ada_quiet.specs.Frugal.{is_frugal_body, thrift_of}
-use Rattle.ada_quiet.specs.InUse.{may_end_frugally}
+use Rattle.ada_quiet.specs.InUse.{may_be_frugal}
 use Rattle.ada_tracked.proofs.Heaps.{blanked_here}
 use Rattle.ada_tracked.specs.Frames.{View, blank_object, watched}
 use Rattle.ada_tracked.specs.Seen.{IsWatched, seen_state}
@@ -76,7 +76,7 @@ use Rattle.ada_sound.proofs.Starts.{Obeys}
 use Rattle.ada_sound.proofs.Touching.{resting}
 use Rattle.ada_sound.proofs.TouchingBegins.{IsAlone, alone}
 use Rattle.ada_sound.proofs.TracksApart.{tracks_apart}
-use Rattle.ada_sound.proofs.Trackers.{calls_stand_apart, frugal_too}
+use Rattle.ada_sound.proofs.Trackers.{calls_stand_apart, frugal_too, stand_apart}
 use Rattle.ada_sound.proofs.Treatments.{BeginsAdjust}
 use Rattle.ada_sound.proofs.WatchedBy.{given_count, hold_bare, some_variable, watched_by}
 
@@ -141,7 +141,7 @@ module _
     at = copied_where_called program well tracks.0 a rest s gs v k IsOperated e after c filled
 
     -- What it is called for has controlled parts, and what it frees has none.
-    may : may_end_frugally p ≡ true
+    may : may_be_frugal p ≡ true
     may = frugal_too p tracks.0
 
     frugal : is_frugal_body (thrift_of p) c.b ≡ true
@@ -233,7 +233,7 @@ module _
     -- What is left to do calls nothing that tracks.
     calls_apart : CallApart p.types (is_tracker p) k → CallApart p.types (is_tracker p) (seen_state w begun).control
     calls_apart behind_apart =
-        let own_apart = passed_at (body_calls_apart p.types (is_tracker p)) p.bodies c.number c.b (calls_stand_apart p tracks.0).1 c.there in
+        let own_apart = passed_at (body_calls_apart p.types (is_tracker p)) p.bodies c.number c.b (calls_stand_apart p (stand_apart p tracks.0)).1 c.there in
         (judged_apart p.types w.tracks (is_tracker p) c.b own_apart, (tt, (tt, behind_apart)))
 
     -- The state that stands for the real one is typed.

@@ -37,14 +37,12 @@ use Rattle.ada_tracked.specs.Staying.{AllStaySimple, StaysSimple}
 use Rattle.ada_typed.proofs.Control as typed
 use Rattle.ada_typed.proofs.Kept.{Each}
 use Rattle.ada_sound.specs.Agreement.{running_procedure}
-use Rattle.ada_program.specs.Form.{allocates}
 use Rattle.ada_quiet.specs.Apart.{is_tracker}
 use Rattle.ada_quiet.specs.Bare.{has_bare_objects}
 use Rattle.ada_sound.proofs.CallsApart.{CallApart, AllCallApart}
-use Rattle.ada_sound.proofs.CallsApartRuns.{no_record_allocated}
 use Rattle.ada_sound.proofs.CallsApartSteps.{calls_stay_apart}
 use Rattle.ada_sound.proofs.FormalStays.{SamePlaces, AllSamePlaces, places_stay}
-use Rattle.ada_sound.proofs.Gathered.{AllocatesBare, allocates_bare}
+use Rattle.ada_sound.proofs.Gathered.{AllocatesBare}
 use Rattle.ada_sound.proofs.Adjusting.{Adjusting, waiting}
 use Rattle.ada_sound.proofs.Coming.{each_next}
 use Rattle.ada_sound.proofs.AdjustingKept.{IsJudged, each_both, alters_matched, says_covered, says_matched, says_silent, standing_kept}
@@ -73,7 +71,8 @@ use Rattle.ada_sound.proofs.Starts.{IsReached}
 use Rattle.ada_sound.proofs.Steps as inside
 use Rattle.ada_sound.proofs.Stored.{IsUnder, Stored}
 use Rattle.ada_sound.proofs.StoredStates.{ready_stored}
-use Rattle.ada_sound.proofs.TracksWell.{tracked_well}
+use Rattle.ada_sound.proofs.BareObjects.{components_untouched}
+use Rattle.ada_sound.proofs.TracksWell.{tracked_bare}
 
 -- The body runs behind a step; and what that does to objects.
 abbrev pub InAdjusting : Program → List Object → Event → State → Type 0
@@ -190,12 +189,11 @@ module _
   none_is_under : NoneIsUnder bare_types (outers known).under f.t.heap
   none_is_under o x under found = let none : IsUnder [] o = subst (λ (all : List Id). IsUnder all o) f.settled under in absurd none
 
-  -- No allocator copies a record with controlled parts.
-  bare_there : AllocatesBare known.program.types f.t.control
+  -- No allocator copies a record with controlled parts, or makes an object with some from items.
+  bare_there : AllocatesBare known.program.types known.touches f.t.control
   bare_there =
-      subst (λ (types : List TypeForm). AllocatesBare types f.t.control) (sym types_are)
-      (allocates_bare p.types (tracked_well p well f.tracking) f.t.control
-      (λ access items k is. no_record_allocated p.types (is_tracker p) f.t (allocates access items) k is f.apart))
+      subst (λ (types : List TypeForm). AllocatesBare types known.touches f.t.control) (sym types_are)
+      (tracked_bare p well f.tracking (components_untouched program well) f.t (λ stand. f.apart))
 
   places_on : AllSamePlaces s (next tds bodies s)
   places_on = places_stay tds bodies f.w.tracks.first s (within f.w.tracks.first s.control f.simple inner)

@@ -1,6 +1,6 @@
 -- Allocators: their items are evaluated one by one, and then the new object comes to be.
 
-use Rattle.std.proofs.Common.{◌≡◌, ℕ, Bool, true, false, ◌&&◌, List, [], ◌∷◌, length, take, drop, reverse, refl, sym, ◌∙◌, inr, inl, ◌⊎◌}
+use Rattle.std.proofs.Common.{◌≡◌, ℕ, Bool, true, false, ◌&&◌, List, [], ◌∷◌, length, take, drop, reverse, refl, sym, ap, subst, ◌∙◌, inr, inl, ◌⊎◌}
 use Rattle.std.specs.Prelude.{Option, Some, None}
 use Rattle.std.specs.List.{slice_set}
 use Rattle.ada_text.specs.declared.spot.Spot.{Spot}
@@ -39,15 +39,17 @@ use Rattle.ada_sound.proofs.Objects.{get_more, get_new}
 use Rattle.ada_sound.proofs.Items.{home_has}
 use Rattle.ada_sound.proofs.Stored.{Stored, stored_new, stored_filled}
 use Rattle.ada_sound.proofs.Alters.{alters_new}
-use Rattle.ada_sound.proofs.Fits.{Fit, Hand, stacked, none_spared, hold_in, place_at, component_access, is_object, weaker_fit, plain_place, as_reliance, lose_all, put_owner, create_fit, insert_fit}
+use Rattle.ada_sound.proofs.Fits.{Fit, Hand, stacked, none_spared, hold_in, place_at, component_access, is_object, weaker_fit, plain_place, as_reliance, less_unnamed, lose_all, put_owner, create_fit, insert_fit}
 use Rattle.ada_sound.proofs.Begins.{root_follows}
-use Rattle.ada_sound.proofs.Invariant.{begun, along, outers, HasRoom, RoomFor, Known, Control, Rooms, NoneBroken, MayRaise, back_onto, named_of, FilledBy, GoesInto, LeadsTo, Filling, FillsTo, Accepts, StoresTo, IsHolder, IsCollected, NamesTo, To, RunsOn, Working, Stepped, Fine, InitialTo, AdjustsFirst, HasCopied, owns_at_first}
+use Rattle.ada_sound.proofs.Invariant.{begun, along, outers, HasRoom, RoomFor, Known, Control, Rooms, NoneBroken, MayRaise, back_onto, named_of, FilledBy, GoesInto, LeadsTo, Filling, FillsTo, Accepts, StoresTo, IsHolder, Initializes, IsMade, Making, goes_to_variable, NamesTo, To, RunsOn, Working, Stepped, Fine, InitialTo, AdjustsFirst, HasCopied, owns_at_first}
 use Rattle.ada_sound.proofs.Ready.{running, at_work, ready_on, jumps_less, treats_ready}
 use Rattle.ada_sound.proofs.Followings.{first_kept}
 use Rattle.ada_sound.proofs.Roots.{root_object, object_there, rest_raises, record_raises, selected_raises}
 use Rattle.ada_sound.proofs.Filled.{Lends, kept_by, filled_length, filled_in_hand}
 use Rattle.ada_sound.proofs.Copied.{give_next, fill_one, raise_back, copies_on, RecordThere, record_there}
 use Rattle.ada_sound.proofs.Lendings.{lends_none, lends_some}
+use Rattle.ada_sound.proofs.Records.{new_unnamed, new_unreferred}
+use Rattle.ada_sound.proofs.Touched.{ComponentsUntouched}
 use Rattle.ada_sound.proofs.Undone.{new_may_undo}
 use Rattle.ada_sound.proofs.Walks.{finds_fine, fills_fine}
 use Rattle.ada_sound.proofs.Raising.{or_left}
@@ -197,7 +199,7 @@ module _ (known : Known) (k : Control) (a : Activation Value) (rest : List (Acti
       record_item p items (record_fits cs p items fits) w (record_kept w.holds p (next_keeps known s.heap a.places (item_of_record p) items k a.operands w.rooms w.holds w.rest))
 
   -- A new object is granted, or refused.
-  module _ (types : List TypeDefinition) (access count words : ℕ) (home : Destination) (is_home : home_of access s.masters ≡ Some home) (w : Working known s.heap a.places s.masters (Filling known s.heap a.places access count [] k a.operands)) (kinds : HaveKinds known.program.types (cells_of s.heap) w.rest.leads.components (reverse (take count a.operands))) where
+  module _ (untouched : ComponentsUntouched known.program.types known.touches) (types : List TypeDefinition) (access count words : ℕ) (home : Destination) (is_home : home_of access s.masters ≡ Some home) (w : Working known s.heap a.places s.masters (Filling known s.heap a.places access count [] k a.operands)) (kinds : HaveKinds known.program.types (cells_of s.heap) w.rest.leads.components (reverse (take count a.operands))) where
     cell : Cell Value
     cell = new_cell named types access count home (running k a rest s)
 
@@ -269,27 +271,75 @@ module _ (known : Known) (k : Control) (a : Activation Value) (rest : List (Acti
     granted_names (StoresIn o c ∷ k') operands room into to = stored_in o c k' (λ path is. rw is at into) to.0 to.1
     granted_names (f ∷ k') operands room into to = absurd to
 
-    -- A collection is open of its access type.
-    collected : IsCollected (create s.heap words cell) s.masters (created s.heap words)
-    unfolding cell
-    collected o x is found =
-        let next : Id = record { 0 = length s.heap } in
+    -- Where operations may touch storage that are called for it, and a variable gets it, nothing relies on it until then.
+    next : Id
+    next = record { 0 = length s.heap }
+
+    made_unmoved : (done : List ItemForm) → moved_by_items no_tracks (back_onto done []) ≡ [] → without_values (moved_by_items no_tracks (back_onto done [])) w.holds ≡ w.holds
+    made_unmoved done none = rw none refl
+
+    making_by : (k' : Control) → w.rest.target ≡ None → RoomFor k' w.rooms → (moved_by_items no_tracks (back_onto w.rest.done []) ≡ []) × Initializes known access k' w.rooms w.holds → Making known next access k' (create s.heap words cell) a.places s.masters
+    unfolding cell lost next
+    making_by k' none room (unmoved, i) =
+        let both = made none in
+        let same : lost ≡ w.holds = made_unmoved w.rest.done unmoved in
+        let fit : Fit known.program.types known.program.variables (outers known) none_spared (create s.heap words cell) a.places w.holds = subst (λ (holds : Holds). Fit known.program.types known.program.variables (outers known) none_spared (create s.heap words cell) a.places holds) same both.0 in
+        let hand : Hand known.program.types known.program.variables (outers known) none_spared (create s.heap words cell) a.places w.holds (Some access) (created s.heap words) = subst (λ (holds : Holds). Hand known.program.types known.program.variables (outers known) none_spared (create s.heap words cell) a.places holds (Some access) (created s.heap words)) same both.1 in
+        record {
+          rooms = w.rooms;
+          holds = i.less;
+          stored = stored;
+          roomed = w.roomed;
+          fit = weaker_fit i.less i.good fit;
+          aside = (less_unnamed i.less i.good next fit (new_unnamed words cell w.fit hand), new_unreferred words cell w.fit);
+          room = room;
+          to = i.to;
+          undone = i.undone;
+          well = i.well;
+        }
+
+    -- No component gets it.
+    never_accepts : known.touches access ≡ true → (o : Value) (c : ℕ) → Accepts known s.heap o c (Some access) → ⊥
+    never_accepts touches Null c accepts = accepts
+    never_accepts touches (Names o) c (object, found, listed, is) = let none = untouched object.cell.access c access is in cc (touches, none)
+    never_accepts touches (Scalar n) c accepts = accepts
+    never_accepts touches (Part o first) c accepts = accepts
+
+    making : known.touches access ≡ true → Making known next access k (create s.heap words cell) a.places s.masters
+    unfolding lost
+    making touches = by k w.rest.into w.rest.leads.room w.rest.leads.to w.rest.leads.initializes
+      where
+        by : (k' : Control) → GoesInto s.heap a.places w.rest.target k' → RoomFor k' w.rooms
+            → StoresTo k' (λ x k2. ((variable_access known.program.variables x ≡ Some access) × (is_object known.program.variables x ≡ false)) × To (RunsOn known k2 w.rooms) (slice_set lost x (hold.Own Whole))) (λ o c k2. Accepts known s.heap o c (Some access) × To (RunsOn known k2 w.rooms) lost)
+            → (known.touches access ≡ true → goes_to_variable k' ≡ true → (moved_by_items no_tracks (back_onto w.rest.done []) ≡ []) × Initializes known access k' w.rooms w.holds)
+            → Making known next access k' (create s.heap words cell) a.places s.masters
+        by [] into room to initializes = absurd to
+        by (Stores x ∷ k') into room to initializes = making_by (Stores x ∷ k') (stores_none s.heap a.places w.rest.target x k' into) room (initializes touches refl)
+        by (Declares x ∷ k') into room to initializes = making_by (Declares x ∷ k') (declares_none s.heap a.places w.rest.target x k' into) room (initializes touches refl)
+        by (StoresIn o c ∷ k') into room to initializes = absurd (never_accepts touches o c to.0)
+        by (f ∷ k') into room to initializes = absurd to
+
+    made_here : IsMade known (created s.heap words) k (create s.heap words cell) a.places s.masters
+    unfolding cell next
+    made_here o x is found touches =
         let this : o ≡ next = cc is in
         let new = get_new s.heap (new_object cell) in
         let one : x ≡ new_object cell = cc (rw this at found, new) in
-        rw one (home, is_home)
+        let access_is : access ≡ x.cell.access = ap (λ (y : Object). y.cell.access) (sym one) in
+        subst (λ (q : Id). Making known q x.cell.access k (create s.heap words cell) a.places s.masters) (sym this)
+        (subst (λ (t : ℕ). Making known next t k (create s.heap words cell) a.places s.masters) access_is (making (rw (← access_is) at touches)))
 
     answered_fine : (granted : Bool) → Stepped known s.heap Quiet (answered named types access count words home (running k a rest s) granted)
-    unfolding cell lost
-    answered_fine true = record { ready = (tt, treats_ready known (created s.heap words) (begins Creation []) (all_tasks types access PartsFirst) k (create s.heap words cell) a.places (created s.heap words ∷ drop count a.operands) s.masters (inr (refl, collected, granted_names k (drop count a.operands) w.rest.leads.room w.rest.into w.rest.leads.to), new_may_undo known s.heap words cell k a.places s.masters w.rooms w.holds (home, is_home) stored w.roomed w.fit w.rest.leads.starts) tt); alters = alters_new s.heap Quiet (new_object cell) refl; says = tt }
+    unfolding cell lost next
+    answered_fine true = record { ready = (tt, treats_ready known (created s.heap words) (begins Creation []) (all_tasks types access PartsFirst) k (create s.heap words cell) a.places (created s.heap words ∷ drop count a.operands) s.masters (inr (refl, refl, made_here, granted_names k (drop count a.operands) w.rest.leads.room w.rest.into w.rest.leads.to), new_may_undo known s.heap words cell k a.places s.masters w.rooms w.holds stored w.roomed w.fit w.rest.leads.starts making) tt); alters = alters_new s.heap Quiet (new_object cell) refl; says = tt }
     answered_fine false = jumps_less known k a rest s (Raising StorageError) (at_work w (w.rest.leads.refused refl))
 
-  creates_by : (types : List TypeDefinition) (access count words : ℕ) (home : Option Destination) → home_of access s.masters ≡ home → (w : Working known s.heap a.places s.masters (Filling known s.heap a.places access count [] k a.operands)) → HaveKinds known.program.types (cells_of s.heap) w.rest.leads.components (reverse (take count a.operands)) → Fine known s.heap s.masters (new_next named types access count words home (running k a rest s))
-  creates_by types access count words None e w kinds = jumps_less known k a rest s (Raising StorageError) (at_work w (w.rest.leads.refused refl))
-  creates_by types access count words (Some home) e w kinds = answered_fine types access count words home e w kinds
+  creates_by : ComponentsUntouched known.program.types known.touches → (types : List TypeDefinition) (access count words : ℕ) (home : Option Destination) → home_of access s.masters ≡ home → (w : Working known s.heap a.places s.masters (Filling known s.heap a.places access count [] k a.operands)) → HaveKinds known.program.types (cells_of s.heap) w.rest.leads.components (reverse (take count a.operands)) → Fine known s.heap s.masters (new_next named types access count words home (running k a rest s))
+  creates_by untouched types access count words None e w kinds = jumps_less known k a rest s (Raising StorageError) (at_work w (w.rest.leads.refused refl))
+  creates_by untouched types access count words (Some home) e w kinds = answered_fine untouched types access count words home e w kinds
 
-  pub creates_fine : (types : List TypeDefinition) (access count words : ℕ) (kinds : List OperandKind) → typed.Fits known.program (cells_of s.heap) kinds (Creates access count ∷ k) → AreComputed known.program.types (cells_of s.heap) kinds a.operands → Working known s.heap a.places s.masters (Filling known s.heap a.places access count [] k a.operands) → Fine known s.heap s.masters (new_next named types access count words (home_of access s.masters) (running k a rest s))
-  creates_fine types access count words kinds fits computed w =
+  pub creates_fine : ComponentsUntouched known.program.types known.touches → (types : List TypeDefinition) (access count words : ℕ) (kinds : List OperandKind) → typed.Fits known.program (cells_of s.heap) kinds (Creates access count ∷ k) → AreComputed known.program.types (cells_of s.heap) kinds a.operands → Working known s.heap a.places s.masters (Filling known s.heap a.places access count [] k a.operands) → Fine known s.heap s.masters (new_next named types access count words (home_of access s.masters) (running k a rest s))
+  creates_fine untouched types access count words kinds fits computed w =
       let split_kinds = (typed.split known.program.types (cells_of s.heap) fits.1 fits.0 a.operands (rw fits.2 at computed)).0 in
       let same : fits.1 ≡ w.rest.leads.components = let reached = fits.3 in let other = w.rest.leads.reached in cc (reached, other) in
-      creates_by types access count words (home_of access s.masters) refl w (rw (← same, fits.4) split_kinds)
+      creates_by untouched types access count words (home_of access s.masters) refl w (rw (← same, fits.4) split_kinds)

@@ -1,30 +1,29 @@
 -- Where operations may touch storage, what they free has no controlled parts, and neither has what a component names; and what they are called for does, or is a
 -- declared object (7.6, 3.10).
 
-use Rattle.std.proofs.Common.{◌≡◌, ℕ, zero, suc, true, false, ◌&&◌, List, [], ◌∷◌, refl, ap, ◌⊎◌, inl, inr}
+use Rattle.std.proofs.Common.{◌≡◌, ℕ, zero, suc, Bool, true, false, ◌||◌, ◌&&◌, not, List, [], ◌∷◌, refl, ap, ◌⊎◌, inl, inr}
 use Rattle.std.specs.Prelude.{Option, Some, None, is_some}
-use Rattle.std.specs.List.{list_all, slice_get, list_any}
+use Rattle.std.specs.List.{list_all, slice_get}
 use Rattle.std.proofs.lemmas.Bool.{or_cases}
 use Rattle.ada_deeds.proofs.Naming.{all_at}
 use Rattle.ada_deeds.specs.Implicit.{implicit_of}
 use Rattle.ada_meaning.proofs.Places.{is_declared}
 use Rattle.ada_program.specs.declared.program.ComponentKind.{ComponentKind}
 use Rattle.ada_program.specs.declared.program.ComponentKind.TheVariants as component
-use Rattle.ada_program.specs.declared.program.Exception.{Exception}
 use Rattle.ada_program.specs.declared.program.Finalization.{Finalization}
 use Rattle.ada_program.specs.declared.program.Program.{Program}
-use Rattle.ada_program.specs.Handling.{is_same}
 use Rattle.ada_program.specs.ProgramForm.{TypeForm, record_of, access_to, object_of, BodyForm, ProgramForm, program_form, seen_in}
 use Rattle.ada_program.specs.WellFormed.{IsWellFormed, access_of, components_in, components_reached, designated_in, finalization_in, finalization_of, is_access, kind_among, named_in, object_named, reached_components}
+use Rattle.ada_quiet.specs.Apart.{operations_stand_apart}
 use Rattle.ada_quiet.specs.Bare.{collections_in_order, has_bare_components, has_bare_objects, is_bare_access, is_bare_component}
 use Rattle.ada_quiet.specs.Frugal.{is_frugal_body, thrift_of}
-use Rattle.ada_quiet.specs.InUse.{designates_no_parts, initializes_quietly, may_allocate_parts, may_be_frugal, may_end_frugally, operations_are_in_use}
+use Rattle.ada_quiet.specs.InUse.{designates_no_parts, may_allocate_parts, allocates_no_parts, may_be_frugal}
 use Rattle.ada_sound.proofs.FrugalFrees.{accepted_access}
 use Rattle.ada_sound.proofs.FrugalUseFrees.{covered_bare}
 use Rattle.ada_sound.proofs.FrugalUseParts.{some_parts, walked_parts}
 use Rattle.ada_sound.proofs.Invariant.{CoveredIn}
 use Rattle.ada_sound.proofs.OperationStarts.{apart}
-use Rattle.ada_sound.proofs.StartsInUse.{starts_raise_none}
+use Rattle.ada_sound.proofs.Touched.{ComponentsUntouched, touches_in}
 use Rattle.ada_typed.specs.Holding.{PartsLie, WalksTo}
 use Rattle.ada_typed.proofs.Inner.{lies_at}
 use Rattle.ada_typed.proofs.Lying.{IsOperable}
@@ -70,19 +69,30 @@ module _ (program : Program) (well : IsWellFormed (program_form program)) where
   abbrev p : ProgramForm
   p = program_form program
 
-  -- Where objects with controlled parts may be allocated, components name none of these, and each Initialize is quiet.
-  parts_allocated : may_allocate_parts p ≡ true → (list_all (has_bare_components p.types) p.types ≡ true) × (list_all (λ t. initializes_quietly p (finalization_in (Some t))) p.types ≡ true)
-  parts_allocated may =
-      let three = apart (list_all (has_bare_components p.types) p.types && collections_in_order p) (list_all (λ t. initializes_quietly p (finalization_in (Some t))) p.types) may in
-      ((apart (list_all (has_bare_components p.types) p.types) (collections_in_order p) three.0).0, three.1)
+  -- Where objects with controlled parts may be allocated, components name none of these.
+  parts_allocated : may_allocate_parts p ≡ true → list_all (has_bare_components p.types) p.types ≡ true
+  parts_allocated may = (apart (list_all (has_bare_components p.types) p.types) (collections_in_order p) may).0
+
+  -- Where operations may be frugal, none is allocated, or each may be.
+  parts_where : may_be_frugal p ≡ true → (allocates_no_parts p ≡ true) ⊎ (may_allocate_parts p ≡ true)
+  parts_where may =
+      or_cases (allocates_no_parts p) (may_allocate_parts p) (apart (allocates_no_parts p || may_allocate_parts p) (operations_stand_apart p) may).0
 
   -- What a component is to name has no controlled parts.
-  pub components_are_bare : may_end_frugally p ≡ true → (holder c access : ℕ) → access_of (kind_among (reached_components p.types holder) c) ≡ Some access → has_bare_objects p.types access ≡ true
-  components_are_bare may holder c access is = by (or_cases (may_be_frugal p) (may_allocate_parts p) may)
+  pub components_are_bare : may_be_frugal p ≡ true → (holder c access : ℕ) → access_of (kind_among (reached_components p.types holder) c) ≡ Some access → has_bare_objects p.types access ≡ true
+  components_are_bare may holder c access is = by (parts_where may)
     where
-      by : (may_be_frugal p ≡ true) ⊎ (may_allocate_parts p ≡ true) → has_bare_objects p.types access ≡ true
-      by (inl frugal) = bare_access p.types frugal access (accepted_access p.types well.types_fit holder c access is)
-      by (inr parts) = reached_bare p.types (parts_allocated parts).0 (named_in (slice_get p.types holder)) c access is
+      by : (allocates_no_parts p ≡ true) ⊎ (may_allocate_parts p ≡ true) → has_bare_objects p.types access ≡ true
+      by (inl none) = bare_access p.types none access (accepted_access p.types well.types_fit holder c access is)
+      by (inr parts) = reached_bare p.types (parts_allocated parts) (named_in (slice_get p.types holder)) c access is
+
+  -- So none is to name an object for which an operation is called that touches storage.
+  pub components_untouched : ComponentsUntouched p.types (touches_in p)
+  components_untouched holder c access is = by (may_be_frugal p) refl
+    where
+      by : (may : Bool) → may_be_frugal p ≡ may → (may && not (has_bare_objects p.types access)) ≡ false
+      by false never = refl
+      by true may = rw (components_are_bare may holder c access is) refl
 
   -- An object is that of a variable or a component, or it has controlled parts, where an operation is called for one of these.
   pub operable_is_not_bare : (access of part : ℕ) → IsOperable p.types access of part → has_bare_objects p.types access ≡ false
@@ -100,18 +110,10 @@ module _ (program : Program) (well : IsWellFormed (program_form program)) where
   pub frugal_frees_bare : (number : ℕ) (b : BodyForm) → slice_get p.bodies number ≡ Some b → is_frugal_body (thrift_of p) b ≡ true → (t : ℕ) → CoveredIn (implicit_of p) (seen_in (Some number) p) t → has_bare_objects p.types t ≡ true
   frugal_frees_bare number b there frugal t covered = covered_bare p well number b there frugal t covered
 
-  -- No exception comes out of the initialization of what is allocated and has controlled parts.
-  pub allocated_raises_nothing : operations_are_in_use p ≡ true → may_end_frugally p ≡ true → (access : ℕ) → is_access p.types access ≡ true → has_bare_objects p.types access ≡ false → (e : Exception) → list_any (is_same e) ((implicit_of p).start_raises access) ≡ false
-  allocated_raises_nothing used may access is parts e = by (or_cases (may_be_frugal p) (may_allocate_parts p) may)
+  -- Nothing has controlled parts that is allocated, where operations may be frugal and such an object may not be allocated beside them.
+  pub allocated_is_bare : may_be_frugal p ≡ true → may_allocate_parts p ≡ false → (access : ℕ) → is_access p.types access ≡ true → has_bare_objects p.types access ≡ true
+  allocated_is_bare may none access is = by (parts_where may)
     where
-      by : (may_be_frugal p ≡ true) ⊎ (may_allocate_parts p ≡ true) → list_any (is_same e) ((implicit_of p).start_raises access) ≡ false
-      by (inl frugal) = let bare = bare_access p.types frugal access is in absurd (cc (bare, parts))
-      by (inr allocated) = starts_raise_none p well used (parts_allocated allocated).1 access e
-
-  -- Nothing has controlled parts that is allocated, where an Initialize may be frugal.
-  pub allocated_is_bare : may_end_frugally p ≡ true → may_allocate_parts p ≡ false → (access : ℕ) → is_access p.types access ≡ true → has_bare_objects p.types access ≡ true
-  allocated_is_bare may none access is = by (or_cases (may_be_frugal p) (may_allocate_parts p) may)
-    where
-      by : (may_be_frugal p ≡ true) ⊎ (may_allocate_parts p ≡ true) → has_bare_objects p.types access ≡ true
-      by (inl frugal) = bare_access p.types frugal access is
+      by : (allocates_no_parts p ≡ true) ⊎ (may_allocate_parts p ≡ true) → has_bare_objects p.types access ≡ true
+      by (inl bare) = bare_access p.types bare access is
       by (inr parts) = absurd (cc (none, parts))

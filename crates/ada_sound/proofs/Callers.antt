@@ -14,6 +14,7 @@ use Rattle.ada_meaning.specs.Step.{older}
 use Rattle.ada_meaning.specs.Named.{State}
 use Rattle.ada_sound.specs.Agreement.{Turning, IsFlowAt, IsBehind, running_procedure}
 use Rattle.ada_sound.proofs.Ahead.{ahead_in}
+use Rattle.ada_sound.proofs.Touched.{touches_in}
 use Rattle.ada_sound.proofs.Fits.{Reference}
 use Rattle.ada_sound.proofs.Bodies.{IsBody}
 use Rattle.ada_sound.proofs.Invariant.{Control, Rooms, Caller, Known, Standing}
@@ -51,6 +52,7 @@ caller_of program g gs = record {
   implicit = implicit_of (program_form program);
   program = seen_in g.procedure (program_form program);
   ahead = ahead_in (program_form program);
+  touches = touches_in (program_form program);
   At = Reaches program g.procedure (rest_of gs);
   actuals = g.actuals;
   passed = g.passed;
@@ -75,6 +77,7 @@ known_in program procedure gs = record {
   implicit = implicit_of (program_form program);
   program = seen_in procedure (program_form program);
   ahead = ahead_in (program_form program);
+  touches = touches_in (program_form program);
   At = Reaches program procedure (rest_of gs);
   callers = callers_of program gs;
   tracked = [];

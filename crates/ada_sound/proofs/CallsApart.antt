@@ -1,5 +1,5 @@
--- Procedures that track stand apart in what is left to do (6.4): it calls none of them, and no body that it begins does; no allocator copies a record with
--- controlled parts (4.8). Paths, values and Free keep that.
+-- Procedures that track stand apart in what is left to do (6.4): it calls none of them, and no body that it begins does; no allocator with items makes an object
+-- with controlled parts, or copies a record with some (4.8). Paths, values and Free keep that.
 
 use Rattle.std.proofs.Common.{◌≡◌, ℕ, Bool, true, false, ◌&&◌, if◌then◌else◌, List, [], ◌∷◌, length, Option, Some, None, Result, Ok, Err}
 use Rattle.std.specs.List.{slice_get}
@@ -34,7 +34,7 @@ use Rattle.ada_sound.proofs.Coming.{AllNext}
 
 module _ (forms : List TypeForm) (tracks : ℕ → Bool) where
   -- Statements that a frame holds call no procedure that tracks; a call is of none, and neither are those of its body. What is evaluated
-  -- copies no record with controlled parts.
+  -- makes no object with controlled parts from items, and copies no record with some.
   abbrev pub FrameCallsApart : Frame Value → Type 0
   FrameCallsApart (frame.Elaborates ds fs hs) =
       (declare_apart forms ds ≡ true) × ((all_call_apart forms tracks fs ≡ true) × (handlers_call_apart forms tracks hs ≡ true))

@@ -21,7 +21,8 @@ module _ (forms : List TypeForm) (tracks : ℕ → Bool) where
       → s.control ≡ frame.Calls number b actuals ∷ k → CallApart forms tracks s.control → tracks number ≡ false
   no_tracker_called s number b actuals k first apart = (subst (CallApart forms tracks) first apart).0.0
 
-  -- What is evaluated next, as what is assigned is, copies no record with controlled parts in an allocator (4.8).
+  -- What is evaluated next, as what is assigned is, makes no object with controlled parts from the items of an allocator, and copies no record with some in
+  -- one (4.8).
   pub no_record_allocated : (s : State) (right : RightForm) (k : List (Frame Value)) → s.control ≡ frame.Evaluates right ∷ k → CallApart forms tracks s.control
       → is_bare_right forms right ≡ true
   no_record_allocated s right k first apart = (subst (CallApart forms tracks) first apart).0

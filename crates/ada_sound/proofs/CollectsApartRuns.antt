@@ -1,6 +1,6 @@
 -- In each state of a run the collections of each master are apart, where each declarative part creates its collections in order (7.6.1).
 
-use Rattle.std.proofs.Common.{◌≡◌, ◌&&◌, ℤ, Some, true, List, [], ◌∷◌, inl, inr}
+use Rattle.std.proofs.Common.{◌≡◌, ℤ, true, List, [], ◌∷◌, inl, inr}
 use Rattle.std.specs.List.{list_all}
 use Rattle.std.proofs.lemmas.Bool.{and_parts}
 use Rattle.ada_program.specs.declared.program.Program.{Program}
@@ -8,9 +8,8 @@ use Rattle.ada_program.specs.Form.{stmt_forms, handler_forms, declaration_forms}
 use Rattle.ada_program.specs.ProgramForm.{TypeForm, main_body, body_forms, program_form}
 use Rattle.ada_meaning.specs.Named.{State, next}
 use Rattle.ada_meaning.specs.Run.{Event, Choice, Step, Run, here, there, first_state}
-use Rattle.ada_program.specs.WellFormed.{finalization_in}
 use Rattle.ada_quiet.specs.Bare.{body_in_order, collections_in_order, has_bare_components}
-use Rattle.ada_quiet.specs.InUse.{initializes_quietly, may_allocate_parts}
+use Rattle.ada_quiet.specs.InUse.{may_allocate_parts}
 use Rattle.ada_sound.proofs.Ahead.{MastersApart}
 use Rattle.ada_sound.proofs.CollectsApart.{Good, masters_of, masters_going, elaborates_orderly}
 use Rattle.ada_sound.proofs.CollectsApartSteps.{next_good}
@@ -53,6 +52,5 @@ pub apart_where_reached : (program : Program) (s : State) → IsReached program 
     → MastersApart (program_form program).types s.masters
 apart_where_reached program s reached may =
     let p = program_form program in
-    let three = and_parts (list_all (has_bare_components p.types) p.types && collections_in_order p) (list_all (λ t. initializes_quietly p (finalization_in (Some t))) p.types) may in
-    let two = and_parts (list_all (has_bare_components p.types) p.types) (collections_in_order p) three.0 in
+    let two = and_parts (list_all (has_bare_components p.types) p.types) (collections_in_order p) may in
     masters_apart program two.1 reached.0 reached.1 s reached.2

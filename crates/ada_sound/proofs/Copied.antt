@@ -1,6 +1,6 @@
 -- Records that are copied as items: each of their components counts as an item of its own, which is what it holds at first.
 
-use Rattle.std.proofs.Common.{◌≡◌, ℕ, Bool, true, false, not, ◌&&◌, ◌||◌, List, [], ◌∷◌, ◌++◌, length, map, drop, refl, ap, arith, inl, inr}
+use Rattle.std.proofs.Common.{◌≡◌, ℕ, Bool, true, false, not, ◌&&◌, ◌||◌, List, [], ◌∷◌, ◌++◌, length, map, drop, refl, sym, ap, ◌∙◌, arith, inl, inr}
 use Rattle.std.specs.Prelude.{Option, Some, None}
 use Rattle.std.specs.List.{list_all, list_any}
 use Rattle.ada_text.specs.declared.spot.Spot.{Spot}
@@ -162,6 +162,7 @@ module _ (known : Known) (heap : List Object) (places : List Value) where
           starts = f.leads.starts;
           room = f.leads.room;
           to = rw moves at f.leads.to;
+          initializes = λ touches to_variable. (let i = f.leads.initializes touches to_variable in (sym moves ∙ i.0, i.1));
         };
         counted = f.counted;
       }

@@ -1,12 +1,14 @@
 -- What is assigned is evaluated, moved and stored; new objects come to be; what is read is written.
 
-use Rattle.std.proofs.Common.{◌≡◌, ◌≢◌, ℕ, Bool, true, false, ◌==◌, ◌&&◌, ◌||◌, List, [], ◌∷◌, ◌++◌, length, map, refl, sym, ap, ◌∙◌, subst, ◌⊎◌, inl, inr}
+use Rattle.std.proofs.Common.{◌≡◌, ◌≢◌, ℕ, zero, suc, Bool, true, false, ◌==◌, ◌&&◌, ◌||◌, List, [], ◌∷◌, ◌++◌, length, map, refl, sym, ap, ◌∙◌, subst, ◌⊎◌, inl, inr}
 use Rattle.std.proofs.lemmas.Bool.{and_parts, eqb-true}
 use Rattle.std.specs.Prelude.{ℤ, Option, Some, None}
-use Rattle.std.specs.List.{slice_get, slice_set}
+use Rattle.std.specs.List.{list_any, slice_get, slice_set}
+use Rattle.ada_program.specs.declared.program.Exception.{Exception}
 use Rattle.ada_program.specs.declared.program.Exception.TheVariants.{ConstraintError, StorageError}
 use Rattle.ada_program.specs.declared.program.VariableKind.{VariableKind}
 use Rattle.ada_program.specs.Form.{PathForm, ExpressionForm, ItemForm, RightForm, nothing, value_of, allocates, allocates_default, computes, assigns, StmtsForm, no_stmts, a_stmt}
+use Rattle.ada_program.specs.ProgramForm.{VariableForm}
 use Rattle.ada_text.specs.declared.spot.Spot.{Spot}
 use Rattle.ada_program.specs.Handling.{is_same}
 use Rattle.ada_program.specs.declared.program.ComponentKind.{ComponentKind}
@@ -17,7 +19,7 @@ use Rattle.ada_effects.specs.Effects.{expression_raises, items_raise, path_raise
 use Rattle.ada_flow.specs.declared.rule.Hold.{Hold}
 use Rattle.ada_flow.specs.declared.rule.Hold.TheVariants as hold
 use Rattle.ada_flow.specs.declared.rule.Region.TheVariants.{Whole}
-use Rattle.ada_flow.specs.Flow.{Holds, hold_at, variable_access, uses_in, uses_in_items, uses_in_target, gives_component, lost_by, without_values, moved_by_items, value_hold, borrowed_hold, ends_with, gives, same_selectors, same_path, clears, touched_hold}
+use Rattle.ada_flow.specs.Flow.{Holds, hold_at, variable_access, uses_in, uses_in_items, uses_in_target, gives_component, is_freed, lost_by, without_alias, without_freed, without_values, moved_by_items, value_hold, borrowed_hold, ends_with, gives, same_selectors, same_path, clears, touched_hold}
 use Rattle.ada_flow.specs.Tracking.{no_tracks}
 use Rattle.ada_meaning.specs.declared.state.Id.{Id}
 use Rattle.ada_meaning.specs.declared.state.Value.{Value}
@@ -45,18 +47,31 @@ use Rattle.ada_sound.proofs.Values.{read_other}
 use Rattle.ada_sound.proofs.Stored.{Stored, exists_out, stored_owning}
 use Rattle.ada_sound.proofs.Fits.{Fit, MayFollow, names_object, is_object, component_value, component_access, none_spared, place_at, put_null, put_alias, component_is, component_follows, take_variable, take_component, ArePlain, plain_object}
 use Rattle.ada_sound.proofs.Begins.{root_at, root_access, root_follows}
-use Rattle.ada_sound.proofs.Invariant.{assignment_among, outers, below, HasRoom, Known, Control, Rooms, Roomed, Accepts, LeadsTo, GoesInto, Allocating, Clearing, component_among, StoringIn, Pairs, IsAlone, IsOne, Half, HalfBy, IsCleared, front, final, WalksOn, Goes, Raised, RunsOn, NoneBroken, To, MayRaise, RaisesAt, FillsIn, IsHolder, Takes, Computing, Working, Resumes, EvaluatesTo, Awaits, FindsFor, MovesOn, FillsOn, PassesOn, PassesTo, FollowsFor, HalfFollows, ReadyIn, Stepped, Fine, ways, begun, along}
+use Rattle.ada_sound.proofs.Invariant.{assignment_among, outers, below, HasRoom, Known, Control, Rooms, Roomed, Accepts, LeadsTo, GoesInto, Allocating, Clearing, component_among, StoringIn, Pairs, IsAlone, IsOne, Half, HalfBy, IsCleared, front, final, WalksOn, Goes, GoesTo, Initializes, Raised, RaisesAfter, RunsAfter, RunsOn, Spares, NoneBroken, To, MayRaise, RaisesAt, FillsIn, IsHolder, Takes, Computing, Working, Resumes, EvaluatesTo, Awaits, FindsFor, MovesOn, FillsOn, PassesOn, PassesTo, FollowsFor, HalfFollows, ReadyIn, Stepped, Fine, ways, begun, along}
 use Rattle.ada_sound.proofs.Ready.{running, at_work, stays, ready_on, runs_on, resumes_on, jumps_less}
 use Rattle.ada_sound.proofs.Walks.{finds_fine, fills_fine, passed_fine, half_fine, plain_whole}
 use Rattle.ada_sound.proofs.Passed.{raises_behind, passes_fine}
 use Rattle.ada_sound.proofs.Rooms.{roomed_declares}
-use Rattle.ada_sound.proofs.Outcomes.{using_goes, ends_goes}
+use Rattle.ada_sound.proofs.LeftFinalized.{freed_none}
+use Rattle.ada_sound.proofs.Orderings.{AsGood, without_freed_good}
+use Rattle.ada_sound.proofs.Outcomes.{raised_before, to_here, using_goes, ends_goes}
 use Rattle.ada_sound.proofs.Followings.{kept_apart}
 use Rattle.ada_sound.proofs.Roots.{selected_no_object, takes_none, takes_object, object_there, raises_null, raises_all, rest_raises}
 use Rattle.ada_sound.proofs.Raising.{or_left, or_right}
 use Rattle.ada_sound.proofs.Expressions.{MayRead, reads_fine}
 use Rattle.ada_sound.proofs.Assigned.{Allocated, value_starts, computed_goes, allocated_goes, kind_names, selected_of}
 use Rattle.ada_sound.proofs.Taken.{variable_none, declared_none, variable_goes, declared_goes, component_goes, at_path, value_gives, value_fills, cleared_is, stored_after, there_after, selectors_are, walk_on, kept_root, path_goes, null_place, move_by, borrow_by, borrow_gives, store_by, some_root}
+
+-- An owner is no alias of what may be freed.
+owner_stays : (b : Bool) → without_alias b (hold.Own Whole) ≡ hold.Own Whole
+owner_stays true = refl
+owner_stays false = refl
+
+freed_owned : (may : ℕ → Bool) (variables : List VariableForm) (holds : Holds) (x : ℕ) → without_freed variables may (slice_set holds x (hold.Own Whole)) ≡ slice_set (without_freed variables may holds) x (hold.Own Whole)
+freed_owned may [] holds x = refl
+freed_owned may (v ∷ vs) [] x = refl
+freed_owned may (v ∷ vs) (h ∷ hs) zero = ap (λ (g : Hold). g ∷ without_freed vs may hs) (owner_stays (is_freed may (access_of (Some v.kind))))
+freed_owned may (v ∷ vs) (h ∷ hs) (suc x) = ap (λ (gs : Holds). without_alias (is_freed may (access_of (Some v.kind))) h ∷ gs) (freed_owned may vs hs x)
 
 -- Where a path stands.
 abbrev spot_of : PathForm → Spot
@@ -335,8 +350,8 @@ module _ (known : Known) (k : Control) (a : Activation Value) (rest : List (Acti
       (here : Spot) × (target : Option PathForm) × GoesInto s.heap a.places target k' × NoneBroken holds (uses_in_items known.program.types here target [] items) × Allocating known s.heap access items k' rooms holds
 
   -- What an allocator leads to.
-  allocating : (access : ℕ) (items : List ItemForm) (kind : VariableKind) (kinds : List OperandKind) → kind_takes known.program.types known.program.variables kind (allocates access items) ≡ true → typed.Fits known.program (cells_of s.heap) (of_kind kind ∷ kinds) k → (rooms : Rooms) (holds : Holds) → Takes known s.heap a.places (allocates access items) k rooms holds → Allocated_to access items k rooms holds
-  allocating access items kind kinds takes fits rooms holds = go k fits
+  allocating : (access : ℕ) (items : List ItemForm) (kind : VariableKind) (kinds : List OperandKind) → known.touches access ≡ false → kind_takes known.program.types known.program.variables kind (allocates access items) ≡ true → typed.Fits known.program (cells_of s.heap) (of_kind kind ∷ kinds) k → (rooms : Rooms) (holds : Holds) → Takes known s.heap a.places (allocates access items) k rooms holds → Allocated_to access items k rooms holds
+  allocating access items kind kinds apart takes fits rooms holds = go k fits
     where
       al : Allocated known.program.types known.program.variables kind access items
       al = allocated_goes known.program.types known.program.variables kind access items takes
@@ -366,13 +381,13 @@ module _ (known : Known) (k : Control) (a : Activation Value) (rest : List (Acti
       go [] fits' g = absurd g
       go (Stores x ∷ k') fits' g =
           let h = to x k' (variable_goes known.program s.heap kind kinds x k' fits') g.1.0 g.0 g.1.1 in
-          (g.1.0, None, tt, h.0, record { components = al.components; reached = al.reached; fit = al.fit; fails = λ may. h.1.1 ConstraintError (rw may refl); refused = λ may. h.1.1 StorageError refl; starts = λ e may. h.1.1 e (or_right (right_raises (is_same e) (allocates access items)) (right_starts known.implicit (is_same e) (allocates access items)) may); room = tt; to = ((h.1.0.0, variable_none known.program s.heap kind kinds x k' none fits'), h.1.0.1) })
+          (g.1.0, None, tt, h.0, record { components = al.components; reached = al.reached; fit = al.fit; fails = λ may. h.1.1 ConstraintError (rw may refl); refused = λ may. h.1.1 StorageError refl; starts = λ e may. h.1.1 e (or_right (right_raises (is_same e) (allocates access items)) (right_starts known.implicit (is_same e) (allocates access items)) may); room = tt; to = ((h.1.0.0, variable_none known.program s.heap kind kinds x k' none fits'), h.1.0.1); initializes = λ touches to_variable. absurd (cc (touches, apart)) })
       go (Declares x ∷ k') fits' g =
           let h = to x k' (declared_goes known.program s.heap kind kinds x k' fits') g.2.0 g.1 g.2.1 in
-          (g.2.0, None, tt, h.0, record { components = al.components; reached = al.reached; fit = al.fit; fails = λ may. h.1.1 ConstraintError (rw may refl); refused = λ may. h.1.1 StorageError refl; starts = λ e may. h.1.1 e (or_right (right_raises (is_same e) (allocates access items)) (right_starts known.implicit (is_same e) (allocates access items)) may); room = g.0; to = ((h.1.0.0, declared_none known.program s.heap kind kinds x k' none fits'), h.1.0.1) })
+          (g.2.0, None, tt, h.0, record { components = al.components; reached = al.reached; fit = al.fit; fails = λ may. h.1.1 ConstraintError (rw may refl); refused = λ may. h.1.1 StorageError refl; starts = λ e may. h.1.1 e (or_right (right_raises (is_same e) (allocates access items)) (right_starts known.implicit (is_same e) (allocates access items)) may); room = g.0; to = ((h.1.0.0, declared_none known.program s.heap kind kinds x k' none fits'), h.1.0.1); initializes = λ touches to_variable. absurd (cc (touches, apart)) })
       go (StoresIn o c ∷ k') fits' g =
           let h = into o c k' fits' g.0 g.1 in
-          (spot_of g.1.0, Some g.1.0, g.1.4, h.0, record { components = al.components; reached = al.reached; fit = al.fit; fails = λ may. h.1.1 ConstraintError (or_left (path_raises g.1.0 || items_raise items) (right_starts known.implicit (is_same ConstraintError) (allocates access items)) (or_right (path_raises g.1.0) (items_raise items) may)); refused = λ may. h.1.1 StorageError refl; starts = λ e may. h.1.1 e (or_right ((is_same e ConstraintError && path_raises g.1.0) || right_raises (is_same e) (allocates access items)) (right_starts known.implicit (is_same e) (allocates access items)) may); room = tt; to = h.1.0 })
+          (spot_of g.1.0, Some g.1.0, g.1.4, h.0, record { components = al.components; reached = al.reached; fit = al.fit; fails = λ may. h.1.1 ConstraintError (or_left (path_raises g.1.0 || items_raise items) (right_starts known.implicit (is_same ConstraintError) (allocates access items)) (or_right (path_raises g.1.0) (items_raise items) may)); refused = λ may. h.1.1 StorageError refl; starts = λ e may. h.1.1 e (or_right ((is_same e ConstraintError && path_raises g.1.0) || right_raises (is_same e) (allocates access items)) (right_starts known.implicit (is_same e) (allocates access items)) may); room = tt; to = h.1.0; initializes = λ touches to_variable. absurd (cc (touches, apart)) })
       go (f ∷ k') fits' g = absurd g
 
   -- The component that the object of an allocator without items goes to, if it goes to one; and what the allocator leads to.
@@ -383,32 +398,76 @@ module _ (known : Known) (k : Control) (a : Activation Value) (rest : List (Acti
   defaulting : (access : ℕ) (kind : VariableKind) (kinds : List OperandKind) (d : DefaultFor known.program.types kind access) → names_object (Some kind) ≡ false → typed.Fits known.program (cells_of s.heap) (of_kind kind ∷ kinds) k → (rooms : Rooms) (holds : Holds) → Takes known s.heap a.places (allocates_default access) k rooms holds → Defaulted_to access d.components k rooms holds
   defaulting access kind kinds d none fits rooms holds = go k fits
     where
-      to : (x : ℕ) (k' : Control) (here : Spot) (cleared : Bool) → Goes (gives known.program.types known.program.variables no_tracks here cleared x (allocates_default access) holds) (To (RunsOn known k' rooms)) (Raised (assignment_among known (allocates_default access)) (ways known k' rooms)) → To (RunsOn known k' rooms) (slice_set holds x (hold.Own Whole)) × Raised (assignment_among known (allocates_default access)) (ways known k' rooms) holds
-      to x k' here cleared g =
-          (using_goes [] holds (ends_with true holds (slice_set holds x (hold.Own Whole))) (To (RunsOn known k' rooms)) (Raised (assignment_among known (allocates_default access)) (ways known k' rooms)) g).1
+      variables : List VariableForm
+      variables = known.program.variables
 
-      into : (o : Value) (c : ℕ) (k' : Control) → typed.Fits known.program (cells_of s.heap) (of_kind kind ∷ kinds) (StoresIn o c ∷ k') → IsHolder s.heap o → (g : FillsIn known (allocates_default access) (LeadsTo s.heap a.places o [] c) rooms holds k') → (Accepts known s.heap o c (Some access) × To (RunsOn known k' rooms) holds) × Raised (component_among known (path_raises g.0) (allocates_default access)) (ways known k' rooms) holds
+      may : ℕ → Bool
+      may = known.implicit.start_frees access
+
+      -- What is known behind it: no alias is left of what its initialization may free.
+      behind : Holds
+      behind = without_freed variables may holds
+
+      good : AsGood holds behind
+      good = without_freed_good variables may holds
+
+      to : (x : ℕ) (k' : Control) (here : Spot) (cleared : Bool) → Goes (gives known.program.types known.program.variables no_tracks here cleared x (allocates_default access) holds) (RunsAfter known (allocates_default access) k' rooms) (RaisesAfter known (allocates_default access) k' rooms (assignment_among known (allocates_default access))) → RunsAfter known (allocates_default access) k' rooms (slice_set holds x (hold.Own Whole)) × Raised (assignment_among known (allocates_default access)) (ways known k' rooms) behind
+      to x k' here cleared g =
+          (using_goes [] holds (ends_with true holds (slice_set holds x (hold.Own Whole))) (RunsAfter known (allocates_default access) k' rooms) (RaisesAfter known (allocates_default access) k' rooms (assignment_among known (allocates_default access))) g).1
+
+      -- With the new object's owner less is known as well.
+      owned : (x : ℕ) (k' : Control) → RunsOn known k' rooms (without_freed variables may (slice_set holds x (hold.Own Whole))) → To (RunsOn known k' rooms) (slice_set holds x (hold.Own Whole))
+      owned x k' runs = (without_freed variables may (slice_set holds x (hold.Own Whole)), without_freed_good variables may (slice_set holds x (hold.Own Whole)), runs)
+
+      owned_behind : (x : ℕ) (k' : Control) → RunsOn known k' rooms (without_freed variables may (slice_set holds x (hold.Own Whole))) → To (RunsOn known k' rooms) (slice_set behind x (hold.Own Whole))
+      owned_behind x k' runs = to_here (RunsOn known k' rooms) (slice_set behind x (hold.Own Whole)) (rw (freed_owned may variables holds x) at runs)
+
+      -- What may come out of its initialization was known before, too.
+      raised_here : (k' : Control) (among : Exception → Bool) → Raised among (ways known k' rooms) behind → Raised among (ways known k' rooms) holds
+      raised_here k' among raised = raised_before among (ways known k' rooms) holds behind good raised
+
+      into : (o : Value) (c : ℕ) (k' : Control) → typed.Fits known.program (cells_of s.heap) (of_kind kind ∷ kinds) (StoresIn o c ∷ k') → IsHolder s.heap o → (g : FillsIn known (allocates_default access) (LeadsTo s.heap a.places o [] c) rooms holds k') → (Accepts known s.heap o c (Some access) × RunsAfter known (allocates_default access) k' rooms holds) × Raised (component_among known (path_raises g.0) (allocates_default access)) (ways known k' rooms) behind
       into Null c k' fits' there g = absurd there
       into (Names o) c k' fits' there g =
-          let may = path_raises g.0 || true in
-          let raised' = Raised (component_among known (path_raises g.0) (allocates_default access)) (ways known k' rooms) in
-          let u = using_goes (uses_in_target g.0 ++ []) holds (ends_with may holds holds) (To (RunsOn known k' rooms)) raised' g.2 in
-          let n = ends_goes may holds holds (To (RunsOn known k' rooms)) raised' u.1 in
+          let some = path_raises g.0 || true in
+          let after = RunsAfter known (allocates_default access) k' rooms in
+          let raised' = RaisesAfter known (allocates_default access) k' rooms (component_among known (path_raises g.0) (allocates_default access)) in
+          let u = using_goes (uses_in_target g.0 ++ []) holds (ends_with some holds holds) after raised' g.2 in
+          let n = ends_goes some holds holds after raised' u.1 in
           (((there.0, there.1, there.2, component_goes known.program s.heap kind kinds o there.0 c k' there.1 fits' ∙ d.goes), n.0), n.1 (or_right (path_raises g.0) true refl))
       into (Scalar n) c k' fits' there g = absurd there
       into (Part object_id base) c k' fits' there g = absurd there
+
+      -- What may come out of the initialization is among what the assignment to a variable raises.
+      among : Exception → Bool
+      among = assignment_among known (allocates_default access)
+
+      more : (e : Exception) → list_any (is_same e) (known.implicit.start_raises access) ≡ true → among e ≡ true
+      more e starts = or_right (right_raises (is_same e) (allocates_default access)) (right_starts known.implicit (is_same e) (allocates_default access)) starts
+
+      -- What it leads to where a variable gets the object, and operations may be called for it that touch storage.
+      initialized : (k' : Control) → Spares known may → Raised among (ways known k' rooms) behind → GoesTo known access k' rooms behind → (moved_by_items no_tracks (map default_item d.components) ≡ []) × Initializes known access k' rooms holds
+      initialized k' spares raised goes = (
+        defaults_move d.components,
+        record { less = behind; good = good; well = (spares, freed_none variables may holds); undone = λ e starts. raised e (more e starts); to = goes },
+      )
 
       go : (k' : Control) → typed.Fits known.program (cells_of s.heap) (of_kind kind ∷ kinds) k' → Takes known s.heap a.places (allocates_default access) k' rooms holds → Defaulted_to access d.components k' rooms holds
       go [] fits' g = absurd g
       go (Stores x ∷ k') fits' g =
           let h = to x k' g.1.0 g.0 g.1.1 in
-          (None, tt, record { components = d.components; reached = d.reached; fit = defaults_fit known.program.types known.program.variables d.components; fails = λ may. absurd (cc (may, defaults_raise d.components)); refused = λ may. h.1 StorageError refl; starts = λ e may. h.1 e (or_right (right_raises (is_same e) (allocates_default access)) (right_starts known.implicit (is_same e) (allocates_default access)) may); room = tt; to = ((variable_goes known.program s.heap kind kinds x k' fits' ∙ d.goes, variable_none known.program s.heap kind kinds x k' none fits'), rw (defaults_move d.components) h.0) })
+          let raised = raised_here k' among h.1 in
+          let owner : (variable_access variables x ≡ Some access) × (is_object variables x ≡ false) = (variable_goes known.program s.heap kind kinds x k' fits' ∙ d.goes, variable_none known.program s.heap kind kinds x k' none fits') in
+          (None, tt, record { components = d.components; reached = d.reached; fit = defaults_fit known.program.types variables d.components; fails = λ raising. absurd (cc (raising, defaults_raise d.components)); refused = λ raising. raised StorageError refl; starts = λ e starts. raised e (more e starts); room = tt; to = (owner, rw (defaults_move d.components) (owned x k' h.0.0)); initializes = λ touches to_variable. initialized (Stores x ∷ k') h.0.1 h.1 (owner, owned_behind x k' h.0.0) })
       go (Declares x ∷ k') fits' g =
           let h = to x k' g.2.0 g.1 g.2.1 in
-          (None, tt, record { components = d.components; reached = d.reached; fit = defaults_fit known.program.types known.program.variables d.components; fails = λ may. absurd (cc (may, defaults_raise d.components)); refused = λ may. h.1 StorageError refl; starts = λ e may. h.1 e (or_right (right_raises (is_same e) (allocates_default access)) (right_starts known.implicit (is_same e) (allocates_default access)) may); room = g.0; to = ((declared_goes known.program s.heap kind kinds x k' fits' ∙ d.goes, declared_none known.program s.heap kind kinds x k' none fits'), rw (defaults_move d.components) h.0) })
+          let raised = raised_here k' among h.1 in
+          let owner : (variable_access variables x ≡ Some access) × (is_object variables x ≡ false) = (declared_goes known.program s.heap kind kinds x k' fits' ∙ d.goes, declared_none known.program s.heap kind kinds x k' none fits') in
+          (None, tt, record { components = d.components; reached = d.reached; fit = defaults_fit known.program.types variables d.components; fails = λ raising. absurd (cc (raising, defaults_raise d.components)); refused = λ raising. raised StorageError refl; starts = λ e starts. raised e (more e starts); room = g.0; to = (owner, rw (defaults_move d.components) (owned x k' h.0.0)); initializes = λ touches to_variable. initialized (Declares x ∷ k') h.0.1 h.1 (owner, owned_behind x k' h.0.0) })
       go (StoresIn o c ∷ k') fits' g =
           let h = into o c k' fits' g.0 g.1 in
-          (Some g.1.0, g.1.4, record { components = d.components; reached = d.reached; fit = defaults_fit known.program.types known.program.variables d.components; fails = λ may. absurd (cc (may, defaults_raise d.components)); refused = λ may. h.1 StorageError refl; starts = λ e may. h.1 e (or_right ((is_same e ConstraintError && path_raises g.1.0) || right_raises (is_same e) (allocates_default access)) (right_starts known.implicit (is_same e) (allocates_default access)) may); room = tt; to = (h.0.0, rw (defaults_move d.components) h.0.1) })
+          let raised = raised_here k' (component_among known (path_raises g.1.0) (allocates_default access)) h.1 in
+          (Some g.1.0, g.1.4, record { components = d.components; reached = d.reached; fit = defaults_fit known.program.types variables d.components; fails = λ raising. absurd (cc (raising, defaults_raise d.components)); refused = λ raising. raised StorageError refl; starts = λ e starts. raised e (or_right ((is_same e ConstraintError && path_raises g.1.0) || right_raises (is_same e) (allocates_default access)) (right_starts known.implicit (is_same e) (allocates_default access)) starts); room = tt; to = (h.0.0, rw (defaults_move d.components) (behind, good, h.0.1.0)); initializes = λ touches to_variable. absurd (cc to_variable) })
       go (f ∷ k') fits' g = absurd g
 
   -- An expression goes to a variable on which nothing relies, or into a component without access values.
@@ -470,13 +529,13 @@ module _ (known : Known) (k : Control) (a : Activation Value) (rest : List (Acti
       (record { done = []; spot = record { line = 0; column = 0 }; target = h.0; into = h.1; filled = tt; before = tt; behind = defaults_keep known.program.types (record { line = 0; column = 0 }) h.0 w.holds [] kinds; bare = defaults_bare known.program.types kinds; leads = h.2; counted = (let one : kinds ≡ h.2.components = let mine = d.reached in let its = h.2.reached in cc (mine, its) in ap length one) }))))
 
   -- What is assigned is evaluated.
-  right_fine : (types : List TypeDefinition) → Reaches known types → (right : RightForm) → ((access : ℕ) (items : List ItemForm) → right ≡ allocates access items → BareItems known.program.types items) → (kinds : List OperandKind) → typed.Fits known.program (cells_of s.heap) kinds (Evaluates right ∷ k) → EvaluatesTo known right k s.heap a.places s.masters → Fine known s.heap s.masters (right_next named types right (running k a rest s))
+  right_fine : (types : List TypeDefinition) → Reaches known types → (right : RightForm) → ((access : ℕ) (items : List ItemForm) → right ≡ allocates access items → BareItems known.program.types items × (known.touches access ≡ false)) → (kinds : List OperandKind) → typed.Fits known.program (cells_of s.heap) kinds (Evaluates right ∷ k) → EvaluatesTo known right k s.heap a.places s.masters → Fine known s.heap s.masters (right_next named types right (running k a rest s))
   right_fine types reaches nothing bare kinds (kind, takes, fits) e = ready_on known k a rest s (Null ∷ a.operands) (nothing_ready kind kinds (takes_none known.program.types known.program.variables kind nothing takes) fits e)
   right_fine types reaches (value_of path) bare kinds fits w = value_fine path.of_record path.root path.selectors path.spot kinds fits w
   right_fine types reaches (allocates access items) bare kinds (kind, takes, fits) w =
-      let h = allocating access items kind kinds takes fits w.rooms w.holds w.rest in
+      let h = allocating access items kind kinds (bare access items refl).1 takes fits w.rooms w.holds w.rest in
       ready_on known (Fills items ∷ Creates access (words_of types access) ∷ k) a rest s a.operands
-      (at_work w (record { done = []; spot = h.0; target = h.1; into = h.2; filled = tt; before = tt; behind = items_keep known.program.types h.0 h.1 w.holds [] items h.3; bare = bare access items refl h.0 h.1 w.holds h.3; leads = h.4; counted = ap count_of (reaches.0 access ∙ h.4.reached) }))
+      (at_work w (record { done = []; spot = h.0; target = h.1; into = h.2; filled = tt; before = tt; behind = items_keep known.program.types h.0 h.1 w.holds [] items h.3; bare = (bare access items refl).0 h.0 h.1 w.holds h.3; leads = h.4; counted = ap count_of (reaches.0 access ∙ h.4.reached) }))
   right_fine types reaches (allocates_default access) bare kinds (kind, takes, fits) w =
       let d = default_for known.program.types known.program.variables kind access takes in
       let h = defaulting access kind kinds d (takes_none known.program.types known.program.variables kind (allocates_default access) takes) fits w.rooms w.holds w.rest in
@@ -485,7 +544,7 @@ module _ (known : Known) (k : Control) (a : Activation Value) (rest : List (Acti
       ready_on known (Computes e ∷ k) a rest s a.operands (at_work w (computing e kind kinds takes fits w.rooms w.holds w.rest))
 
   -- What is assigned is evaluated, or what is passed.
-  pub evaluates_fine : (types : List TypeDefinition) → Reaches known types → (right : RightForm) → ((access : ℕ) (items : List ItemForm) → right ≡ allocates access items → BareItems known.program.types items) → (kinds : List OperandKind) → typed.Fits known.program (cells_of s.heap) kinds (Evaluates right ∷ k) → EvaluatesTo known right k s.heap a.places s.masters ⊎ Working known s.heap a.places s.masters (PassesTo known s.heap a.places a.operands (Evaluates right ∷ k)) → Fine known s.heap s.masters (right_next named types right (running k a rest s))
+  pub evaluates_fine : (types : List TypeDefinition) → Reaches known types → (right : RightForm) → ((access : ℕ) (items : List ItemForm) → right ≡ allocates access items → BareItems known.program.types items × (known.touches access ≡ false)) → (kinds : List OperandKind) → typed.Fits known.program (cells_of s.heap) kinds (Evaluates right ∷ k) → EvaluatesTo known right k s.heap a.places s.masters ⊎ Working known s.heap a.places s.masters (PassesTo known s.heap a.places a.operands (Evaluates right ∷ k)) → Fine known s.heap s.masters (right_next named types right (running k a rest s))
   evaluates_fine types reaches right bare kinds fits (inl e) = right_fine types reaches right bare kinds fits e
   evaluates_fine types reaches right bare kinds (kind, takes, fits) (inr w) = passes_fine known k a rest s types kind right takes w
 

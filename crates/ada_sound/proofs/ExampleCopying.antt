@@ -1,7 +1,7 @@
 -- A program that meets the premises of the laws, in which the declaration of a record object by its value calls an Adjust that allocates. With a run where that is
 -- granted, and one where it is refused.
 
-use Rattle.std.proofs.Common.{◌≡◌, true, false, List, [], ◌∷◌, ◌++◌, refl, arith}
+use Rattle.std.proofs.Common.{◌≡◌, true, false, [], ◌∷◌, ◌++◌, refl, arith}
 use Rattle.std.specs.Prelude.{Some, None, pos}
 use Rattle.ada_program.specs.declared.program.Declaration.TheVariants as declaration
 use Rattle.ada_program.specs.declared.program.Expression.{Integer}

@@ -31,7 +31,7 @@ use Rattle.ada_sound.proofs.ExampleOperations.{of_kind, handles, operation}
 use Rattle.ada_sound.proofs.ExampleTidying.{holder_type}
 
 -- type Pair is record First : Holder; Second : Holder; end record;
-abbrev pair_type : TypeDefinition
+abbrev pub pair_type : TypeDefinition
 pair_type =
     definition.Record no_name
     (vec (of_kind (part.Record (record { 0 = 2 })) 0 0 ∷ of_kind (part.Record (record { 0 = 2 })) 1 1 ∷ []) (omega arith))
@@ -51,7 +51,7 @@ undoing_types =
     ∷ []
 
 -- H.Head := new Cell; and Free (H.Head);
-abbrev undoing_procedures : List Procedure
+abbrev pub undoing_procedures : List Procedure
 undoing_procedures =
     operation 5 (stmt.Assign (of_object 0 0) (right.Default (record { 0 = 1 })) ∷ []) (omega arith) [] (omega arith)
     ∷ operation 6 (stmt.Free (record { 0 = 1 }) (of_object 0 0) ∷ []) (omega arith) [] (omega arith)

@@ -47,7 +47,7 @@ use Rattle.ada_typed.proofs.Bodies.{body_at}
 use Rattle.ada_typed.proofs.Lying.{IsOperable}
 
 -- Where nothing passes a test, nothing is found among what passes it.
-pub none_among : (test among : Exception → Bool) (xs : List Exception) → ((e : Exception) → test e ≡ false) → list_any among (filter test xs) ≡ false
+none_among : (test among : Exception → Bool) (xs : List Exception) → ((e : Exception) → test e ≡ false) → list_any among (filter test xs) ≡ false
 none_among test among [] none = refl
 none_among test among (x ∷ xs) none = rw (none x) (none_among test among xs none)
 
@@ -249,7 +249,7 @@ module _ (p : ProgramForm) (well : IsWellFormed p) where
       here ∙ ap (λ (bs : List BodyForm). Some (effect_of p.types (known_of implicit (effects_from p.types implicit [] bs)) c)) (taken_before number p.bodies procedure c at) ∙ sym whole
 
 -- A body that may raise one of some exceptions may raise one of more.
-pub raises_more : (es : Effects) → AllEach es.calls → (b : BodyForm) (among more : Exception → Bool) → Within among more → body_raises es b among ≡ true → body_raises es b more ≡ true
+raises_more : (es : Effects) → AllEach es.calls → (b : BodyForm) (among more : Exception → Bool) → Within among more → body_raises es b among ≡ true → body_raises es b more ≡ true
 raises_more es all b among more within h =
     let ds = b.declarations in
     let fs = b.statements in
@@ -261,7 +261,7 @@ raises_more es all b among more within h =
     (handlers_stay es all hs among more within) h
 
 -- What is false never holds.
-pub never : (b : Bool) → b ≡ true → b ≡ false → ⊥
+never : (b : Bool) → b ≡ true → b ≡ false → ⊥
 never true is not_so = cc not_so
 never false is not_so = cc is
 

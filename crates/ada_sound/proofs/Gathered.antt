@@ -20,14 +20,22 @@ use Rattle.ada_sound.proofs.Untracked.{owns_nothing}
 use Rattle.ada_sound.proofs.Invariant.{Control, NoneBroken, OwnsNothing, OwnNothing, owns_at_first}
 use Rattle.ada_sound.proofs.Followings.{first_kept, kept_apart}
 use Rattle.ada_sound.proofs.Copied.{copied_plain}
+use Rattle.ada_sound.proofs.Touched.{ComponentsUntouched}
 
 -- The records among these items own nothing, where flow lets them be items.
 abbrev pub BareItems : List TypeForm → List ItemForm → Type 0
 BareItems types items = (spot : Spot) (target : Option PathForm) (holds : Holds) → NoneBroken holds (uses_in_items types spot target [] items) → OwnNothing types items
 
--- Records that are items of an allocator that is evaluated next own nothing.
-abbrev pub AllocatesBare : List TypeForm → Control → Type 0
-AllocatesBare types k = (access : ℕ) (items : List ItemForm) (behind : Control) → k ≡ Evaluates (allocates access items) ∷ behind → BareItems types items
+-- An allocator with items is evaluated next only for an object for which no operation is called that touches storage (4.8, 7.6).
+abbrev pub AllocatesApart : (touches : ℕ → Bool) → Control → Type 0
+AllocatesApart touches k = (access : ℕ) (items : List ItemForm) (behind : Control) → k ≡ Evaluates (allocates access items) ∷ behind → touches access ≡ false
+
+-- No component names an object for which an operation is called that touches storage; records that are items of an allocator that is evaluated next own nothing, and no such operation is
+-- called for its object.
+abbrev pub AllocatesBare : List TypeForm → (touches : ℕ → Bool) → Control → Type 0
+AllocatesBare types touches k =
+    ComponentsUntouched types touches
+    × ((access : ℕ) (items : List ItemForm) (behind : Control) → k ≡ Evaluates (allocates access items) ∷ behind → BareItems types items × (touches access ≡ false))
 
 module _ (types : List TypeForm) (none : AdjustsNoOwners types) where
   -- A record that is copied as an item.
@@ -137,8 +145,9 @@ items_bare types none spot target holds earlier (i ∷ items) kept =
     (item_bare types none spot target holds earlier i two.0, items_bare types none spot target holds (named_by_item i ++ earlier) items two.1)
 
 -- Where no Adjust is of a type that declares components of access types, records that are items own nothing.
-pub allocates_none : (types : List TypeForm) (k : Control) → AdjustsNoOwners types → AllocatesBare types k
-allocates_none types k none access items behind is spot target holds kept = items_bare types none spot target holds [] items kept
+pub allocates_none : {touches : ℕ → Bool} (types : List TypeForm) (k : Control) → AdjustsNoOwners types → ComponentsUntouched types touches → AllocatesApart touches k → AllocatesBare types touches k
+allocates_none types k none untouched apart =
+    (untouched, λ access items behind is. ((λ spot target holds kept. items_bare types none spot target holds [] items kept), apart access items behind is))
 
 -- A record that has no controlled parts owns nothing, where it may be copied.
 record_bare : (types : List TypeForm) → CopiesWell types → (t : ℕ) → finalization_of types t ≡ None → leaves_owners types t ≡ false → is_owning_record types t ≡ false
@@ -173,5 +182,6 @@ all_bare types copies spot target holds earlier (i ∷ items) bare kept =
     (one_bare types copies spot target holds earlier i each.0 two.0, all_bare types copies spot target holds (named_by_item i ++ earlier) items each.1 two.1)
 
 -- So do those of an allocator that is evaluated next, where it copies no such record.
-pub allocates_bare : (types : List TypeForm) → CopiesWell types → (k : Control) → ((access : ℕ) (items : List ItemForm) (behind : Control) → k ≡ Evaluates (allocates access items) ∷ behind → list_all (is_bare_item types) items ≡ true) → AllocatesBare types k
-allocates_bare types copies k bare access items behind is spot target holds kept = all_bare types copies spot target holds [] items (bare access items behind is) kept
+pub allocates_bare : {touches : ℕ → Bool} (types : List TypeForm) → CopiesWell types → (k : Control) → ((access : ℕ) (items : List ItemForm) (behind : Control) → k ≡ Evaluates (allocates access items) ∷ behind → list_all (is_bare_item types) items ≡ true) → ComponentsUntouched types touches → AllocatesApart touches k → AllocatesBare types touches k
+allocates_bare types copies k bare untouched apart =
+    (untouched, λ access items behind is. ((λ spot target holds kept. all_bare types copies spot target holds [] items (bare access items behind is) kept), apart access items behind is))

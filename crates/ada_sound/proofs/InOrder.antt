@@ -4,7 +4,7 @@
 use Rattle.ada_program.specs.declared.program.TypeNo.{TypeNo}
 use Rattle.ada_program.specs.declared.program.ComponentKind.{ComponentKind}
 use Rattle.ada_program.specs.declared.program.ComponentKind.TheVariants as component
-use Rattle.std.proofs.Common.{◌≡◌, ℕ, zero, suc, Bool, true, false, not, ◌==◌, ◌&&◌, ◌||◌, List, [], ◌∷◌, refl, ap, subst, inl, inr, arith}
+use Rattle.std.proofs.Common.{◌≡◌, ℕ, zero, suc, Bool, true, false, not, ◌==◌, ◌||◌, List, [], ◌∷◌, refl, ap, subst, inl, inr, arith}
 use Rattle.std.specs.Prelude.{Option, Some, None}
 use Rattle.std.specs.List.{All, list_all, list_any, slice_get}
 use Rattle.std.proofs.lemmas.Bool.{and_parts, eq-eqb, eqb-true}
@@ -12,7 +12,7 @@ use Rattle.ada_program.specs.declared.program.Program.{Program}
 use Rattle.ada_program.specs.declared.program.VariableKind.{VariableKind}
 use Rattle.ada_program.specs.declared.program.VariableKind.TheVariants as variable
 use Rattle.ada_program.specs.ProgramForm.{TypeForm, record_of, access_to, object_of, ProgramForm, program_form}
-use Rattle.ada_program.specs.WellFormed.{IsWellFormed, type_fits, is_access, access_of, kind_among, components_in, components_reached, finalization_in, named_in, reached_components}
+use Rattle.ada_program.specs.WellFormed.{IsWellFormed, type_fits, is_access, access_of, kind_among, components_in, components_reached, named_in, reached_components}
 use Rattle.ada_meaning.specs.State.{Owned, declared, collection, record_object, storage_pool, Item, Master}
 use Rattle.ada_meaning.specs.Named.{State}
 use Rattle.ada_meaning.specs.Law.{items_of}
@@ -22,7 +22,7 @@ use Rattle.ada_scopes.proofs.Components.{items_fit, objects_gone}
 use Rattle.ada_scopes.proofs.Runs.{Scoped}
 use Rattle.ada_sound.proofs.Ahead.{goes_first, ahead_in, IsApartFrom, IsApart, ItemsApart, MastersApart}
 use Rattle.ada_quiet.specs.Bare.{has_bare_objects, is_bare_component, has_bare_components, is_component_of, has_component_of, is_component_type, collections_in_order}
-use Rattle.ada_quiet.specs.InUse.{initializes_quietly, may_allocate_parts}
+use Rattle.ada_quiet.specs.InUse.{may_allocate_parts}
 use Rattle.ada_sound.proofs.Fits.{first_left}
 use Rattle.ada_sound.proofs.FrugalFrees.{component_access}
 use Rattle.ada_sound.proofs.Invariant.{innermost}
@@ -116,10 +116,7 @@ bare_in_types types (object_of record_type ∷ ts) t each some = bare_in_types t
 -- So they are where objects with controlled parts may be allocated.
 component_type_is_bare : (p : ProgramForm) → may_allocate_parts p ≡ true → (t : ℕ) → is_component_type p.types t ≡ true → has_bare_objects p.types t ≡ true
 component_type_is_bare p may t is =
-    let quiet = list_all (λ u. initializes_quietly p (finalization_in (Some u))) p.types in
-    let two = and_parts (list_all (has_bare_components p.types) p.types && collections_in_order p) quiet may in
-    let one = and_parts (list_all (has_bare_components p.types) p.types) (collections_in_order p) two.0 in
-    bare_in_types p.types p.types t one.0 is
+    bare_in_types p.types p.types t (and_parts (list_all (has_bare_components p.types) p.types) (collections_in_order p) may).0 is
 
 -- A collection is one of bare objects.
 abbrev HousesBare : List TypeForm → Owned → Type 0

@@ -19,7 +19,7 @@ use Rattle.ada_program.specs.Handling.{is_same, handler_of}
 use Rattle.ada_effects.specs.Effects.{expression_raises, links_raise, items_raise, path_raises, record_path_raises, condition_raises, unary_raises, binary_raises, right_raises, right_starts, declaration_raises, stmts_raise, branches_raise, handlers_raise, Effect, Implicit, call_raises, body_raises, stmts_free, branches_free, handlers_free, body_frees, call_frees, effects_of, endings_free, declaration_frees, assignment_frees}
 use Rattle.ada_flow.specs.declared.rule.Hold.TheVariants as hold
 use Rattle.ada_flow.specs.declared.rule.Region.TheVariants.{Whole}
-use Rattle.ada_flow.specs.Flow.{Holds, hold_at, variable_access, lost_by, Outcome, faults, goes, Use, uses_in, uses_in_links, uses_in_item, named_by_item, is_owning, is_owning_record, broken_among, without_values, moved_by_items, passes_type, behind_end, gives, gives_component, clears, compares_it, uses_in_actuals, Keeping, keeping_of, kept_at, is_kept, handed_back, left_unkept, owed_from, gives_back, all_give_back, are_as_good, have_exit, branches_have_exit, handlers_have_exit, is_left, condition_flow, stmts_flow, branches_flow, handlers_flow, declaration_flow, Gone as GoneWith, collected, is_among, left, left_finalized, left_by_call, nothing_gone, Around, owns_among}
+use Rattle.ada_flow.specs.Flow.{Holds, hold_at, variable_access, lost_by, Outcome, faults, goes, Use, uses_in, uses_in_links, uses_in_item, named_by_item, is_owning, is_owning_record, broken_among, without_freed, without_values, moved_by_items, passes_type, behind_end, gives, gives_component, clears, compares_it, uses_in_actuals, Keeping, keeping_of, kept_at, is_kept, handed_back, left_unkept, owed_from, gives_back, all_give_back, are_as_good, have_exit, branches_have_exit, handlers_have_exit, is_left, condition_flow, stmts_flow, branches_flow, handlers_flow, declaration_flow, Gone as GoneWith, collected, is_among, left, left_finalized, left_by_call, nothing_gone, Around, owns_among}
 use Rattle.ada_flow.specs.Tracking.{no_tracks, with_tracked}
 use Rattle.ada_meaning.specs.declared.state.Id.{Id}
 use Rattle.ada_meaning.specs.declared.state.Place.{Place}
@@ -37,7 +37,7 @@ use Rattle.ada_meaning.specs.declared.event.Halt.TheVariants.{Finished, Unhandle
 use Rattle.ada_meaning.specs.Frame.{Frame, Elaborates, Does, Decides, Repeats, Turns, Ranges, Counts, Exits, Handles, Closes, Leaves, Calls, Returns, Evaluates, Computes, Follows, TestsNull, Refers, RefersIn, Opens, OpensIn, Continues, Applies, AppliesAlone, Fills, Copies, Creates, Stores, Targets, StoresIn, TargetsRecord, StoresRecord, Assigns, Receives, FreesIn, Declares, DeclaresRecord, Treats, Writes, Ends, GivesBack, Clears, ClearsIn, Treatment, begins, ends}
 use Rattle.ada_meaning.specs.Frame as frame
 use Rattle.ada_meaning.specs.Event.{Born, Finalized, Back, Followed, Left, Line, Quiet}
-use Rattle.ada_meaning.specs.State.{Activation, Owned, declared, collection, record_object, storage_pool, Item, Master, height, Destination, home_of}
+use Rattle.ada_meaning.specs.State.{Activation, Owned, declared, collection, record_object, storage_pool, Item, Master, height}
 use Rattle.ada_meaning.specs.Heap.{Home, Cell, finds}
 use Rattle.ada_meaning.specs.Step.{halts, moves, tells, asks, picks, first_or, older, in_front, before_last, last_of, selected, place_in, places, operands, treating}
 use Rattle.ada_meaning.specs.Named.{Object, State, Next, object_at, look, named, on_object, finished, store, whole, inside}
@@ -85,14 +85,15 @@ Roomed below ms [] = ms ≡ below
 Roomed below [] (gone ∷ rooms) = ⊥
 Roomed below (m ∷ ms) (gone ∷ rooms) = ItemsAmong m.items gone.types × Roomed below ms rooms
 
--- A caller, whose activation is suspended: what is known of implicit calls; the program as its body sees it, which items go first where a master is left, and what is known where flow comes to a place
--- in it; the actual parameters of its call, their values, what refers to the components that get something back, the objects to which all that refers leads, those that are under
+-- A caller, whose activation is suspended: what is known of implicit calls; the program as its body sees it, which items go first where a master is left, for objects of which types an
+-- operation may be called that touches storage, and what is known where flow comes to a place in it; the actual parameters of its call, their values, what refers to the components that get something back, the objects to which all that refers leads, those that are under
 -- way, as a treatment finalizes them, and what the procedure keeps of the parameters; what is left to do once the call has come to its end, the masters that are entered then, and their rooms; what its variables hold, and what is
 -- known of them behind the call, as if nothing were handed over.
 pub record Caller : Type 1 where
   pub implicit : Implicit
   pub program : ProgramForm
   pub ahead : Owned → Bool
+  pub touches : (access : ℕ) → Bool
   pub At : Control → Holds → Type 0
   pub actuals : List ActualForm
   pub passed : List Value
@@ -110,12 +111,13 @@ pub record Caller : Type 1 where
 abbrev pub waiting_holds : Caller → Holds
 waiting_holds w = left_unkept [] w.actuals w.before
 
--- What is known of implicit calls, the program as the running body sees it, which items go first where a master is left (7.6.1), what is known where flow comes to a
--- place in it, and its callers, the nearest one first; and which of its variables stand for components that the body tracks (7.6).
+-- What is known of implicit calls, the program as the running body sees it, which items go first where a master is left (7.6.1), for objects of which types an operation may be called
+-- that touches storage (7.6), what is known where flow comes to a place in it, and its callers, the nearest one first; and which of its variables stand for components that the body tracks (7.6).
 pub record Known : Type 1 where
   pub implicit : Implicit
   pub program : ProgramForm
   pub ahead : Owned → Bool
+  pub touches : (access : ℕ) → Bool
   pub At : Control → Holds → Type 0
   pub callers : List Caller
   pub tracked : List ℕ
@@ -483,23 +485,36 @@ IsOne [] = ⊥
 IsOne (c ∷ []) = Unit {0}
 IsOne (c ∷ d ∷ cs) = ⊥
 
--- What is left goes on once a value is assigned: with less known behind the initialization of a new object, which may free objects (4.8, 7.6).
+-- What is known behind what is assigned: no alias is left of what the initialization of a new object may free (4.8, 7.6).
+abbrev pub behind_right : Known → RightForm → Holds → Holds
+behind_right known nothing holds = holds
+behind_right known (value_of path) holds = holds
+behind_right known (allocates access items) holds = holds
+behind_right known (allocates_default access) holds = without_freed known.program.variables (known.implicit.start_frees access) holds
+behind_right known (computes e) holds = holds
+
+-- What is left goes on once a value is assigned: behind the initialization of a new object no alias is left of what that may free, and there is none in a suspended activation (4.8, 7.6).
 abbrev pub RunsAfter : Known → RightForm → Control → Rooms → Holds → Type 0
 RunsAfter known nothing k rooms holds = RunsOn known k rooms holds
 RunsAfter known (value_of path) k rooms holds = RunsOn known k rooms holds
 RunsAfter known (allocates access items) k rooms holds = To (RunsOn known k rooms) holds
-RunsAfter known (allocates_default access) k rooms holds = To (RunsOn known k rooms) holds
+RunsAfter known (allocates_default access) k rooms holds =
+    RunsOn known k rooms (without_freed known.program.variables (known.implicit.start_frees access) holds) × Spares known (known.implicit.start_frees access)
 RunsAfter known (computes e) k rooms holds = RunsOn known k rooms holds
 
 -- Which exceptions an assignment may raise: where what is assigned is evaluated, and where a new object is initialized (4.8, 7.6).
 abbrev pub assignment_among : Known → RightForm → Exception → Bool
 assignment_among known right e = right_raises (is_same e) right || right_starts known.implicit (is_same e) right
 
+-- These may be raised by an assignment: what passes the frames is known, where the same is lost.
+abbrev pub RaisesAfter : Known → RightForm → Control → Rooms → (among : Exception → Bool) → Holds → Type 0
+RaisesAfter known right k rooms among holds = Raised among (ways known k rooms) (behind_right known right holds)
+
 -- A variable gets what is assigned.
 abbrev pub GivesTo : Known → RightForm → Rooms → Holds → ℕ → Control → Type 0
 GivesTo known right rooms holds x k =
     (cleared : Bool)
-    × ((spot : Spot) × Goes (gives known.program.types known.program.variables no_tracks spot cleared x right holds) (RunsAfter known right k rooms) (Raised (assignment_among known right) (ways known k rooms)))
+    × ((spot : Spot) × Goes (gives known.program.types known.program.variables no_tracks spot cleared x right holds) (RunsAfter known right k rooms) (RaisesAfter known right k rooms (assignment_among known right)))
     × Pairs cleared right (λ path. x ≢ path.root) k
 
 -- A declaration is no half of a take pair.
@@ -516,7 +531,7 @@ HasRoom (gone ∷ rooms) = Unit {0}
 abbrev pub DeclaresTo : Known → RightForm → Rooms → Holds → ℕ → Control → Type 0
 DeclaresTo known right rooms holds x k =
     HasRoom rooms × (cleared : Bool)
-    × ((spot : Spot) × Goes (gives known.program.types known.program.variables no_tracks spot cleared x right holds) (RunsAfter known right k rooms) (Raised (assignment_among known right) (ways known k rooms)))
+    × ((spot : Spot) × Goes (gives known.program.types known.program.variables no_tracks spot cleared x right holds) (RunsAfter known right k rooms) (RaisesAfter known right k rooms (assignment_among known right)))
     × IsAlone cleared
 
 -- Which exceptions an assignment to a component may raise, whose path may raise one or not.
@@ -539,7 +554,7 @@ LeadsTo heap places w cs c path = (walk heap (begun places path) (front (along p
 abbrev pub FillsIn : Known → RightForm → (leads : PathForm → Type 0) → Rooms → Holds → Control → Type 0
 FillsIn known right leads rooms holds k =
     (path : PathForm) × (cleared : Bool)
-    × Goes (gives_component known.program.types no_tracks cleared path right holds) (RunsAfter known right k rooms) (Raised (component_among known (path_raises path) right) (ways known k rooms))
+    × Goes (gives_component known.program.types no_tracks cleared path right holds) (RunsAfter known right k rooms) (RaisesAfter known right k rooms (component_among known (path_raises path) right))
     × Pairs cleared right (λ taken. IsOne taken.selectors) k × leads path
 
 -- An object that a component lies in is there.
@@ -615,7 +630,34 @@ RoomFor (f ∷ k) rooms = Unit {0}
 abbrev pub StartsTo : Known → (type_number : ℕ) → Control → Rooms → Holds → Type 0
 StartsTo known t k rooms holds = (e : Exception) → list_any (is_same e) (known.implicit.start_raises t) ≡ true → To ((ways known k rooms).raised e) holds
 
--- What an allocator with all these items leads to: less may be known behind it, where the new object is initialized.
+-- Of what the initialization of an object may free, no suspended activation and no variable has an alias, and the running body may free it.
+abbrev pub BeginsWell : Known → (access : ℕ) → Holds → Type 0
+BeginsWell known access holds = Spares known (known.implicit.start_frees access) × Unaliased known.program.variables (known.implicit.start_frees access) holds
+
+-- A variable gets what is evaluated.
+abbrev pub goes_to_variable : Control → Bool
+goes_to_variable [] = false
+goes_to_variable (Stores x ∷ k) = true
+goes_to_variable (Declares x ∷ k) = true
+goes_to_variable (f ∷ k) = false
+
+-- A variable gets the name of a new object of this type, which owns it then.
+abbrev pub GoesTo : Known → (access : ℕ) → Control → Rooms → Holds → Type 0
+GoesTo known access k rooms holds =
+    StoresTo k
+    (λ x k'. ((variable_access known.program.variables x ≡ Some access) × (is_object known.program.variables x ≡ false)) × To (RunsOn known k' rooms) (slice_set holds x (hold.Own Whole)))
+    (λ o c k'. ⊥)
+
+-- What an allocator without items leads to, in the midst of which operations may free objects (4.8, 7.6): with less known, no alias of these is left.
+pub record Initializes (known : Known) (access : ℕ) (k : Control) (rooms : Rooms) (holds : Holds) : Type 0 where
+  pub less : Holds
+  pub good : AsGood holds less
+  pub well : BeginsWell known access less
+  pub undone : StartsTo known access k rooms less
+  pub to : GoesTo known access k rooms less
+
+-- What an allocator with all these items leads to: less may be known behind it, where the new object is initialized. Where operations may touch storage that are called then, and a variable
+-- gets the object, it has no items that move a value.
 pub record Allocating (known : Known) (heap : List Object) (access : ℕ) (all : List ItemForm) (k : Control) (rooms : Rooms) (holds : Holds) : Type 0 where
   pub components : List ComponentKind
   pub reached : reached_components known.program.types access ≡ Some components
@@ -628,6 +670,7 @@ pub record Allocating (known : Known) (heap : List Object) (access : ℕ) (all :
       (λ x k'. ((variable_access known.program.variables x ≡ Some access) × (is_object known.program.variables x ≡ false))
       × To (RunsOn known k' rooms) (slice_set (without_values (moved_by_items no_tracks all) holds) x (hold.Own Whole)))
       (λ o c k'. Accepts known heap o c (Some access) × To (RunsOn known k' rooms) (without_values (moved_by_items no_tracks all) holds))
+  pub initializes : known.touches access ≡ true → goes_to_variable k ≡ true → (moved_by_items no_tracks all ≡ []) × Initializes known access k rooms holds
 
 -- An item that is a record owns nothing; nor do all that are, of these.
 abbrev pub OwnsNothing : List TypeForm → ItemForm → Type 0
@@ -1125,24 +1168,16 @@ LeavesTo known under heap places masters (f ∷ k) = ⊥
 abbrev pub CameOut : Known → (access : ℕ) → Mode → Type 0
 CameOut known access mode = (e : Exception) × (mode ≡ Raising e) × (list_any (is_same e) (known.implicit.start_raises access) ≡ true)
 
--- Of what the initialization of an object may free, no suspended activation and no variable has an alias, and the running body may free it.
-abbrev pub BeginsWell : Known → (access : ℕ) → Holds → Type 0
-BeginsWell known access holds = Spares known (known.implicit.start_frees access) × Unaliased known.program.variables (known.implicit.start_frees access) holds
-
 -- An object under way is of this type, if there is one.
 abbrev pub UnderIs : List Object → (under : Option Id) → (access : ℕ) → Type 0
 UnderIs heap None access = Unit {0}
 UnderIs heap (Some o) access = (object : Object) × (object_at heap o ≡ Some object) × (object.cell.access ≡ access)
 
--- A collection of this type is open.
-abbrev pub HasCollection : List Master → (access : ℕ) → Type 0
-HasCollection masters access = (home : Destination) × (home_of access masters ≡ Some home)
-
 abbrev pub ResumesTo : Known → (under : Option Id) → List Object → List Value → List Master → Control → Type 0
 ResumesTo known under heap places masters [] = ⊥
 ResumesTo known under heap places masters (frame.Resumes mode ∷ k) =
     (access : ℕ) × UnderIs heap under access × CameOut known access mode
-    × ((HasCollection masters access × Freed known None none_spared (gone_in under heap) places masters (λ rooms holds. To (By mode (ways known k rooms)) holds))
+    × (((known.touches access ≡ false) × Freed known None none_spared (gone_in under heap) places masters (λ rooms holds. To (By mode (ways known k rooms)) holds))
     ⊎ Freed known under none_spared heap places masters (λ rooms holds. To (By mode (ways known k rooms)) holds × BeginsWell known access holds))
 ResumesTo known under heap places masters (f ∷ k) = ⊥
 
@@ -1322,9 +1357,24 @@ pub record Beginning (known : Known) (v : Value) (k : Control) (heap : List Obje
   pub undone : StartsTo known object.cell.access k rooms (slice_set holds x hold.Lost)
   pub well : BeginsWell known object.cell.access holds
 
--- What a value names is of an access type of which a collection is open.
-abbrev pub IsCollected : List Object → List Master → Value → Type 0
-IsCollected heap masters v = (o : Id) (x : Object) → v ≡ Names o → object_at heap o ≡ Some x → HasCollection masters x.cell.access
+-- A new object is initialized that an allocator made (4.8, 7.6). Nothing relies on it. A variable gets its name behind that, and where an exception comes out, that goes on without the
+-- object. Of what its initialization may free there is no alias.
+pub record Making (known : Known) (o : Id) (access : ℕ) (k : Control) (heap : List Object) (places : List Value) (masters : List Master) : Type 0 where
+  pub rooms : Rooms
+  pub holds : Holds
+  pub stored : Stored (outers known).under heap masters
+  pub roomed : Roomed (below known) masters rooms
+  pub fit : Fit known.program.types known.program.variables (outers known) none_spared heap places holds
+  pub aside : IsAside known none_spared heap places holds (Some o)
+  pub room : RoomFor k rooms
+  pub to : GoesTo known access k rooms holds
+  pub undone : StartsTo known access k rooms holds
+  pub well : BeginsWell known access holds
+
+-- So it is with the object that a value names, where operations may touch storage that are called then.
+abbrev pub IsMade : Known → Value → Control → List Object → (places : List Value) → List Master → Type 0
+IsMade known v k heap places masters =
+    (o : Id) (x : Object) → v ≡ Names o → object_at heap o ≡ Some x → known.touches x.cell.access ≡ true → Making known o x.cell.access k heap places masters
 
 -- Behind that of a record object what is left goes on. Of what its adjustment may free there is no alias, where a record was copied to it (7.6).
 abbrev pub BeginsBy : Known → Value → Birth → Control → List Object → (places : List Value) → List Master → Type 0
@@ -1337,7 +1387,7 @@ BeginsBy known v (Adjustment number) k heap places masters =
 -- So it does behind that of any object.
 abbrev pub BegunTo : Known → Value → Birth → Control → List Object → (places operands : List Value) → List Master → Type 0
 BegunTo known v by k heap places operands masters =
-    BeginsBy known v by k heap places masters ⊎ ((by ≡ Creation) × IsCollected heap masters v × NamesTo known k heap places operands masters)
+    BeginsBy known v by k heap places masters ⊎ ((by ≡ Creation) × (first_or Null operands ≡ v) × IsMade known v k heap places masters × NamesTo known k heap places operands masters)
 
 -- Behind the finalization of an object stands its end.
 abbrev pub EndsTo : Known → Value → Control → List Object → List Value → List Master → Type 0
@@ -1369,12 +1419,12 @@ abbrev pub StartsRaise : Known → List Object → Value → Exception → Type 
 StartsRaise known heap v e =
     (o : Id) × (x : Object) × (v ≡ Names o) × (object_at heap o ≡ Some x) × (list_any (is_same e) (known.implicit.start_raises x.cell.access) ≡ true)
 
--- What is behind the initialization of an object goes on with an exception (7.6.1): the object counts as gone already, if an allocator made it; nothing relies on
--- one that a declaration created.
+-- What is behind the initialization of an object goes on with an exception (7.6.1): the object counts as gone already, or, where operations may touch storage that are called for it,
+-- nothing relies on it.
 abbrev pub UndoneTo : Known → Value → Control → List Object → List Value → List Master → Exception → Type 0
 UndoneTo known v k heap places masters e =
     (o : Id) × (access : ℕ) × (v ≡ Names o) × UnderIs heap (Some o) access
-    × ((HasCollection masters access × Freed known None none_spared (on_object finished heap v) places masters (λ rooms holds. To ((ways known k rooms).raised e) holds))
+    × (((known.touches access ≡ false) × Freed known None none_spared (on_object finished heap v) places masters (λ rooms holds. To ((ways known k rooms).raised e) holds))
     ⊎ Freed known (Some o) none_spared heap places masters (λ rooms holds. To ((ways known k rooms).raised e) holds × BeginsWell known access holds))
 
 -- A new object may be undone, where an exception comes out of its initialization; what is copied or adjusted never is (7.6, 7.6.1).
@@ -1535,7 +1585,7 @@ Ready known s = IsActive s.activations × ReadyIn known s.mode s.control s.heap 
 
 -- A caller as the body at work.
 abbrev pub known_of : Caller → List Caller → Known
-known_of w ws = record { implicit = w.implicit; program = w.program; ahead = w.ahead; At = w.At; callers = ws; tracked = [] }
+known_of w ws = record { implicit = w.implicit; program = w.program; ahead = w.ahead; touches = w.touches; At = w.At; callers = ws; tracked = [] }
 
 -- The variable that an actual parameter hands over to a formal one of mode `in out` of an access type, if it does; and that of a formal parameter, by its
 -- number.

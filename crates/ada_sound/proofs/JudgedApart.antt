@@ -1,13 +1,14 @@
 -- The forms of a body that tracks components of its formal parameter (7.6) call no procedure that tracks, as they are judged, where they call none as they are;
--- and no allocator of theirs copies a record with controlled parts (4.8).
+-- and no allocator of theirs with items makes an object with controlled parts, or copies a record with some (4.8).
 
-use Rattle.std.proofs.Common.{◌≡◌, ℕ, Bool, true, ◌&&◌, List, [], ◌∷◌, refl, ◌∙◌}
+use Rattle.std.proofs.Common.{◌≡◌, ℕ, Bool, true, ◌&&◌, List, [], ◌∷◌, refl, ap, ◌∙◌}
 use Rattle.std.specs.List.{list_all}
 use Rattle.ada_flow.specs.Tracking.{Tracks}
 use Rattle.ada_meaning.specs.Frame.{Elaborates}
 use Rattle.ada_program.specs.Form.{ItemForm, null_item, item_of_path, item_of_value, item_of_record, RightForm, nothing, value_of, allocates, allocates_default, computes, StmtForm, skips, assigns, assigns_record, frees, gets, writes, writes_text, chooses, repeats, counts, exits, calls, returns, raises, encloses, StmtsForm, no_stmts, a_stmt, BranchesForm, otherwise, a_branch, HandlersForm, no_handlers, a_handler, DeclarationForm, creates_pool, collects, declares, declares_record}
 use Rattle.ada_program.specs.ProgramForm.{TypeForm, BodyForm}
 use Rattle.ada_quiet.specs.Apart.{is_bare_item, is_bare_right, declares_apart, declare_apart, calls_apart, all_call_apart, branches_call_apart, handlers_call_apart, body_calls_apart}
+use Rattle.ada_quiet.specs.Bare.{has_bare_objects}
 use Rattle.ada_sound.proofs.CallsApart.{FrameCallsApart, elaborates_apart}
 use Rattle.ada_tracked.specs.Forms.{seen_item, seen_items, seen_right, seen_declaration, seen_declarations, seen_stmt, seen_stmts, seen_branches, seen_handlers}
 
@@ -26,7 +27,7 @@ module _ (types : List TypeForm) (tracks : Tracks) where
   right_same : (right : RightForm) → is_bare_right types (seen_right tracks right) ≡ is_bare_right types right
   right_same nothing = refl
   right_same (value_of path) = refl
-  right_same (allocates access items) = items_same items
+  right_same (allocates access items) = ap (λ (b : Bool). has_bare_objects types access && b) (items_same items)
   right_same (allocates_default access) = refl
   right_same (computes e) = refl
 

@@ -166,9 +166,6 @@ pub mod FrugalUseParts
 pub mod FrugalUseEnds
 pub mod FrugalUseLets
 mod FrugalUseFrees
--- what comes out of operations that are in use
-mod QuietEffects
-mod StartsInUse
 -- what is finalized at an assignment
 pub mod AssignedParts
 -- what Free of a component does
@@ -194,6 +191,7 @@ pub mod Statements
 -- jumps on their way
 pub mod Jumps
 -- the body of a Finalize that touches storage
+pub mod Touched
 pub mod Touching
 -- a body that tracks components, as it is judged
 pub mod Judged
@@ -346,6 +344,8 @@ pub mod ExampleOverwriting
 pub mod ExampleEmptying
 pub mod ExampleAllocating
 pub mod ExampleUndoing
+-- one whose Initialize allocates for what an allocator makes
+pub mod ExampleFilling
 -- and those whose Adjust allocates
 pub mod ExampleDuplicating
 pub mod ExampleCopying

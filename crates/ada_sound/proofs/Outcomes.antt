@@ -11,7 +11,7 @@ use Rattle.ada_flow.specs.declared.rule.Rule.TheVariants.{LoopState, FormalNotOw
 use Rattle.ada_flow.specs.Flow.{Holds, Outcome, faults, goes, Breach, join, join_option, also_raises, then_flow, raising_if, ends_with, unless_broken, using_paths, uses_in, broken_among, computed, either_of, are_as_good, unless_worse, ends_turn, left_with, without_freed, without_freed_option, loses, initializes, finalizes, Gone, left, left_option, leaves_block, handled, all_give_back, ends_body, return_flow}
 use Rattle.ada_flow.specs.Tracking.{no_tracks}
 use Rattle.ada_sound.proofs.Orderings.{AsGood, as_good, as_good_then, good_each, join_left, join_right, without_freed_good}
-use Rattle.ada_sound.proofs.Invariant.{Known, Control, Rooms, GoesBy, Goes, To, Ways, Raised, MayReturn, NoneBroken, RunsOn, RunsAfter}
+use Rattle.ada_sound.proofs.Invariant.{Known, Control, Rooms, GoesBy, Goes, To, Ways, Raised, MayReturn, NoneBroken, RunsOn, RunsAfter, RaisesAfter, Spares, behind_right, ways}
 
 -- What holds with less known holds with more.
 abbrev pub Down : (Holds → Type 0) → Type 0
@@ -157,14 +157,28 @@ loses_to variables may o more raised downs g =
     goes_map o (λ h. more (without_freed variables may h)) (λ h. raised (without_freed variables may h)) (To more) raised
     (λ h m. (without_freed variables may h, without_freed_good variables may h, m)) (before_lost variables may raised downs) (loses_goes variables may o more raised g)
 
-pub initializes_after : (known : Known) (right : RightForm) (o : Outcome) (k : Control) (rooms : Rooms) (raised : Holds → Type 0) → Down raised → Goes (initializes known.program.variables known.implicit right o) (RunsOn known k rooms) raised → Goes o (RunsAfter known right k rooms) raised
-initializes_after known nothing o k rooms raised downs g = g
-initializes_after known (value_of path) o k rooms raised downs g = g
-initializes_after known (allocates access items) o k rooms raised downs g =
-    goes_map o (RunsOn known k rooms) raised (To (RunsOn known k rooms)) raised (to_here (RunsOn known k rooms)) (λ h r. r) g
-initializes_after known (allocates_default access) o k rooms raised downs g =
-    loses_to known.program.variables (known.implicit.start_frees access) o (RunsOn known k rooms) raised downs g
-initializes_after known (computes e) o k rooms raised downs g = g
+-- So it does behind what is assigned: where a new object is initialized, no suspended activation has an alias of what that may free (4.8, 7.6).
+pub initializes_after : (known : Known) (right : RightForm) (o : Outcome) (k : Control) (rooms : Rooms) (among : Exception → Bool) → ((access : ℕ) → right ≡ allocates_default access → Spares known (known.implicit.start_frees access))
+    → Goes (initializes known.program.variables known.implicit right o) (RunsOn known k rooms) (Raised among (ways known k rooms)) → Goes o (RunsAfter known right k rooms) (RaisesAfter known right k rooms among)
+initializes_after known nothing o k rooms among spares g = g
+initializes_after known (value_of path) o k rooms among spares g = g
+initializes_after known (allocates access items) o k rooms among spares g =
+    goes_map o (RunsOn known k rooms) (Raised among (ways known k rooms)) (To (RunsOn known k rooms)) (Raised among (ways known k rooms)) (to_here (RunsOn known k rooms)) (λ h r. r) g
+initializes_after known (allocates_default access) o k rooms among spares g =
+    let variables = known.program.variables in
+    let may = known.implicit.start_frees access in
+    let raised = Raised among (ways known k rooms) in
+    goes_map o (λ h. RunsOn known k rooms (without_freed variables may h)) (λ h. raised (without_freed variables may h)) (RunsAfter known (allocates_default access) k rooms) (RaisesAfter known (allocates_default access) k rooms among)
+    (λ h m. (m, spares access refl)) (λ h r. r) (loses_goes variables may o (RunsOn known k rooms) raised g)
+initializes_after known (computes e) o k rooms among spares g = g
+
+-- What is known behind what is assigned was known before.
+pub behind_good : (known : Known) (right : RightForm) (holds : Holds) → AsGood holds (behind_right known right holds)
+behind_good known nothing holds = as_good holds
+behind_good known (value_of path) holds = as_good holds
+behind_good known (allocates access items) holds = as_good holds
+behind_good known (allocates_default access) holds = without_freed_good known.program.variables (known.implicit.start_frees access) holds
+behind_good known (computes e) holds = as_good holds
 
 -- A block: it is left both ways.
 block_some : (variables : List VariableForm) (gone : Gone) (o : Option Holds) (more : Holds → Type 0) → GoesBy (left_option variables gone o) more → GoesBy o (λ h. more (left variables gone h))

@@ -25,7 +25,7 @@ use Rattle.ada_scopes.specs.Scopes.{NestsAnywhere, AllNestAnywhere, OperationsNe
 use Rattle.ada_quiet.specs.Apart.{is_this_one, is_adjust_of}
 use Rattle.ada_quiet.specs.Quiet.{is_quiet_stmt, are_quiet, are_quiet_branches, are_quiet_handlers, are_quiet_declarations, is_plain_body, is_plain_procedure, is_quiet_procedure, is_plain_operation, is_quiet_operation, has_access, operation_body}
 use Rattle.ada_quiet.specs.Frugal.{is_frugal_body, frugal_procedures, thrift_of, is_frugal_operation, own_effects, is_silent_procedure, is_silent_operation}
-use Rattle.ada_quiet.specs.InUse.{may_be_frugal, may_end_frugally, uses_initialize, uses_finalize, uses_operations, operations_are_in_use, may_track, uses_adjust}
+use Rattle.ada_quiet.specs.InUse.{may_be_frugal, uses_initialize, uses_finalize, uses_operations, operations_are_in_use, may_track, uses_adjust}
 use Rattle.ada_quiet.specs.Simple.{is_simple_body, is_simple_procedure, is_simple_operation}
 use Rattle.ada_quiet.proofs.FrugalAt.{frugal_at}
 use Rattle.ada_quiet.proofs.InUse.{plain_procedure, plain_operation}
@@ -133,8 +133,8 @@ module _ (p : ProgramForm) where
   IsQuiet number = is_quiet_procedure p.types (slice_get p.bodies number) ≡ true
 
   -- A procedure is frugal, where that may be.
-  abbrev pub IsFrugal : Bool → ℕ → Type 0
-  IsFrugal may number = (may ≡ true) × (slice_index_or (frugal_procedures p) number false ≡ true)
+  abbrev pub IsFrugal : ℕ → Type 0
+  IsFrugal number = (may_be_frugal p ≡ true) × (slice_index_or (frugal_procedures p) number false ≡ true)
 
   abbrev pub IsSilent : ℕ → Type 0
   IsSilent number = is_silent_procedure (own_effects p) (slice_get p.bodies number) ≡ true
@@ -145,9 +145,9 @@ module _ (p : ProgramForm) where
   -- What overrides Initialize is plain or frugal, what overrides Adjust is quiet, or simple and silent and of a type that owns, and what overrides Finalize is
   -- quiet, or frugal and silent.
   record AreUsed (Owns : Type 0) (o : Operations) (number : ℕ) : Type 0 where
-    initializes : procedure_number o.initialize ≡ Some number → IsPlain number ⊎ IsFrugal (may_be_frugal p) number
+    initializes : procedure_number o.initialize ≡ Some number → IsPlain number ⊎ IsFrugal number
     adjusts : procedure_number o.adjust ≡ Some number → IsQuiet number ⊎ (IsSimple number × IsSilent number × Owns)
-    finalizes : procedure_number o.finalize ≡ Some number → IsQuiet number ⊎ (IsFrugal (may_end_frugally p) number × IsSilent number)
+    finalizes : procedure_number o.finalize ≡ Some number → IsQuiet number ⊎ (IsFrugal number × IsSilent number)
 
   plain_one : (o : Option ProcedureNo) (number : ℕ) → is_plain_operation p o ≡ true → procedure_number o ≡ Some number → IsPlain number
   plain_one None number plain is = absurd (cc is)
@@ -165,14 +165,14 @@ module _ (p : ProgramForm) where
   silent_one None number silent is = absurd (cc is)
   silent_one (Some procedure) number silent is = let same : procedure.0 ≡ number = cc is in rw same at silent
 
-  pub finalize_one : (o : Option ProcedureNo) (number : ℕ) → uses_finalize p o ≡ true → procedure_number o ≡ Some number → IsQuiet number ⊎ (IsFrugal (may_end_frugally p) number × IsSilent number)
+  pub finalize_one : (o : Option ProcedureNo) (number : ℕ) → uses_finalize p o ≡ true → procedure_number o ≡ Some number → IsQuiet number ⊎ (IsFrugal number × IsSilent number)
   finalize_one o number uses is = by (is_quiet_operation p o) refl uses
     where
-      by : (quiet : Bool) → is_quiet_operation p o ≡ quiet → (quiet || (may_end_frugally p && is_frugal_operation p o && is_silent_operation p o)) ≡ true → IsQuiet number ⊎ (IsFrugal (may_end_frugally p) number × IsSilent number)
+      by : (quiet : Bool) → is_quiet_operation p o ≡ quiet → (quiet || (may_be_frugal p && is_frugal_operation p o && is_silent_operation p o)) ≡ true → IsQuiet number ⊎ (IsFrugal number × IsSilent number)
       by true quiet uses' = inl (quiet_one o number quiet is)
       by false quiet uses' =
-          let three = apart (may_end_frugally p && is_frugal_operation p o) (is_silent_operation p o) uses' in
-          let both = apart (may_end_frugally p) (is_frugal_operation p o) three.0 in
+          let three = apart (may_be_frugal p && is_frugal_operation p o) (is_silent_operation p o) uses' in
+          let both = apart (may_be_frugal p) (is_frugal_operation p o) three.0 in
           inr ((both.0, frugal_one o number both.1 is), silent_one o number three.1 is)
 
   simple_one : (o : Option ProcedureNo) (number : ℕ) → is_simple_operation p o ≡ true → procedure_number o ≡ Some number → is_simple_procedure p.types (slice_get p.bodies number) ≡ true
@@ -191,10 +191,10 @@ module _ (p : ProgramForm) where
           let both = apart (may_track p) (is_simple_operation p o) three.0 in
           inr ((both.0, simple_one o number both.1 is), silent_one o number three.1 is, (apart owns (is_some (operation_body p o)) so).0)
 
-  initialize_one : (o : Option ProcedureNo) (number : ℕ) → uses_initialize p o ≡ true → procedure_number o ≡ Some number → IsPlain number ⊎ IsFrugal (may_be_frugal p) number
+  initialize_one : (o : Option ProcedureNo) (number : ℕ) → uses_initialize p o ≡ true → procedure_number o ≡ Some number → IsPlain number ⊎ IsFrugal number
   initialize_one o number uses is = by (is_plain_operation p o) refl uses
     where
-      by : (plain : Bool) → is_plain_operation p o ≡ plain → (plain || (may_be_frugal p && is_frugal_operation p o)) ≡ true → IsPlain number ⊎ IsFrugal (may_be_frugal p) number
+      by : (plain : Bool) → is_plain_operation p o ≡ plain → (plain || (may_be_frugal p && is_frugal_operation p o)) ≡ true → IsPlain number ⊎ IsFrugal number
       by true plain uses' = inl (plain_one o number plain is)
       by false plain uses' = let both = apart (may_be_frugal p) (is_frugal_operation p o) uses' in inr (both.0, frugal_one o number both.1 is)
 
@@ -292,7 +292,7 @@ module _ (p : ProgramForm) where
   initialize_nests t None right uses = tt
   initialize_nests t (Some procedure) right uses = by (initialize_one (Some procedure) procedure.0 uses refl)
     where
-      by : IsPlain procedure.0 ⊎ IsFrugal (may_be_frugal p) procedure.0 → NestsAnywhere (callees_of p) (Some procedure)
+      by : IsPlain procedure.0 ⊎ IsFrugal procedure.0 → NestsAnywhere (callees_of p) (Some procedure)
       by (inl plain) = plain_nests t (Some procedure) right plain
       by (inr frugal) = frugal_nests p procedure.0 frugal.1
 
@@ -300,7 +300,7 @@ module _ (p : ProgramForm) where
   finalize_nests t None right uses = tt
   finalize_nests t (Some procedure) right uses = by (finalize_one (Some procedure) procedure.0 uses refl)
     where
-      by : IsQuiet procedure.0 ⊎ (IsFrugal (may_end_frugally p) procedure.0 × IsSilent procedure.0) → NestsAnywhere (callees_of p) (Some procedure)
+      by : IsQuiet procedure.0 ⊎ (IsFrugal procedure.0 × IsSilent procedure.0) → NestsAnywhere (callees_of p) (Some procedure)
       by (inl quiet) = plain_nests t (Some procedure) right (plain_operation p (Some procedure) quiet)
       by (inr both) = frugal_nests p procedure.0 both.0.1
 
@@ -343,16 +343,6 @@ MayTouch (begins Copy done) = ⊥
 MayTouch (begins (Adjustment number) done) = ⊥
 MayTouch (ends cause) = Unit {0}
 
--- It is frugal where it may be: an Initialize in a program in which no object with controlled parts is allocated, a Finalize also where each may be.
-abbrev pub MayBeFrugal : ProgramForm → Treatment → Type 0
-MayBeFrugal p (begins by done) = (may_be_frugal p ≡ true)
-MayBeFrugal p (ends cause) = (may_end_frugally p ≡ true)
-
--- So a Finalize may be so, too.
-pub ends_frugally : (p : ProgramForm) (treatment : Treatment) → MayBeFrugal p treatment → may_end_frugally p ≡ true
-ends_frugally p (begins by done) may = rw may refl
-ends_frugally p (ends cause) may = may
-
 -- The body of an operation that touches storage lets no exception out, unless it initializes a new object (7.6).
 abbrev pub LetsNone : ProgramForm → Treatment → BodyForm → Type 0
 LetsNone p (begins by done) b = Unit {0}
@@ -378,11 +368,11 @@ pub record AdjustsOwn (types : List TypeForm) (of number : ℕ) : Type 0 where
   pub numbered : number_in (finalization_in (Some t)) ≡ Some of
   pub overrides : is_adjust_of number (finalization_in (Some t)) ≡ true
 
--- What is called is plain, or it is a frugal Initialize or Finalize, or an Adjust that may track.
+-- What is called is plain, or it is an Initialize or a Finalize that is frugal, where it may be, or an Adjust that may track.
 abbrev pub IsUsedAs : ProgramForm → (of number : ℕ) → Treatment → BodyForm → Type 0
 IsUsedAs p of number treatment b =
     (PlainBody p.types b × LetsNothingOut treatment b)
-    ⊎ ((MayTouch treatment × MayBeFrugal p treatment × (is_frugal_body (thrift_of p) b ≡ true) × LetsNone p treatment b)
+    ⊎ ((MayTouch treatment × (may_be_frugal p ≡ true) × (is_frugal_body (thrift_of p) b ≡ true) × LetsNone p treatment b)
     ⊎ (AdjustsCopy treatment × MayTrack p b × AdjustsOwn p.types of number))
 
 -- A type that passes the test of a number has that number among the controlled ones, as what is shown of it says.
@@ -429,11 +419,11 @@ module _ (program : Program) (uses : operations_are_in_use (program_form program
   silent_body : IsSilent whole number → body_raises (own_effects whole) b (λ e. true) ≡ false
   silent_body silent = no_no (body_raises (own_effects whole) b (λ e. true)) (rw there at silent)
 
-  finalizes_as : (cause : Cause) → IsQuiet whole number ⊎ (IsFrugal whole (may_end_frugally whole) number × IsSilent whole number) → IsUsedAs whole of number (ends cause) b
+  finalizes_as : (cause : Cause) → IsQuiet whole number ⊎ (IsFrugal whole number × IsSilent whole number) → IsUsedAs whole of number (ends cause) b
   finalizes_as cause (inl quiet) = inl (quiet_body quiet)
   finalizes_as cause (inr both) = inr (inl (tt, both.0.0, frugal_at whole number b both.0.1 there, silent_body both.1))
 
-  initializes_as : (done : List parts.Part) → IsPlain whole number ⊎ IsFrugal whole (may_be_frugal whole) number → IsUsedAs whole of number (begins Creation done) b
+  initializes_as : (done : List parts.Part) → IsPlain whole number ⊎ IsFrugal whole number → IsUsedAs whole of number (begins Creation done) b
   initializes_as done (inl plain) = inl (plain_body plain, tt)
   initializes_as done (inr frugal) = inr (inl (tt, frugal.0, frugal_at whole number b frugal.1 there, tt))
 

@@ -175,7 +175,7 @@ module _ (known : Known) where
 
   begun_ready : (v : Value) (by : Birth) (k : Control) (heap : List Object) (places operands : List Value) (ms : List Master) → BegunTo known v by k heap places operands ms → ReadyIn known Running k heap places operands ms
   begun_ready v by k heap places operands ms (inl b) = runs_ready k heap places operands ms (begins_work v by k heap places ms b)
-  begun_ready v by k heap places operands ms (inr r) = names_ready k heap places operands ms r.2
+  begun_ready v by k heap places operands ms (inr r) = names_ready k heap places operands ms r.3
 
   ends_ready : (v : Value) (k : Control) (heap : List Object) (places operands : List Value) (ms : List Master) → EndsTo known v k heap places ms → ReadyIn known Running k heap places operands ms
   ends_ready v [] heap places operands ms r = absurd r

@@ -146,10 +146,10 @@ module _ {types : List TypeForm} {variables : List VariableForm} {outer : Outsid
   new_borrows (elsewhere d y) b e =
       not_next heap words cell (outer_access (slice_get outer.suspended d) y) (kernel.right_at f.owners.fit (elsewhere d y) (λ lost. (let none : Borrows hold.Lost = rw lost at b in absurd none)) (next_id heap) e)
 
-  new_unnamed : Hand types variables outer none_spared (create heap words cell) places holds (Some cell.access) (created heap words) → IsUnnamed (create heap words cell) (stacked places outer) (hold_in outer none_spared holds) (next_id heap)
+  pub new_unnamed : Hand types variables outer none_spared (create heap words cell) places holds (Some cell.access) (created heap words) → IsUnnamed (create heap words cell) (stacked places outer) (hold_in outer none_spared holds) (next_id heap)
   new_unnamed hand = hand_is_unnamed outer types variables none_spared (create heap words cell) places holds (Some cell.access) (next_id heap) hand new_borrows
 
-  new_unreferred : IsUnreferred outer (next_id heap)
+  pub new_unreferred : IsUnreferred outer (next_id heap)
   new_unreferred t refers = let at = f.referred (next_id heap) t refers in let past = past_access heap words cell in cc (at, past)
 
 -- Nor does one where a variable gets its name, on which nothing relies.

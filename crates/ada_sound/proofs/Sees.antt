@@ -22,7 +22,8 @@ use Rattle.ada_sound.specs.Untracked.{AdjustsNoOwners}
 use Rattle.ada_sound.proofs.Callers.{Suspension, known_in, rest_of}
 use Rattle.ada_sound.proofs.CallStatements.{MayCall}
 use Rattle.ada_sound.proofs.Defaults.{reached_same, Reaches}
-use Rattle.ada_sound.proofs.Gathered.{AllocatesBare, copies_nothing, allocates_none}
+use Rattle.ada_sound.proofs.Touched.{ComponentsUntouched}
+use Rattle.ada_sound.proofs.Gathered.{AllocatesApart, AllocatesBare, copies_nothing, allocates_none}
 use Rattle.ada_sound.proofs.Invariant.{Control}
 use Rattle.ada_sound.proofs.InsideRecords.{TasksInside, no_tasks, record_inside}
 use Rattle.ada_sound.proofs.Returns.{same_types}
@@ -67,8 +68,11 @@ pub copies_in : (program : Program) (procedure : Option ℕ) (gs : List Suspensi
 copies_in program procedure gs none = copies_nothing (seen_in procedure (program_form program)).types (subst AdjustsNoOwners (sym (same_types procedure (program_form program))) none)
 
 -- Nor do the records own anything that are items of an allocator that it evaluates next.
-pub allocates_in : (program : Program) (procedure : Option ℕ) (gs : List Suspension) (k : Control) → AdjustsNoOwners (program_form program).types → AllocatesBare (known_in program procedure gs).program.types k
-allocates_in program procedure gs k none = allocates_none (seen_in procedure (program_form program)).types k (subst AdjustsNoOwners (sym (same_types procedure (program_form program))) none)
+pub allocates_in : (program : Program) (procedure : Option ℕ) (gs : List Suspension) (k : Control) → AdjustsNoOwners (program_form program).types → ComponentsUntouched (program_form program).types (known_in program procedure gs).touches → AllocatesApart (known_in program procedure gs).touches k
+    → AllocatesBare (known_in program procedure gs).program.types (known_in program procedure gs).touches k
+allocates_in program procedure gs k none untouched apart =
+    allocates_none (seen_in procedure (program_form program)).types k (subst AdjustsNoOwners (sym (same_types procedure (program_form program))) none)
+    (subst (λ (types : List TypeForm). ComponentsUntouched types (known_in program procedure gs).touches) (sym (same_types procedure (program_form program))) untouched) apart
 
 -- The Adjust that sees to what a record owns is overridden under the number of its type.
 pub adjust_overridden : (program : Program) (procedure : Option ℕ) → IsWellFormed (program_form program) → (r of : ℕ) → SeesToOwners (seen_in procedure (program_form program)).types r of → (number : ℕ) × (procedure_number (operations_of program.types.items of).adjust ≡ Some number)

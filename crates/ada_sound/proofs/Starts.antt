@@ -19,13 +19,13 @@ use Rattle.ada_meaning.specs.Named.{State, named}
 use Rattle.ada_meaning.specs.Run.{Event, Run, here, first_state}
 use Rattle.ada_typed.proofs.Kept.{behind_call}
 use Rattle.ada_sound.specs.Agreement.{running_procedure}
-use Rattle.ada_quiet.specs.InUse.{operations_are_in_use, may_track}
+use Rattle.ada_quiet.specs.InUse.{operations_are_in_use}
 use Rattle.ada_typed.proofs.Bodies.{seen_fits}
 use Rattle.ada_typed.proofs.Control as typed
 use Rattle.ada_typed.proofs.Runs.{first_typed}
 use Rattle.ada_scopes.proofs.Runs.{Scoped, first_nested}
 use Rattle.ada_sound.proofs.Fits.{first_fit}
-use Rattle.ada_quiet.specs.Apart.{is_tracker}
+use Rattle.ada_quiet.specs.Apart.{is_tracker, operations_stand_apart}
 use Rattle.ada_sound.proofs.CallsApart.{CallApart}
 use Rattle.ada_sound.proofs.CallsApartRuns.{first_apart}
 use Rattle.ada_sound.proofs.Trackers.{TracksSafely, tracks_safely, calls_stand_apart}
@@ -66,7 +66,7 @@ pub record Sound (program : Program) (s : State) : Type 0 where
   pub frees_own : FreesItsOwn (program_form program)
   pub obeys : Obeys program
   pub goes : Ordinary program s ⊎ (Operates program s ⊎ (Touching program s ⊎ Adjusting program s))
-  pub apart : may_track (program_form program) ≡ true → CallApart (program_form program).types (is_tracker (program_form program)) s.control
+  pub apart : operations_stand_apart (program_form program) ≡ true → CallApart (program_form program).types (is_tracker (program_form program)) s.control
   pub typed : typed.Typed (program_form program) s
   pub nested : Scoped (program_form program) s
 
@@ -131,7 +131,7 @@ sound_first program input well uses nest own obeys = let obeys_so : Obeys progra
     calm = tt;
     settled = refl;
   });
-  apart = λ may. first_apart (program_form program).types (is_tracker (program_form program)) program (calls_stand_apart (program_form program) may).1 (calls_stand_apart (program_form program) may).0 input;
+  apart = λ stand. first_apart (program_form program).types (is_tracker (program_form program)) program (calls_stand_apart (program_form program) stand).1 (calls_stand_apart (program_form program) stand).0 input;
   typed = first_typed program input well;
   nested = first_nested program well nest (operations_nest (program_form program) well uses) input;
 }

@@ -13,7 +13,7 @@ use Rattle.ada_program.specs.Handling.{is_same}
 use Rattle.ada_program.specs.Freed.{statement_frees_own, statements_free_own}
 use Rattle.ada_program.specs.Typed.{pool_named}
 use Rattle.ada_program.specs.ProgramForm.{BodyForm}
-use Rattle.ada_effects.specs.Effects.{effects_of, stmt_raises, expression_raises, path_raises, condition_raises, right_raises, right_starts, ending_frees}
+use Rattle.ada_effects.specs.Effects.{effects_of, stmt_raises, expression_raises, path_raises, condition_raises, right_raises, right_starts, right_frees, ending_frees}
 use Rattle.ada_flow.specs.Flow.{Holds, Outcome, hold_at, loses, finalizes, released, without_freed, uses_in_target, uses_in_start, initializes, ends_with, bounds_flow, gives, gives_seen, gets_path, frees_seen, leaves_path, clears, begins_pair, exit_of, declared_at, collected, gone_with, computed}
 use Rattle.ada_flow.specs.Tracking.{no_tracks}
 use Rattle.ada_meaning.specs.declared.state.Value.{Value}
@@ -38,7 +38,7 @@ use Rattle.ada_sound.proofs.Copied.{record_there}
 use Rattle.ada_sound.proofs.Records.{has_place, record_fine}
 use Rattle.ada_sound.proofs.Wholes.{record_begins}
 use Rattle.ada_sound.proofs.RecordAssignments.{copy_begins}
-use Rattle.ada_sound.proofs.Invariant.{outers, Spares, owed_by, Known, Where, below, Control, Rooms, Roomed, Goes, To, Raised, Doing, Choosing, TurnsTo, condition_among, assignment_among, component_among, Counting, Elaborating, Handled, Outside, RunsOn, RunsAfter, Deciding, TurningOn, ExitingTo, Computing, IsOne, Pairs, Takes, Working, Resumes, EvaluatesTo, Fine, ways}
+use Rattle.ada_sound.proofs.Invariant.{outers, Spares, owed_by, Known, Where, below, Control, Rooms, Roomed, Goes, To, Raised, Doing, Choosing, TurnsTo, condition_among, assignment_among, component_among, Counting, Elaborating, Handled, Outside, RunsOn, RunsAfter, RaisesAfter, behind_right, Deciding, TurningOn, ExitingTo, Computing, IsOne, Pairs, Takes, Working, Resumes, EvaluatesTo, Fine, ways}
 use Rattle.ada_sound.proofs.Ready.{running, at_work, with_less, at_less, stays, lost_stored, ready_on, runs_on, jumps, jumps_less}
 use Rattle.ada_sound.proofs.Nestings.{Starting, starts, others_do, branch_does, chooses_from, repeats_from, turn_runs, counts_from, count_runs, exit_parts, encloses_from}
 use Rattle.ada_sound.proofs.Outcomes.{Down, return_goes, goes_map, to_before, raised_before, raised_less, then_goes, using_goes, computed_goes, initializes_after, loses_goes, before_lost}
@@ -133,12 +133,13 @@ module _ (known : Known) where
   declares_more heap places x right ds fs hs k holds (gone ∷ rooms) e =
       let o = Outside known gone (ways known k rooms) in
       let flow = gives known.program.types known.program.variables no_tracks (declared_at known.program.variables x) false x right holds in
-      let among = assignment_among known right in (
+      let among = assignment_among known right in
+      let spares = e.1.1 in (
         tt,
         false,
         (
           declared_at known.program.variables x,
-          initializes_after known right flow (Elaborates ds fs hs ∷ k) (gone ∷ rooms) (Raised among o) (raised_before among o)
+          initializes_after known right flow (Elaborates ds fs hs ∷ k) (gone ∷ rooms) among (λ access is. subst (λ (r : RightForm). Spares known (λ t. right_frees known.implicit t r)) is spares)
               (goes_map (initializes known.program.variables known.implicit right flow) (Elaborating known ds (Doing known fs (Handles hs ∷ Closes ∷ k) (Handled known hs (Closes ∷ k) o)) o)
               (Raised among o) (RunsOn known (Elaborates ds fs hs ∷ k) (gone ∷ rooms)) (Raised among o) (λ h g. (e.0, g)) (λ h r. r) e.1.0),
         ),
@@ -206,7 +207,7 @@ module _ (known : Known) where
       declarations_fine types (d ∷ ds) held fits w = declaration_fine types d ds held (and_parts _ _ fits).0 w
 
     -- Paths that are targets, or are freed.
-    assign_fine : (cs : List ℕ) (target : PathForm) (right : RightForm) (fs : StmtsForm) (k : Control) → target.selectors ≡ cs → (target.of_record ≡ true → is_object known.program.variables target.root ≡ true) → Working known s.heap a.places s.masters (λ rooms holds. Goes (gives_seen known.program.types known.program.variables no_tracks false (begins_pair (assigns target right) fs) cs target right holds) (RunsAfter known right (Does fs ∷ k) rooms) (Raised (component_among known (path_raises target) right) (ways known k rooms))) → Fine known s.heap s.masters (assign_next named cs target.root right (running (Does fs ∷ k) a rest s))
+    assign_fine : (cs : List ℕ) (target : PathForm) (right : RightForm) (fs : StmtsForm) (k : Control) → target.selectors ≡ cs → (target.of_record ≡ true → is_object known.program.variables target.root ≡ true) → Working known s.heap a.places s.masters (λ rooms holds. Goes (gives_seen known.program.types known.program.variables no_tracks false (begins_pair (assigns target right) fs) cs target right holds) (RunsAfter known right (Does fs ∷ k) rooms) (RaisesAfter known right k rooms (component_among known (path_raises target) right))) → Fine known s.heap s.masters (assign_next named cs target.root right (running (Does fs ∷ k) a rest s))
     assign_fine [] target right fs k is whole w =
         let out = ways known k w.rooms in
         let cleared = begins_pair (assigns target right) fs in
@@ -216,8 +217,8 @@ module _ (known : Known) where
           cleared,
           (
             target.spot,
-            goes_map (gives known.program.types known.program.variables no_tracks target.spot cleared target.root right w.holds) (RunsAfter known right (Does fs ∷ k) w.rooms) (Raised among out) (RunsAfter known right (Does fs ∷ k) w.rooms) (Raised (assignment_among known right) out)
-                (λ h m. m) (λ h r. raised_less among (assignment_among known right) out (λ e may. component_more (is_same e ConstraintError && path_raises target) (right_raises (is_same e) right) (right_starts known.implicit (is_same e) right) may) h r) w.rest,
+            goes_map (gives known.program.types known.program.variables no_tracks target.spot cleared target.root right w.holds) (RunsAfter known right (Does fs ∷ k) w.rooms) (RaisesAfter known right k w.rooms among) (RunsAfter known right (Does fs ∷ k) w.rooms) (RaisesAfter known right k w.rooms (assignment_among known right))
+                (λ h m. m) (λ h r. raised_less among (assignment_among known right) out (λ e may. component_more (is_same e ConstraintError && path_raises target) (right_raises (is_same e) right) (right_starts known.implicit (is_same e) right) may) (behind_right known right h) r) w.rest,
           ),
           pairs_variable target right fs k is,
         ))))
@@ -354,7 +355,8 @@ module _ (known : Known) where
         let among : Exception → Bool = λ e. stmt_raises (effects_of known.implicit known.program) (is_same e) (assigns target right) in
         let flow = gives_seen types variables no_tracks false (begins_pair (assigns target right) fs) target.selectors target right w.holds in
         let used = using_goes (uses_in_start types variables no_tracks known.implicit target right) w.holds (initializes variables known.implicit right flow) (RunsOn known (Does fs ∷ k) w.rooms) (Raised among out) w.rest.1 in
-        let goes_on = initializes_after known right flow (Does fs ∷ k) w.rooms (Raised among out) (raised_before among out) used.1 in
+        let spares = w.rest.4 in
+        let goes_on = initializes_after known right flow (Does fs ∷ k) w.rooms among (λ access is. subst (λ (r : RightForm). Spares known (λ t. right_frees known.implicit t r)) is spares) used.1 in
         assign_fine target.selectors target right fs k refl (root_object types variables target leads.0 leads.1)
         (at_work w goes_on)
     stmt_fine may defined reaches bodies copies inside here (assigns_record target items) calling fs k homes freely fits own w =

@@ -102,7 +102,7 @@ module _ (known : Known) where
 
   begun_stored : (v : Value) (by : Birth) (k : Control) (heap : List Object) (places operands : List Value) (ms : List Master) → BegunTo known v by k heap places operands ms → IsStored heap ms
   begun_stored v by k heap places operands ms (inl b) = let w = begins_work known v by k heap places ms b in (_, w.stored)
-  begun_stored v by k heap places operands ms (inr r) = names_stored k heap places operands ms r.2
+  begun_stored v by k heap places operands ms (inr r) = names_stored k heap places operands ms r.3
 
   ends_stored : (v : Value) (k : Control) (heap : List Object) (places : List Value) (ms : List Master) → EndsTo known v k heap places ms → IsStored heap ms
   ends_stored v [] heap places ms r = absurd r

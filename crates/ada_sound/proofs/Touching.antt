@@ -1,13 +1,13 @@
--- The body of an operation runs that touches storage (7.6, 7.6.1, 13.11.2): an Initialize of an object that a declaration creates, or a Finalize of one at the
--- leaving of its master, or where a variable is freed that names it, or another record is assigned to it. What holds there, and what is kept of all that waits
--- for it.
+-- The body of an operation runs that touches storage (7.6, 7.6.1, 13.11.2): an Initialize of an object that a declaration or an allocator creates, or a Finalize of
+-- one at the leaving of its master, or where a variable is freed that names it, or another record is assigned to it. What holds there, and what is kept of all that
+-- waits for it.
 
 use Rattle.std.proofs.Common.{◌≡◌, ◌≢◌, ℕ, true, false, List, [], ◌∷◌, ◌++◌, ◌⊎◌, Option, drop, length, suc, take}
 use Rattle.std.specs.Prelude.{Bool, Some}
 use Rattle.std.specs.List.{slice_get, slice_set, list_any}
 use Rattle.ada_program.specs.declared.program.Exception.{Exception}
 use Rattle.ada_quiet.specs.Bare.{has_bare_objects}
-use Rattle.ada_quiet.specs.InUse.{may_end_frugally}
+use Rattle.ada_quiet.specs.InUse.{may_be_frugal}
 use Rattle.ada_program.specs.declared.program.Program.{Program}
 use Rattle.ada_program.specs.ProgramForm.{program_form, seen_in}
 use Rattle.ada_program.specs.WellFormed.{variable_kind, reached_components}
@@ -32,7 +32,7 @@ use Rattle.ada_sound.proofs.Bodies.{IsBody}
 use Rattle.ada_sound.proofs.Callers.{Suspension, known_in, Stands, callers_of}
 use Rattle.ada_sound.proofs.Fits.{Fit, Outsiders, IsPlace, IsRelied, IsSaid, IsUnreferred, none_spared, outer_hold, outer_value, place_at, Reference, IsReferred}
 use Rattle.ada_sound.proofs.FrugalControl.{Frugally}
-use Rattle.ada_sound.proofs.Invariant.{body_among, Control, Rooms, Roomed, RunsOn, Known, IsNewest, Ready, Spares, StartsTo, Unaliased, below, innermost, outers, BeginsWell, CameOut, To, By, ways, IsAwaited, under_in, AssignsWell, IsCopied, LiesAmong, RunsBehind, AdjustedBehind, IsCovered}
+use Rattle.ada_sound.proofs.Invariant.{body_among, Control, Rooms, Roomed, GoesTo, RoomFor, RunsOn, Known, IsNewest, Ready, Spares, StartsTo, Unaliased, below, innermost, outers, BeginsWell, CameOut, To, By, ways, IsAwaited, under_in, AssignsWell, IsCopied, LiesAmong, RunsBehind, AdjustedBehind, IsCovered}
 use Rattle.ada_sound.proofs.Operating.{WaitsFor, IsCalm, lets_out}
 use Rattle.ada_sound.proofs.Stored.{Stored}
 use Rattle.ada_sound.specs.Agreement.{running_procedure}
@@ -73,7 +73,18 @@ pub record Starting (known : Known) (object : Id) (access : ℕ) (places : List 
   pub nowhere : IsNamedNowhere (outers known) places (slice_set holds x hold.Lost) object
   pub unreferred : IsUnreferred (outers known) object
 
--- What is behind the finalization of a part of a record object out of whose initialization an exception came: the end of the object, and then the exception goes on.
+-- What is behind the initialization of an object that an allocator made: a variable gets its name, and then what is left goes on; where an exception comes out, it
+-- does so without the object (4.8, 7.6). No component gets it, since none is of its type.
+pub record Naming (known : Known) (object : Id) (access : ℕ) (places operands : List Value) (after : Control) (rooms : Rooms) (holds : Holds) : Type 0 where
+  pub named : first_or Null operands ≡ Names object
+  pub room : RoomFor after rooms
+  pub to : GoesTo known access after rooms holds
+  pub undone : StartsTo known access after rooms holds
+  pub well : BeginsWell known access holds
+  pub nowhere : IsNamedNowhere (outers known) places holds object
+  pub unreferred : IsUnreferred (outers known) object
+
+-- What is behind the finalization of a part of an object out of whose initialization an exception came: the end of the object, and then the exception goes on.
 pub record Undoes (known : Known) (object : Id) (access : ℕ) (home : Home) (places : List Value) (after : Control) (rooms : Rooms) (holds : Holds) : Type 0 where
   pub number : ℕ
   pub mode : Mode
@@ -148,7 +159,8 @@ RestsBy known (Undoing number) object access home places operands also after low
 
 -- What is behind the body, by what it is called for; and to which other objects the activation that waits refers.
 abbrev pub Rests : Known → Treatment → (object : Id) → (access : ℕ) → Home → (places operands : List Value) → (also : List Reference) → (after : Control) → (lower : List Master) → Rooms → Holds → Type 0
-Rests known (begins by done) object access home places operands also after lower rooms holds = (by ≡ Creation) × (also ≡ []) × Starting known object access places after rooms holds
+Rests known (begins by done) object access home places operands also after lower rooms holds =
+    (by ≡ Creation) × (also ≡ []) × (Starting known object access places after rooms holds ⊎ Naming known object access places operands after rooms holds)
 Rests known (ends cause) object access home places operands also after lower rooms holds = RestsBy known cause object access home places operands also after lower rooms holds
 
 -- What is known of the activation that waits, whatever the body is called for: the object has controlled parts, or is a declared one, so that no component names it;
@@ -263,7 +275,7 @@ pub record Touching (program : Program) (s : State) : Type 0 where
   pub stands : Stands program (inner ++ resting procedure places treatment object access also place behind lower kept rooms holds ∷ suspensions) s
   pub calm : IsCalm (behind_call behind)
   pub settled : under_in (callers_of program suspensions) ≡ []
-  pub may : may_end_frugally (program_form program) ≡ true
+  pub may : may_be_frugal (program_form program) ≡ true
   pub lets : (e : Exception) → body_among (implicit_of (program_form program)) (seen_in (Some number) (program_form program)) e ≡ true → lets_out (implicit_of (program_form program)) access treatment e ≡ true
   pub ready : Ready (known_in program (running_procedure s) (inner ++ resting procedure places treatment object access also place behind lower kept rooms holds ∷ suspensions)) s
 

@@ -12,9 +12,10 @@ use Rattle.ada_program.specs.ProgramForm.{TypeForm, program_form, body_forms, se
 use Rattle.ada_program.specs.WellFormed.{IsWellFormed, access_of, kind_among, reached_components}
 use Rattle.ada_quiet.specs.Bare.{has_bare_objects}
 use Rattle.ada_deeds.specs.Implicit.{implicit_of}
-use Rattle.ada_flow.specs.Flow.{Holds, hold_at}
+use Rattle.ada_flow.specs.Flow.{Holds, hold_at, variable_access}
 use Rattle.ada_meaning.specs.declared.event.Cause.{Cause}
 use Rattle.ada_flow.specs.declared.rule.Hold.TheVariants as hold
+use Rattle.ada_flow.specs.declared.rule.Region.TheVariants.{Whole}
 use Rattle.ada_meaning.specs.declared.event.Birth.TheVariants.{Creation, Copy, Adjustment}
 use Rattle.ada_sound.proofs.OperationCalls.{ready_for, ready_raising}
 use Rattle.ada_meaning.specs.declared.event.Cause.TheVariants.{Leaving, Freeing, Assigning, Undoing}
@@ -26,7 +27,7 @@ use Rattle.ada_meaning.specs.declared.state.Value.{Value}
 use Rattle.ada_meaning.specs.declared.state.Value.TheVariants.{Names, Null}
 use Rattle.ada_meaning.specs.Event.{Quiet}
 use Rattle.ada_parts.specs.Part as parts
-use Rattle.ada_meaning.specs.Frame.{Returns, Ends, ends, begins, Treatment, StoresRecord}
+use Rattle.ada_meaning.specs.Frame.{Returns, Ends, ends, begins, Treatment, Stores, Declares, StoresIn, StoresRecord}
 use Rattle.ada_meaning.specs.Frame as frame
 use Rattle.ada_meaning.specs.State.{Activation, Master}
 use Rattle.ada_meaning.specs.Step.{moves, operands, places, mode_next, procedure_of, places_of, operands_of, older, first_or}
@@ -40,15 +41,15 @@ use Rattle.ada_sound.proofs.Activations.{returned_fit}
 use Rattle.ada_sound.proofs.Callers.{rest_of, Suspension, caller_of, known_in, Stands, AreOf, callers_of}
 use Rattle.ada_sound.proofs.BareObjects.{components_are_bare}
 use Rattle.ada_sound.proofs.Emptying.{null_again}
-use Rattle.ada_sound.proofs.Touching.{IsNamedNowhere, Touching, Empties, Resting, Rests, RestsAtEnd, Starting, under_way, Undoes, origin, called_by, Overwrites, RestsBy, StoresInto}
-use Rattle.ada_sound.proofs.Fits.{Fit, kinds_of, hold_in, stacked, none_spared, sparing, outer_hold, outer_value_at, spare_fit, weaker_fit, IsReferred, Reference}
-use Rattle.ada_sound.proofs.Invariant.{AllWait, Control, Known, OfItsType, Rooms, RunsBehind, GoesOn, Working, Ending, EndsTo, ReadyIn, TreatsBy, innermost, outer_of, outers, IsLive, Beginning, StartsTo, BeginsWell, Ready, IsActive, AreSuspended, CopiesBehind, EndsBy, LiesIn, StoresBehind, FreesWell, IsCovered, Spares, Unaliased}
+use Rattle.ada_sound.proofs.Touching.{IsNamedNowhere, Touching, Empties, Resting, Rests, RestsAtEnd, Starting, Naming, under_way, Undoes, origin, called_by, Overwrites, RestsBy, StoresInto}
+use Rattle.ada_sound.proofs.Fits.{Fit, Hand, kinds_of, hold_in, is_object, stacked, none_spared, plain_place, put_owner, sparing, outer_hold, outer_value_at, spare_fit, weaker_fit, IsReferred, Reference}
+use Rattle.ada_sound.proofs.Invariant.{AllWait, Control, Known, OfItsType, Rooms, RunsBehind, GoesOn, Working, Ending, EndsTo, ReadyIn, TreatsBy, innermost, outer_of, outers, IsLive, Beginning, StartsTo, BeginsWell, Ready, IsActive, AreSuspended, CopiesBehind, EndsBy, LiesIn, StoresBehind, FreesWell, IsCovered, Spares, Unaliased, GoesTo, HasRoom, IsMade, Making, NamesTo, RoomFor, To, RunsOn}
 use Rattle.ada_sound.proofs.Operating.{behind_operation, lets_out, WaitsFor}
 use Rattle.ada_sound.proofs.Waiting.{stands_behind}
 use Rattle.ada_sound.proofs.Returns.{CrossesTo, same_types}
 use Rattle.ada_sound.proofs.Stored.{Stored}
 use Rattle.ada_sound.proofs.Orderings.{AsGood, good_to_lost, as_good}
-use Rattle.ada_sound.proofs.Undone.{beginning_undone}
+use Rattle.ada_sound.proofs.Undone.{beginning_undone, making_undone}
 use Rattle.ada_sound.proofs.Alters.{Alters, alters_same}
 use Rattle.ada_sound.specs.Agreement.{running_procedure, IsBehind}
 use Rattle.ada_sound.proofs.Bodies.{IsBody}
@@ -328,6 +329,75 @@ module _ (program : Program) (well : IsWellFormed (program_form program)) (s : S
       ∙ (ap (λ (inner : List Suspension). operands_of (drop (suc (length inner)) s.activations)) none
       ∙ ap (λ (all : List (Activation Value)). operands_of (drop 1 all)) acts_so)
 
+  -- The object is in hand, where nothing is relied on to name it.
+  in_hand : IsNamedNowhere (outers own) f.places f.holds f.object → Hand own.program.types own.program.variables (outers own) none_spared s.heap f.places f.holds (Some f.access) (Names f.object)
+  in_hand nowhere = record {
+    hand = record {
+      right = λ p e. let same : f.object ≡ p = name_is p e in rw (← same) there;
+      free = λ p e q owns names. let same : f.object ≡ p = name_is p e in unnamed.unowned q owns (rw (← same) at names);
+    };
+  }
+    where
+      unnamed : IsUnnamed s.heap (stacked f.places (outers own)) (hold_in (outers own) none_spared f.holds) f.object
+      unnamed = unnamed_by f.places f.holds none_spared own_fit nowhere
+
+      name_is : (p : Id) → Names f.object ≡ Names p → f.object ≡ p
+      name_is p e = cc e
+
+  -- The activation that goes on has the operands that it had.
+  named_here : first_or Null f.operands ≡ Names f.object → first_or Null b.operands ≡ Names f.object
+  named_here named = ap (first_or Null) (sym operands_are) ∙ named
+
+  -- The object is one that an allocator made: what gets its name goes on behind its initialization.
+  module _ (done : List parts.Part) (is : f.treatment ≡ begins Creation done) (r : Naming own f.object f.access f.places f.operands f.after f.rooms f.holds) where
+    making : Making own f.object f.access f.after s.heap f.places f.lower
+    making = record {
+      rooms = f.rooms;
+      holds = f.holds;
+      stored = own_stored (begins Creation done) is;
+      roomed = f.waits.roomed;
+      fit = own_fit;
+      aside = (unnamed_by f.places f.holds none_spared own_fit r.nowhere, r.unreferred);
+      room = r.room;
+      to = r.to;
+      undone = r.undone;
+      well = r.well;
+    }
+
+    is_made : IsMade own (Names f.object) f.after s.heap f.places f.lower
+    is_made o y names at touches =
+        let same : f.object ≡ o = cc names in
+        let one : y ≡ f.x = let found = f.found in cc (rw (← same) at at, found) in
+        let access : f.access ≡ y.cell.access = sym (ap (λ (z : Object). z.cell.access) one ∙ f.of_access) in
+        subst (λ (p : Id). Making own p y.cell.access f.after s.heap f.places f.lower) same
+        (subst (λ (t : ℕ). Making own f.object t f.after s.heap f.places f.lower) access making)
+
+    -- A variable owns it then.
+    owned_by : (x : ℕ) (More : Rooms → Holds → Type 0) → variable_access own.program.variables x ≡ Some f.access → is_object own.program.variables x ≡ false → To (More f.rooms) (slice_set f.holds x (hold.Own Whole))
+        → Working own s.heap (slice_set f.places x (first_or Null b.operands)) f.lower More
+    owned_by x More access other goes =
+        subst (λ (v : Value). Working own s.heap (slice_set f.places x v) f.lower More) (sym (named_here r.named)) (record {
+          rooms = f.rooms;
+          holds = goes.0;
+          stored = own_stored (begins Creation done) is;
+          roomed = f.waits.roomed;
+          fit = weaker_fit goes.0 goes.1 (put_owner x (Names f.object) Whole (plain_place own.program.types (outers own).referenced own.program.variables f.places x (Names f.object) other tt) (rw access (in_hand r.nowhere)) own_fit);
+          rest = goes.2;
+        })
+
+    names_by : (k : Control) → RoomFor k f.rooms → GoesTo own f.access k f.rooms f.holds → NamesTo own k s.heap f.places b.operands f.lower
+    names_by [] room to = absurd to
+    names_by (Stores x ∷ k) room to = owned_by x (RunsOn own k) to.0.0 to.0.1 to.1
+    names_by (Declares x ∷ k) room to = owned_by x (λ rooms holds. HasRoom rooms × RunsOn own k rooms holds) to.0.0 to.0.1 (to.1.0, to.1.1, (room, to.1.2))
+    names_by (StoresIn v c ∷ k) room to = absurd to
+    names_by (g ∷ k) room to = absurd to
+
+    making_treats : TreatsBy own (Names f.object) (begins Creation done) f.after s.heap f.places b.operands f.lower
+    making_treats = (
+      inr (refl, named_here r.named, is_made, names_by f.after r.room r.to),
+      (own_stored (begins Creation done) is, λ e raises. making_undone own f.object f.access f.after s.heap f.places f.lower making (f.x, f.found, f.of_access) e raises),
+    )
+
   behind_there : (v : Value) (k : Control) (rooms : Rooms) (holds : Holds) → v ≡ Names f.object → RunsBehind own (Names f.object) f.access k rooms holds
       → OfItsType s.heap v (λ access. RunsBehind own v access k rooms holds)
   behind_there v k rooms holds is behind o y names at =
@@ -370,11 +440,12 @@ module _ (program : Program) (well : IsWellFormed (program_form program)) (s : S
   ends_by (Undoing number) is (none_also, r) = ends_next (Undoing number) tt is r
 
   treats_by : (treatment : Treatment) → f.treatment ≡ treatment → Rests own treatment f.object f.access f.home f.places f.operands f.also f.after f.lower f.rooms f.holds → TreatsBy own (Names f.object) treatment f.after s.heap f.places b.operands f.lower
-  treats_by (begins Creation done) is (creation, none_also, r) =
+  treats_by (begins Creation done) is (creation, none_also, inl r) =
       let b = beginning done is r in (
         inl b,
         (own_stored (begins Creation done) is, λ e raises. beginning_undone own (Names f.object) f.after s.heap f.places f.lower b e raises),
       )
+  treats_by (begins Creation done) is (creation, none_also, inr r) = making_treats done is r
   treats_by (begins Copy done) is (creation, none_also, r) = absurd (cc creation)
   treats_by (begins (Adjustment number) done) is (creation, none_also, r) = absurd (cc creation)
   treats_by (ends cause) is r = ends_by cause is r

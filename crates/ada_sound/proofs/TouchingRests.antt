@@ -1,12 +1,10 @@
 -- An operation that touches storage is called for an object whose master is left (7.6.1), for one that a variable names which is freed (13.11.2), for one that a
--- declaration creates (7.6), or for one of which a record is assigned to (5.2): what is behind that.
+-- declaration or an allocator creates (7.6), or for one of which a record is assigned to (5.2): what is behind that.
 
-use Rattle.std.proofs.Common.{◌≡◌, ℕ, Bool, true, false, List, [], ◌∷◌, ◌++◌, refl, sym, subst, ◌∙◌, ◌⊎◌, inl, inr, slice_set, eqb-true, None, ap, ◌≢◌}
-use Rattle.std.specs.Prelude.{Option, Some, ◌==◌, if◌then◌else◌}
-use Rattle.std.specs.List.{slice_get, list_any}
-use Rattle.ada_program.specs.WellFormed.{access_of, is_access, kind_among, reached_components}
-use Rattle.ada_program.specs.declared.program.Exception.{Exception}
-use Rattle.ada_program.specs.Handling.{is_same}
+use Rattle.std.proofs.Common.{◌≡◌, ℕ, Bool, true, false, List, [], ◌∷◌, ◌++◌, refl, sym, subst, ◌∙◌, ◌⊎◌, inl, inr, slice_set, None, ap, ◌≢◌}
+use Rattle.std.specs.Prelude.{Option, Some}
+use Rattle.std.specs.List.{slice_get}
+use Rattle.ada_program.specs.WellFormed.{access_of, kind_among, reached_components}
 use Rattle.ada_quiet.specs.Bare.{has_bare_objects}
 use Rattle.ada_flow.specs.declared.rule.Hold.{Hold}
 use Rattle.ada_flow.specs.declared.rule.Hold.TheVariants as hold
@@ -22,19 +20,19 @@ use Rattle.ada_meaning.specs.Finalization.{NothingTreated}
 use Rattle.ada_parts.specs.Part as parts
 use Rattle.ada_meaning.specs.Frame.{Clears, ClearsIn, Copies, Ends, GivesBack, Leaves, Resumes, ends, begins, StoresRecord}
 use Rattle.ada_meaning.specs.Law.{items_of}
-use Rattle.ada_meaning.specs.State.{Owned, declared, collection, record_object, storage_pool, Item, Master, Destination, home_among, collection_in, home_of, destination}
+use Rattle.ada_meaning.specs.State.{Owned, Item, Master}
 use Rattle.ada_meaning.specs.Named.{Object, object_at}
 use Rattle.ada_owners.specs.Places.{variable, elsewhere, access_at}
 use Rattle.ada_owners.specs.Reliance.{Owns, Borrows}
 use Rattle.ada_owners.proofs.Ends.{IsUnnamed}
-use Rattle.ada_scopes.proofs.Homes.{OwnedFits, ItemsFit, fit_after}
+use Rattle.ada_scopes.proofs.Homes.{OwnedFits, ItemsFit}
 use Rattle.ada_sound.proofs.Endings.{among_by}
 use Rattle.ada_sound.proofs.Emptying.{lost_fit, lost_unaliased, null_there}
 use Rattle.ada_sound.proofs.Touching.{IsNamedNowhere, Enters, Paused, Resting, RestsAtEnd, ended_object, RestsBy, StoresInto, ended_frees}
 use Rattle.ada_sound.proofs.FrugalUseEnds.{any_end}
 use Rattle.ada_effects.specs.Effects.{endings_free, Implicit, assignment_frees}
 use Rattle.ada_sound.proofs.Fits.{IsRelied, Outsiders, hold_in, none_spared, first_left, outer_hold, outer_value_at, respare, sparing, stacked, IsReferred, Reference}
-use Rattle.ada_sound.proofs.Invariant.{Behind, CopiesBehind, Control, Ending, EndingBy, EndsTo, Freed, IsCopied, IsNewest, Known, LeavesTo, Roomed, Rooms, RunsOn, ThenBack, TreatsBy, WillBeCovered, below, innermost, outers, Beginning, CameOut, ResumesTo, BeginsWell, To, HasCollection, By, ways, gone_in, LiesAmong, LiesIn, StoresBehind, ClearsTo, FreesWell, IsCovered, IsNamedIn}
+use Rattle.ada_sound.proofs.Invariant.{Behind, CopiesBehind, Control, Ending, EndingBy, EndsTo, Freed, IsCopied, IsNewest, Known, LeavesTo, Roomed, Rooms, RunsOn, ThenBack, TreatsBy, WillBeCovered, below, innermost, outers, Beginning, CameOut, ResumesTo, BeginsWell, To, By, ways, gone_in, LiesAmong, LiesIn, StoresBehind, ClearsTo, FreesWell, IsCovered, IsNamedIn, Making}
 use Rattle.ada_sound.proofs.Items.{Counted, HasItem, Houses, newest_is}
 use Rattle.ada_sound.proofs.Stored.{Stored, exists_out}
 use Rattle.ada_finalized.proofs.Standing.{nothing_begins, AdjustsAlone}
@@ -115,30 +113,6 @@ module _ (known : Known) (o : Id) (x : Object) (heap : List Object) (found : obj
   none_others : (p : Id) (t : ℕ) → IsReferred [] p t → (access_at heap p ≡ Some t) × (has_bare_objects known.program.types t ≡ false)
   none_others p t none = absurd none
 
-  -- A collection is one of an access type.
-  none_among : is_access known.program.types x.cell.access ≡ false → (is rest : List Item) (later : Option Destination) (d : Destination) → ItemsFit known.program.types (is ++ rest) → home_among x.cell.access is later ≡ Some d → later ≡ Some d
-  none_among object [] rest later d fit at = at
-  none_among object (i ∷ is) rest later d fit at = by i.owned refl at (none_among object is rest later d fit.1)
-    where
-      by : (owned : Owned) → i.owned ≡ owned → collection_in x.cell.access i owned (home_among x.cell.access is later) ≡ Some d → (home_among x.cell.access is later ≡ Some d → later ≡ Some d) → later ≡ Some d
-      by (declared y) own at' more = more at'
-      by (record_object t) own at' more = more at'
-      by (storage_pool declaration number) own at' more = more at'
-      by (collection t pool) own at' more = either (x.cell.access == t) refl at'
-        where
-          either : (b : Bool) → (x.cell.access == t) ≡ b → (if b then destination i.number pool else home_among x.cell.access is later) ≡ Some d → later ≡ Some d
-          either false other at2 = more at2
-          either true same at2 =
-              let one : x.cell.access ≡ t = eqb-true x.cell.access t same in
-              let fits : OwnedFits known.program.types i.owned = fit.0 in
-              let access : is_access known.program.types t ≡ true = rw own at fits in
-              absurd (cc (rw (← one) at access, object))
-
-  pub none_collected : is_access known.program.types x.cell.access ≡ false → (ms : List Master) → ItemsFit known.program.types (items_of ms) → (d : Destination) → home_of x.cell.access ms ≡ Some d → ⊥
-  none_collected object [] fit d at = cc at
-  none_collected object (m ∷ ms) fit d at =
-      none_collected object ms (fit_after known.program.types m.items (items_of ms) fit) d (none_among object m.items (items_of ms) (home_of x.cell.access ms) d fit at)
-
   -- The master is left: the home of the object is among what goes first.
   module _ (ahead : (owned : Owned) → Houses owned x.cell.access x.cell.home.pool → OwnedFits known.program.types owned → known.ahead owned ≡ true) (mode : Mode) (rest : Control) (master : ℕ) (newest : IsNewest x.cell.home.item (innermost masters)) (untreated : NothingTreated rest) (stored : Stored (o ∷ (outers known).under) heap masters) (out : x.out ≡ true) (r : Freed known (Some o) (sparing known.ahead heap (innermost masters)) heap places masters (RunsOn known (Leaves mode ∷ rest))) where
     left_over : (ms : List Master) → masters ≡ ms → first_left known.ahead (innermost ms) ≡ true
@@ -201,10 +175,10 @@ module _ (known : Known) (o : Id) (x : Object) (heap : List Object) (found : obj
     at_rest_here cause end = by_rooms cause end r.rooms refl r.roomed r.rest
 
   -- In a program in which operations may touch storage, an object with controlled parts ends where its master is left, where a variable is freed that names it, and
-  -- where an exception comes out of the initialization of a declared one: no component names it, and none comes out where an allocator made it.
+  -- where an exception comes out of its initialization: no component names it, and it does not count as gone already.
   module _ (ahead : (owned : Owned) → Houses owned x.cell.access x.cell.home.pool → OwnedFits known.program.types owned → known.ahead owned ≡ true)
       (bare : (holder c access : ℕ) → access_of (kind_among (reached_components known.program.types holder) c) ≡ Some access → has_bare_objects known.program.types access ≡ true)
-      (silent : is_access known.program.types x.cell.access ≡ true → (e : Exception) → list_any (is_same e) (known.implicit.start_raises x.cell.access) ≡ false)
+      (touches : known.touches x.cell.access ≡ true)
       (starts : (access t : ℕ) → known.implicit.end_frees access t ≡ true → known.implicit.start_frees access t ≡ true) (way : Cause) (end : IsEnd way) where
     leaving : (m item : ℕ) (pool : Option ℕ) (k : Control) → item ≡ x.cell.home.item → pool ≡ x.cell.home.pool → IsNewest x.cell.home.item (innermost masters) → Stored (o ∷ (outers known).under) heap masters → x.out ≡ true → NothingTreated k → LeavesTo known (Some o) heap places masters k → Enters known (ends way) o x (Ends (Names o) ∷ GivesBack (Names o) (Leaving m item) pool ∷ k) heap places operands masters
     leaving m item pool [] own from newest stored out untreated r = absurd r
@@ -255,14 +229,10 @@ module _ (known : Known) (o : Id) (x : Object) (heap : List Object) (found : obj
         by same came r
       where
         by : access ≡ x.cell.access → CameOut known access mode
-            → ((HasCollection masters access × Freed known None none_spared (gone_in (Some o) heap) places masters (λ rooms holds. To (By mode (ways known rest rooms)) holds))
+            → (((known.touches access ≡ false) × Freed known None none_spared (gone_in (Some o) heap) places masters (λ rooms holds. To (By mode (ways known rest rooms)) holds))
             ⊎ Freed known (Some o) none_spared heap places masters (λ rooms holds. To (By mode (ways known rest rooms)) holds × BeginsWell known access holds))
             → Enters known (ends way) o x (Ends (Names o) ∷ GivesBack (Names o) (Undoing number) pool ∷ Resumes mode ∷ rest) heap places operands masters
-        by same came' (inl (open_one, freed)) = collected (is_access known.program.types x.cell.access) refl
-          where
-            collected : (b : Bool) → is_access known.program.types x.cell.access ≡ b → Enters known (ends way) o x (Ends (Names o) ∷ GivesBack (Names o) (Undoing number) pool ∷ Resumes mode ∷ rest) heap places operands masters
-            collected true object = let raised : CameOut known x.cell.access mode = rw same at came' in let none = silent object raised.0 in let some = raised.2 in absurd (cc (none, some))
-            collected false object = let home : HasCollection masters x.cell.access = rw same at open_one in absurd (none_collected object masters fits home.0 home.1)
+        by same came' (inl (none, freed)) = let untouched : known.touches x.cell.access ≡ false = rw same at none in absurd (cc (untouched, touches))
         by same came' (inr freed) = rw from (undone number mode rest untreated stored (rw same at came') (rw same at freed))
     undoing number pool (f ∷ k) from untreated stored r = absurd r
 
@@ -450,14 +420,14 @@ module _ (known : Known) (o : Id) (x : Object) (heap : List Object) (found : obj
         rests = (
           refl,
           refl,
-          record {
+          inl (record {
             x = b.x;
             runs = b.runs;
             undone = rw one at b.undone;
             well = well;
             nowhere = named_nowhere (outers known) none_spared heap places (slice_set b.holds b.x hold.Lost) o aside.0;
             unreferred = aside.1;
-          },
+          }),
         );
         fit = b.fit;
         stored = b.stored;
@@ -467,6 +437,41 @@ module _ (known : Known) (o : Id) (x : Object) (heap : List Object) (found : obj
         unaliased = well.1;
       }
 
-  pub at_start : is_access known.program.types x.cell.access ≡ false → (done : List parts.Part) (k : Control) → TreatsBy known (Names o) (begins Creation done) k heap places operands masters → NothingTreated k → Enters known (begins Creation done) o x k heap places operands masters
-  at_start object done k (inl b, may) untreated = begins_here done k untreated b
-  at_start object done k (inr (creation, collected, r), may) untreated = let home = collected o x refl found in absurd (none_collected object masters fits home.0 home.1)
+  -- An object is initialized that an allocator made, and a variable gets its name.
+  made_here : (done : List parts.Part) (k : Control) → NothingTreated k → first_or Null operands ≡ Names o → Making known o x.cell.access k heap places masters → Enters known (begins Creation done) o x k heap places operands masters
+  made_here done k untreated named m = record {
+    rooms = m.rooms;
+    holds = m.holds;
+    also = [];
+    there = none_others;
+    waits = record {
+      parted = not_bare;
+      untreated = λ v ne. nothing_begins v k untreated;
+      roomed = m.roomed;
+      said = m.fit.said;
+      objects = m.fit.objects;
+    };
+    rests = (
+      refl,
+      refl,
+      inr (record {
+        named = named;
+        room = m.room;
+        to = m.to;
+        undone = m.undone;
+        well = m.well;
+        nowhere = named_nowhere (outers known) none_spared heap places m.holds o m.aside.0;
+        unreferred = m.aside.1;
+      }),
+    );
+    fit = m.fit;
+    stored = m.stored;
+    may = known.implicit.start_frees x.cell.access;
+    includes = λ t is. is;
+    spares = m.well.0;
+    unaliased = m.well.1;
+  }
+
+  pub at_start : known.touches x.cell.access ≡ true → (done : List parts.Part) (k : Control) → TreatsBy known (Names o) (begins Creation done) k heap places operands masters → NothingTreated k → Enters known (begins Creation done) o x k heap places operands masters
+  at_start touches done k (inl b, may) untreated = begins_here done k untreated b
+  at_start touches done k (inr (creation, named, made, names), may) untreated = made_here done k untreated named (made o x refl found touches)

@@ -2,7 +2,6 @@
 
 use Rattle.std.proofs.Common.{◌≡◌, ℕ, Bool, true, false, not, ◌&&◌, List, ◌∷◌, refl, sym, ap, subst, ◌∙◌, []}
 use Rattle.std.specs.Prelude.{Option, Some, None}
-use Rattle.std.specs.List.{list_any}
 use Rattle.std.specs.Option.{option_map}
 use Rattle.std.proofs.lemmas.Option.{slice_get-map}
 use Rattle.ada_deeds.specs.Implicit.{implicit_of}
@@ -12,11 +11,10 @@ use Rattle.ada_parts.specs.Task.{Task}
 use Rattle.ada_program.specs.declared.program.Program.{Program}
 use Rattle.ada_program.specs.Controlled.{operations_of}
 use Rattle.ada_program.specs.ProgramForm.{TypeForm, ProgramForm, program_form, body_forms, seen_by, seen_in}
-use Rattle.ada_program.specs.Handling.{is_same}
 use Rattle.ada_program.specs.WellFormed.{access_of, finalization_of, is_access, kind_among, variable_kind, object_named, reached_components, IsWellFormed}
 use Rattle.ada_quiet.specs.Bare.{has_bare_objects}
 use Rattle.ada_quiet.specs.Frugal.{is_frugal_body, thrift_of}
-use Rattle.ada_quiet.specs.InUse.{may_allocate_parts, may_end_frugally}
+use Rattle.ada_quiet.specs.InUse.{may_allocate_parts, may_be_frugal}
 use Rattle.ada_meaning.specs.declared.event.Birth.TheVariants.{Creation, Copy, Adjustment}
 use Rattle.ada_program.specs.declared.program.Exception.{Exception}
 use Rattle.ada_meaning.specs.declared.state.Id.{Id}
@@ -36,7 +34,6 @@ use Rattle.ada_typed.specs.Holding.{Designates, cells_of, PartsLie}
 use Rattle.ada_typed.proofs.Bodies.{seen_as}
 use Rattle.ada_typed.proofs.Control as typed
 use Rattle.ada_typed.proofs.Kept.{behind_call}
-use Rattle.ada_typed.proofs.Lying.{IsOperable}
 use Rattle.ada_typed.proofs.Overridings.{OperationFor, beginning_for, ending_for}
 use Rattle.ada_sound.proofs.Alters.{Alters}
 use Rattle.ada_sound.proofs.Callers.{Suspension, known_in, Stands, callers_of}
@@ -46,9 +43,8 @@ use Rattle.ada_sound.proofs.TouchingBegins.{IsAlone, alone, touching_begins}
 use Rattle.ada_sound.proofs.TouchingRests.{IsEnd, assigns_by, at_start, ends_by}
 use Rattle.ada_sound.proofs.Fits.{IsWithin}
 use Rattle.ada_sound.proofs.AssignedParts.{treated_frees_of, IsAssignedBehind}
-use Rattle.ada_sound.proofs.BareObjects.{allocated_is_bare, allocated_raises_nothing, components_are_bare, holder_is_not_bare, operable_is_not_bare}
-use Rattle.ada_sound.proofs.QuietOperations.{LetsNone, MayBeFrugal, MayTouch, ends_frugally}
-use Rattle.ada_sound.proofs.FrugalUseParts.{operable_is_object}
+use Rattle.ada_sound.proofs.BareObjects.{allocated_is_bare, components_are_bare, holder_is_not_bare, operable_is_not_bare}
+use Rattle.ada_sound.proofs.QuietOperations.{LetsNone, MayTouch}
 use Rattle.ada_sound.proofs.Items.{Houses}
 use Rattle.ada_sound.proofs.FrugalUseEnds.{ends_in_starts}
 use Rattle.ada_sound.proofs.FrugalUseLets.{touches_let}
@@ -128,18 +124,8 @@ module _ (program : Program) (a : Activation Value) (rest : List (Activation Val
         let fits : ItemsFit p.types (items_of whole.masters) = items_fit p whole sound.nested in
         subst (λ (types : List TypeForm). ItemsFit types (items_of s.masters)) (sym (same_types a.procedure p)) (rw same at fits)
 
-    -- An object is a declared one where an Initialize is called for it that touches storage.
-    abbrev IsDeclaredAt : Treatment → (access : ℕ) → Type 0
-    IsDeclaredAt (begins by done) access = is_access known.program.types access ≡ false
-    IsDeclaredAt (ends cause) access = Unit {0}
-
-    declared_at : (by : Treatment) → MayBeFrugal p by → (access of part : ℕ) → IsOperable p.types access of part → IsDeclaredAt by access
-    declared_at (begins by done) may access of part operable =
-        subst (λ (types : List TypeForm). is_access types access ≡ false) (sym (same_types a.procedure p)) (operable_is_object program sound.well may access of part operable)
-    declared_at (ends cause) may access of part operable = tt
-
     -- What waits for it, by what is treated.
-    module _ (may : may_end_frugally p ≡ true) (o : Id) (x : Object) (heap : List Object) (named : v ≡ Names o) (found : object_at heap o ≡ Some x) (not_bare : has_bare_objects known.program.types x.cell.access ≡ false) where
+    module _ (may : may_be_frugal p ≡ true) (o : Id) (x : Object) (heap : List Object) (named : v ≡ Names o) (found : object_at heap o ≡ Some x) (not_bare : has_bare_objects known.program.types x.cell.access ≡ false) where
       -- The home of the object goes first where its master is left.
       goes_ahead : (owned : Owned) → Houses owned x.cell.access x.cell.home.pool → OwnedFits known.program.types owned → known.ahead owned ≡ true
       goes_ahead (declared y) houses fits = absurd houses
@@ -165,41 +151,36 @@ module _ (program : Program) (a : Activation Value) (rest : List (Activation Val
           subst (λ (types : List TypeForm). (holder c access : ℕ) → access_of (kind_among (reached_components types holder) c) ≡ Some access → has_bare_objects types access ≡ true)
           (sym (same_types a.procedure p)) (components_are_bare program sound.well may)
 
-      -- No exception comes out of the initialization of one that an allocator creates.
-      allocated_silently : is_access known.program.types x.cell.access ≡ true → (e : Exception) → list_any (is_same e) (known.implicit.start_raises x.cell.access) ≡ false
-      allocated_silently is e =
-          let same = same_types a.procedure p in
-          allocated_raises_nothing program sound.well sound.in_use may x.cell.access
-          (subst (λ (types : List TypeForm). is_access types x.cell.access ≡ true) same is) (subst (λ (types : List TypeForm). has_bare_objects types x.cell.access ≡ false) same not_bare) e
+      -- An operation may be called for it that touches storage.
+      touches : known.touches x.cell.access ≡ true
+      touches = let parted = not_bare in let bare : has_bare_objects p.types x.cell.access ≡ false = rw (same_types a.procedure p) at parted in rw (may, bare) refl
 
       ends_for : (cause : Cause) → IsEnd cause → ends cause ≡ treatment → EndsTo known (Names o) k heap a.places s.masters → Enters known (ends cause) o x k heap a.places a.operands s.masters
       ends_for cause end one treats =
-          ends_by known o x heap found a.places a.operands s.masters not_bare fits_here goes_ahead bare_components allocated_silently (ends_in_starts p) cause end k treats (ended_untreated cause one)
+          ends_by known o x heap found a.places a.operands s.masters not_bare fits_here goes_ahead bare_components touches (ends_in_starts p) cause end k treats (ended_untreated cause one)
 
-      enters : (by : Treatment) → by ≡ treatment → MayTouch by → IsDeclaredAt by x.cell.access → TreatsBy known (Names o) by k heap a.places a.operands s.masters → Enters known by o x k heap a.places a.operands s.masters
-      enters (begins Creation done) one may' object treats =
-          at_start known o x heap found a.places a.operands s.masters not_bare fits_here object done k treats
+      enters : (by : Treatment) → by ≡ treatment → MayTouch by → TreatsBy known (Names o) by k heap a.places a.operands s.masters → Enters known by o x k heap a.places a.operands s.masters
+      enters (begins Creation done) one may' treats =
+          at_start known o x heap found a.places a.operands s.masters not_bare fits_here touches done k treats
           (untreated_start program sound.reached.0 sound.reached.1 whole still sound.reached.2 v Creation done tasks k (control_by (begins Creation done) one))
-      enters (begins Copy done) one may' object treats = absurd may'
-      enters (begins (Adjustment n) done) one may' object treats = absurd may'
-      enters (ends (Leaving m item)) one may' object treats = ends_for (Leaving m item) tt one treats
-      enters (ends (Freeing number)) one may' object treats = ends_for (Freeing number) tt one treats
-      enters (ends (Assigning number)) one may' object treats =
+      enters (begins Copy done) one may' treats = absurd may'
+      enters (begins (Adjustment n) done) one may' treats = absurd may'
+      enters (ends (Leaving m item)) one may' treats = ends_for (Leaving m item) tt one treats
+      enters (ends (Freeing number)) one may' treats = ends_for (Freeing number) tt one treats
+      enters (ends (Assigning number)) one may' treats =
           assigns_by known o x heap found a.places a.operands s.masters not_bare fits_here number lies_parted k treats
           (λ first t behind at. subst (λ (u : Value). AdjustsAlone u behind) named
           (adjusts_alone program sound.reached.0 sound.reached.1 whole still sound.reached.2 v (Assigning number) tasks first t behind
           (control_by (ends (Assigning number)) one ∙ ap (λ (j : Control). Treats v (ends (Assigning number)) tasks ∷ j) at)))
-      enters (ends (Undoing number)) one may' object treats = ends_for (Undoing number) tt one treats
+      enters (ends (Undoing number)) one may' treats = ends_for (Undoing number) tt one treats
 
-    pub touching_starts : (e : Event) (after : State) (c : Begins known a rest s program.types.items (body_forms program) k IsOperated e after) → MayTouch c.treatment → MayBeFrugal p c.treatment → LetsNone p c.treatment c.b → is_frugal_body (thrift_of p) c.b ≡ true → typed.Typed p after → Touching program after
-    touching_starts e after c touches may_be silent frugal typing =
+    pub touching_starts : (e : Event) (after : State) (c : Begins known a rest s program.types.items (body_forms program) k IsOperated e after) → MayTouch c.treatment → may_be_frugal p ≡ true → LetsNone p c.treatment c.b → is_frugal_body (thrift_of p) c.b ≡ true → typed.Typed p after → Touching program after
+    touching_starts e after c touches may silent frugal typing =
         let operated = c.operated.1 in
         let of_type : c.x.cell.access ≡ operated.0 = kept_type s.heap c.heap e c.o c.x operated.0 c.alters c.found operated.2 in
-        let may = ends_frugally p c.treatment may_be in
         let parted : has_bare_objects p.types c.x.cell.access ≡ false = rw of_type (operable_is_not_bare program sound.well operated.0 c.of operated.1 operated.3) in
         let at : Enters known c.treatment c.o c.x k c.heap a.places a.operands s.masters =
-        enters may c.o c.x c.heap c.operated.3 c.found (subst (λ (types : List TypeForm). has_bare_objects types c.x.cell.access ≡ false) (sym (same_types a.procedure p)) parted) c.treatment c.operated.0 touches
-        (declared_at c.treatment may_be c.x.cell.access c.of operated.1 (rw of_type operated.3)) c.treats in
+        enters may c.o c.x c.heap c.operated.3 c.found (subst (λ (types : List TypeForm). has_bare_objects types c.x.cell.access ≡ false) (sym (same_types a.procedure p)) parted) c.treatment c.operated.0 touches c.treats in
         let operation = operation_for program sound.well c.of c.number c.treatment touches c.called in
         let body : operation.body ≡ c.b = let found = operation.there in let there = c.there in cc (found, there) in
         let lone : IsAlone c.b = alone c.b operation.object (rw body at operation.formals) in

@@ -23,8 +23,8 @@ use Rattle.ada_program.specs.ProgramForm.{PartForm, TypeForm, record_of, access_
 use Rattle.ada_program.specs.WellFormed.{IsWellFormed, finalization_in, has_operations, have_operations, overrides_rightly, is_operation, callable_in, profile_of, is_inherited, variable_kind}
 use Rattle.ada_flow.specs.Flow.{is_owning_part, object_record, is_procedure, tracked_of, tracked_by_adjust, tracks_of}
 use Rattle.ada_flow.specs.Tracking.{no_tracks, tracks_behind, access_numbers, number_within}
-use Rattle.ada_quiet.specs.Apart.{is_this_one, is_adjust_of, is_tracker, body_calls_apart, overrides_apart, operations_apart, trackers_stand_apart}
-use Rattle.ada_quiet.specs.InUse.{uses_adjust, may_end_frugally, uses_operations, operations_are_in_use, is_copied_alone, may_track}
+use Rattle.ada_quiet.specs.Apart.{is_this_one, is_adjust_of, is_tracker, body_calls_apart, overrides_apart, operations_apart, operations_stand_apart}
+use Rattle.ada_quiet.specs.InUse.{uses_adjust, allocates_no_parts, may_allocate_parts, may_be_frugal, uses_operations, operations_are_in_use, is_copied_alone, may_track}
 use Rattle.ada_quiet.specs.Quiet.{has_access, is_of_access, operation_body}
 use Rattle.ada_sound.proofs.OperationStarts.{apart}
 use Rattle.ada_sound.specs.Untracked.{AdjustsNoOwners}
@@ -79,23 +79,26 @@ module _ (p : ProgramForm) where
       by true may = inr may
       by false never = inl (none_among 0 p.types well.operations_fit uses never)
 
-  -- Where they may be, a Finalize may be frugal, records are copied alone, and what tracks stands apart.
-  frugal_and_alone : may_track p ≡ true → (may_end_frugally p ≡ true) × (list_all (is_copied_alone p.types) p.types ≡ true)
-  frugal_and_alone may =
-      apart (may_end_frugally p) (list_all (is_copied_alone p.types) p.types)
-      (apart (may_end_frugally p && list_all (is_copied_alone p.types) p.types) (trackers_stand_apart p) may).0
+  -- Where they may be, operations may be frugal, and records are copied alone.
+  frugal_and_alone : may_track p ≡ true → (may_be_frugal p ≡ true) × (list_all (is_copied_alone p.types) p.types ≡ true)
+  frugal_and_alone may = apart (may_be_frugal p) (list_all (is_copied_alone p.types) p.types) may
 
-  pub frugal_too : may_track p ≡ true → may_end_frugally p ≡ true
+  pub frugal_too : may_track p ≡ true → may_be_frugal p ≡ true
   frugal_too may = (frugal_and_alone may).0
 
   pub alone_too : may_track p ≡ true → list_all (is_copied_alone p.types) p.types ≡ true
   alone_too may = (frugal_and_alone may).1
 
-  pub stand_apart : may_track p ≡ true → trackers_stand_apart p ≡ true
-  stand_apart may = (apart (may_end_frugally p && list_all (is_copied_alone p.types) p.types) (trackers_stand_apart p) may).1
+  -- Where operations may be frugal, they stand apart.
+  pub apart_too : may_be_frugal p ≡ true → operations_stand_apart p ≡ true
+  apart_too may = (apart (allocates_no_parts p || may_allocate_parts p) (operations_stand_apart p) may).1
 
-  pub calls_stand_apart : may_track p ≡ true → (body_calls_apart p.types (is_tracker p) (main_body p) ≡ true) × (list_all (body_calls_apart p.types (is_tracker p)) p.bodies ≡ true)
-  calls_stand_apart may = apart _ _ (apart (body_calls_apart p.types (is_tracker p) (main_body p) && list_all (body_calls_apart p.types (is_tracker p)) p.bodies) _ (stand_apart may)).0
+  pub stand_apart : may_track p ≡ true → operations_stand_apart p ≡ true
+  stand_apart may = apart_too (frugal_too may)
+
+  -- So no body calls what tracks then.
+  pub calls_stand_apart : operations_stand_apart p ≡ true → (body_calls_apart p.types (is_tracker p) (main_body p) ≡ true) × (list_all (body_calls_apart p.types (is_tracker p)) p.bodies ≡ true)
+  calls_stand_apart stand = apart _ _ (apart (body_calls_apart p.types (is_tracker p) (main_body p) && list_all (body_calls_apart p.types (is_tracker p)) p.bodies) _ stand).0
 
   -- What does not track has a body that tracks nothing.
   none_number : (first : ℕ) (kind : PartKind) → is_of_access kind ≡ false → number_within first kind ≡ []

@@ -1,31 +1,34 @@
 -- Where nothing tracks components (7.6), no record with owners is copied; and where they may be tracked, an Adjust sees to those of each copy, and nothing but the
--- treatment of an object calls that.
+-- treatment of an object calls that. Where an operation may touch storage, no allocator with items makes an object for which one is called (4.8).
 
-use Rattle.std.proofs.Common.{◌≡◌, ℕ, true, false, ◌&&◌, List, ◌∷◌, length, refl, sym, subst, inl, inr}
+use Rattle.std.proofs.Common.{◌≡◌, ℕ, Bool, true, false, ◌&&◌, not, List, ◌∷◌, length, refl, sym, subst, inl, inr}
 use Rattle.std.specs.Prelude.{Option, Some, None}
-use Rattle.std.specs.List.{slice_get}
+use Rattle.std.specs.List.{list_all, slice_get}
 use Rattle.ada_program.specs.declared.program.Finalization.{Finalization}
 use Rattle.ada_program.specs.declared.program.Program.{Program}
-use Rattle.ada_program.specs.Form.{ActualForm, allocates}
+use Rattle.ada_program.specs.Form.{ActualForm, ItemForm, allocates}
 use Rattle.ada_program.specs.ProgramForm.{TypeForm, record_of, access_to, object_of, BodyForm, ProgramForm, program_form}
 use Rattle.ada_program.specs.WellFormed.{IsWellFormed, finalization_in, finalization_of}
 use Rattle.std.proofs.lemmas.Bool.{and_parts, eqb-true}
-use Rattle.ada_meaning.specs.Frame.{Calls}
+use Rattle.ada_meaning.specs.Frame.{Calls, Evaluates}
 use Rattle.ada_meaning.specs.Named.{State}
-use Rattle.ada_quiet.specs.Apart.{is_tracker}
-use Rattle.ada_quiet.specs.InUse.{is_copied_alone, stand_in_a_row, adjusts_at_most_one, adjusts_itself, may_track}
+use Rattle.ada_quiet.specs.Apart.{is_bare_item, is_tracker, operations_stand_apart}
+use Rattle.ada_quiet.specs.Bare.{has_bare_objects}
+use Rattle.ada_quiet.specs.InUse.{is_copied_alone, stand_in_a_row, adjusts_at_most_one, adjusts_itself, may_be_frugal, may_track}
 use Rattle.ada_sound.proofs.Callers.{Suspension, known_in}
 use Rattle.ada_sound.proofs.CallsApart.{CallApart}
 use Rattle.ada_sound.proofs.CallsApartRuns.{no_record_allocated, no_tracker_called}
 use Rattle.ada_sound.proofs.CopiedOwners.{CopiesWell}
 use Rattle.ada_sound.proofs.CopiedWell.{copies_well}
-use Rattle.ada_sound.proofs.Gathered.{AllocatesBare, allocates_bare}
+use Rattle.ada_sound.proofs.Gathered.{AllocatesApart, AllocatesBare, allocates_bare}
 use Rattle.ada_sound.proofs.Invariant.{Control}
 use Rattle.ada_sound.proofs.OnlyRows.{AreCopiedAlone}
 use Rattle.ada_sound.proofs.OnlyParts.{passed_at}
 use Rattle.ada_sound.proofs.Returns.{same_types}
 use Rattle.ada_sound.proofs.Sees.{copies_in, allocates_in}
-use Rattle.ada_sound.proofs.Trackers.{TracksSafely, alone_too, nothing_adjusts}
+use Rattle.ada_sound.proofs.BareObjects.{components_untouched}
+use Rattle.ada_sound.proofs.Touched.{ComponentsUntouched, touches_in}
+use Rattle.ada_sound.proofs.Trackers.{TracksSafely, alone_too, apart_too, nothing_adjusts, stand_apart}
 
 module _ (p : ProgramForm) (well : IsWellFormed p) (may : may_track p ≡ true) where
   pub copied_alone : AreCopiedAlone p.types
@@ -57,18 +60,45 @@ pub copies_at : (program : Program) (procedure : Option ℕ) (gs : List Suspensi
 copies_at program procedure gs well (inl none) = copies_in program procedure gs (nothing_adjusts (program_form program) none)
 copies_at program procedure gs well (inr may) = subst CopiesWell (sym (same_types procedure (program_form program))) (tracked_well (program_form program) well may)
 
--- The records own nothing that are items of an allocator that is evaluated next.
-pub allocates_at : (program : Program) (procedure : Option ℕ) (gs : List Suspension) (s : State) → IsWellFormed (program_form program) → TracksSafely (program_form program) → (may_track (program_form program) ≡ true → CallApart (program_form program).types (is_tracker (program_form program)) s.control)
-    → AllocatesBare (known_in program procedure gs).program.types s.control
-allocates_at program procedure gs s well (inl none) apart' = allocates_in program procedure gs s.control (nothing_adjusts (program_form program) none)
+-- Where operations stand apart, what is left to do calls nothing that tracks, and no allocator in it makes an object with controlled parts from items, or copies a
+-- record with some.
+abbrev pub StaysApart : ProgramForm → Control → Type 0
+StaysApart p k = operations_stand_apart p ≡ true → CallApart p.types (is_tracker p) k
+
+-- So no record with controlled parts is among the items of an allocator that is evaluated next, and its object has none.
+bare_next : (p : ProgramForm) (s : State) → operations_stand_apart p ≡ true → StaysApart p s.control → (access : ℕ) (items : List ItemForm) (behind : Control)
+    → s.control ≡ Evaluates (allocates access items) ∷ behind → (has_bare_objects p.types access ≡ true) × (list_all (is_bare_item p.types) items ≡ true)
+bare_next p s stand apart' access items behind is =
+    and_parts (has_bare_objects p.types access) (list_all (is_bare_item p.types) items)
+    (no_record_allocated p.types (is_tracker p) s (allocates access items) behind is (apart' stand))
+
+-- So no operation is called for that object that touches storage.
+pub makes_apart : (p : ProgramForm) (s : State) → StaysApart p s.control → AllocatesApart (touches_in p) s.control
+makes_apart p s apart' access items behind is = by (may_be_frugal p) refl
+  where
+    by : (may : Bool) → may_be_frugal p ≡ may → (may && not (has_bare_objects p.types access)) ≡ false
+    by false never = refl
+    by true may = rw ((bare_next p s (apart_too p may) apart' access items behind is).0) refl
+
+-- And the records among those items own nothing.
+pub tracked_bare : (p : ProgramForm) → IsWellFormed p → may_track p ≡ true → ComponentsUntouched p.types (touches_in p) → (s : State) → StaysApart p s.control → AllocatesBare p.types (touches_in p) s.control
+tracked_bare p well may untouched s apart' =
+    allocates_bare p.types (tracked_well p well may) s.control
+    (λ access items behind is. (bare_next p s (stand_apart p may) apart' access items behind is).1) untouched (makes_apart p s apart')
+
+-- So it is with an allocator that a body of the program evaluates next.
+pub allocates_at : (program : Program) (procedure : Option ℕ) (gs : List Suspension) (s : State) → IsWellFormed (program_form program) → TracksSafely (program_form program) → StaysApart (program_form program) s.control
+    → AllocatesBare (known_in program procedure gs).program.types (known_in program procedure gs).touches s.control
+allocates_at program procedure gs s well (inl none) apart' =
+    allocates_in program procedure gs s.control (nothing_adjusts (program_form program) none) (components_untouched program well) (makes_apart (program_form program) s apart')
 allocates_at program procedure gs s well (inr may) apart' =
     let p = program_form program in
-    subst (λ (types : List TypeForm). AllocatesBare types s.control) (sym (same_types procedure p))
-    (allocates_bare p.types (tracked_well p well may) s.control
-    (λ access items k is. no_record_allocated p.types (is_tracker p) s (allocates access items) k is (apart' may)))
+    subst (λ (types : List TypeForm). AllocatesBare types (touches_in p) s.control) (sym (same_types procedure p)) (tracked_bare p well may (components_untouched program well) s apart')
 
 -- What is called next tracks nothing.
 pub called_apart : (program : Program) (s : State) (number : ℕ) (b : BodyForm) (actuals : List ActualForm) (k : Control) → s.control ≡ Calls number b actuals ∷ k → TracksSafely (program_form program)
-    → (may_track (program_form program) ≡ true → CallApart (program_form program).types (is_tracker (program_form program)) s.control) → is_tracker (program_form program) number ≡ false
+    → StaysApart (program_form program) s.control → is_tracker (program_form program) number ≡ false
 called_apart program s number b actuals k is (inl none) apart' = none number
-called_apart program s number b actuals k is (inr may) apart' = no_tracker_called (program_form program).types (is_tracker (program_form program)) s number b actuals k is (apart' may)
+called_apart program s number b actuals k is (inr may) apart' =
+    let p = program_form program in
+    no_tracker_called p.types (is_tracker p) s number b actuals k is (apart' (stand_apart p may))

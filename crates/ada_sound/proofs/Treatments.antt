@@ -47,7 +47,7 @@ use Rattle.ada_sound.proofs.CopiedOwners.{BeginsCopy, SeesToOwners, Leads, now, 
 use Rattle.ada_sound.proofs.Invariant.{outers, Adjusted, AdjustsAside, AdjustsTo, Known, Control, OfItsType, Rooms, RunsBehind, RunsOn, Working, IsHolder, IsPlainIn, IsAdjustedIn, IsLive, NamesTo, BeginsBy, BegunTo, EndsTo, StoresBehind, CopiesBehind, TreatsBy, ThenBack, Ending, ConfinesBy, EndsWell, Stepped, Fine, IsOfAssigned, IsOfCopied, LiesIn}
 use Rattle.ada_sound.proofs.Ready.{running, at_work, stays, treats_ready, adjusts_ready, type_set}
 use Rattle.ada_sound.proofs.Endings.{swapped, gone_still, under_set, frees_set, named_set, behind_set}
-use Rattle.ada_sound.proofs.Undone.{beginning_set, collected_set, undo_set}
+use Rattle.ada_sound.proofs.Undone.{beginning_set, made_set, undo_set}
 use Rattle.ada_sound.proofs.Operating.{StaysLive, WaitsFor, IsCalled}
 use Rattle.ada_meaning.specs.declared.event.Cause.TheVariants.{Leaving, Freeing, Assigning, Undoing}
 use Rattle.ada_parts.specs.declared.tasks.Direction.{Direction}
@@ -190,7 +190,13 @@ module _ (change : PartState → PartState) (part : ℕ) where
 
     begun_set : (v : Value) (by : Birth) (places operands : List Value) (k : Control) → v ≡ Names o → BegunTo known v by k heap places operands ms → BegunTo known v by k (slice_set heap o.0 (treated change part x)) places operands ms
     begun_set v by places operands k is (inl b) = inl (begins_set v by places k is b)
-    begun_set v by places operands k is (inr r) = inr (r.0, collected_set heap ms o x (treated change part x) found refl v is r.1, names_set places operands k r.2)
+    begun_set v by places operands k is (inr r) = inr (
+      r.0,
+      r.1,
+      made_set known heap places ms o x (treated change part x) found refl (stored_treated change part o x found) (λ holds f. treated_fit change part o x found f)
+          (λ holds aside. (same_unnamed heap o x found o aside.0 (treated change part x) refl (λ c. refl), aside.1)) v k is r.2,
+      names_set places operands k r.3,
+    )
 
     -- So does what is copied to a record that is assigned to.
     lies_set : (t : ℕ) (v : Value) → LiesIn known heap t v → LiesIn known (slice_set heap o.0 (treated change part x)) t v

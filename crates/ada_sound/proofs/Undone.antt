@@ -1,7 +1,7 @@
 -- A new object may be undone (7.6, 7.6.1): where an exception comes out of its initialization, what has begun is finalized, the object ceases to exist, its
 -- words go back, and the exception goes on.
 
-use Rattle.std.proofs.Common.{◌≡◌, ℕ, Bool, true, List, [], ◌∷◌, ◌++◌, length, map, refl, sym, inl, ◌≢◌, ◌⊎◌, inr}
+use Rattle.std.proofs.Common.{◌≡◌, ℕ, Bool, true, false, List, [], ◌∷◌, ◌++◌, length, map, refl, sym, ap, ◌∙◌, subst, inl, ◌≢◌, ◌⊎◌, inr}
 use Rattle.std.specs.Prelude.{Option, Some, None}
 use Rattle.std.specs.List.{list_any, slice_set}
 use Rattle.ada_parts.specs.Part as parts
@@ -31,7 +31,7 @@ use Rattle.ada_sound.proofs.Objects.{get_new, set_here, set_new}
 use Rattle.ada_sound.proofs.Stored.{Stored, stored_part}
 use Rattle.ada_sound.proofs.Fits.{Fit, none_spared, weaker_fit, part_fit, beside_fit, gone_fit, same_unnamed}
 use Rattle.ada_sound.proofs.Alters.{alters_set}
-use Rattle.ada_sound.proofs.Invariant.{outers, below, Known, Control, Rooms, Roomed, To, By, Unaliased, IsAside, Freed, gone_in, Beginning, BeginsWell, UnderIs, HasCollection, ResumesTo, IsCollected, Ending, StartsTo, StartsRaise, UndoneTo, MayUndo, IsLive, Stepped, Fine, ways}
+use Rattle.ada_sound.proofs.Invariant.{outers, below, Known, Control, Rooms, Roomed, To, By, Unaliased, IsAside, Freed, gone_in, Beginning, BeginsWell, IsMade, Making, UnderIs, ResumesTo, Ending, StartsTo, StartsRaise, UndoneTo, MayUndo, IsLive, Stepped, Fine, ways}
 use Rattle.ada_sound.proofs.Ready.{in_mode, treats_ready}
 use Rattle.ada_sound.proofs.Endings.{gone_still, under_set}
 use Rattle.ada_sound.proofs.Orderings.{as_good, good_to_lost}
@@ -84,7 +84,7 @@ module _ (known : Known) (heap : List Object) (places : List Value) (ms : List M
   undo_set Copy k may = tt
   undo_set (Adjustment number) k may = tt
 
--- It is initialized still: what is behind goes on, and the collection of its access type is open still.
+-- It is initialized still: what is behind goes on.
 module _ (known : Known) (heap : List Object) (places : List Value) (ms : List Master) (o : Id) (x y : Object) (found : object_at heap o ≡ Some x) (same : y.cell.access ≡ x.cell.access) (kept : Stored (outers known).under heap ms → Stored (outers known).under (slice_set heap o.0 y) ms)
     (keeps : (holds : Holds) → Fit known.program.types known.program.variables (outers known) none_spared heap places holds → Fit known.program.types known.program.variables (outers known) none_spared (slice_set heap o.0 y) places holds)
     (apart : (holds : Holds) → IsAside known none_spared heap places holds (Some o) → IsAside known none_spared (slice_set heap o.0 y) places holds (Some o)) where
@@ -112,12 +112,31 @@ module _ (known : Known) (heap : List Object) (places : List Value) (ms : List M
         well = rw same (rw one at b.well);
       }
 
-pub collected_set : (heap : List Object) (ms : List Master) (o : Id) (x y : Object) → object_at heap o ≡ Some x → y.cell.access ≡ x.cell.access → (v : Value) → v ≡ Names o → IsCollected heap ms v → IsCollected (slice_set heap o.0 y) ms v
-collected_set heap ms o x y found same v is collected p z names there =
-    let this : p ≡ o = cc (names, is) in
-    let still = set_here heap o.0 x y found in
-    let one : z ≡ y = cc (rw this at there, still) in
-    rw (one, same) (collected o x is found)
+  -- So is one that an allocator made.
+  making_set : (access : ℕ) (k : Control) → Making known o access k heap places ms → Making known o access k (slice_set heap o.0 y) places ms
+  making_set access k m = record {
+    rooms = m.rooms;
+    holds = m.holds;
+    stored = kept m.stored;
+    roomed = m.roomed;
+    fit = keeps m.holds m.fit;
+    aside = apart m.holds m.aside;
+    room = m.room;
+    to = m.to;
+    undone = m.undone;
+    well = m.well;
+  }
+
+  pub made_set : (v : Value) (k : Control) → v ≡ Names o → IsMade known v k heap places ms → IsMade known v k (slice_set heap o.0 y) places ms
+  made_set v k is made p z names there touches =
+      let this : p ≡ o = cc (names, is) in
+      let still = set_here heap o.0 x y found in
+      let one : z ≡ y = cc (rw this at there, still) in
+      let own : known.touches x.cell.access ≡ true = rw (one, same) at touches in
+      let access_is : x.cell.access ≡ z.cell.access = sym same ∙ ap (λ (w : Object). w.cell.access) (sym one) in
+      let made_so = making_set x.cell.access k (made o x is found own) in
+      subst (λ (q : Id). Making known q z.cell.access k (slice_set heap o.0 y) places ms) (sym this)
+      (subst (λ (access : ℕ). Making known o access k (slice_set heap o.0 y) places ms) access_is made_so)
 
 -- A variable that is lost has no alias.
 lost_unaliased : (variables : List VariableForm) (may : ℕ → Bool) (holds : Holds) (x : ℕ) → Unaliased variables may holds → Unaliased variables may (slice_set holds x hold.Lost)
@@ -149,12 +168,20 @@ beginning_undone known v k heap places ms b e (p, z, is, there, raises) =
       }),
     )
 
+-- So may one that an allocator made: nothing relies on it.
+pub making_undone : (known : Known) (o : Id) (access : ℕ) (k : Control) (heap : List Object) (places : List Value) (ms : List Master) → Making known o access k heap places ms → UnderIs heap (Some o) access → (e : Exception) → StartsRaise known heap (Names o) e → UndoneTo known (Names o) k heap places ms e
+making_undone known o access k heap places ms m (y, found, of) e (p, z, is, there, raises) =
+    let this : p ≡ o = cc is in
+    let one : z ≡ y = let at_o = there in cc (rw this at at_o, found) in
+    let raised : list_any (is_same e) (known.implicit.start_raises access) ≡ true = rw (one, of) at raises in
+    (o, access, refl, (y, found, of), inr (record { rooms = m.rooms; holds = m.holds; roomed = m.roomed; fit = m.fit; aside = m.aside; rest = (m.undone e raised, m.well) }))
+
 -- What fits before an object comes to be fits where it is gone again.
 module _ (known : Known) (heap : List Object) (words : _) (cell : Cell Value) where
   new_out : heap ++ finished (new_object cell) ∷ [] ≡ on_object finished (create heap words cell) (created heap words)
   new_out = sym (rw (get_new heap (new_object cell)) (set_new heap (new_object cell) (finished (new_object cell))))
 
-  pub new_undone : (k : Control) (places : List Value) (ms : List Master) (rooms : Rooms) (holds : Holds) (e : Exception) → HasCollection ms cell.access → Roomed (below known) ms rooms → Fit known.program.types known.program.variables (outers known) none_spared heap places holds → To ((ways known k rooms).raised e) holds → UndoneTo known (created heap words) k (create heap words cell) places ms e
+  pub new_undone : (k : Control) (places : List Value) (ms : List Master) (rooms : Rooms) (holds : Holds) (e : Exception) → known.touches cell.access ≡ false → Roomed (below known) ms rooms → Fit known.program.types known.program.variables (outers known) none_spared heap places holds → To ((ways known k rooms).raised e) holds → UndoneTo known (created heap words) k (create heap words cell) places ms e
   new_undone k places ms rooms holds e collected roomed fit goes = (
     record { 0 = length heap },
     cell.access,
@@ -173,9 +200,10 @@ module _ (known : Known) (heap : List Object) (words : _) (cell : Cell Value) wh
     ),
   )
 
-  -- So a new object may be undone that an allocator made.
-  pub new_may_undo : (k : Control) (places : List Value) (ms : List Master) (rooms : Rooms) (holds : Holds) → HasCollection ms cell.access → Stored (outers known).under (create heap words cell) ms → Roomed (below known) ms rooms → Fit known.program.types known.program.variables (outers known) none_spared heap places holds → StartsTo known cell.access k rooms holds → MayUndo known (created heap words) Creation k (create heap words cell) places ms
-  new_may_undo k places ms rooms holds collected stored roomed fit starts = (stored, λ e raises. new_undone k places ms rooms holds e collected roomed fit (starts e (raised e raises)))
+  -- So a new object may be undone that an allocator made: where operations may touch storage that are called for it, nothing relies on it.
+  pub new_may_undo : (k : Control) (places : List Value) (ms : List Master) (rooms : Rooms) (holds : Holds) → Stored (outers known).under (create heap words cell) ms → Roomed (below known) ms rooms → Fit known.program.types known.program.variables (outers known) none_spared heap places holds → StartsTo known cell.access k rooms holds
+      → (known.touches cell.access ≡ true → Making known (record { 0 = length heap }) cell.access k (create heap words cell) places ms) → MayUndo known (created heap words) Creation k (create heap words cell) places ms
+  new_may_undo k places ms rooms holds stored roomed fit starts made = (stored, λ e raises. undone_by e raises (known.touches cell.access) refl)
     where
       next : Id
       next = record { 0 = length heap }
@@ -185,6 +213,10 @@ module _ (known : Known) (heap : List Object) (words : _) (cell : Cell Value) wh
           let one : p ≡ next = cc is in
           let z_is : z ≡ new_object cell = let at_p = there in let at_new = get_new heap (new_object cell) in cc (rw one at at_p, at_new) in
           rw z_is at raises
+
+      undone_by : (e : Exception) → StartsRaise known (create heap words cell) (created heap words) e → (b : Bool) → known.touches cell.access ≡ b → UndoneTo known (created heap words) k (create heap words cell) places ms e
+      undone_by e raises true is = making_undone known next cell.access k (create heap words cell) places ms (made is) (new_object cell, get_new heap (new_object cell), refl) e raises
+      undone_by e raises false is = new_undone k places ms rooms holds e is roomed fit (starts e (raised e raises))
 
 -- An object that is not gone exists.
 live_exists : {under : List Id} (heap : List Object) (ms : List Master) (o : Id) (x : Object) → object_at heap o ≡ Some x → (x.stage ≡ Gone → ⊥) → Stored under heap ms → x.stage ≡ Existing
@@ -217,9 +249,9 @@ module _ (known : Known) (k : Control) (a : Activation Value) (rest : List (Acti
           let one : y ≡ x = cc (rw same at there, found) in
           rw (of_under at_o) at (rw one at raises)
 
-      behind : (HasCollection s.masters access × Freed known None none_spared (on_object finished s.heap (Names o)) a.places s.masters (λ rooms holds. To ((ways known k rooms).raised e) holds))
+      behind : ((known.touches access ≡ false) × Freed known None none_spared (on_object finished s.heap (Names o)) a.places s.masters (λ rooms holds. To ((ways known k rooms).raised e) holds))
           ⊎ Freed known (Some p) none_spared s.heap a.places s.masters (λ rooms holds. To ((ways known k rooms).raised e) holds × BeginsWell known access holds)
-          → (HasCollection s.masters access × Freed known None none_spared (gone_in (Some o) (slice_set s.heap o.0 (parted x))) a.places s.masters (λ rooms holds. To (By (Raising e) (ways known k rooms)) holds))
+          → ((known.touches access ≡ false) × Freed known None none_spared (gone_in (Some o) (slice_set s.heap o.0 (parted x))) a.places s.masters (λ rooms holds. To (By (Raising e) (ways known k rooms)) holds))
           ⊎ Freed known (Some o) none_spared (slice_set s.heap o.0 (parted x)) a.places s.masters (λ rooms holds. To (By (Raising e) (ways known k rooms)) holds × BeginsWell known access holds)
       behind (inl (collected, u)) = inl (
         collected,

@@ -23,7 +23,7 @@ use Rattle.ada_sound.proofs.Fits.{Fit, none_spared, store_blank, wrote_unnamed, 
 use Rattle.ada_sound.proofs.Invariant.{outers, AdjustsAside, Known, Control, OfItsType, Rooms, RunsBehind, RunsOn, Working, IsHolder, IsPlainIn, IsAdjustedIn, NamesTo, BeginsBy, BegunTo, EndsTo, StoresBehind, CopiesBehind, TreatsBy, ThenBack, Ending, LiesIn}
 use Rattle.ada_sound.proofs.Ready.{at_work, type_set}
 use Rattle.ada_sound.proofs.Endings.{KeepsFit, swapped, gone_still, under_set, frees_set, named_set, behind_set}
-use Rattle.ada_sound.proofs.Undone.{beginning_set, collected_set, undo_set}
+use Rattle.ada_sound.proofs.Undone.{beginning_set, made_set, undo_set}
 use Rattle.ada_meaning.specs.declared.event.Cause.TheVariants.{Leaving, Freeing, Assigning, Undoing}
 
 -- This goes into this component.
@@ -173,7 +173,13 @@ module _ (c : ℕ) (v : Value) (nameless : (p : Id) → v ≡ Names p → ⊥) w
 
     begun_set : (by : Birth) (places operands : List Value) (k : Control) → BegunTo known (Names o) by k heap places operands ms → BegunTo known (Names o) by k (slice_set heap o.0 (wrote x)) places operands ms
     begun_set by places operands k (inl b) = inl (begins_set by places k b)
-    begun_set by places operands k (inr r) = inr (r.0, collected_set heap ms o x (wrote x) found refl (Names o) refl r.1, names_set places operands k r.2)
+    begun_set by places operands k (inr r) = inr (
+      r.0,
+      r.1,
+      made_set known heap places ms o x (wrote x) found refl (stored_filled o x c v found) (λ holds f. wrote_fit known heap places o x found none_spared holds f)
+          (λ holds aside. (wrote_unnamed heap o x found o aside.0 c v nameless, aside.1)) (Names o) k refl r.2,
+      names_set places operands k r.3,
+    )
 
     -- So does what is copied to a record that is assigned to.
     lies_set : (t : ℕ) (u : Value) → LiesIn known heap t u → LiesIn known (slice_set heap o.0 (wrote x)) t u

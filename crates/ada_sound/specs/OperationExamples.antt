@@ -2,7 +2,7 @@
 -- exception and where some of them allocate and free, too, what the rules let through where a type has an Adjust of its own, and that other operations must not
 -- be in use.
 
-use Rattle.std.specs.Prelude.{◌≡◌, ℕ, List, [], ◌∷◌, ◌++◌, Option, Some, None, false, pos}
+use Rattle.std.specs.Prelude.{◌≡◌, ℕ, ◌+◌, List, [], ◌∷◌, ◌++◌, Option, Some, None, false, pos}
 use Rattle.std.proofs.Math.ListN.{replicate}
 use Rattle.ada_values.specs.declared.operator.BinaryOperator.TheVariants as binary
 use Rattle.ada_program.specs.declared.program.Choice.TheVariants as choice
@@ -518,6 +518,77 @@ undoing_events =
     ∷ Left 5
     ∷ Back object_p 4 0 None None (Undoing 4)
     ∷ Left 1
+    ∷ Left 0
+    ∷ []
+
+-- The same first four types; and type Chest is access Pair; which has number 4. C : Chest has number 0 in the main procedure.
+
+-- The collections of Link and of Chest; C : Chest;
+abbrev pub filling_declarations : List DeclarationForm
+filling_declarations = collects 1 ∷ collects 4 ∷ declares 0 nothing ∷ []
+
+-- C := new Pair;
+abbrev pub allocates_pair : StmtForm
+allocates_pair = assigns (example_path 0 []) (allocates_default 4)
+
+-- C := new Pair; Free (C); C := new Pair;
+abbrev pub filling_stmts : StmtsForm
+filling_stmts = a_stmt allocates_pair (a_stmt (frees 4 (example_path 0 [])) (a_stmt allocates_pair no_stmts))
+
+-- The first pair, and the second one.
+abbrev pub first_pair : Value
+first_pair = Names (record { 0 = 0 })
+
+abbrev pub second_pair : Value
+second_pair = Names (record { 0 = 3 })
+
+-- Initialize of a part of a pair is called, as a master of its own: it follows the pair where Head is found as a target, and where that is written.
+abbrev pub fills : Value → (master : ℕ) → List Event
+fills pair master = replicate 2 (Followed pair) ++ Left master ∷ []
+
+-- Finalize of a part of a pair is called: it follows the pair to what Head names, the words of that cell go back, the pair is followed where Head becomes null, and
+-- the body is left.
+abbrev pub empties : Value → (cell granted master : ℕ) → List Event
+empties pair cell granted master =
+    Followed pair ∷ Back (Names (record { 0 = cell })) 1 granted (Some 0) None (Freeing (1 + master)) ∷ Followed pair ∷ Left master ∷ []
+
+-- First and Second of the first pair are initialized, each to a cell of its own. Free finalizes First and then Second, which free their cells, and the words of the pair
+-- go back. The second pair is initialized, too, and is there when the main procedure is left: then Second and First of it are finalized with its collection, and its
+-- words go back, so that nothing is left in the collections.
+abbrev pub filling_events : List Event
+filling_events =
+    fills first_pair 1
+    ++ Born first_pair 0 0 0 1 Creation
+    ∷ fills first_pair 2
+    ++ Born first_pair 1 0 0 2 Creation
+    ∷ Finalized first_pair 0 0 0 1 (Freeing 3)
+    ∷ empties first_pair 1 2 4
+    ++ Finalized first_pair 1 0 0 2 (Freeing 3)
+    ∷ empties first_pair 2 3 6
+    ++ Back first_pair 4 1 (Some 0) None (Freeing 3)
+    ∷ fills second_pair 8
+    ++ Born second_pair 0 0 0 3 Creation
+    ∷ fills second_pair 9
+    ++ Born second_pair 1 0 0 4 Creation
+    ∷ Finalized second_pair 1 0 0 4 (Leaving 0 1)
+    ∷ empties second_pair 5 6 10
+    ++ Finalized second_pair 0 0 0 3 (Leaving 0 1)
+    ∷ empties second_pair 4 5 12
+    ++ Back second_pair 4 4 (Some 0) None (Leaving 0 1)
+    ∷ Left 0
+    ∷ []
+
+-- Where the cell of Second is refused, Storage_Error leaves the body of Initialize, so that the first pair is undone: First is finalized, whose Finalize frees its cell,
+-- and the words of the pair go back. The handler takes the exception, C is null still, and nothing is left in the collections.
+abbrev pub unfilled_events : List Event
+unfilled_events =
+    fills first_pair 1
+    ++ Born first_pair 0 0 0 1 Creation
+    ∷ Followed first_pair
+    ∷ Left 2
+    ∷ Finalized first_pair 0 0 0 1 (Undoing 3)
+    ∷ empties first_pair 1 2 4
+    ++ Back first_pair 4 1 (Some 0) None (Undoing 3)
     ∷ Left 0
     ∷ []
 

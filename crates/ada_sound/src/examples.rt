@@ -174,6 +174,11 @@ pub fn premises_are_met()
 /// one is finalized, which frees its cell, and the words of the object go back before a handler outside of its block takes
 /// the exception.
 ///
+/// And one is accepted whose Initialize allocates for what an allocator makes (4.8, 7.6): each object with two components of
+/// such a type gets two cells. One is freed, and one is there when the main procedure is left; each time both cells go back
+/// before the words of their object. Where the second cell is refused, the first component is finalized, which frees its
+/// cell, and the words of the object go back before the handler takes `Storage_Error`.
+///
 /// And one is accepted whose Adjust allocates (7.6, 4.8): a record that owns a cell is assigned to another one, of the same
 /// type. Right behind the copy the components of both name one cell; Adjust reads it, and gives the copy a cell of its own,
 /// or null, where an exception is raised. Where both cells are granted, each of the two records is finalized at the leaving
@@ -232,6 +237,14 @@ pub fn operations_are_accepted()
         × (stmt_forms program ≡ operation_examples.undoing_stmts)
         × (handler_forms program ≡ operation_examples.undoing_handlers)
         × IsChecked program × FinishesAfter operation_examples.undoing_events program }
+    ensures fills { (program : Program)
+        × (operations_of program.types.items 0 ≡ operation_examples.allocating_operations)
+        × (body_forms program ≡ operation_examples.undoing_bodies)
+        × (declaration_forms program ≡ operation_examples.filling_declarations)
+        × (stmt_forms program ≡ operation_examples.filling_stmts)
+        × (handler_forms program ≡ operation_examples.undoing_handlers)
+        × IsChecked program × FinishesAfter operation_examples.filling_events program
+        × FinishesAfter operation_examples.unfilled_events program }
     ensures duplicates { (program : Program)
         × (operations_of program.types.items 0 ≡ operation_examples.duplicating_operations)
         × (body_forms program ≡ operation_examples.duplicating_bodies)

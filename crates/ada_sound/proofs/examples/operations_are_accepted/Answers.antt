@@ -1,4 +1,4 @@
--- By nine programs and their runs.
+-- By ten programs and their runs.
 use Rattle.ada_sound.proofs.ExampleOperations as operations
 use Rattle.ada_sound.proofs.ExampleTidying as tidying
 use Rattle.ada_sound.proofs.ExampleOverwriting as overwriting
@@ -6,6 +6,7 @@ use Rattle.ada_sound.proofs.ExampleEmptying as emptying
 use Rattle.ada_sound.proofs.ExampleBoxing as boxing
 use Rattle.ada_sound.proofs.ExampleAllocating as allocating
 use Rattle.ada_sound.proofs.ExampleUndoing as undoing
+use Rattle.ada_sound.proofs.ExampleFilling as filling
 use Rattle.ada_sound.proofs.ExampleDuplicating as duplicating
 use Rattle.ada_sound.proofs.ExampleCopying as copying
 use Rattle.ada_sound.proofs.examples.operations_are_accepted.Goals as goal
@@ -80,6 +81,17 @@ returns c = record {
     undoing.undoing_handles,
     undoing.undoing_accepted,
     undoing.undoes,
+  );
+  fills = (
+    filling.filling,
+    filling.filling_overrides,
+    filling.filling_has,
+    filling.filling_declares,
+    filling.filling_does,
+    filling.filling_handles,
+    filling.filling_accepted,
+    filling.fills,
+    filling.is_undone,
   );
   duplicates = (
     duplicating.duplicating,

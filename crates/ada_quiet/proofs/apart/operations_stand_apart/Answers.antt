@@ -4,10 +4,10 @@ use Rattle.std.specs.List.{list_all}
 use Rattle.std.proofs.Math.Path.{fun_ext}
 use Rattle.ada_program.specs.ProgramForm.{ProgramForm, main_body, program_form}
 use Rattle.ada_program.specs.WellFormed.{finalization_in}
-use Rattle.ada_quiet.specs.Apart.{is_tracker, body_calls_apart, operations_apart, trackers_stand_apart}
+use Rattle.ada_quiet.specs.Apart.{is_tracker, body_calls_apart, operations_apart, operations_stand_apart}
 use Rattle.ada_quiet.specs.Known.{is_marked}
 use Rattle.ada_quiet.specs.Quiet.{has_access}
-use Rattle.ada_quiet.proofs.apart.trackers_stand_apart.Goals as goal
+use Rattle.ada_quiet.proofs.apart.operations_stand_apart.Goals as goal
 
 -- all of a program stands apart from these procedures
 abbrev stands_apart : ProgramForm → (tracks : ℕ → Bool) → Bool
@@ -16,7 +16,7 @@ stands_apart p tracks =
     && list_all (λ t. operations_apart tracks (has_access (Some t)) (finalization_in (Some t))) p.types
 
 -- from those that are marked as from those that track
-as_marked : (p : ProgramForm) (marks : List Bool) → ((n : ℕ) → is_marked marks n ≡ is_tracker p n) → stands_apart p (is_marked marks) ≡ trackers_stand_apart p
+as_marked : (p : ProgramForm) (marks : List Bool) → ((n : ℕ) → is_marked marks n ≡ is_tracker p n) → stands_apart p (is_marked marks) ≡ operations_stand_apart p
 as_marked p marks same = ap (stands_apart p) (fun_ext same)
 
 pub returns : goal.returns
