@@ -1,4 +1,4 @@
--- A path is followed, beside a hidden component and a ghost, and into them.
+-- A path is followed, beside a hidden component and a ghost, and into them; a component is written, beside a hidden one, and a hidden one is.
 
 use Rattle.std.proofs.Common.{◌≡◌, ℕ, zero, suc, Bool, true, false, List, [], ◌∷◌, Some, None, refl, ap, ◌∙◌}
 use Rattle.std.specs.Prelude.{◌==◌, ◌&&◌}
@@ -11,11 +11,13 @@ use Rattle.ada_meaning.specs.declared.state.Stage.{Stage}
 use Rattle.ada_meaning.specs.declared.state.Stage.TheVariants.{Existing, Gone}
 use Rattle.ada_meaning.specs.declared.state.Value.{Value}
 use Rattle.ada_meaning.specs.declared.state.Value.TheVariants.{Null, Names}
+use Rattle.ada_meaning.specs.Event.{Followed}
+use Rattle.ada_meaning.specs.Frame.{Frame}
 use Rattle.ada_meaning.specs.Frame as frame
 use Rattle.ada_meaning.specs.Step.{halts, moves, tells, asks, picks, computed, newest}
 use Rattle.ada_meaning.specs.Named.{Object, State, Next, named, next}
 use Rattle.ada_untouched.specs.Alike.{ValuesAlike, ObjectsAlike, FoundAlike, HeapsAlike, NextAlike}
-use Rattle.ada_untouched.specs.Example.{FollowsBeside, PremisesAreMet, LooksAtGhost, LooksAtHidden, PremiseIsNeeded}
+use Rattle.ada_untouched.specs.Example.{FollowsBeside, PremisesAreMet, LooksAtGhost, LooksAtHidden, PremiseIsNeeded, WritesShown, WritesHidden, WritesBeside}
 
 abbrev holder : Id
 holder = record { 0 = 0 }
@@ -185,3 +187,50 @@ premise_is_needed = (
   ([], [], one_ghost, into_ghost (heap_with Null Existing true), into_ghost (heap_with Null Gone false), looks_at_ghost),
   ([], [], hidden_one, into_hidden (heap_with (Names ghost) Existing true), into_hidden (heap_with Null Existing true), looks_at_hidden),
 )
+
+-- This is computed and left to do, where the components of the first object hold this.
+abbrev holding : (operands : List Value) → (control : List (Frame Value)) → (first second : Value) → State
+holding operands control v u = record {
+  activations = record { procedure = None; places = []; operands = operands } ∷ [];
+  masters = [];
+  control = control;
+  mode = Running;
+  input = [];
+  next = 0;
+  allocated = 3;
+  born = 0;
+  heap = an_object (v ∷ u ∷ []) Existing true ∷ an_object (Names holder ∷ []) Existing true ∷ an_object (Null ∷ []) Existing true ∷ [];
+}
+
+-- A component of it becomes null next.
+abbrev storing : (component : ℕ) → State
+storing c = holding (Null ∷ []) (frame.StoresIn (Names holder) c ∷ []) (Names other) (Names ghost)
+
+writes_shown : WritesShown [] [] hidden_one (storing 0) holder 0
+unfolding next
+writes_shown = record {
+  unwritten = refl;
+  is_shown = refl;
+  beside = (1, Names ghost, refl, refl);
+  writes = record {
+    goes_on = (Followed (Names holder), holding [] [] Null (Names ghost), refl);
+    held = (Names other, refl);
+    holds = (Null, refl);
+    differs = λ e. absurd (cc);
+  };
+}
+
+writes_hidden : WritesHidden [] [] hidden_one (storing 1) holder 1
+unfolding next
+writes_hidden = record {
+  is_hidden = refl;
+  writes = record {
+    goes_on = (Followed (Names holder), holding [] [] (Names other) Null, refl);
+    held = (Names ghost, refl);
+    holds = (Null, refl);
+    differs = λ e. absurd (cc);
+  };
+}
+
+pub writes_beside : WritesBeside
+writes_beside = (([], [], hidden_one, storing 0, holder, 0, writes_shown), ([], [], hidden_one, storing 1, holder, 1, writes_hidden))

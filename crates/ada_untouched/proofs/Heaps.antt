@@ -84,12 +84,12 @@ added_length x [] (y ∷ ys) e = absurd (omega (arith, e))
 added_length x (z ∷ xs) [] e = absurd (omega (arith, e))
 added_length x (z ∷ xs) (y ∷ ys) e = let h = added_length x xs ys (omega (arith, e)) in omega (arith, h)
 
-set_here : {X : Type 0} (xs : List X) (i : ℕ) (x y : X) → slice_get xs i ≡ Some x → slice_get (slice_set xs i y) i ≡ Some y
+pub set_here : {X : Type 0} (xs : List X) (i : ℕ) (x y : X) → slice_get xs i ≡ Some x → slice_get (slice_set xs i y) i ≡ Some y
 set_here [] i x y is = absurd (cc)
 set_here (z ∷ xs) zero x y is = refl
 set_here (z ∷ xs) (suc i) x y is = set_here xs i x y is
 
-set_there : {X : Type 0} (xs : List X) (i j : ℕ) (y : X) → j ≢ i → slice_get (slice_set xs i y) j ≡ slice_get xs j
+pub set_there : {X : Type 0} (xs : List X) (i j : ℕ) (y : X) → j ≢ i → slice_get (slice_set xs i y) j ≡ slice_get xs j
 set_there [] i j y ne = refl
 set_there (z ∷ xs) zero zero y ne = absurd (ne refl)
 set_there (z ∷ xs) zero (suc j) y ne = refl
@@ -202,7 +202,7 @@ module _ (hiding : ℕ → Bool) (ghost : Bool) (plain : ghost ≡ false) where
       (λ z us v. test_alike hiding z.cell us (z.listed && all_alive z.cell.parts) v) ghost x y plain f
 
 -- Whether a name is this one.
-one_or_other : (p o : Id) → (p ≡ o) ⊎ (p.0 ≢ o.0)
+pub one_or_other : (p o : Id) → (p ≡ o) ⊎ (p.0 ≢ o.0)
 one_or_other p o = elim (eqb_tells p.0 o.0) [ inl h ↦ inl (ap (λ (i : ℕ). record { 0 = i }) h.1) | inr h ↦ inr h.1 ]
 
 module _ (hidden : Id → (component : ℕ) → Bool) (ghosts : Id → Bool) (h k : List Object) (a : HeapsAlike hidden ghosts h k) where

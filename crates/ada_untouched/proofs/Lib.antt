@@ -1,4 +1,4 @@
--- What a step does not touch does not matter to it.
+-- What a step does not touch does not matter to it, and what it does not write stays.
 
 -- heaps that are alike, and what is found there
 pub mod Heaps
@@ -8,5 +8,13 @@ pub mod Forms
 pub mod Frames
 -- a jump passes frames; the law
 pub mod Law
+-- hidden components stay, whatever becomes of the objects
+pub mod Kept
+-- they stay where forms do something
+pub mod KeptByForms
+-- where statements, declarations, allocators, frees and treatments do; where a frame does
+pub mod KeptByFrames
+-- where a jump passes frames; the law
+pub mod KeptByLaw
 -- the premises are met, and are needed
 pub mod Example

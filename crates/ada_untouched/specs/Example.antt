@@ -1,7 +1,6 @@
--- The premises are met, and they are needed.
+-- The premises of each law are met, and they are needed.
 
-use Rattle.std.specs.Prelude.{◌≡◌, ℕ, Bool, true, false, List, Option, Some, None}
-use Rattle.std.specs.List.{slice_get}
+use Rattle.std.specs.Prelude.{◌≡◌, ℕ, Bool, true, false, List, Some}
 use Rattle.ada_program.specs.declared.program.TypeDefinition.{TypeDefinition}
 use Rattle.ada_program.specs.ProgramForm.{BodyForm}
 use Rattle.ada_meaning.specs.declared.event.Halt.TheVariants.{Erroneous}
@@ -11,14 +10,12 @@ use Rattle.ada_meaning.specs.declared.state.Value.{Value}
 use Rattle.ada_meaning.specs.declared.state.Value.TheVariants.{Names}
 use Rattle.ada_meaning.specs.Event.{Followed}
 use Rattle.ada_meaning.specs.Step.{halts, moves, newest}
-use Rattle.ada_meaning.specs.Named.{Object, State, named, object_at, look, next}
+use Rattle.ada_meaning.specs.Named.{State, named, object_at, look, next}
+use Rattle.ada_meaning.specs.Records.{component_in}
+use Rattle.ada_meaning.specs.Run.{Event}
 use Rattle.ada_untouched.specs.Alike.{StatesAlike, NextAlike}
 use Rattle.ada_untouched.specs.Untouched.{Untouched}
-
--- What lies in a component of an object, if there is one.
-abbrev pub component_in : Option Object → (component : ℕ) → Option Value
-component_in None c = None
-component_in (Some x) c = slice_get x.cell.values c
+use Rattle.ada_untouched.specs.Unwritten.{Unwritten}
 
 -- A component of an object is hidden, and holds something else in the other state.
 pub record DifferHidden (hidden : Id → (component : ℕ) → Bool) (s t : State) (o : Id) (component : ℕ) : Type 0 where
@@ -66,3 +63,30 @@ PremiseIsNeeded =
     ((types : List TypeDefinition) × (bodies : List BodyForm) × (ghosts : (Id → Bool)) × (s : State) × (t : State) × LooksAtGhost types bodies ghosts s t)
     × ((types : List TypeDefinition) × (bodies : List BodyForm) × (hidden : (Id → (component : ℕ) → Bool)) × (s : State) × (t : State)
     × LooksAtHidden types bodies hidden s t)
+
+-- A step behind which a component of an object holds something else.
+pub record Writes (types : List TypeDefinition) (bodies : List BodyForm) (s : State) (o : Id) (component : ℕ) : Type 0 where
+  pub goes_on : (e : Event) × (after : State) × (next types bodies s ≡ moves e after)
+  pub held : (v : Value) × (component_in (object_at s.heap o) component ≡ Some v)
+  pub holds : (v : Value) × (component_in (object_at (goes_on.1).heap o) component ≡ Some v)
+  pub differs : held.0 ≡ holds.0 → ⊥
+
+-- It is none of the hidden ones, and the object has one of these.
+pub record WritesShown (types : List TypeDefinition) (bodies : List BodyForm) (hidden : Id → (component : ℕ) → Bool) (s : State) (o : Id) (component : ℕ) : Type 0 where
+  pub unwritten : Unwritten hidden s
+  pub is_shown : hidden o component ≡ false
+  pub beside : (c : ℕ) × (v : Value) × (hidden o c ≡ true) × (component_in (object_at s.heap o) c ≡ Some v)
+  pub writes : Writes types bodies s o component
+
+-- It is a hidden one.
+pub record WritesHidden (types : List TypeDefinition) (bodies : List BodyForm) (hidden : Id → (component : ℕ) → Bool) (s : State) (o : Id) (component : ℕ) : Type 0 where
+  pub is_hidden : hidden o component ≡ true
+  pub writes : Writes types bodies s o component
+
+-- Each of them is somewhere.
+abbrev pub WritesBeside : Type 0
+WritesBeside =
+    ((types : List TypeDefinition) × (bodies : List BodyForm) × (hidden : (Id → (component : ℕ) → Bool)) × (s : State) × (o : Id) × (component : ℕ)
+    × WritesShown types bodies hidden s o component)
+    × ((types : List TypeDefinition) × (bodies : List BodyForm) × (hidden : (Id → (component : ℕ) → Bool)) × (s : State) × (o : Id) × (component : ℕ)
+    × WritesHidden types bodies hidden s o component)

@@ -1,10 +1,12 @@
--- What a step does not touch does not matter to it.
+-- What a step does not touch does not matter to it, and what it does not write stays.
 
 -- states that are alike but for some components and some objects
 pub mod Alike
 -- what a step looks at
 pub mod Untouched
--- the law
+-- what a step writes
+pub mod Unwritten
+-- the laws
 pub mod Law
 -- states that meet the premises, and some that do not
 pub mod Example

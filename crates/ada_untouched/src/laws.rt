@@ -1,7 +1,8 @@
-//! The laws of what a step does not touch. Each is a function that does nothing, and whose contract is the theorem.
+//! The laws of what a step does not touch, or does not write. Each is a function that does nothing, and whose contract is the
+//! theorem.
 
-ghost use Rattle.ada_untouched.specs.Example.{PremisesAreMet, PremiseIsNeeded};
-ghost use Rattle.ada_untouched.specs.Law.{UntouchedPartsDoNotMatter};
+ghost use Rattle.ada_untouched.specs.Example.{PremisesAreMet, PremiseIsNeeded, WritesBeside};
+ghost use Rattle.ada_untouched.specs.Law.{UntouchedPartsDoNotMatter, HiddenPartsStay};
 
 /// Where a step looks neither at a hidden component nor at a ghost, a state that is alike but for these takes the same step: the
 /// same is asked of storage and told to it, the same is shown, and the states behind it are alike again, or both end so.
@@ -19,4 +20,16 @@ pub fn premises_are_met()
 /// hidden component, the states behind it may not be alike.
 pub fn premise_is_needed()
     ensures { PremiseIsNeeded }
+{}
+
+/// Where a step writes no hidden component, each hidden component of an object holds behind it what it held before, whatever is
+/// answered.
+pub fn hidden_parts_stay()
+    ensures { HiddenPartsStay }
+{}
+
+/// This premise is met: a step writes a component beside a hidden one of the same object, and leaves something else in it. And it
+/// is needed: a step that writes a hidden component leaves something else there.
+pub fn writes_beside()
+    ensures { WritesBeside }
 {}
