@@ -11,7 +11,7 @@ use Rattle.ada_program.specs.WellFormed.{finalization_in}
 use Rattle.ada_quiet.specs.Quiet.{is_plain_body, is_plain_procedure, is_quiet_procedure, is_plain_operation, is_quiet_operation, has_quiet_operations, has_access, operation_body, adjust_body, adjusts_access, operations_are_quiet}
 use Rattle.ada_quiet.specs.Frugal.{is_frugal_operation, is_silent_operation}
 use Rattle.ada_quiet.specs.Simple.{is_simple_operation}
-use Rattle.ada_quiet.specs.InUse.{may_be_frugal, may_track, uses_initialize, uses_adjust, uses_finalize, uses_operations, operations_are_in_use}
+use Rattle.ada_quiet.specs.InUse.{adjusts_alone, may_be_frugal, may_track, uses_initialize, uses_adjust, uses_finalize, uses_operations, operations_are_in_use}
 
 -- Of two tests that both hold the first one holds, and so does the second one.
 pub first_of_both : (a b : Bool) → (a && b) ≡ true → a ≡ true
@@ -58,7 +58,8 @@ other_chosen false one other is h = h
 pub uses_quiet_adjust : (p : ProgramForm) (owns : Bool) (o : Option ProcedureNo) → is_quiet_operation p o ≡ true → (owns && is_some (operation_body p o)) ≡ false →
     uses_adjust p owns o ≡ true
 uses_quiet_adjust p owns o h none =
-    other_chosen (owns && is_some (operation_body p o)) (may_track p && is_simple_operation p o && is_silent_operation p o) (is_quiet_operation p o) none h
+    other_chosen (owns && is_some (operation_body p o)) (may_track p && is_simple_operation p (adjusts_alone p) o && is_silent_operation p o) (is_quiet_operation p o)
+    none h
 
 -- Both of two tests may be replaced by what follows from them.
 pub others : (a b c d : Bool) → (a ≡ true → c ≡ true) → (b ≡ true → d ≡ true) → (a && b) ≡ true → (c && d) ≡ true

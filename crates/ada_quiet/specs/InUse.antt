@@ -51,27 +51,30 @@ stand_in_a_row types from [] count = from == count
 stand_in_a_row types from (p ∷ ps) count =
     (is_parent p.kind || (p.first == from)) && stand_in_a_row types (from + size_of_part types p.kind) ps count
 
--- A record has at most one controlled part, at any depth and itself included: where it is copied, that is the first one that is adjusted, and the last one (7.6).
-abbrev pub adjusts_at_most_one : Option Finalization → Bool
-adjusts_at_most_one None = true
-adjusts_at_most_one (Some f) = f.parts == 1
-
 -- A type overrides no Adjust, or it is controlled itself: it has the parent part (7.6).
 abbrev pub adjusts_itself : List PartForm → Option Finalization → Bool
 adjusts_itself parts None = true
 adjusts_itself parts (Some f) = is_inherited f.operations.adjust || list_any (λ c. is_parent c.kind) parts
 
--- All elementary components of a record are those of its declared components, and where it is copied, at most one part is adjusted, the record itself where its
--- type overrides Adjust (7.6).
-abbrev pub is_copied_alone : List TypeForm → TypeForm → Bool
-is_copied_alone types (record_of name parts components finalization) =
-    stand_in_a_row types 0 parts (length components) && adjusts_at_most_one finalization && adjusts_itself parts finalization
-is_copied_alone types (access_to name designated pool) = true
-is_copied_alone types (object_of record_type) = true
+-- All elementary components of a record are those of its declared components, one behind another, and where its type overrides Adjust, the record itself is
+-- adjusted (3.8, 7.6).
+abbrev pub is_copied_in_order : List TypeForm → TypeForm → Bool
+is_copied_in_order types (record_of name parts components finalization) = stand_in_a_row types 0 parts (length components) && adjusts_itself parts finalization
+is_copied_in_order types (access_to name designated pool) = true
+is_copied_in_order types (object_of record_type) = true
 
--- An Adjust may track its components in a program in which a Finalize may be frugal, and no copy of a record has two parts that are adjusted (7.6).
+-- An Adjust may track its components in a program in which a Finalize may be frugal, and each record's components stand in order.
 abbrev pub may_track : ProgramForm → Bool
-may_track p = may_be_frugal p && list_all (is_copied_alone p.types) p.types
+may_track p = may_be_frugal p && list_all (is_copied_in_order p.types) p.types
+
+-- A record has at most one controlled part, at any depth and itself included: where it is copied, that is the first one that is adjusted, and the last one (7.6).
+abbrev pub has_one_part : Option Finalization → Bool
+has_one_part None = true
+has_one_part (Some f) = f.parts == 1
+
+-- So it is with each record of a program: no two parts are adjusted one behind the other, where one is copied.
+abbrev pub adjusts_alone : ProgramForm → Bool
+adjusts_alone p = list_all (λ t. has_one_part (finalization_in (Some t))) p.types
 
 -- Finalize is quiet, or frugal and silent, where it may be.
 abbrev pub uses_finalize : ProgramForm → Option ProcedureNo → Bool
@@ -82,11 +85,12 @@ abbrev pub uses_initialize : ProgramForm → Option ProcedureNo → Bool
 uses_initialize p initialize = is_plain_operation p initialize || (may_be_frugal p && is_frugal_operation p initialize)
 
 -- Adjust is simple and silent, where it may track, if a body overrides it of a type that declares a component of an access type directly (3.10, 7.6): behind it
--- that component of a copy holds a value of its own, or null. Of another type it is quiet.
+-- that component of a copy holds a value of its own, or null. It frees nothing where a record has two controlled parts: what the one that is adjusted later still
+-- shares with the source of the copy stays. Of another type it is quiet.
 abbrev pub uses_adjust : ProgramForm → (owns : Bool) → Option ProcedureNo → Bool
 uses_adjust p owns adjust =
     if owns && is_some (operation_body p adjust)
-    then may_track p && is_simple_operation p adjust && is_silent_operation p adjust
+    then may_track p && is_simple_operation p (adjusts_alone p) adjust && is_silent_operation p adjust
     else is_quiet_operation p adjust
 
 -- The operations of a type, which declares such a component or does not, are in use (7.6, 7.6.1).

@@ -1,6 +1,7 @@
 //! The first body in the text that overrides an operation of a controlled type and is not in use: Initialize is neither plain nor
 //! frugal, where it may be, Adjust is not quiet, or, of a type with a component of an access type, not simple and silent, or may not
-//! track, or Finalize is neither quiet nor, where it may be, frugal and silent.
+//! track, or frees objects where a record of the program has two controlled parts, or Finalize is neither quiet nor, where it may be,
+//! frugal and silent.
 
 ghost use Rattle.std.specs.Prelude.{◌≡◌, ◌↔◌, None, true, IfOk};
 ghost use Rattle.ada_program.specs.ProgramForm.{program_form};
@@ -13,7 +14,7 @@ ghost use Rattle.ada_quiet.specs.Quiet as quiet;
 
 use crate::known::{Known, frugal_procedures, known_calls};
 use crate::operations::has_access;
-use crate::tracking::may_track;
+use crate::tracking::{adjusts_alone, may_track};
 use crate::uses::{may_be_frugal, uses_adjust, uses_finalize, uses_initialize};
 use ada_effects::{Effects, Implicit};
 use ada_program::parts::finalization_of;
@@ -62,6 +63,8 @@ struct Allowed {
     frugal: bool,
     /// Whether an Adjust may track.
     tracks: bool,
+    /// Whether the copy of a record adjusts one controlled part alone.
+    alone: bool,
 }
 
 /// What they may do in this one. Linear in the types, their components, and all bodies.
@@ -71,10 +74,16 @@ struct Allowed {
 fn allowed_in(alloc: Global, program: &Program) -> Result<Allowed, AllocError>
     ensures frugal { IfOk result (λ allowed. allowed.frugal ≡ in_use.may_be_frugal (program_form program.now)) }
     ensures tracks { IfOk result (λ allowed. allowed.tracks ≡ in_use.may_track (program_form program.now)) }
+    ensures alone { IfOk result (λ allowed. allowed.alone ≡ in_use.adjusts_alone (program_form program.now)) }
 {
     let frugal = may_be_frugal(alloc, program)?;
     let tracks = may_track(program, frugal);
-    Ok(Allowed { frugal, tracks })
+    let alone = adjusts_alone(program);
+    Ok(Allowed {
+        frugal,
+        tracks,
+        alone,
+    })
 }
 
 /// The first one of those that override the operations of a type and are not in use, where this is allowed, and the type has such a
@@ -89,14 +98,22 @@ fn unused_in(
 ) -> Result<Option<Spot>, AllocError>
     requires { IsKnown (program_form program.now) known }
     ensures { IfOk result (λ first. first
-        ≡ rules.unused_in (program_form program.now) may.frugal may.tracks owns finalization) }
+        ≡ rules.unused_in (program_form program.now) may.frugal may.tracks may.alone owns finalization) }
 {
     let Some(finalization) = finalization else {
         return Ok(None);
     };
     let operations = finalization.operations;
     let begins = uses_initialize(program, known, may.frugal, operations.initialize);
-    let adjusts = uses_adjust(alloc, program, known, may.tracks, owns, operations.adjust)?;
+    let adjusts = uses_adjust(
+        alloc,
+        program,
+        known,
+        may.tracks,
+        may.alone,
+        owns,
+        operations.adjust,
+    )?;
     let ends = uses_finalize(alloc, program, known, may.frugal, operations.finalize)?;
     let initialize = start_unless(program, begins, operations.initialize);
     let adjust = start_unless(program, adjusts, operations.adjust);
@@ -107,9 +124,9 @@ fn unused_in(
 /// Where the first body in the text begins that overrides an operation of a controlled type (7.6) and is not in use: one that
 /// overrides Initialize and is not plain, since it touches storage or calls, nor frugal in a program in which operations may be; one
 /// that overrides Adjust and is not quiet, since it is not plain or lets an exception out, or, of a type with a component of an access
-/// type, declared in it directly, is not simple and silent, or stands in a program in which an Adjust may not track; or one that
-/// overrides Finalize and is neither quiet nor, where operations may be frugal, frugal and silent. Linear in the types, their
-/// components, and all bodies; a call costs the size of what is known of it.
+/// type, declared in it directly, is not simple and silent, stands in a program in which an Adjust may not track, or frees objects in
+/// one in which a record has two controlled parts; or one that overrides Finalize and is neither quiet nor, where operations may be
+/// frugal, frugal and silent. Linear in the types, their components, and all bodies; a call costs the size of what is known of it.
 ///
 /// # Errors
 /// `AllocError` where memory for what is known of procedures was refused.

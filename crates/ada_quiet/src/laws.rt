@@ -7,7 +7,7 @@ pub fn quiet_is_frugal()
     ensures { QuietIsFrugal }
 {}
 
-/// A quiet body is simple: it calls nothing, and copies no record.
+/// A quiet body is simple, whether objects may be freed or not: it calls nothing, copies no record, and frees nothing.
 pub fn quiet_is_simple()
     ensures { QuietIsSimple }
 {}

@@ -8,8 +8,9 @@
 //! `first_unused` finds the first body in the text that overrides an operation and is not in use: Initialize is to be plain or, where
 //! it may be, frugal, Finalize is to be quiet or, where it may be, frugal and silent, and Adjust is to be quiet; but of a type with a
 //! component of an access type, declared in it directly, Adjust is to be simple and silent, where it may track that component: a
-//! quiet one would leave it as it is. A simple body allocates and frees objects without controlled parts, moves and follows, calls
-//! nothing, copies no record, and declares variables alone, none of which is of an access type whose objects have controlled parts.
+//! quiet one would leave it as it is. A simple body allocates objects without controlled parts, and frees some where it may, moves and
+//! follows, calls nothing, copies no record, and declares variables alone, none of which is of an access type whose objects have
+//! controlled parts.
 //!
 //! An Initialize and a Finalize may be frugal in a program in which no access type designates a record type with controlled parts, so
 //! that these lie in declared objects alone. They may be frugal, too, in one whose access types designate such record types, if no
@@ -24,14 +25,17 @@
 //! and a Finalize where an object's master is left, an exception comes out of the initialization of one (7.6.1), another record is
 //! assigned to it (7.6), or a variable is freed that names it (13.11.2), and nowhere else.
 //!
-//! An Adjust may track where a Finalize may be frugal, if also no record type has two controlled parts, and the elementary components
-//! of each stand in the order of its declared ones, as they do in each program that is resolved: then no other part of a copy is
-//! adjusted before or behind it.
+//! An Adjust may track where a Finalize may be frugal, if also the elementary components of each record type stand in the order of its
+//! declared ones, and a record whose type overrides Adjust is itself controlled, as in each program that is resolved. A record may have
+//! any number of controlled parts: where it is copied, they are adjusted one behind the other (7.6). But where some record of the
+//! program has two, an Adjust that tracks frees nothing. For until a part of the copy is adjusted, its components name the same objects
+//! as those of the source: while another part is adjusted before it, these are to stay, and do so where nothing is freed. Where each
+//! record has at most one controlled part, none is left to be adjusted later.
 //!
 //! A program with another body is refused (F23), since no theorem covers it so far: an Initialize, an Adjust or a Finalize that
 //! touches storage in another program, or allocates or frees objects with controlled parts, an Adjust that touches storage of a type
-//! without such a component, operations that call procedures that are not frugal, an Adjust that calls, or copies records,
-//! and an Adjust or a Finalize that lets an exception out.
+//! without such a component, operations that call procedures that are not frugal, an Adjust that calls, or copies records, or frees
+//! objects where a record has two controlled parts, and an Adjust or a Finalize that lets an exception out.
 #![tactic(auto)]
 
 mod apart;

@@ -61,9 +61,13 @@ pub(crate) fn is_frugal_operation(known: Known<'_>, operation: Option<ProcedureN
     }
 }
 
-/// Whether it has a simple one.
-pub(crate) fn is_simple_operation(program: &Program, operation: Option<ProcedureNo>) -> bool
-    ensures { result ≡ simple.is_simple_operation (program_form program.now) operation }
+/// Whether it has a simple one, where objects may be freed or not.
+pub(crate) fn is_simple_operation(
+    program: &Program,
+    may_free: bool,
+    operation: Option<ProcedureNo>,
+) -> bool
+    ensures { result ≡ simple.is_simple_operation (program_form program.now) may_free operation }
 {
     let Some(number) = operation else {
         return true;
@@ -71,7 +75,7 @@ pub(crate) fn is_simple_operation(program: &Program, operation: Option<Procedure
     let Some(procedure) = program.procedures.get(number.0) else {
         return true;
     };
-    is_simple_body(&program.types, procedure)
+    is_simple_body(&program.types, may_free, procedure)
 }
 
 /// Whether it has a silent one: no exception comes out of it.

@@ -1,7 +1,8 @@
-//! Where an Adjust may track the components of access types of its formal parameter (7.6): a Finalize may be frugal, the copy of a
-//! record is alone, and the elementary components of each record type stand in the order of its declared components.
+//! Where an Adjust may track the components of access types of its formal parameter (7.6): a Finalize may be frugal, the elementary
+//! components of each record type stand in the order of its declared components, and a record whose type overrides Adjust is itself
+//! adjusted. And where the copy of a record adjusts one controlled part alone: each record has at most one.
 
-ghost use Rattle.std.specs.Prelude.{◌≡◌, ◌&&◌, ◌||◌, ◌==◌, map};
+ghost use Rattle.std.specs.Prelude.{◌≡◌, ◌&&◌, ◌||◌, ◌==◌, Some, map};
 ghost use Rattle.std.specs.List.{list_all, list_any};
 ghost use Rattle.std.specs.Option.{option_copied};
 ghost use Rattle.ada_program.specs.Kept.{types_in};
@@ -58,16 +59,6 @@ fn stand_in_a_row(types: &[TypeDefinition], parts: &[Part], count: usize) -> boo
     from == count
 }
 
-/// Whether a record has at most one controlled part, at any depth and itself included, which is adjusted where it is copied (7.6).
-fn adjusts_at_most_one(finalization: Option<Finalization>) -> bool
-    ensures { result ≡ rules.adjusts_at_most_one finalization }
-{
-    match finalization {
-        None => true,
-        Some(finalization) => finalization.parts == 1,
-    }
-}
-
 /// Whether one of these is the parent part.
 fn have_parent(parts: &[Part]) -> bool
     ensures { result ≡ list_any (λ c. fits.is_parent c.kind) (map part_form parts.now) }
@@ -90,10 +81,10 @@ fn adjusts_itself(parts: &[Part], finalization: Option<Finalization>) -> bool
     }
 }
 
-/// Whether, where a record of a type is copied, its elementary components are those of its declared components, and at most one part
-/// is adjusted, the record itself where its type overrides Adjust.
-fn is_copied_alone(types: &[TypeDefinition], definition: &TypeDefinition) -> bool
-    ensures { result ≡ rules.is_copied_alone (types_in types.now) (type_form definition.now) }
+/// Whether, where a record of a type is copied, its elementary components are those of its declared components, one behind another, and
+/// the record itself is adjusted where its type overrides Adjust (3.8, 7.6).
+fn is_copied_in_order(types: &[TypeDefinition], definition: &TypeDefinition) -> bool
+    ensures { result ≡ rules.is_copied_in_order (types_in types.now) (type_form definition.now) }
 {
     match definition {
         TypeDefinition::Record {
@@ -102,30 +93,67 @@ fn is_copied_alone(types: &[TypeDefinition], definition: &TypeDefinition) -> boo
             components,
             finalization,
         } => {
-            stand_in_a_row(types, parts, components.len())
-                && adjusts_at_most_one(*finalization)
-                && adjusts_itself(parts, *finalization)
+            stand_in_a_row(types, parts, components.len()) && adjusts_itself(parts, *finalization)
         }
         TypeDefinition::Access { .. } | TypeDefinition::Object { .. } => true,
     }
 }
 
 /// Whether that is so with each of these types.
-fn are_copied_alone(types: &[TypeDefinition]) -> bool
-    ensures { result ≡ list_all (rules.is_copied_alone (types_in types.now)) (types_in types.now) }
+fn are_copied_in_order(types: &[TypeDefinition]) -> bool
+    ensures { result ≡ list_all (rules.is_copied_in_order (types_in types.now)) (types_in types.now) }
 {
     'types: for definition in types {
-        if !is_copied_alone(types, definition) {
+        if !is_copied_in_order(types, definition) {
             return false;
         }
     }
     true
 }
 
-/// Whether an Adjust may track its components in a program, where a Finalize may be frugal or not: it may be, and no copy of a record
-/// has two parts that are adjusted. Linear in the types and their components.
+/// Whether an Adjust may track its components in a program, where a Finalize may be frugal or not: it may be, and the components of
+/// each record stand in order. Linear in the types and their components.
 pub(crate) fn may_track(program: &Program, frugal: bool) -> bool
-    ensures { let p = program_form program.now in result ≡ (frugal && list_all (rules.is_copied_alone p.types) p.types) }
+    ensures { let p = program_form program.now in result ≡ (frugal && list_all (rules.is_copied_in_order p.types) p.types) }
 {
-    frugal && are_copied_alone(&program.types)
+    frugal && are_copied_in_order(&program.types)
+}
+
+/// Whether a record has at most one controlled part, at any depth and itself included: where it is copied, that is the first one that
+/// is adjusted, and the last one (7.6).
+fn has_one_part(finalization: Option<Finalization>) -> bool
+    ensures { result ≡ rules.has_one_part finalization }
+{
+    match finalization {
+        None => true,
+        Some(finalization) => finalization.parts == 1,
+    }
+}
+
+/// Whether a record of a type has at most one, if it is a record type.
+fn is_adjusted_alone(definition: &TypeDefinition) -> bool
+    ensures { result ≡ rules.has_one_part (fits.finalization_in (Some (type_form definition.now))) }
+{
+    match definition {
+        TypeDefinition::Record {
+            name: _,
+            parts: _,
+            components: _,
+            finalization,
+        } => has_one_part(*finalization),
+        TypeDefinition::Access { .. } | TypeDefinition::Object { .. } => true,
+    }
+}
+
+/// Whether each record of a program has at most one controlled part, so that no two parts are adjusted one behind the other where one
+/// is copied. Linear in the types.
+pub(crate) fn adjusts_alone(program: &Program) -> bool
+    ensures { result ≡ rules.adjusts_alone (program_form program.now) }
+{
+    'types: for definition in &program.types {
+        if !is_adjusted_alone(definition) {
+            return false;
+        }
+    }
+    true
 }

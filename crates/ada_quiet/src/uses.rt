@@ -85,7 +85,8 @@ pub(crate) fn uses_initialize(
 }
 
 /// Whether what overrides Adjust is simple and silent, where it may track, if it is a body, and its type has a component of an access
-/// type, declared in it directly; of another type, whether it is quiet.
+/// type, declared in it directly; of another type, whether it is quiet. What tracks may free objects where the copy of a record adjusts
+/// one controlled part alone, and there only.
 ///
 /// # Errors
 /// `AllocError` where memory for the exceptions that it raises was refused.
@@ -94,18 +95,19 @@ pub(crate) fn uses_adjust(
     program: &Program,
     known: Known<'_>,
     tracks: bool,
+    alone: bool,
     owns: bool,
     operation: Option<ProcedureNo>,
 ) -> Result<bool, AllocError>
     requires { IsKnown (program_form program.now) known }
-    ensures { IfOk result (λ answer. answer ≡ first.adjusts (program_form program.now) tracks owns operation) }
+    ensures { IfOk result (λ answer. answer ≡ first.adjusts (program_form program.now) tracks alone owns operation) }
 {
     if !(owns && is_overridden(program, operation)) {
         return is_quiet_operation(alloc, program, operation);
     }
     Ok(
         tracks
-            && is_simple_operation(program, operation)
+            && is_simple_operation(program, alone, operation)
             && is_silent_operation(alloc, program, known, operation)?,
     )
 }

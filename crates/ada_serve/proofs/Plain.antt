@@ -17,14 +17,14 @@ use Rattle.ada_program.specs.WellFormed.{finalization_in, variable_kind, IsWellF
 use Rattle.ada_meaning.specs.Pace.{right_creates, declaration_creates, declarations_create, body_creates, operation_creates, OperationsDeclareNoParts}
 use Rattle.ada_quiet.specs.Quiet.{is_elementary, holds_elementary, is_quiet_right, is_quiet_declaration, are_quiet_declarations, are_quiet, are_quiet_handlers, is_plain_body, is_plain_procedure, is_plain_operation, is_quiet_operation, has_access, operation_body}
 use Rattle.ada_quiet.specs.Bare.{has_bare_objects, allocates_bare}
-use Rattle.ada_quiet.specs.InUse.{may_be_frugal, may_track, uses_initialize, uses_adjust, uses_finalize, uses_operations, operations_are_in_use}
+use Rattle.ada_quiet.specs.InUse.{adjusts_alone, may_be_frugal, may_track, uses_initialize, uses_adjust, uses_finalize, uses_operations, operations_are_in_use}
 use Rattle.ada_quiet.specs.Frugal.{Thrift, is_frugal_declaration, are_frugal_declarations, are_frugal, are_frugal_handlers, is_frugal_body, frugal_procedures, is_frugal_operation, is_silent_operation}
 use Rattle.ada_quiet.specs.Simple.{is_simple_procedure, is_simple_operation}
 use Rattle.ada_quiet.proofs.InUse.{plain_operation}
 use Rattle.ada_quiet.proofs.FrugalAt.{frugal_at}
 use Rattle.ada_typed.proofs.Parts.{known_number}
 use Rattle.ada_sound.proofs.FrugalFrees.{bare_number}
-use Rattle.ada_sound.proofs.SimpleBodies.{simple_frugal}
+use Rattle.ada_sound.proofs.SimpleBodies.{simple_frugal, simple_with}
 
 -- Both tests are passed where their conjunction is.
 left_of : (a b : Bool) → (a && b) ≡ true → a ≡ true
@@ -150,14 +150,14 @@ module _ (program : Program) (well : IsWellFormed (program_form program)) where
   operation_frugal None frugal = refl
   operation_frugal (Some procedure) frugal = procedure_frugal procedure.0 (slice_get p.bodies procedure.0) frugal refl
 
-  -- Nor does one of a simple body, which is frugal, whatever is known of procedures.
-  procedure_simple : (found : Option BodyForm) → is_simple_procedure p.types found ≡ true → body_creates tds found ≡ false
-  procedure_simple None simple = refl
-  procedure_simple (Some b) simple = body_frugal [] b (simple_frugal (record { types = p.types; procedures = [] }) b simple)
+  -- Nor does one of a simple body, which is frugal, whatever is known of procedures, and whether it may free objects or not.
+  procedure_simple : (may_free : Bool) (found : Option BodyForm) → is_simple_procedure p.types may_free found ≡ true → body_creates tds found ≡ false
+  procedure_simple may_free None simple = refl
+  procedure_simple may_free (Some b) simple = body_frugal [] b (simple_frugal (record { types = p.types; procedures = [] }) b (simple_with p.types may_free b simple))
 
-  operation_simple : (o : Option ProcedureNo) → is_simple_operation p o ≡ true → operation_creates tds p.bodies o ≡ false
-  operation_simple None simple = refl
-  operation_simple (Some procedure) simple = procedure_simple (slice_get p.bodies procedure.0) simple
+  operation_simple : (may_free : Bool) (o : Option ProcedureNo) → is_simple_operation p may_free o ≡ true → operation_creates tds p.bodies o ≡ false
+  operation_simple may_free None simple = refl
+  operation_simple may_free (Some procedure) simple = procedure_simple may_free (slice_get p.bodies procedure.0) simple
 
   -- So it is with an Initialize and a Finalize that are in use.
   initialize_used : (o : Option ProcedureNo) → uses_initialize p o ≡ true → operation_creates tds p.bodies o ≡ false
@@ -175,11 +175,12 @@ module _ (program : Program) (well : IsWellFormed (program_form program)) where
   adjust_used : (owns : Bool) (o : Option ProcedureNo) → uses_adjust p owns o ≡ true → operation_creates tds p.bodies o ≡ false
   adjust_used owns o used = by (owns && is_some (operation_body p o)) used
     where
-      by : (tracks : Bool) → (if tracks then may_track p && is_simple_operation p o && is_silent_operation p o else is_quiet_operation p o) ≡ true
+      by : (tracks : Bool)
+          → (if tracks then may_track p && is_simple_operation p (adjusts_alone p) o && is_silent_operation p o else is_quiet_operation p o) ≡ true
           → operation_creates tds p.bodies o ≡ false
       by true simple =
-          let both = left_of (may_track p && is_simple_operation p o) (is_silent_operation p o) simple in
-          operation_simple o (right_of (may_track p) (is_simple_operation p o) both)
+          let both = left_of (may_track p && is_simple_operation p (adjusts_alone p) o) (is_silent_operation p o) simple in
+          operation_simple (adjusts_alone p) o (right_of (may_track p) (is_simple_operation p (adjusts_alone p) o) both)
       by false quiet = operation_plain p tds o (plain_operation p o quiet)
 
   none_in : (owns : Bool) (f : Option Finalization) → uses_operations p owns f ≡ true → DeclareNone tds p.bodies (operations_in f)

@@ -1,10 +1,11 @@
 -- The body of an Adjust runs that tracks components of its formal parameter (7.6), after a copy of a record: what holds of the state that stands for the real one,
 -- which has a variable for each of them.
 
-use Rattle.std.proofs.Common.{◌≡◌, ℕ, true, List, [], ◌∷◌, length, drop}
+use Rattle.std.proofs.Common.{◌≡◌, ℕ, ◌==◌, Bool, true, List, [], ◌∷◌, length, drop, ◌⊎◌}
 use Rattle.std.specs.Prelude.{Option, Some}
-use Rattle.std.specs.List.{slice_get}
+use Rattle.std.specs.List.{list_any, slice_get}
 use Rattle.ada_parts.specs.Part as parts
+use Rattle.ada_parts.specs.Task.{Task}
 use Rattle.ada_program.specs.declared.program.Exception.{Exception}
 use Rattle.ada_program.specs.declared.program.Program.{Program}
 use Rattle.ada_program.specs.ProgramForm.{BodyForm, program_form}
@@ -25,13 +26,16 @@ use Rattle.ada_quiet.specs.Apart.{is_tracker}
 use Rattle.ada_judged.specs.Fitting.{TracksComponents}
 use Rattle.ada_judged.specs.Obeying.{BodyIsOrderly}
 use Rattle.ada_quiet.specs.InUse.{may_be_frugal, may_track}
-use Rattle.ada_tracked.specs.Frames.{View}
+use Rattle.ada_beside.specs.Confined.{IsConfined}
+use Rattle.ada_beside.specs.Law.{LieBeside}
+use Rattle.ada_tracked.specs.Frames.{View, blanked, values_at}
 use Rattle.ada_tracked.specs.Seen.{Seen}
 use Rattle.ada_tracked.specs.Staying.{BodyIsSimple}
 use Rattle.ada_typed.proofs.Control as typed
 use Rattle.ada_typed.proofs.Kept.{behind_call}
 use Rattle.ada_sound.proofs.CallsApart.{CallApart}
 use Rattle.ada_sound.proofs.Callers.{Suspension, AreOf, callers_of, known_in}
+use Rattle.ada_sound.proofs.CopiedOwners.{CopyLeft, NameThere, hiding, owners_left}
 use Rattle.ada_sound.proofs.FrugalControl.{Frugally}
 use Rattle.ada_sound.proofs.Invariant.{AdjustsAside, Control, Ready, Rooms, RunsOn, Standing, body_among, under_in}
 use Rattle.ada_sound.proofs.Judged.{known_judged}
@@ -81,10 +85,12 @@ pub record Adjusting (program : Program) (s : State) : Type 0 where
   pub copies : IsOfCopy by
   pub done : List parts.Part
   pub of : ℕ
+  pub record_type : ℕ
+  pub tasks : List Task
   pub behind : Control
   pub ends : behind_call s.control ≡ Some (record { actuals = []; references = []; left = behind })
   pub after : Control
-  pub awaited : WaitsFor (program_form program).types object of (begins by done) after behind
+  pub awaited : WaitsFor (program_form program).types object of (begins by done) tasks after behind
   pub lower : List Master
   pub kept : Keeping
   pub rooms : Rooms
@@ -92,7 +98,7 @@ pub record Adjusting (program : Program) (s : State) : Type 0 where
   pub frugal : Frugally (calling_none (program_form program).types) lower behind t
   pub waits : Paused (known_in program procedure suspensions) object access places after lower rooms holds
   pub rests : RunsOn (known_in program procedure suspensions) after rooms holds
-  pub aside : AdjustsAside (known_in program procedure suspensions) access holds
+  pub aside : AdjustsAside (known_in program procedure suspensions) access record_type holds
   pub calm : IsCalm (behind_call behind)
   pub settled : under_in (callers_of program suspensions) ≡ []
   pub tracking : may_track (program_form program) ≡ true
@@ -108,3 +114,29 @@ pub record Adjusting (program : Program) (s : State) : Type 0 where
 -- The activation that waits for the body.
 abbrev pub waiting : (program : Program) (s : State) → Adjusting program s → Suspension
 waiting program s f = resting f.procedure f.places (begins f.by f.done) f.object f.access [] f.place f.behind f.lower f.kept f.rooms f.holds
+
+-- The state in which these components of an object hold null.
+abbrev pub put_aside : List ℕ → Id → State → State
+put_aside owners o s = record s { heap = blanked (hiding owners o) s.heap }
+
+-- A component is one of these.
+abbrev pub is_one_of : List ℕ → (component : ℕ) → Bool
+is_one_of owners c = list_any (λ d. d == c) owners
+
+-- While those are put aside, the body touches none of them, and no object ceases to exist; or none is put aside.
+abbrev pub LeavesAlone : View → List ℕ → State → Type 0
+LeavesAlone w owners s = (owners ≡ []) ⊎ ((reaches : (ℕ → Bool)) × LieBeside w reaches (is_one_of owners) × IsConfined w reaches s)
+
+-- The body of such an Adjust runs, and others are called later for the same copy: the components that these see to are put aside; what they name is there, and
+-- stays there.
+pub record AdjustingCopy (program : Program) (s : State) : Type 0 where
+  pub object : Id
+  pub owners : List ℕ
+  pub adjusting : Adjusting program (put_aside owners object s)
+  pub same : adjusting.object ≡ object
+  pub left : CopyLeft (program_form program).types adjusting.access adjusting.record_type adjusting.tasks
+  pub owned : owners ≡ owners_left (program_form program).types adjusting.access adjusting.tasks
+  pub x : Object
+  pub found : object_at s.heap object ≡ Some x
+  pub named : NameThere s.heap (values_at owners x.cell.values)
+  pub leaves_alone : LeavesAlone adjusting.w owners s

@@ -7,6 +7,7 @@ use Rattle.std.specs.List.{slice_get, slice_index_or}
 use Rattle.ada_deeds.specs.Implicit.{implicit_of}
 use Rattle.ada_effects.specs.Effects.{body_frees, effects_of}
 use Rattle.ada_parts.specs.Part as parts
+use Rattle.ada_parts.specs.Task.{Task}
 use Rattle.ada_program.specs.declared.program.Exception.{Exception}
 use Rattle.ada_program.specs.declared.program.FormalMode.{FormalMode}
 use Rattle.ada_program.specs.declared.program.Program.{Program}
@@ -146,20 +147,30 @@ first_length modes [] = refl
 first_length [] (v ∷ vs) = ap suc (first_length [] vs)
 first_length (m ∷ ms) (v ∷ vs) = ap suc (first_length ms vs)
 
--- A record with controlled parts was copied into an object, and its Adjust is to be called: each tracked component shares what it names with the source of the
--- copy. But for them the waiting activation goes on, and of what the Adjust may free, as `may` says, it has no alias.
-pub record Copied (known : Known) (may : ℕ → Bool) (o : Id) (x : Object) (w : View) (after : Control) (heap : List Object) (places : List Value) (masters : List Master) : Type 0 where
+-- A record with controlled parts, of this type, was copied into an object, and the Adjust of one of them is to be called: each tracked component shares what it
+-- names with the source of the copy. But for them the waiting activation goes on, and of what the Adjust may free, as `may` says, it has no alias.
+pub record Copied (known : Known) (may : ℕ → Bool) (o : Id) (x : Object) (record_type : ℕ) (w : View) (after : Control) (heap : List Object) (places : List Value) (masters : List Master) : Type 0 where
   pub object_so : w.object ≡ o
   pub found : object_at heap o ≡ Some x
   pub exists : is_there x.stage ≡ true
   pub parted : has_bare_objects known.program.types x.cell.access ≡ false
   pub names : AllName known.program.types heap x (watched w)
-  pub works : Working known (blanked w heap) places masters (λ rooms holds. RunsOn known after rooms holds × AdjustsAside known x.cell.access holds)
+  pub works : Working known (blanked w heap) places masters (λ rooms holds. RunsOn known after rooms holds × AdjustsAside known x.cell.access record_type holds)
   pub spares : Spares known may
   pub unaliased : Unaliased known.program.variables may works.holds
 
+-- The body of such an Adjust runs, for this object, which is known by the type `access`: a record of this type was copied into it, and these tasks are left behind
+-- the operation.
+pub record AdjustsIn (program : Program) (o : Id) (access record_type : ℕ) (tasks : List Task) (w : View) (s : State) : Type 0 where
+  pub adjusting : Adjusting program s
+  pub object_is : adjusting.object ≡ o
+  pub access_is : adjusting.access ≡ access
+  pub record_is : adjusting.record_type ≡ record_type
+  pub left_is : adjusting.tasks ≡ tasks
+  pub view_is : adjusting.w ≡ w
+
 module _ (program : Program) (number : ℕ) (b : BodyForm) (there : slice_get (program_form program).bodies number ≡ Some b) (w : View) (lone : IsAlone b) (components : TracksComponents (program_form program).types w.tracks b.variables) (a : Activation Value) (rest : List (Activation Value)) (gs : List Suspension) (s : State) (k : Control) (o : Id) (x : Object) (heap : List Object) (place : Place) (based : place.component ≡ w.base)
-    (within : IsWithin (program_form program).types (variable_kind b.variables 0) x.cell.access place.component) (by : Birth) (done : List parts.Part) (behind : Control) (kept : Keeping) (may_free : ℕ → Bool) (at : Copied (known_in program a.procedure gs) may_free o x w k heap a.places s.masters) where
+    (within : IsWithin (program_form program).types (variable_kind b.variables 0) x.cell.access place.component) (by : Birth) (done : List parts.Part) (behind : Control) (kept : Keeping) (may_free : ℕ → Bool) (record_type : ℕ) (tasks : List Task) (at : Copied (known_in program a.procedure gs) may_free o x record_type w k heap a.places s.masters) where
   abbrev p : ProgramForm
   p = program_form program
 
@@ -317,11 +328,12 @@ module _ (program : Program) (number : ℕ) (b : BodyForm) (there : slice_get (p
     pub adjusting_begins : IsOfCopy by → tracks_of p.types number b ≡ w.tracks → is_tracker p number ≡ true → BodyIsOrderly w.tracks b → hold_bare p.types (drop 1 b.variables) ≡ true → may_track p ≡ true → may_be_frugal p ≡ true → is_frugal_body (calling_none p.types) b ≡ true → FrameIsSimple w.tracks.first (Elaborates b.declarations b.statements b.handlers)
         → ((e : Exception) → body_among (implicit_of p) (known_judged program number w.tracks []).program e ≡ true → ⊥)
         → CallApart p.types (is_tracker p) (seen_state w begun).control → RunsAsJudged → BeginsAsJudged → TypedAsJudged
-        → (e : Event) (of : ℕ) → Alters s.heap e heap → WaitsFor p.types o of (begins by done) k behind → Stands program gs (record s { activations = a ∷ rest }) → IsCalm (behind_call behind) → under_in (callers_of program gs) ≡ []
+        → (e : Event) (of : ℕ) → Alters s.heap e heap → WaitsFor p.types o of (begins by done) tasks k behind → Stands program gs (record s { activations = a ∷ rest }) → IsCalm (behind_call behind) → under_in (callers_of program gs) ≡ []
         → ((v : Value) → v ≢ Names o → NothingBegins v k)
-        → Adjusting program begun
+        → AdjustsIn program o x.cell.access record_type tasks w begun
     adjusting_begins copies tracks_so tracker orderly alone_there tracking may frugal simple silent calls_apart runs_judged begins_judged typed_judged e of alters awaited stands calm settled untreated =
         let still = stands_kept program (record s { activations = a ∷ rest }) (behind_operation (a ∷ rest) behind s.masters (record s { heap = blank_heap })) gs stands e (record { procedure = refl; suspended = refl }) (alters_then s.heap heap blank_heap e alters (alters_blank e)) in
+        let f : Adjusting program begun =
         record {
           number = number;
           b = b;
@@ -353,6 +365,8 @@ module _ (program : Program) (number : ℕ) (b : BodyForm) (there : slice_get (p
           copies = copies;
           done = done;
           of = of;
+          record_type = record_type;
+          tasks = tasks;
           behind = behind;
           ends = refl;
           after = k;
@@ -384,7 +398,7 @@ module _ (program : Program) (number : ℕ) (b : BodyForm) (there : slice_get (p
           bodies = (refl, stands.body, stands.behind, stands.bodies);
           standing = record {
             suspended = (refl, stands.standing.suspended);
-            waiting = (inr (record { roomed = at.works.roomed; covers = covers; operated = subst IsAwaited (sym awaited.2) tt }), stands.standing.waiting);
+            waiting = (inr (record { roomed = at.works.roomed; covers = covers; operated = subst IsAwaited (sym awaited.1) tt }), stands.standing.waiting);
             low = (variables_low, referred_low, (λ q none. absurd none), still.standing.low);
           };
           typed = typed_judged;
@@ -400,4 +414,5 @@ module _ (program : Program) (number : ℕ) (b : BodyForm) (there : slice_get (p
               rest = runs_judged spares;
             },
           );
-        }
+        } in
+        record { adjusting = f; object_is = refl; access_is = refl; record_is = refl; left_is = refl; view_is = refl }

@@ -10,6 +10,7 @@ use Rattle.ada_flow.specs.Flow.{Holds, all_give_back, gives_back, hold_at}
 use Rattle.ada_flow.specs.Tracking.{judged, with_tracked, tracked_numbers}
 use Rattle.ada_judged.specs.Fitting.{TracksComponents}
 use Rattle.ada_meaning.specs.declared.event.Birth.{Birth}
+use Rattle.ada_meaning.specs.declared.state.Id.{Id}
 use Rattle.ada_meaning.specs.declared.state.Mode.{Mode}
 use Rattle.ada_meaning.specs.declared.state.Mode.TheVariants.{Running, Raising, Exiting, Returning}
 use Rattle.ada_meaning.specs.declared.state.Place.{Place}
@@ -20,28 +21,28 @@ use Rattle.ada_meaning.specs.Event.{Quiet}
 use Rattle.ada_meaning.specs.Frame.{Returns, begins}
 use Rattle.ada_meaning.specs.State.{Activation, Master}
 use Rattle.ada_meaning.specs.Step.{moves, places, mode_next, places_of, older}
-use Rattle.ada_meaning.specs.Named.{Object, State, named, next}
+use Rattle.ada_meaning.specs.Named.{Object, State, named, next, object_at}
 use Rattle.ada_owners.specs.Places.{access_at}
 use Rattle.ada_owners.proofs.Objects.{present_at}
-use Rattle.ada_tracked.specs.Frames.{View, blanked, tracked_values}
+use Rattle.ada_tracked.specs.Frames.{View, blanked, tracked_values, values_at}
 use Rattle.ada_tracked.specs.Seen.{ArePlaces, IsWatched, seen_state}
 use Rattle.ada_tracked.proofs.Law.{plainly_at_end}
 use Rattle.ada_typed.proofs.Bodies.{seen_as}
 use Rattle.ada_typed.proofs.Control as typed
 use Rattle.ada_typed.proofs.Operators.{and_right}
-use Rattle.ada_sound.specs.Agreement.{running_procedure}
 use Rattle.ada_sound.proofs.Activations.{returned_fit}
 use Rattle.ada_sound.proofs.Adjusting.{Adjusting, IsOfCopy, copied, assigned, waiting}
 use Rattle.ada_sound.proofs.Alters.{alters_same}
-use Rattle.ada_sound.proofs.Blanked.{stored_unblanked, unblanked}
+use Rattle.ada_sound.proofs.Blanked.{blanked_at, stored_unblanked, unblanked}
 use Rattle.ada_sound.proofs.BlankedEnds.{all_lost, judged_ends}
 use Rattle.ada_sound.proofs.Callers.{AreOf, Stands, Suspension, caller_of, callers_of, known_in}
+use Rattle.ada_sound.proofs.CopiedOwners.{CopyLeft, NameThere, hiding, owners_left}
 use Rattle.ada_sound.proofs.Fits.{Fit, IsWithin, Outsiders, none_spared}
-use Rattle.ada_sound.proofs.Invariant.{AdjustsAside, Control, GoesOn, Known, OfItsType, Ready, ReadyIn, Rooms, RunsOn, Standing, TreatsBy, Working, outer_of, outers, owed_in}
+use Rattle.ada_sound.proofs.Invariant.{AdjustsAside, AdjustsTo, Control, GoesOn, Known, Ready, ReadyIn, Rooms, RunsOn, Standing, TreatsBy, Working, outer_of, outers, owed_in}
 use Rattle.ada_sound.proofs.Judged.{known_judged}
 use Rattle.ada_sound.proofs.OperationBegins.{formal_holds, formal_within}
-use Rattle.ada_sound.proofs.OperationCalls.{is_live, ready_for}
-use Rattle.ada_sound.proofs.Operating.{WaitsFor, behind_operation}
+use Rattle.ada_sound.proofs.OperationCalls.{is_live}
+use Rattle.ada_sound.proofs.Operating.{behind_operation}
 use Rattle.ada_sound.proofs.Returns.{CrossesTo, same_types}
 use Rattle.ada_sound.proofs.Stored.{Stored}
 use Rattle.ada_sound.proofs.Waiting.{low_by}
@@ -186,19 +187,22 @@ module _ (program : Program) (s : State) (f : Adjusting program s) (a b : Activa
   works : AtEnd
   works = ends_by s.mode ready_now
 
-  -- So what is behind it is next.
-  abbrev left : State
-  left = behind_operation (b ∷ rest) f.behind f.lower s
+  -- So what is behind it is next, in this heap and in any other.
+  abbrev pub left : List Object → State
+  left heap = behind_operation (b ∷ rest) f.behind f.lower (record s { heap = heap })
 
-  goes_by : (mode : Mode) → ReadyIn running mode (Returns [] [] ∷ f.behind) (blanked f.w s.heap) held a.operands f.lower → mode_next named program.types.items (body_forms program) mode (record parts { mode = mode }) ≡ moves Quiet left
-  goes_by Running w = refl
-  goes_by (Raising e) w = absurd (none_raised e w.rooms w.holds w.rest)
-  goes_by Exiting w = absurd (none_exited w.rooms w.holds w.rest)
-  goes_by Returning w = refl
+  goes_by : (heap : List Object) (mode : Mode) → ReadyIn running mode (Returns [] [] ∷ f.behind) (blanked f.w s.heap) held a.operands f.lower
+      → mode_next named program.types.items (body_forms program) mode (record parts { mode = mode; heap = heap }) ≡ moves Quiet (left heap)
+  goes_by heap Running w = refl
+  goes_by heap (Raising e) w = absurd (none_raised e w.rooms w.holds w.rest)
+  goes_by heap Exiting w = absurd (none_exited w.rooms w.holds w.rest)
+  goes_by heap Returning w = refl
 
-  goes_now : next program.types.items (body_forms program) s ≡ moves Quiet left
+  pub goes_now : (heap : List Object) → next program.types.items (body_forms program) (record s { heap = heap }) ≡ moves Quiet (left heap)
   unfolding next
-  goes_now = subst (λ (t : State). mode_next named program.types.items (body_forms program) s.mode t ≡ moves Quiet left) parts_are (goes_by s.mode ready_now)
+  goes_now heap =
+      subst (λ (t : State). mode_next named program.types.items (body_forms program) s.mode (record t { heap = heap }) ≡ moves Quiet (left heap)) parts_are
+      (goes_by heap s.mode ready_now)
 
   -- The components get back what they held.
   fits_now : FitsOn running.program.types (outers running) s.heap
@@ -228,64 +232,112 @@ module _ (program : Program) (s : State) (f : Adjusting program s) (a b : Activa
       let same : present.object ≡ f.x = let is = present.found in let found = f.found in cc (is, found) in
       (own_stored.sane f.object f.x f.found).there_exists (rw same at present.there)
 
-  -- Of what the adjustment of the object may free there is no alias still.
-  aside_here : OfItsType s.heap (Names f.object) (λ access. AdjustsAside own access f.holds)
-  aside_here o y named at =
-      let same : f.object ≡ o = cc named in
-      let one : y ≡ f.x = let found = f.found in cc (rw (← same) at at, found) in
-      subst (λ (access : ℕ). AdjustsAside own access f.holds) (sym (ap (λ (z : Object). z.cell.access) one ∙ f.of_access)) f.aside
-
   -- So what waits goes on.
-  own_works : Working own s.heap f.places f.lower (λ rooms holds. RunsOn own f.after rooms holds × OfItsType s.heap (Names f.object) (λ access. AdjustsAside own access holds))
-  own_works = record { rooms = f.rooms; holds = f.holds; stored = own_stored; roomed = f.waits.roomed; fit = own_fit; rest = (f.rests, aside_here) }
-
-  treats_by : (by : Birth) → IsOfCopy by → TreatsBy own (Names f.object) (begins by f.done) f.after s.heap f.places b.operands f.lower
-  treats_by _ copied = (inl own_works, tt)
-  treats_by _ (assigned number) = (inl own_works, tt)
-
-  awaited_there : WaitsFor own.program.types f.object f.of (begins f.by f.done) f.after f.behind
-  awaited_there = subst (λ (types : List TypeForm). WaitsFor types f.object f.of (begins f.by f.done) f.after f.behind) (sym (same_types f.procedure (program_form program))) f.awaited
-
-  behind_ready : ReadyIn own Running f.behind s.heap f.places b.operands f.lower
-  behind_ready =
-      ready_for own f.object f.of (begins f.by f.done) f.after f.behind s.heap f.places b.operands f.lower
-      (is_live s.heap f.object f.x f.found (rw exists_still tt)) awaited_there (treats_by f.by f.copies)
+  own_works : Working own s.heap f.places f.lower (λ rooms holds. RunsOn own f.after rooms holds × AdjustsAside own f.access f.record_type holds)
+  own_works = record { rooms = f.rooms; holds = f.holds; stored = own_stored; roomed = f.waits.roomed; fit = own_fit; rest = (f.rests, f.aside) }
 
   -- The activations are those of these bodies.
   bodies_there : AreOf program (b ∷ rest) (waits ∷ f.suspensions)
   bodies_there = subst (λ (all : List (Activation Value)). AreOf program (older all) (waits ∷ f.suspensions)) acts_so f.bodies
 
-  stands_left : Stands program f.suspensions left
-  stands_left = record {
-    body = rw bodies_there.0 bodies_there.1;
-    behind = rw bodies_there.0 bodies_there.2;
-    bodies = bodies_there.3;
-    standing = record {
-      suspended = standing_there.suspended.1;
-      waiting = rw bodies_there.0 standing_there.waiting.1;
-      low =
-          low_by (blanked f.w s.heap) s.heap (λ o y is. let x = unblanked f.w s.heap o y is in (x.object, x.found, x.alike.home)) (callers_of program f.suspensions)
-          standing_there.low.3;
-    };
-  }
+  -- In the real heap, the components that are adjusted later hold what they hold: they are null here.
+  module _
+      (heap : List Object) (x : Object) (found : object_at heap f.object ≡ Some x) (remains : CopyLeft (program_form program).types f.access f.record_type f.tasks)
+      (aside : s.heap ≡ blanked (hiding (owners_left (program_form program).types f.access f.tasks) f.object) heap)
+      (named : NameThere heap (values_at (owners_left (program_form program).types f.access f.tasks) x.cell.values)) where
+    abbrev hides : View
+    hides = hiding (owners_left (program_form program).types f.access f.tasks) f.object
 
-  ready_left : Ready (known_in program (running_procedure left) f.suspensions) left
-  ready_left = (tt, rw (bodies_there.0, standing_there.suspended.0) behind_ready)
+    -- The object is the same but for what those hold.
+    like : (access : x.cell.access ≡ f.access) × (x.stage ≡ Existing)
+    like =
+        let blank = blanked_at hides heap f.object x found in
+        let same : blank.object ≡ f.x = let is : object_at s.heap f.object ≡ Some blank.object = rw aside blank.found in let here = f.found in cc (is, here) in
+        let access : f.x.cell.access ≡ x.cell.access = subst (λ (y : Object). y.cell.access ≡ x.cell.access) same blank.alike.access in
+        let stage : f.x.stage ≡ x.stage = subst (λ (y : Object). y.stage ≡ x.stage) same blank.alike.stage in
+        (sym access ∙ f.of_access, sym stage ∙ exists_still)
 
-  crosses_back : CrossesTo program f.suspensions s.heap Quiet left
-  crosses_back = record {
-    stepped = record { ready = ready_left; alters = alters_same s.heap Quiet; says = tt };
-    stands = stands_left;
-  }
+    own_types : own.program.types ≡ (program_form program).types
+    own_types = same_types f.procedure (program_form program)
+
+    -- What is left of the copy is adjusted next.
+    abbrev AdjustsBy : List TypeForm → (access : ℕ) → Type 0
+    AdjustsBy types access =
+        CopyLeft types access f.record_type f.tasks × NameThere heap (values_at (owners_left types access f.tasks) x.cell.values)
+        × Working own (blanked (hiding (owners_left types access f.tasks) f.object) heap) f.places f.lower (λ rooms holds. RunsOn own f.after rooms holds × AdjustsAside own access f.record_type holds)
+
+    adjusts_by : AdjustsBy own.program.types x.cell.access
+    adjusts_by =
+        let works_there =
+        subst (λ (objects : List Object). Working own objects f.places f.lower (λ rooms holds. RunsOn own f.after rooms holds × AdjustsAside own f.access f.record_type holds)) aside own_works in
+        subst (λ (types : List TypeForm). AdjustsBy types x.cell.access) (sym own_types) (subst (AdjustsBy (program_form program).types) (sym like.0) (remains, named, works_there))
+
+    adjusts_to : AdjustsTo own (Names f.object) f.tasks f.after heap f.places f.lower
+    adjusts_to = record {
+      o = f.object;
+      is = refl;
+      x = x;
+      found = found;
+      there = rw like.1 refl;
+      record_type = f.record_type;
+      left = adjusts_by.0;
+      named = adjusts_by.1;
+      works = adjusts_by.2;
+    }
+
+    treats_by : (by : Birth) → IsOfCopy by → TreatsBy own (Names f.object) (begins by f.done) f.tasks f.after heap f.places b.operands f.lower
+    treats_by _ copied = adjusts_to
+    treats_by _ (assigned number) = adjusts_to
+
+    behind_ready : ReadyIn own Running f.behind heap f.places b.operands f.lower
+    behind_ready =
+        subst (λ (k : Control). ReadyIn own Running k heap f.places b.operands f.lower) (sym f.awaited.1)
+        (is_live heap f.object x found (rw like.1 tt), treats_by f.by f.copies)
+
+    stands_left : Stands program f.suspensions (left heap)
+    stands_left = record {
+      body = rw bodies_there.0 bodies_there.1;
+      behind = rw bodies_there.0 bodies_there.2;
+      bodies = bodies_there.3;
+      standing = record {
+        suspended = standing_there.suspended.1;
+        waiting = rw bodies_there.0 standing_there.waiting.1;
+        low = low_by (blanked f.w s.heap) heap at_home (callers_of program f.suspensions) standing_there.low.3;
+      };
+    }
+      where
+        at_home : (o : Id) (y : Object) → object_at (blanked f.w s.heap) o ≡ Some y → (z : Object) × (object_at heap o ≡ Some z) × (z.cell.home ≡ y.cell.home)
+        at_home o y is =
+            let first = unblanked f.w s.heap o y is in
+            let second = unblanked hides heap o first.object (subst (λ (objects : List Object). object_at objects o ≡ Some first.object) aside first.found) in
+            (second.object, second.found, second.alike.home ∙ first.alike.home)
+
+    pub crosses_back : CrossesTo program f.suspensions heap Quiet (left heap)
+    crosses_back = record {
+      stepped = record {
+        ready = (tt, rw (bodies_there.0, standing_there.suspended.0) behind_ready);
+        alters = alters_same heap Quiet;
+        says = tt;
+      };
+      stands = stands_left;
+    }
+
+-- The body of an Adjust that is called for a copy is at its end, and what is called later for that sees to components that hold null here.
+pub record EndsCopy (program : Program) (s : State) (f : Adjusting program s) (heap : List Object) : Type 0 where
+  pub x : Object
+  pub found : object_at heap f.object ≡ Some x
+  pub copied : CopyLeft (program_form program).types f.access f.record_type f.tasks
+  pub aside : s.heap ≡ blanked (hiding (owners_left (program_form program).types f.access f.tasks) f.object) heap
+  pub named : NameThere heap (values_at (owners_left (program_form program).types f.access f.tasks) x.cell.values)
 
 -- When the end of the body is next, what waits for it goes on.
 pub adjusting_ends :
     (program : Program) (s : State) (f : Adjusting program s) (a b : Activation Value) (rest : List (Activation Value)) → s.activations ≡ a ∷ b ∷ rest → s.control ≡ Returns [] [] ∷ f.behind → s.masters ≡ f.lower
-    → GetBack program s f
-    → (after : State) × (next program.types.items (body_forms program) s ≡ moves Quiet after) × CrossesTo program f.suspensions s.heap Quiet after × (after.control ≡ f.behind)
-adjusting_ends program s f a b rest acts_so ends_now masters_are get_back = (
-  left program s f a b rest acts_so ends_now masters_are get_back,
-  goes_now program s f a b rest acts_so ends_now masters_are get_back,
-  crosses_back program s f a b rest acts_so ends_now masters_are get_back,
+    → GetBack program s f → (heap : List Object) → EndsCopy program s f heap
+    → (after : State) × (next program.types.items (body_forms program) (record s { heap = heap }) ≡ moves Quiet after) × CrossesTo program f.suspensions heap Quiet after × (after.control ≡ f.behind)
+adjusting_ends program s f a b rest acts_so ends_now masters_are get_back heap c = (
+  left program s f a b rest acts_so ends_now masters_are get_back heap,
+  goes_now program s f a b rest acts_so ends_now masters_are get_back heap,
+  crosses_back program s f a b rest acts_so ends_now masters_are get_back heap c.x c.found c.copied c.aside c.named,
   refl,
 )

@@ -1,31 +1,24 @@
 -- Each step while the body of an Adjust runs that tracks components of its formal parameter (7.6), its end included, from facts of the program and the state alone.
 
-use Rattle.std.proofs.Common.{◌≡◌, ℕ, Bool, true, false, ◌&&◌, List, [], ◌∷◌, ◌++◌, refl, sym, ap, ◌∙◌, subst, ◌⊎◌, inl, inr, drop, length}
+use Rattle.std.proofs.Common.{◌≡◌, ℕ, true, false, List, [], ◌∷◌, ◌++◌, refl, sym, ap, ◌∙◌, subst, drop, length}
 use Rattle.std.proofs.lemmas.Bool.{and_parts}
 use Rattle.std.specs.Prelude.{Option, Some}
 use Rattle.std.specs.List.{slice_get}
 use Rattle.ada_deeds.specs.Implicit.{implicit_of}
 use Rattle.ada_flow.specs.Tracking.{Tracks}
-use Rattle.ada_finalized.proofs.Doings.{Of, doings}
-use Rattle.ada_finalized.proofs.Invariant.{IsThere}
-use Rattle.ada_finalized.proofs.Runs.{last_holds}
 use Rattle.ada_judged.proofs.FittingBodies.{tracked_fit_as_variables}
 use Rattle.ada_judged.specs.Fitting.{TracksComponents}
 use Rattle.ada_meaning.specs.declared.state.Stage.TheVariants.{Existing}
-use Rattle.ada_meaning.specs.Frame as frame
 use Rattle.ada_meaning.specs.Frame.{Returns}
-use Rattle.ada_meaning.specs.Named.{Object, State, Next, next}
-use Rattle.ada_meaning.specs.Run.{Event}
+use Rattle.ada_meaning.specs.Event.{Quiet}
+use Rattle.ada_meaning.specs.Named.{Object, State, Next, next, object_at}
 use Rattle.ada_meaning.specs.State.{Activation, Master}
-use Rattle.ada_meaning.specs.declared.state.Id.{Id}
 use Rattle.ada_meaning.specs.declared.state.Value.{Value}
-use Rattle.ada_meaning.specs.declared.state.Value.TheVariants.{Names}
 use Rattle.ada_meaning.specs.Step.{halts, moves, tells, asks, picks, older, operands, places}
 use Rattle.ada_program.specs.declared.program.Program.{Program}
 use Rattle.ada_program.specs.Freed.{FreesItsOwn}
 use Rattle.ada_program.specs.ProgramForm.{BodyForm, ProgramForm, TypeForm, body_forms, main_body, program_form, seen_in, record_of}
 use Rattle.ada_program.specs.WellFormed.{IsWellFormed, access_of, kind_among, reached_components}
-use Rattle.ada_scopes.proofs.Runs.{Scoped}
 use Rattle.ada_tracked.proofs.Law.{plainly_at_end}
 use Rattle.ada_program.specs.declared.program.Exception.{Exception}
 use Rattle.ada_flow.specs.Flow.{Holds}
@@ -39,12 +32,12 @@ use Rattle.ada_typed.proofs.Evaluations as evaluated
 use Rattle.ada_typed.proofs.Kept.{Behind, Each, behind_call}
 use Rattle.ada_judged.specs.Obeying.{BodyIsOrderly}
 use Rattle.ada_quiet.specs.Bare.{has_bare_objects}
-use Rattle.ada_quiet.specs.InUse.{is_copied_alone, stand_in_a_row, adjusts_at_most_one, adjusts_itself, may_track}
+use Rattle.ada_quiet.specs.InUse.{is_copied_in_order, stand_in_a_row, adjusts_itself, may_track}
 use Rattle.ada_sound.proofs.Adjusting.{Adjusting, waiting}
 use Rattle.ada_sound.proofs.AdjustingCore.{judged_keeps}
-use Rattle.ada_sound.proofs.AdjustingEnds.{GetBack, adjusting_ends, gets_back, judged_of}
+use Rattle.ada_sound.proofs.AdjustingEnds.{EndsCopy, GetBack, adjusting_ends, gets_back, judged_of}
 use Rattle.ada_sound.proofs.AdjustingKept.{IsJudged}
-use Rattle.ada_sound.proofs.AdjustingSteps.{GoesAdjusting, InAdjusting, adjusting_step}
+use Rattle.ada_sound.proofs.AdjustingSteps.{GoesAdjusting, IsOrderly, adjusting_step}
 use Rattle.ada_sound.proofs.Blanked.{stored_unblanked}
 use Rattle.ada_sound.proofs.Callers.{AreOf}
 use Rattle.ada_sound.proofs.CopiedOwners.{CopiesWell}
@@ -57,15 +50,13 @@ use Rattle.ada_sound.proofs.Judged.{judged_in}
 use Rattle.ada_sound.proofs.JudgedForms.{judged_covers, orderly_of_record, orderly_seen, orderly_simple, tracks_seen}
 use Rattle.ada_sound.proofs.JudgedTyped.{judged_stays, judged_tables}
 use Rattle.ada_sound.proofs.OnlyParts.{passed_at}
-use Rattle.ada_sound.proofs.Operating.{StepsTo}
 use Rattle.ada_sound.proofs.Returns.{CrossesTo, same_types}
 use Rattle.ada_sound.proofs.TracksApart.{AreInARow, tracks_apart}
-use Rattle.ada_sound.proofs.TracksWell.{copied_alone, tracked_well}
+use Rattle.ada_sound.proofs.TracksWell.{copied_in_order, tracked_well}
 use Rattle.ada_sound.proofs.Trackers.{calls_stand_apart, stand_apart}
 use Rattle.ada_sound.proofs.BareObjects.{components_are_bare}
 use Rattle.ada_sound.proofs.FrugalBodies.{calling_none}
 use Rattle.ada_sound.proofs.WatchedBy.{hold_bare, watched_by}
-use Rattle.ada_sound.proofs.Starts.{IsReached}
 
 -- What a body frees as it is judged it frees by the instance for that (13.11.2).
 pub judged_owns : (p : ProgramForm) → FreesItsOwn p → (number : ℕ) (b : BodyForm) (tracks : Tracks) → slice_get p.bodies number ≡ Some b → TracksComponents p.types tracks b.variables → BodyIsOrderly tracks b
@@ -107,18 +98,21 @@ is_judged program well may frees number b tracks there components orderly =
           (judged_stays p well number b there tracks components program.types.items refl t crossing ending typing);
       owns = judged_owns p frees number b tracks there components orderly;
       keeps = λ gs.
-          judged_keeps program number tracks gs (subst CopiesWell (sym (same_types (Some number) p)) (tracked_well p well may))
+          judged_keeps program number tracks gs (subst CopiesWell (sym (same_types (Some number) p)) (tracked_well program well may))
           (judged_owns p frees number b tracks there components orderly);
     }
 
 -- Where components may be tracked, the elementary components of each record type stand one behind another.
 pub in_a_row : (p : ProgramForm) → IsWellFormed p → may_track p ≡ true → AreInARow p.types
 in_a_row p well may r name ps components finalization at =
-    let alone = passed_at (is_copied_alone p.types) p.types r (record_of name ps components finalization) (copied_alone p well may).copied_alone at in
-    let two = and_parts (stand_in_a_row p.types 0 ps (length components) && adjusts_at_most_one finalization) (adjusts_itself ps finalization) alone in
-    (and_parts (stand_in_a_row p.types 0 ps (length components)) (adjusts_at_most_one finalization) two.0).0
+    let ordered = passed_at (is_copied_in_order p.types) p.types r (record_of name ps components finalization) (copied_in_order p well may).copied_in_order at in
+    (and_parts (stand_in_a_row p.types 0 ps (length components)) (adjusts_itself ps finalization) ordered).0
 
-module _ (program : Program) (well : IsWellFormed (program_form program)) (may : may_track (program_form program) ≡ true) (s : State) (typing : typed.Typed (program_form program) s) (f : Adjusting program s) where
+-- The object in which the components lie, in a typed heap.
+module _
+    (program : Program) (well : IsWellFormed (program_form program)) (may : may_track (program_form program) ≡ true) (s : State) (f : Adjusting program s)
+    (heap : List Object) (typing : typed.Typed (program_form program) (record s { heap = heap })) (x : Object) (found : object_at heap f.object ≡ Some x)
+    (of_access : x.cell.access ≡ f.access) where
   abbrev p : ProgramForm
   p = program_form program
 
@@ -126,15 +120,15 @@ module _ (program : Program) (well : IsWellFormed (program_form program)) (may :
   own = seen_in (Some f.number) p
 
   -- The body runs in a typed state.
-  pub inside : typed.TypedIn own s
-  inside = subst (λ (procedure : Option ℕ). typed.TypedIn (seen_in procedure p) s) f.runs typing.inside
+  pub inside : typed.TypedIn own (record s { heap = heap })
+  inside = subst (λ (procedure : Option ℕ). typed.TypedIn (seen_in procedure p) (record s { heap = heap })) f.runs typing.inside
 
   -- The object has controlled parts.
-  parted_there : has_bare_objects own.types f.x.cell.access ≡ false
+  parted_there : has_bare_objects own.types x.cell.access ≡ false
   parted_there =
       let waits = f.waits.parted in
       let parted : has_bare_objects p.types f.access ≡ false = rw (same_types f.procedure p) at waits in
-      subst (λ (types : List TypeForm). has_bare_objects types f.x.cell.access ≡ false) (sym (same_types (Some f.number) p)) (rw f.of_access parted)
+      subst (λ (types : List TypeForm). has_bare_objects types x.cell.access ≡ false) (sym (same_types (Some f.number) p)) (rw of_access parted)
 
   -- And no component names such an object.
   components_there : (holder c access : ℕ) → access_of (kind_among (reached_components own.types holder) c) ≡ Some access → has_bare_objects own.types access ≡ true
@@ -142,15 +136,14 @@ module _ (program : Program) (well : IsWellFormed (program_form program)) (may :
       subst (λ (types : List TypeForm). (holder c access : ℕ) → access_of (kind_among (reached_components types holder) c) ≡ Some access → has_bare_objects types access ≡ true)
       (sym (same_types (Some f.number) p)) (components_are_bare program well f.may)
 
-  -- The object is watched in which the components lie, where it exists.
-  pub is_watched :
-      f.x.stage ≡ Existing → TracksComponents p.types f.w.tracks f.b.variables → hold_bare p.types (drop 1 f.b.variables) ≡ true → IsWatched f.w (places s) s.heap
-  is_watched exists components bare =
+  -- The object is watched, where it exists.
+  pub is_watched : x.stage ≡ Existing → IsWatched f.w (places s) heap
+  is_watched exists =
       let here = sym (seen_as p f.number f.b f.there) in
-      watched_by own (tables_in own (seen_fits p well (Some f.number))) f.w (tracks_seen p f.number f.b f.w.tracks f.there components) s f.place f.x inside
+      watched_by own (tables_in own (seen_fits p well (Some f.number))) f.w (tracks_seen p f.number f.b f.w.tracks f.there f.components) (record s { heap = heap }) f.place x inside
       (rw f.object_so f.formal) f.based (subst (λ (q : ProgramForm). length (places s) ≡ length q.variables) here f.count)
-      (rw f.object_so f.found) exists parted_there
-      (subst (λ (types : List TypeForm). hold_bare types (drop 1 own.variables) ≡ true) (sym (same_types (Some f.number) p)) (subst (λ (q : ProgramForm). hold_bare p.types (drop 1 q.variables) ≡ true) here bare))
+      (rw f.object_so found) exists parted_there
+      (subst (λ (types : List TypeForm). hold_bare types (drop 1 own.variables) ≡ true) (sym (same_types (Some f.number) p)) (subst (λ (q : ProgramForm). hold_bare p.types (drop 1 q.variables) ≡ true) here f.lone))
       components_there
       (subst (λ (tracks : Tracks). AreApart tracks.components) f.tracks_so (tracks_apart p.types (in_a_row p well may) f.number f.b))
 
@@ -174,38 +167,8 @@ module _ (program : Program) (s : State) (f : Adjusting program s) (ends_now : s
   pub lower_left : s.masters ≡ f.lower
   lower_left =
       let last : Frugal (calling_none (program_form program).types) f.behind s.mode (Returns [] [] ∷ f.behind) frugal_now.upper = subst (λ (k : Control). Frugal (calling_none (program_form program).types) f.behind s.mode (seen_control f.w k) frugal_now.upper) ends_now frugal_now.frugal in
-      let end = frugal_ends (calling_none (program_form program).types) f.behind s.mode [] [] f.behind frugal_now.upper (subst IsAwaited (sym f.awaited.2) tt) last in
+      let end = frugal_ends (calling_none (program_form program).types) f.behind s.mode [] [] f.behind frugal_now.upper (subst IsAwaited (sym f.awaited.1) tt) last in
       frugal_now.masters ∙ ap (λ (upper : List Master). upper ++ f.lower) end.3
-
--- What is treated behind the end of the running body is there.
-there_behind : (heap : List Object) (behind k : Control) → behind_call k ≡ Some (record { actuals = []; references = []; left = behind }) → Of (IsThere heap) (doings k) → Of (IsThere heap) (doings behind)
-there_behind heap behind [] ends there = absurd (cc ends)
-there_behind heap behind (frame.Treats v treatment tasks ∷ k) ends there = there_behind heap behind k ends there.1
-there_behind heap behind (frame.Awaits v by done of part tasks ∷ k) ends there = there_behind heap behind k ends there.1
-there_behind heap behind (frame.Ends v ∷ k) ends there = there_behind heap behind k ends there.1
-there_behind heap behind (Returns actuals references ∷ k) ends there = subst (λ (b : Behind). Of (IsThere heap) (doings b.left)) (some_same ends) there
-there_behind heap behind (g ∷ k) ends there = there_behind heap behind k ends there
-
--- So the object exists whose Adjust runs.
-pub adjusted_exists : (program : Program) (s : State) → IsReached program s → (f : Adjusting program s) → f.x.stage ≡ Existing
-adjusted_exists program s reached f =
-    let all = (last_holds program reached.0 reached.1 s reached.2).fits.inv.there in
-    let behind = there_behind s.heap f.behind s.control f.ends all in
-    let now = subst (λ (k : Control). Of (IsThere s.heap) (doings k)) f.awaited.2 behind in
-    let (o, (is, (x, (at, stage)))) = now.0 in
-    let one : f.object.0 ≡ o = same_number f.object o is in
-    let there : slice_get s.heap f.object.0 ≡ Some x = subst (λ (i : ℕ). slice_get s.heap i ≡ Some x) (sym one) at in
-    let same : x ≡ f.x = same_object (sym there ∙ f.found) in
-    subst (λ (y : Object). y.stage ≡ Existing) same stage
-  where
-    same_id : {i j : Id} → Names i ≡ Names j → i ≡ j
-    same_id e = cc e
-
-    same_number : (i : Id) (o : ℕ) → Names i ≡ Names (record { 0 = o }) → i.0 ≡ o
-    same_number i o e = ap (λ (j : Id). j.0) (same_id e)
-
-    same_object : {x y : Object} → Some x ≡ Some y → x ≡ y
-    same_object e = cc e
 
 -- The activation that waits is the next one.
 record TwoActive (acts : List (Activation Value)) : Type 0 where
@@ -241,38 +204,23 @@ adjusting_stored program s f =
     subst (λ (ms : List Master). Stored stored.0 (blanked f.w s.heap) ms) of_t.masters (subst (λ (heap : List Object). Stored stored.0 heap f.t.masters) of_t.heap stored.1) in
     (stored.0, stored_unblanked f.w s.heap there)
 
--- The body runs behind a step, or what waits for it goes on.
-abbrev pub WentOn : (program : Program) (s : State) → Adjusting program s → Event → State → Type 0
-WentOn program s f e after = InAdjusting program s.heap e after ⊎ (CrossesTo program f.suspensions s.heap e after × (after.control ≡ f.behind))
-
--- So it does whatever comes next, if the run does not end.
-abbrev pub GoesOrEnds : (program : Program) (s : State) → Adjusting program s → Next → Type 0
-GoesOrEnds program s f n = StepsTo (WentOn program s f) s n
-
-goes_or : (program : Program) (s : State) (f : Adjusting program s) (n : Next) → GoesAdjusting program s n → GoesOrEnds program s f n
-goes_or program s f (halts halt) goes = goes
-goes_or program s f (moves e after) goes = inl goes
-goes_or program s f (tells request e after) goes = inl goes
-goes_or program s f (asks request answered) goes = λ granted. inl (goes granted)
-goes_or program s f (picks n taken) goes = goes
-
--- Each step of the body, its end included.
+-- Each step of the body but its end.
 pub adjusting_goes :
     (program : Program) → IsWellFormed (program_form program) → may_track (program_form program) ≡ true → FreesItsOwn (program_form program)
-    → (s : State) → IsReached program s → Scoped (program_form program) s → typed.Typed (program_form program) s → (f : Adjusting program s)
-    → GoesOrEnds program s f (next program.types.items (body_forms program) s)
-adjusting_goes program well may frees s reached nested typing f = go (is_return_first s.control) refl
-  where
-    watched : IsWatched f.w (places s) s.heap
-    watched = is_watched program well may s typing f (adjusted_exists program s reached f) f.components f.lone
+    → (s : State) → IsOrderly program s → typed.Typed (program_form program) s → (f : Adjusting program s) → f.x.stage ≡ Existing → is_return_first s.control ≡ false
+    → GoesAdjusting program s f (next program.types.items (body_forms program) s)
+adjusting_goes program well may frees s orderly typing f exists inner =
+    adjusting_step program well s orderly f (is_judged program well may frees f.number f.b f.w.tracks f.there f.components f.orderly)
+    (is_watched program well may s f s.heap typing f.x f.found f.of_access exists) inner
 
-    go : (b : Bool) → is_return_first s.control ≡ b → GoesOrEnds program s f (next program.types.items (body_forms program) s)
-    go false inner =
-        goes_or program s f (next program.types.items (body_forms program) s)
-        (adjusting_step program well s reached nested f (is_judged program well may frees f.number f.b f.w.tracks f.there f.components f.orderly) watched inner)
-    go true first =
-        let ends_now = own_end f.behind s.control f.ends first in
-        let two = two_active program s f s.activations f.bodies in
-        let back : GetBack program s f = gets_back program s f watched f.components (inside program well may s typing f) in
-        let (after, is, crosses, behind) = adjusting_ends program s f two.a two.b two.rest two.is ends_now (lower_left program s f ends_now) back in
-        subst (GoesOrEnds program s f) (sym is) (inr (crosses, behind))
+-- Its end, where what is called later for the copy sees to components that hold null here.
+pub adjusting_returns :
+    (program : Program) → IsWellFormed (program_form program) → may_track (program_form program) ≡ true → (s : State) → typed.Typed (program_form program) s
+    → (f : Adjusting program s) → f.x.stage ≡ Existing → is_return_first s.control ≡ true → (heap : List Object) → EndsCopy program s f heap
+    → (after : State) × (next program.types.items (body_forms program) (record s { heap = heap }) ≡ moves Quiet after) × CrossesTo program f.suspensions heap Quiet after × (after.control ≡ f.behind)
+adjusting_returns program well may s typing f exists first heap copied =
+    let ends_now = own_end f.behind s.control f.ends first in
+    let two = two_active program s f s.activations f.bodies in
+    let watched = is_watched program well may s f s.heap typing f.x f.found f.of_access exists in
+    let back : GetBack program s f = gets_back program s f watched f.components (inside program well may s f s.heap typing f.x f.found f.of_access) in
+    adjusting_ends program s f two.a two.b two.rest two.is ends_now (lower_left program s f ends_now) back heap copied

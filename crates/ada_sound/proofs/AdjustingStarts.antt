@@ -1,59 +1,54 @@
 -- The Adjust of a copy is called that tracks components (7.6): its body begins in a sound state.
 
-use Rattle.std.proofs.Common.{◌≡◌, ◌≢◌, ℕ, ◌||◌, true, false, List, [], ◌∷◌, ◌++◌, length, drop, refl, sym, ap, subst, ◌∙◌, Bool}
-use Rattle.std.specs.Prelude.{Option, Some}
-use Rattle.std.specs.List.{list_any}
+use Rattle.std.proofs.Common.{◌≡◌, ◌≢◌, ℕ, true, false, List, [], ◌∷◌, length, drop, refl, sym, ap, subst, ◌∙◌, Bool, ◌+◌, ◌<◌, ◌≤◌, inl, inr, arith}
+use Rattle.std.proofs.lemmas.Bool.{eqb-true, ltb-true}
+use Rattle.std.specs.List.{Contains, slice_get}
+use Rattle.std.specs.Prelude.{Option, Some, ◌==◌, None}
+use Rattle.ada_beside.specs.Law.{LieBeside}
 use Rattle.ada_deeds.specs.Implicit.{implicit_of}
 use Rattle.ada_finalized.specs.Law.{NothingBegins}
-use Rattle.ada_flow.specs.Flow.{is_owning_part}
-use Rattle.ada_flow.specs.Tracking.{access_numbers, number_within}
 use Rattle.ada_judged.specs.Fitting.{BodyIsSimple, TracksComponents}
 use Rattle.ada_judged.specs.Obeying.{BodyIsOrderly}
-use Rattle.ada_program.specs.declared.program.ComponentKind.TheVariants as component
-use Rattle.ada_program.specs.declared.program.PartKind.{PartKind}
-use Rattle.ada_program.specs.declared.program.PartKind.TheVariants as part_kinds
-use Rattle.ada_program.specs.declared.program.Program.{Program}
-use Rattle.ada_program.specs.declared.program.VariableKind.TheVariants as variable_kinds
-use Rattle.ada_program.specs.ProgramForm.{PartForm, ProgramForm, TypeForm, body_forms, main_body, program_form, seen_by, seen_in}
-use Rattle.ada_program.specs.WellFormed.{IsWellFormed, access_of, kind_among, reached_components, variable_kind}
-use Rattle.ada_meaning.specs.declared.event.Birth.{Birth}
+use Rattle.ada_meaning.specs.Frame as frame
+use Rattle.ada_meaning.specs.Frame.{Treatment, begins}
+use Rattle.ada_meaning.specs.Named.{Object, State, named, object_at}
+use Rattle.ada_meaning.specs.Run.{Event}
+use Rattle.ada_meaning.specs.State.{Activation}
+use Rattle.ada_meaning.specs.Step.{operating, places}
 use Rattle.ada_meaning.specs.declared.event.Birth.TheVariants.{Creation, Copy, Adjustment}
+use Rattle.ada_meaning.specs.declared.event.Birth.{Birth}
 use Rattle.ada_meaning.specs.declared.state.Id.{Id}
 use Rattle.ada_meaning.specs.declared.state.Mode.TheVariants.{Running}
 use Rattle.ada_meaning.specs.declared.state.Place.{Place}
 use Rattle.ada_meaning.specs.declared.state.Stage.TheVariants.{Existing}
-use Rattle.ada_meaning.specs.declared.state.Value.{Value}
 use Rattle.ada_meaning.specs.declared.state.Value.TheVariants.{Names, Part}
-use Rattle.ada_meaning.specs.Frame as frame
-use Rattle.ada_meaning.specs.Frame.{Treatment, begins}
-use Rattle.ada_meaning.specs.Named.{Object, State, named}
-use Rattle.ada_meaning.specs.Run.{Event}
-use Rattle.ada_meaning.specs.State.{Activation}
-use Rattle.ada_meaning.specs.Step.{operating, places}
+use Rattle.ada_meaning.specs.declared.state.Value.{Value}
+use Rattle.ada_parts.specs.Task.{Task, performs}
+use Rattle.ada_program.specs.ProgramForm.{ProgramForm, TypeForm, body_forms, main_body, program_form, seen_by, seen_in}
+use Rattle.ada_program.specs.WellFormed.{IsWellFormed, access_of, kind_among, reached_components, variable_kind, count_said, finalization_in, part_count, record_components}
+use Rattle.ada_program.specs.declared.program.ComponentKind.{ComponentKind}
+use Rattle.ada_program.specs.declared.program.Finalization.{Finalization}
+use Rattle.ada_program.specs.declared.program.Program.{Program}
+use Rattle.ada_program.specs.declared.program.VariableKind.TheVariants as variable_kinds
 use Rattle.ada_quiet.specs.Apart.{body_calls_apart, is_tracker}
 use Rattle.ada_quiet.specs.Bare.{has_bare_objects}
 use Rattle.ada_quiet.specs.Frugal.{is_frugal_body, thrift_of}
-use Rattle.ada_quiet.specs.InUse.{may_be_frugal}
-use Rattle.ada_tracked.proofs.Heaps.{blanked_here}
-use Rattle.ada_tracked.specs.Frames.{View, blank_object, watched}
-use Rattle.ada_tracked.specs.Seen.{IsWatched, seen_state}
-use Rattle.ada_typed.proofs.Bodies.{seen_as, seen_fits, tables_in}
-use Rattle.ada_typed.proofs.Control as typed
-use Rattle.ada_typed.proofs.Kept.{behind_call}
-use Rattle.ada_typed.proofs.Overridings.{beginning_for}
-use Rattle.ada_typed.proofs.Parts.{shown_parts}
-use Rattle.ada_typed.proofs.Values.{AreFilled}
-use Rattle.ada_typed.specs.Holding.{cells_of}
-use Rattle.ada_sound.proofs.Adjusting.{Adjusting, IsOfCopy, copied, assigned}
-use Rattle.ada_sound.proofs.AdjustingBegins.{Copied, adjusting_begins, begins_as_judged}
+use Rattle.ada_quiet.specs.InUse.{may_be_frugal, adjusts_alone, count_found, has_one_part}
+use Rattle.ada_quiet.specs.Simple.{is_simple_body}
 use Rattle.ada_sound.proofs.AdjustedParts.{adjusted_frees}
-use Rattle.ada_sound.proofs.AdjustingEnters.{copied_type, copied_where_called, copy_among, copy_only, copy_tracks, copy_view}
+use Rattle.ada_sound.proofs.Adjusting.{IsOfCopy, copied, assigned, AdjustingCopy, LeavesAlone, is_one_of}
+use Rattle.ada_sound.proofs.AdjustingBegins.{Copied, adjusting_begins, begins_as_judged, AdjustsIn}
+use Rattle.ada_sound.proofs.AdjustingEnters.{copied_type, copied_where_called, copy_among, copy_tracks, copy_view, called_left, copy_beside, copy_declares, copy_found, copy_heap, copy_left, copy_names_left, copy_object, copy_of_access, copy_owners, copy_record, formal_components}
 use Rattle.ada_sound.proofs.AdjustingGoes.{in_a_row}
-use Rattle.ada_sound.proofs.Alters.{alters_same}
+use Rattle.ada_sound.proofs.Alters.{Alters, alters_set}
+use Rattle.ada_sound.proofs.BareObjects.{components_are_bare, frugal_frees_bare}
 use Rattle.ada_sound.proofs.Callers.{Suspension, Stands, callers_of, known_in}
 use Rattle.ada_sound.proofs.CallsApart.{CallApart}
-use Rattle.ada_sound.proofs.CopiedOwners.{BeginsCopy, SeesToOwners, declared_owners}
+use Rattle.ada_sound.proofs.ConfinedBodies.{confined_body, reaches_record}
+use Rattle.ada_sound.proofs.CopiedOwners.{BeginsCopy, CopyLeft, hiding, owners_left}
+use Rattle.ada_sound.proofs.CopyParts.{head_in, tail_in}
 use Rattle.ada_sound.proofs.Fits.{IsWithin}
+use Rattle.ada_sound.proofs.FrugalBodies.{calling_none}
 use Rattle.ada_sound.proofs.Invariant.{Control, CoveredIn, under_in}
 use Rattle.ada_sound.proofs.Judged.{judged_in}
 use Rattle.ada_sound.proofs.JudgedApart.{judged_apart}
@@ -64,21 +59,30 @@ use Rattle.ada_sound.proofs.JudgedTyped.{typed_begins}
 use Rattle.ada_sound.proofs.OnlyParts.{passed_at}
 use Rattle.ada_sound.proofs.Operating.{IsCalm, WaitsFor}
 use Rattle.ada_sound.proofs.OperationBegins.{formal_holds, formal_within}
-use Rattle.ada_sound.proofs.OperationStarts.{calm_behind}
 use Rattle.ada_sound.proofs.OrderlyBodies.{lone_body, orderly_body}
+use Rattle.ada_sound.proofs.PartsApart.{PartWithin, alone_left}
 use Rattle.ada_sound.proofs.QuietOperations.{MayTrack}
 use Rattle.ada_sound.proofs.Returns.{same_types}
-use Rattle.ada_sound.proofs.BareObjects.{components_are_bare, frugal_frees_bare}
-use Rattle.ada_sound.proofs.FrugalBodies.{calling_none}
-use Rattle.ada_sound.proofs.SimpleBodies.{simple_frugal}
+use Rattle.ada_sound.proofs.SimpleBodies.{simple_frugal, simple_with}
 use Rattle.ada_sound.proofs.SimpleEffects.{simple_silent}
 use Rattle.ada_sound.proofs.Starts.{Obeys}
 use Rattle.ada_sound.proofs.Touching.{resting}
 use Rattle.ada_sound.proofs.TouchingBegins.{IsAlone, alone}
-use Rattle.ada_sound.proofs.TracksApart.{tracks_apart}
 use Rattle.ada_sound.proofs.Trackers.{calls_stand_apart, frugal_too, stand_apart}
+use Rattle.ada_sound.proofs.TracksApart.{tracks_apart}
 use Rattle.ada_sound.proofs.Treatments.{BeginsAdjust}
+use Rattle.ada_sound.proofs.TypedAside.{typed_aside}
 use Rattle.ada_sound.proofs.WatchedBy.{given_count, hold_bare, some_variable, watched_by}
+use Rattle.ada_tracked.proofs.Heaps.{blanked_here}
+use Rattle.ada_tracked.proofs.Lists.{apart_is}
+use Rattle.ada_tracked.specs.Frames.{View, blank_object, watched, blanked}
+use Rattle.ada_tracked.specs.Seen.{IsWatched, seen_state}
+use Rattle.ada_typed.proofs.Bodies.{seen_as, seen_fits, tables_in}
+use Rattle.ada_typed.proofs.Control as typed
+use Rattle.ada_typed.proofs.Kept.{behind_call}
+use Rattle.ada_typed.proofs.Overridings.{beginning_for}
+use Rattle.ada_typed.proofs.Values.{AreFilled}
+use Rattle.ada_typed.specs.Holding.{cells_of}
 
 -- A copy of a record begins where an object is declared, or a record is assigned to.
 of_copy : (by : Birth) → BeginsCopy by → IsOfCopy by
@@ -86,24 +90,29 @@ of_copy Creation copies = absurd copies
 of_copy Copy copies = copied
 of_copy (Adjustment number) copies = assigned number
 
--- What declares components of access types has numbers of such.
-some_numbers : (parts : List PartForm) → list_any (λ c. is_owning_part c.kind) parts ≡ true → access_numbers parts ≢ []
-some_numbers [] declares = absurd (cc declares)
-some_numbers (q ∷ parts) declares = by q.kind declares (some_numbers parts)
-  where
-    by :
-        (kind : PartKind) → (is_owning_part kind || list_any (λ c. is_owning_part c.kind) parts) ≡ true
-        → (list_any (λ c. is_owning_part c.kind) parts ≡ true → access_numbers parts ≢ []) → number_within q.first kind ++ access_numbers parts ≢ []
-    by (part_kinds.Elementary (component.Integer initial)) here later = later here
-    by (part_kinds.Elementary (component.Boolean initial)) here later = later here
-    by (part_kinds.Elementary (component.Access access)) here later = λ none. absurd (cc none)
-    by (part_kinds.Record t) here later = later here
-    by part_kinds.Parent here later = later here
+-- What has one controlled part at most has no more.
+one_most : (o : Option Finalization) → has_one_part o ≡ true → count_said o ≤ 1
+one_most None one = omega arith
+one_most (Some f) one = let count = eqb-true f.parts 1 one in omega (arith, count)
 
--- So has a record type whose Adjust sees to such.
-some_owners : (types : List TypeForm) (record_type of : ℕ) → SeesToOwners types record_type of → declared_owners types record_type ≢ []
-some_owners types record_type of sees none =
-    some_numbers sees.parts sees.declares (sym (ap (λ (found : Option TypeForm). access_numbers (shown_parts found)) sees.at) ∙ none)
+-- A component that a list has not is none of it.
+not_one : (owners : List ℕ) (c : ℕ) → (Contains owners c → ⊥) → is_one_of owners c ≡ false
+not_one [] c none = refl
+not_one (d ∷ owners) c none =
+    let apart : (d == c) ≡ false = apart_is d c (λ e. none (subst (λ (b : ℕ). Contains (d ∷ owners) b) e (head_in d owners))) in
+    rw apart (not_one owners c (λ has. none (tail_in d c owners has)))
+
+-- What is left of the adjustment of a record is left of that of the same record.
+same_left :
+    (types : List TypeForm) (access r access_too r_too : ℕ) (tasks tasks_too : List Task) → access_too ≡ access → r_too ≡ r → tasks_too ≡ tasks
+    → CopyLeft types access r tasks → CopyLeft types access_too r_too tasks_too
+same_left types access r access_too r_too tasks tasks_too a b c left =
+    subst (λ (n : ℕ). CopyLeft types n r_too tasks_too) (sym a)
+    (subst (λ (n : ℕ). CopyLeft types access n tasks_too) (sym b) (subst (λ (ts : List Task). CopyLeft types access r ts) (sym c) left))
+
+-- Putting components of an object aside alters no more than what a step may.
+alters_aside : (owners : List ℕ) (heap : List Object) (e : Event) (o : Id) (x : Object) → object_at heap o ≡ Some x → Alters heap e (blanked (hiding owners o) heap)
+alters_aside owners heap e o x found = rw found (alters_set heap e o x (blank_object (watched (hiding owners o)) x) found (refl, refl, refl) (λ h. h) (λ h. inl h))
 
 -- The body of such an Adjust is next.
 module _
@@ -119,33 +128,67 @@ module _
     own = seen_in (Some c.number) p
 
     abbrev x : Object
-    x = c.adjusted.x
+    x = c.to.x
+
+    abbrev o : Id
+    o = c.to.o
+
+    abbrev r : ℕ
+    r = c.to.record_type
 
     abbrev place : Place
     place = record { component = c.p.first; part = c.part }
 
     abbrev behind : Control
-    behind = frame.Awaits (Names c.o) c.by c.done c.of c.part c.tasks ∷ k
-
-    abbrev begun : State
-    begun = operating named c.number c.b (Part c.o place) behind (record s { activations = a ∷ rest; mode = Running })
+    behind = frame.Awaits (Names o) c.by c.done c.of c.part c.tasks ∷ k
 
     -- What stands for the object, and all that holds of it there.
     abbrev w : View
     w = copy_view program well tracks.0 a rest s gs v k IsOperated e after c filled
 
+    -- What is left to be adjusted, the part that is called included.
+    abbrev left : CopyLeft p.types x.cell.access r (performs c.of c.part ∷ c.tasks)
+    left = copy_left program well tracks.0 a rest s gs v k IsOperated e after c filled
+
+    -- The record that this part is.
+    abbrev lies : PartWithin p.types x.cell.access r left.first left.part c.of c.part
+    lies = copy_record program well tracks.0 a rest s gs v k IsOperated e after c filled
+
+    -- The components of the parts that are left are put aside.
+    abbrev owners : List ℕ
+    owners = copy_owners program well tracks.0 a rest s gs v k IsOperated e after c filled
+
+    abbrev heap : List Object
+    heap = copy_heap program well tracks.0 a rest s gs v k IsOperated e after c filled
+
+    abbrev aside : Object
+    aside = copy_object program well tracks.0 a rest s gs v k IsOperated e after c filled
+
+    found : object_at heap o ≡ Some aside
+    found = copy_found program well tracks.0 a rest s gs v k IsOperated e after c filled
+
+    -- The body begins so, and so in the state in which they are.
+    abbrev real : State
+    real = operating named c.number c.b (Part o place) behind (record s { activations = a ∷ rest; mode = Running })
+
+    abbrev begun : State
+    begun = operating named c.number c.b (Part o place) behind (record s { activations = a ∷ rest; heap = heap; mode = Running })
+
     abbrev may_free : ℕ → Bool
     may_free = (implicit_of p).adjust_frees (copied_type program well tracks.0 a rest s gs v k IsOperated e after c filled)
 
-    at : Copied (known_in program a.procedure gs) may_free c.o x w k s.heap a.places s.masters
+    at : Copied (known_in program a.procedure gs) may_free o aside r w k heap a.places s.masters
     at = copied_where_called program well tracks.0 a rest s gs v k IsOperated e after c filled
 
     -- What it is called for has controlled parts, and what it frees has none.
     may : may_be_frugal p ≡ true
     may = frugal_too p tracks.0
 
+    simple_so : is_simple_body p.types true c.b ≡ true
+    simple_so = simple_with p.types (adjusts_alone p) c.b tracks.1
+
     frugal : is_frugal_body (thrift_of p) c.b ≡ true
-    frugal = simple_frugal (thrift_of p) c.b tracks.1
+    frugal = simple_frugal (thrift_of p) c.b simple_so
 
     -- What the waiting activation sees, and the body.
     known_types : (known_in program a.procedure gs).program.types ≡ p.types
@@ -157,13 +200,13 @@ module _
     -- The body tracks components of its formal parameter.
     components : TracksComponents p.types w.tracks c.b.variables
     components =
-        let sees : SeesToOwners p.types c.record_type c.of = subst (λ (types : List TypeForm). SeesToOwners types c.record_type c.of) known_types c.adjusted.only.sees in
-        let owners = copy_tracks program well tracks.0 a rest s gs v k IsOperated e after c filled in
-        tracks_components p well c.number c.b (λ none. some_owners p.types c.record_type c.of sees (sym owners ∙ none))
+        let tracked = copy_tracks program well tracks.0 a rest s gs v k IsOperated e after c filled in
+        let declared = copy_declares program well tracks.0 a rest s gs v k IsOperated e after c filled in
+        tracks_components p well c.number c.b (λ none. declared (sym tracked ∙ none))
 
     -- It is of the forms of which the laws on tracked components speak.
     orderly : BodyIsOrderly w.tracks c.b
-    orderly = orderly_body p well c.number c.b c.there w.tracks components tracks.1
+    orderly = orderly_body p well c.number c.b c.there w.tracks components simple_so
 
     simple : BodyIsSimple w.tracks.first c.b
     simple = orderly_simple w.tracks c.b orderly
@@ -183,15 +226,17 @@ module _
         alone c.b operation.object (rw body at operation.formals)
 
     none_other : hold_bare p.types (drop 1 c.b.variables) ≡ true
-    none_other = lone_body p.types c.b tracks.1
+    none_other = lone_body p.types c.b simple_so
 
     -- Each variable has a value.
     count : length (places begun) ≡ length c.b.variables
-    count = given_count (Part c.o place) c.b.variables (some_variable c.b.variables (variable_kinds.Record lone.object) lone.is)
+    count = given_count (Part o place) c.b.variables (some_variable c.b.variables (variable_kinds.Record lone.object) lone.is)
 
     -- It begins in a typed state, so its formal parameter refers to a record in the object.
     begins_typed : typed.Typed p begun
-    begins_typed = subst (typed.Typed p) c.is typing
+    begins_typed =
+        typed_aside p owners o s.heap x c.to.found (copy_of_access program well tracks.0 a rest s gs v k IsOperated e after c filled) filled real refl
+        (subst (typed.Typed p) c.is typing)
 
     inside : typed.TypedIn own begun
     inside = begins_typed.inside
@@ -199,19 +244,19 @@ module _
     within : IsWithin p.types (variable_kind c.b.variables 0) x.cell.access place.component
     within =
         let inside_body : typed.TypedIn (seen_by c.number c.b p) begun = subst (λ (q : ProgramForm). typed.TypedIn q begun) own_is inside in
-        let holds = formal_holds program c.number c.b c.o place begun (_, refl) x c.adjusted.found inside_body in
-        formal_within p.types (variable_kind c.b.variables 0) c.o x.cell.access place lone.object lone.is (rw lone.is at holds)
+        let holds = formal_holds program c.number c.b o place begun (_, refl) aside found inside_body in
+        formal_within p.types (variable_kind c.b.variables 0) o x.cell.access place lone.object lone.is (rw lone.is at holds)
 
     -- The object is watched: it exists, and is a declared one.
-    exists : x.stage ≡ Existing
-    exists = (at.works.stored.sane c.o (blank_object (watched w) x) (blanked_here w s.heap x c.adjusted.found)).there_exists c.adjusted.there
+    exists : aside.stage ≡ Existing
+    exists = (at.works.stored.sane o (blank_object (watched w) aside) (blanked_here w heap aside found)).there_exists c.to.there
 
-    watches : IsWatched w (places begun) s.heap
+    watches : IsWatched w (places begun) heap
     watches =
         let here = sym own_is in
         let types : own.types ≡ p.types = same_types (Some c.number) p in
-        watched_by own (tables_in own (seen_fits p well (Some c.number))) w own_components begun place x inside refl refl
-        (subst (λ (q : ProgramForm). length (places begun) ≡ length q.variables) here count) c.adjusted.found exists
+        watched_by own (tables_in own (seen_fits p well (Some c.number))) w own_components begun place aside inside refl refl
+        (subst (λ (q : ProgramForm). length (places begun) ≡ length q.variables) here count) found exists
         (subst (λ (types : List TypeForm). has_bare_objects types x.cell.access ≡ false) (known_types ∙ sym types) at.parted)
         (subst (λ (types : List TypeForm). hold_bare types (drop 1 own.variables) ≡ true) (sym types) (subst (λ (q : ProgramForm). hold_bare p.types (drop 1 q.variables) ≡ true) here none_other))
         (subst (λ (types : List TypeForm). (holder component access : ℕ) → access_of (kind_among (reached_components types holder) component) ≡ Some access → has_bare_objects types access ≡ true) (sym types) (components_are_bare program well may))
@@ -220,7 +265,7 @@ module _
     -- It frees no more than the adjustment may.
     frees_no_more : (t : ℕ) → CoveredIn (implicit_of p) (judged_in w.tracks own) t → may_free t ≡ true
     frees_no_more t covered =
-        adjusted_frees program well x.cell.access c.record_type c.of c.first (copy_only program well tracks.0 a rest s gs v k IsOperated e after c filled)
+        adjusted_frees program well x.cell.access r c.of c.part c.tasks left
         (copied_type program well tracks.0 a rest s gs v k IsOperated e after c filled) (copy_among program well tracks.0 a rest s gs v k IsOperated e after c filled)
         c.by c.copies c.number c.b c.there c.called t (judged_covers own w.tracks own_components own_orderly (implicit_of p) t covered)
 
@@ -239,26 +284,78 @@ module _
     -- The state that stands for the real one is typed.
     judged_typed : typed.TypedIn (judged_in w.tracks own) (seen_state w begun)
     judged_typed =
-        typed_begins p well c.number c.b c.there w components simple begun behind place x begins_typed refl refl refl refl refl count c.adjusted.found
+        typed_begins p well c.number c.b c.there w components simple begun behind place aside begins_typed refl refl refl refl refl count found
 
     -- The treatment of the object waits for it.
-    awaited : WaitsFor p.types c.o c.of (begins c.by c.done) k behind
-    awaited = (c.part, c.tasks, refl)
+    awaited : WaitsFor p.types o c.of (begins c.by c.done) c.tasks k behind
+    awaited = (c.part, refl)
+
+    -- What lies beside the record is left alone, where that record has other parts: its body frees nothing then, and reaches no more than the record.
+    alone_or_beside : LeavesAlone w owners real
+    alone_or_beside = by (adjusts_alone p) refl
+      where
+        one_part : adjusts_alone p ≡ true → part_count p.types r ≤ 1
+        one_part alone_there = go (slice_get p.types r) refl
+          where
+            go : (t : Option TypeForm) → slice_get p.types r ≡ t → part_count p.types r ≤ 1
+            go None is = let none : part_count p.types r ≡ 0 = ap (λ (d : Option TypeForm). count_said (finalization_in d)) is in omega (arith, none)
+            go (Some t) is =
+                let count : part_count p.types r ≡ count_said (finalization_in (Some t)) = ap (λ (d : Option TypeForm). count_said (finalization_in d)) is in
+                let most = one_most (finalization_in (Some t)) (passed_at (λ d. has_one_part (finalization_in (Some d))) p.types r t alone_there is) in
+                omega (arith, count, most)
+
+        record_components_so : reached_components p.types components.object.0 ≡ record_components p.types lies.placed.record_type
+        record_components_so = formal_components program well lies.placed.record_type c.of lies.placed.numbered c.by c.number c.b c.there c.called components.object components.formal
+
+        beside_record : LieBeside w (reaches_record p.types components.object) (is_one_of owners)
+        beside_record d reached =
+            let less : d < count_found (reached_components p.types components.object.0) = ltb-true d (count_found (reached_components p.types components.object.0)) reached in
+            not_one owners (w.base + d)
+            (copy_beside program well tracks.0 a rest s gs v k IsOperated e after c filled d
+            (subst (λ (found : Option (List ComponentKind)). d < count_found found) record_components_so less))
+
+        by : (alone_there : Bool) → adjusts_alone p ≡ alone_there → LeavesAlone w owners real
+        by true is = inl (alone_left program well x.cell.access r c.of c.part c.tasks left (one_part is))
+        by false is =
+            let forms = confined_body p well c.number c.b c.there w.tracks components (subst (λ (free : Bool). is_simple_body p.types free c.b ≡ true) is tracks.1) in
+            inr (reaches_record p.types components.object, beside_record, record { control = ((forms.declarations, forms.statements, forms.handlers), tt); operands = tt })
 
     -- So it begins.
     begins_so :
         is_tracker p c.number ≡ true → Stands program gs (record s { activations = a ∷ rest }) → IsCalm (behind_call k) → under_in (callers_of program gs) ≡ []
-        → CallApart p.types (is_tracker p) k → ((u : Value) → u ≢ Names c.o → NothingBegins u k) → Adjusting program begun
+        → CallApart p.types (is_tracker p) k → ((u : Value) → u ≢ Names o → NothingBegins u k) → AdjustsIn program o x.cell.access r c.tasks w begun
     begins_so tracker stands calm settled behind_apart untreated =
         let kept = keeps_tracking program c.number w.tracks in
-        let waiting = resting a.procedure a.places (begins c.by c.done) c.o x.cell.access [] place behind s.masters kept at.works.rooms at.works.holds in
-        adjusting_begins program c.number c.b c.there w lone components a rest gs s k c.o x s.heap place refl within c.by c.done behind kept may_free at
-        frees_no_more frees_bare (of_copy c.by c.copies) refl tracker orderly none_other tracks.0 may (simple_frugal (calling_none p.types) c.b tracks.1) simple
-        (simple_silent program well c.number c.b c.there tracks.1 tracks.2 w.tracks components orderly)
+        let waiting = resting a.procedure a.places (begins c.by c.done) o x.cell.access [] place behind s.masters kept at.works.rooms at.works.holds in
+        adjusting_begins program c.number c.b c.there w lone components a rest gs s k o aside heap place refl within c.by c.done behind kept may_free r c.tasks at
+        frees_no_more frees_bare (of_copy c.by c.copies) refl tracker orderly none_other tracks.0 may (simple_frugal (calling_none p.types) c.b simple_so) simple
+        (simple_silent program well c.number c.b c.there simple_so tracks.2 w.tracks components orderly)
         (calls_apart behind_apart)
         (λ spares. judged_runs program c.number c.b w.tracks waiting gs well obeys.1 c.there refl components orderly spares refl)
-        (begins_as_judged program c.number c.b c.there w lone components a rest gs s k c.o x s.heap place refl within c.by c.done behind kept may_free at watches)
-        judged_typed e c.of (alters_same s.heap e) awaited stands (calm_behind p.types c.o c.of (begins c.by c.done) k behind awaited calm) settled untreated
+        (begins_as_judged program c.number c.b c.there w lone components a rest gs s k o aside heap place refl within c.by c.done behind kept may_free r c.tasks at watches)
+        judged_typed e c.of (alters_aside owners s.heap e o x c.to.found) awaited stands calm settled untreated
+
+    -- And so it begins in the real state.
+    copy_so :
+        is_tracker p c.number ≡ true → Stands program gs (record s { activations = a ∷ rest }) → IsCalm (behind_call k) → under_in (callers_of program gs) ≡ []
+        → CallApart p.types (is_tracker p) k → ((u : Value) → u ≢ Names o → NothingBegins u k) → AdjustingCopy program real
+    copy_so tracker stands calm settled behind_apart untreated =
+        let f = begins_so tracker stands calm settled behind_apart untreated in
+        record {
+          object = o;
+          owners = owners;
+          adjusting = f.adjusting;
+          same = f.object_is;
+          left =
+              same_left p.types x.cell.access r f.adjusting.access f.adjusting.record_type c.tasks f.adjusting.tasks f.access_is f.record_is f.left_is
+              (called_left program well x.cell.access r c.of c.part c.tasks left);
+          owned =
+              sym (ap (λ (access : ℕ). owners_left p.types access f.adjusting.tasks) f.access_is ∙ ap (λ (ts : List Task). owners_left p.types x.cell.access ts) f.left_is);
+          x = x;
+          found = c.to.found;
+          named = copy_names_left program well tracks.0 a rest s gs v k IsOperated e after c filled;
+          leaves_alone = subst (λ (view : View). LeavesAlone view owners real) (sym f.view_is) alone_or_beside;
+        }
 
 -- The body begins.
 pub adjusting_starts :
@@ -268,8 +365,8 @@ pub adjusting_starts :
     → MayTrack (program_form program) c.b → is_tracker (program_form program) c.number ≡ true
     → AreFilled (program_form program).types (cells_of s.heap) (cells_of s.heap) → typed.Typed (program_form program) after
     → Stands program gs (record s { activations = a ∷ rest }) → IsCalm (behind_call k) → under_in (callers_of program gs) ≡ []
-    → CallApart (program_form program).types (is_tracker (program_form program)) k → ((u : Value) → u ≢ Names c.o → NothingBegins u k)
-    → Adjusting program after
+    → CallApart (program_form program).types (is_tracker (program_form program)) k → ((u : Value) → u ≢ Names c.to.o → NothingBegins u k)
+    → AdjustingCopy program after
 adjusting_starts program well obeys a rest s gs v k IsOperated e after c tracks tracker filled typing stands calm settled behind_apart untreated =
-    subst (Adjusting program) (sym c.is)
-    (begins_so program well obeys a rest s gs v k IsOperated e after c tracks filled typing tracker stands calm settled behind_apart untreated)
+    subst (AdjustingCopy program) (sym c.is)
+    (copy_so program well obeys a rest s gs v k IsOperated e after c tracks filled typing tracker stands calm settled behind_apart untreated)

@@ -1,12 +1,10 @@
 -- Each step of the body of an Adjust that tracks components of its formal parameter (7.6), but its end: the state that stands for the real one takes a step, too, or
 -- stays as it is, and keeps what is known of it.
 
-use Rattle.std.proofs.Common.{◌≡◌, ◌≢◌, ℕ, Bool, true, false, List, [], ◌∷◌, refl, sym, ◌∙◌, subst, inl, inr}
+use Rattle.std.proofs.Common.{◌≡◌, ℕ, Bool, true, false, List, [], ◌∷◌, refl, sym, ◌∙◌, subst, inl, inr}
 use Rattle.std.specs.Prelude.{Option, Some}
 use Rattle.std.specs.List.{AllPairs}
 use Rattle.ada_deeds.specs.Implicit.{implicit_of}
-use Rattle.ada_finalized.proofs.Standing.{listed_stand}
-use Rattle.ada_finalized.specs.Law.{NothingBegins}
 use Rattle.ada_meaning.specs.declared.state.Id.{Id}
 use Rattle.ada_meaning.specs.declared.state.Mode.{Mode}
 use Rattle.ada_meaning.specs.declared.state.Mode.TheVariants.{Running, Raising, Exiting, Returning}
@@ -24,8 +22,6 @@ use Rattle.ada_program.specs.declared.program.Program.{Program}
 use Rattle.ada_program.specs.declared.program.TypeDefinition.{TypeDefinition}
 use Rattle.ada_program.specs.ProgramForm.{BodyForm, ProgramForm, TypeForm, body_forms, program_form, seen_in}
 use Rattle.ada_program.specs.WellFormed.{IsWellFormed, is_access}
-use Rattle.ada_scopes.proofs.Components.{collect_two}
-use Rattle.ada_scopes.proofs.Runs.{Scoped}
 use Rattle.ada_scopes.specs.Scopes.{CollectTwoTypes}
 use Rattle.ada_tracked.proofs.Law.{runs_as_variables}
 use Rattle.ada_tracked.proofs.Staying.{stay_simple}
@@ -46,18 +42,16 @@ use Rattle.ada_sound.proofs.Gathered.{AllocatesBare}
 use Rattle.ada_sound.proofs.Adjusting.{Adjusting, waiting}
 use Rattle.ada_sound.proofs.Coming.{each_next}
 use Rattle.ada_sound.proofs.AdjustingKept.{IsJudged, each_both, alters_matched, says_covered, says_matched, says_silent, standing_kept}
-use Rattle.ada_sound.proofs.AdjustingSeen.{SameRun, StandsFor, calls_or_copies, each_runs_on, frugal_alone, next_simple, seen_leaves, seen_within, simple_begins, simple_crosses, simple_still, stands_for, within}
+use Rattle.ada_sound.proofs.AdjustingSeen.{SameRun, StandsFor, calls_or_copies, each_runs_on, frugal_alone, next_simple, seen_leaves, seen_within, simple_crosses, simple_still, stands_for, within}
+use Rattle.ada_sound.proofs.Ahead.{ahead_in}
 use Rattle.ada_sound.proofs.Alters.{Alters, alters_same}
 use Rattle.ada_sound.proofs.Below.{named_below}
 use Rattle.ada_sound.proofs.Blanked.{alters_unblanked, ends_unblanked, says_unblanked, stored_unblanked, unblanked}
 use Rattle.ada_sound.proofs.Callers.{AreOf}
-use Rattle.ada_sound.proofs.Finalization.{parts_alive}
 use Rattle.ada_sound.proofs.FrugalControl.{Frugal, Frugally, GoesFrugally, is_return_first}
 use Rattle.ada_sound.proofs.FrugalLeaves.{held_in_none, innermost_houses_none, leaves_own}
 use Rattle.ada_sound.proofs.FrugalSteps.{is_call_first, frugal_crosses, frugal_steps, none_ends}
 use Rattle.ada_sound.proofs.Homes.{NoneIsUnder}
-use Rattle.ada_sound.proofs.CollectsApartRuns.{apart_where_reached}
-use Rattle.ada_sound.proofs.InOrder.{in_order}
 use Rattle.ada_sound.proofs.Invariant.{Control, EndsWell, Fine, IsFollowed, Known, Parting, Ready, RunsOn, Says, Standing, Stepped, innermost, outers}
 use Rattle.ada_sound.proofs.Judged.{known_judged}
 use Rattle.ada_sound.proofs.Leavings.{AreInOrder, HeldIn, NamedBelow}
@@ -67,23 +61,56 @@ use Rattle.ada_sound.proofs.FrugalBodies.{calling_none}
 use Rattle.ada_sound.proofs.FrugalFrees.{bare_by}
 use Rattle.ada_sound.proofs.Standing.{AllStand, FinalizesBy, FinalizesIn, FreesAmong}
 use Rattle.ada_sound.proofs.TouchingStands.{frees_bare}
-use Rattle.ada_sound.proofs.Starts.{IsReached}
 use Rattle.ada_sound.proofs.Steps as inside
 use Rattle.ada_sound.proofs.Stored.{IsUnder, Stored}
 use Rattle.ada_sound.proofs.StoredStates.{ready_stored}
 use Rattle.ada_sound.proofs.BareObjects.{components_untouched}
 use Rattle.ada_sound.proofs.TracksWell.{tracked_bare}
 
--- The body runs behind a step; and what that does to objects.
-abbrev pub InAdjusting : Program → List Object → Event → State → Type 0
-InAdjusting program before e after = InBody program (Adjusting program) before e after
+-- The body runs for the same copy in two states.
+pub record SameCopy (program : Program) (s after : State) (f : Adjusting program s) (g : Adjusting program after) : Type 0 where
+  pub view : g.w ≡ f.w
+  pub object : g.object ≡ f.object
+  pub access : g.access ≡ f.access
+  pub record_type : g.record_type ≡ f.record_type
+  pub tasks : g.tasks ≡ f.tasks
+
+-- It does so behind a step; and what that does to objects.
+abbrev pub InAdjusting : (program : Program) (s : State) → Adjusting program s → Event → State → Type 0
+InAdjusting program s f e after = (c : InBody program (Adjusting program) s.heap e after) × SameCopy program s after f c.body
 
 -- So it does whatever comes next, if the run does not end.
-abbrev pub GoesAdjusting : Program → State → Next → Type 0
-GoesAdjusting program s n = StepsTo (InAdjusting program s.heap) s n
+abbrev pub GoesAdjusting : (program : Program) (s : State) → Adjusting program s → Next → Type 0
+GoesAdjusting program s f n = StepsTo (InAdjusting program s f) s n
+
+-- What is known of the objects and the masters of a state: each bare object that is in its collection has the values of all its parts, collections are of two types
+-- each, and what the innermost master owns goes in order where that is left.
+pub record IsOrderly (program : Program) (s : State) : Type 0 where
+  pub stand : AllStand (λ access. has_bare_objects (program_form program).types access) (program_form program).types s.heap
+  pub two : AllPairs CollectTwoTypes (items_of s.masters)
+  pub ordered : AreInOrder (ahead_in (program_form program)) (program_form program).types (innermost s.masters)
+
+-- A master of the body is left: it owns variables alone, and no object has its home there.
+module _ (program : Program) (s : State) (f : Adjusting program s) where
+  abbrev types_of : List TypeDefinition
+  types_of = program.types.items
+
+  of_other : StandsFor f.w s f.t
+  of_other = stands_for types_of (body_forms program) f.w s f.t f.seen
+
+  own_masters : (left : Mode) (k : Control) → f.t.control ≡ Leaves left ∷ k → AreVariables (innermost f.t.masters)
+  own_masters left k at =
+      let owned = leaves_own (calling_none (program_form program).types) f.behind f.t.mode left k f.frugal.upper f.lower (rw at at f.frugal.frugal) f.frugal.own in
+      subst (λ (ms : List Master). AreVariables (innermost ms)) (sym f.frugal.masters) owned
+
+  -- Where the real state leaves one, the other one does.
+  pub houses_none : (left : Mode) (k : Control) → s.control ≡ Leaves left ∷ k → InnermostHousesNone s.masters
+  houses_none left k at =
+      let there = seen_leaves types_of (body_forms program) f.w s f.t left k f.seen at in
+      rw (← of_other.masters) (innermost_houses_none f.t.masters (own_masters left there.0 there.1))
 
 module _
-    (program : Program) (well : IsWellFormed (program_form program)) (s : State) (reached : IsReached program s) (nested : Scoped (program_form program) s) (f : Adjusting program s)
+    (program : Program) (well : IsWellFormed (program_form program)) (s : State) (orderly : IsOrderly program s) (f : Adjusting program s)
     (judged : IsJudged program f.number f.w.tracks) (watched : IsWatched f.w (places s) s.heap)
     (inner : is_return_first s.control ≡ false) where
   abbrev p : ProgramForm
@@ -120,36 +147,15 @@ module _
   alone_there : calls_or_copies f.t.control ≡ false
   alone_there = frugal_alone p.types f.behind f.t.mode f.t.control f.frugal.upper f.frugal.frugal
 
-  -- In the real state, nothing begins of another object.
-  begins_nothing : (v : Value) → (v ≢ Names f.object) → NothingBegins v s.control
-  begins_nothing v ne =
-      let behind : NothingBegins v f.behind = subst (NothingBegins v) (sym f.awaited.2) ((λ same. ne (sym same)), f.waits.untreated v ne) in
-      simple_begins f.w.tracks.first v s.control f.behind f.simple f.ends behind
-
-  -- The object that is adjusted has controlled parts.
-  other_object : (o : Id) (x : Object) → object_at s.heap o ≡ Some x → has_bare_objects p.types x.cell.access ≡ true → Names o ≡ Names f.object → ⊥
-  other_object o x found of same =
-      let one : o ≡ f.object = cc same in
-      let x_is : x ≡ f.x = let here = f.found in let there = found in cc (one, here, there) in
-      let waits = f.waits.parted in
-      let parted : has_bare_objects p.types f.access ≡ false = rw (same_types f.procedure p) at waits in
-      let bare : has_bare_objects p.types f.access ≡ true = rw (x_is, f.of_access) at of in
-      cc (parted, bare)
-
   abbrev bare_types : ℕ → Bool
   bare_types access = has_bare_objects p.types access
 
-  stand : AllStand bare_types p.types s.heap
-  stand o x found listed of bare =
-      parts_alive program well s reached o x found
-      (listed_stand program reached.0 reached.1 s reached.2 o x found listed (begins_nothing (Names o) (other_object o x found bare)))
-
-  -- So each object that may be freed stands in the other one, too.
+  -- Each object that may be freed stands in the other one, too.
   alive : AllStand bare_types known.program.types f.t.heap
   alive o y found listed of bare =
       let x = unblanked f.w s.heap o y (subst (λ (heap : List Object). object_at heap o ≡ Some y) of_t.heap found) in
       let access : is_access p.types x.object.cell.access ≡ true = subst (λ (t : ℕ). is_access p.types t ≡ true) (sym x.alike.access) (subst (λ (all : List TypeForm). is_access all y.cell.access ≡ true) types_are of) in
-      rw (sym x.alike.parts) (stand o x.object x.found (x.alike.listed ∙ listed) access (subst (λ (t : ℕ). bare_types t ≡ true) (sym x.alike.access) bare))
+      rw (sym x.alike.parts) (orderly.stand o x.object x.found (x.alike.listed ∙ listed) access (subst (λ (t : ℕ). bare_types t ≡ true) (sym x.alike.access) bare))
 
   finalizes : FinalizesIn bare_types known.program.types tds bodies f.t.mode f.t.control f.t
   finalizes = by f.t.mode f.t.control f.frugal.upper f.frugal.frugal
@@ -169,17 +175,12 @@ module _
       by Returning k ms q = tt
 
   -- Where the other one leaves a master, no object has its home there, and what callers rely on lies in outer ones.
-  own_masters : (left : Mode) (k : Control) → f.t.control ≡ Leaves left ∷ k → AreVariables (innermost f.t.masters)
-  own_masters left k at =
-      let owned = leaves_own (calling_none p.types) f.behind f.t.mode left k f.frugal.upper f.lower (rw at at f.frugal.frugal) f.frugal.own in
-      subst (λ (ms : List Master). AreVariables (innermost ms)) (sym f.frugal.masters) owned
-
   low : (left : Mode) (k : Control) → f.t.mode ≡ Running → f.t.control ≡ Leaves left ∷ k → HeldIn f.t.heap f.t.masters × NamedBelow (outers known) f.t.heap f.t.masters × AreInOrder known.ahead known.program.types (innermost f.t.masters)
   low left k runs at =
       let parting : Parting known f.t.heap (places f.t) f.t.masters (RunsOn known (Leaves left ∷ k)) = rw (runs, at) at f.ready.1 in (
-        held_in_none known f.t.heap (places f.t) f.t.masters (RunsOn known (Leaves left ∷ k)) parting (own_masters left k at),
+        held_in_none known f.t.heap (places f.t) f.t.masters (RunsOn known (Leaves left ∷ k)) parting (own_masters program s f left k at),
         named_below known f.t.heap f.standing.waiting f.standing.low left k f.t.masters parting,
-        rw of_t.masters (in_order program well s nested (apart_where_reached program s reached) known.program.types types_are s.masters refl),
+        rw of_t.masters (subst (λ (types : List TypeForm). AreInOrder (ahead_in p) types (innermost s.masters)) (sym types_are) orderly.ordered),
       )
 
   -- What is freed next is bare.
@@ -193,7 +194,7 @@ module _
   bare_there : AllocatesBare known.program.types known.touches f.t.control
   bare_there =
       subst (λ (types : List TypeForm). AllocatesBare types known.touches f.t.control) (sym types_are)
-      (tracked_bare p well f.tracking (components_untouched program well) f.t (λ stand. f.apart))
+      (tracked_bare program well f.tracking (components_untouched program well) f.t (λ stand. f.apart))
 
   places_on : AllSamePlaces s (next tds bodies s)
   places_on = places_stay tds bodies f.w.tracks.first s (within f.w.tracks.first s.control f.simple inner)
@@ -205,7 +206,7 @@ module _
   fine_on : Fine known f.t.heap f.t.masters (next tds bodies f.t)
   fine_on =
       judged.keeps (waiting program s f ∷ f.suspensions) f.t alone_there none_crosses f.typed bare_there
-      (subst (λ (ms : List Master). AllPairs CollectTwoTypes (items_of ms)) (sym of_t.masters) (collect_two p s nested)) bare_types finalizes none_is_under (λ runs. freely) low f.ready
+      (subst (λ (ms : List Master). AllPairs CollectTwoTypes (items_of ms)) (sym of_t.masters) orderly.two) bare_types finalizes none_is_under (λ runs. freely) low f.ready
 
   frugal_on : GoesFrugally (calling_none p.types) f.lower f.behind (next tds bodies f.t)
   frugal_on =
@@ -219,14 +220,8 @@ module _
   real_on : Each (SameRun s) (next tds bodies s)
   real_on = each_runs_on tds bodies s (simple_crosses f.w.tracks.first s.mode s.control f.simple inner)
 
-  -- Where the real one leaves a master, the other one does.
-  houses_none : (left : Mode) (k : Control) → s.control ≡ Leaves left ∷ k → InnermostHousesNone s.masters
-  houses_none left k at =
-      let there = seen_leaves tds bodies f.w s f.t left k f.seen at in
-      rw (← of_t.masters) (innermost_houses_none f.t.masters (own_masters left there.0 there.1))
-
   shown : Shown tds bodies f.w f.t (next tds bodies s) (next tds bodies f.t)
-  shown = runs_as_variables tds bodies f.w s f.t f.seen watched (next_simple f.w s.control s.masters f.simple inner houses_none)
+  shown = runs_as_variables tds bodies f.w s f.t f.seen watched (next_simple f.w s.control s.masters f.simple inner (houses_none program s f))
 
   simple_on : AllStaySimple f.w.tracks.first (next tds bodies s)
   simple_on = stay_simple tds bodies f.w.tracks.first s (within f.w.tracks.first s.control f.simple inner)
@@ -258,73 +253,77 @@ module _
   -- What holds behind a step.
   adjusting_by :
       (e : Event) (after stands : State) → Seen tds bodies f.w after stands → Runs after → Alters s.heap e after.heap → StaysSimple f.w.tracks.first after.control → Standing known stands
-      → Kept stands → Ready known stands → Frugally (calling_none p.types) f.lower f.behind stands → Says known.implicit own e s.heap after → InAdjusting program s.heap e after
+      → Kept stands → Ready known stands → Frugally (calling_none p.types) f.lower f.behind stands → Says known.implicit own e s.heap after → InAdjusting program s f e after
   adjusting_by e after stands seen same a simple standing typing ready frugal says =
       let y = a.kept f.object f.x f.found in
-      let runs : running_procedure after ≡ Some f.number = same.0.procedure ∙ f.runs in
-      record {
-        body = record {
-          number = f.number;
-          b = f.b;
-          there = f.there;
-          runs = runs;
-          w = f.w;
-          tracks_so = f.tracks_so;
-          tracker = f.tracker;
-          components = f.components;
-          orderly = f.orderly;
-          lone = f.lone;
-          t = stands;
-          seen = seen;
-          simple = simple_still tds bodies f.w (calling_none p.types) f.behind after stands frugal.upper seen frugal.frugal simple;
-          procedure = f.procedure;
-          places = f.places;
-          suspensions = f.suspensions;
-          object = f.object;
-          object_so = f.object_so;
-          place = f.place;
-          based = f.based;
-          formal = same.1.first ∙ f.formal;
-          count = same.1.count ∙ f.count;
-          x = y.0;
-          found = y.1;
-          access = f.access;
-          of_access = y.2.0 ∙ f.of_access;
-          by = f.by;
-          copies = f.copies;
-          done = f.done;
-          of = f.of;
-          behind = f.behind;
-          ends = same.0.behind ∙ f.ends;
-          after = f.after;
-          awaited = f.awaited;
-          lower = f.lower;
-          kept = f.kept;
-          rooms = f.rooms;
-          holds = f.holds;
-          frugal = frugal;
-          waits = f.waits;
-          rests = f.rests;
-          aside = f.aside;
-          calm = f.calm;
-          settled = f.settled;
-          tracking = f.tracking;
-          may = f.may;
-          silent = f.silent;
-          bodies = subst (λ (all : List (Activation Value)). AreOf program all (waiting program s f ∷ f.suspensions)) (sym same.0.suspended) f.bodies;
-          standing = standing;
-          typed = typing.0;
-          apart = typing.1;
-          ready = ready;
-        };
-        alters = a;
-        says = subst (λ (procedure : Option ℕ). Says (implicit_of p) (seen_in procedure p) e s.heap after) (sym runs) says;
-      }
+      let runs : running_procedure after ≡ Some f.number = same.0.procedure ∙ f.runs in (
+        record {
+          body = record {
+            number = f.number;
+            b = f.b;
+            there = f.there;
+            runs = runs;
+            w = f.w;
+            tracks_so = f.tracks_so;
+            tracker = f.tracker;
+            components = f.components;
+            orderly = f.orderly;
+            lone = f.lone;
+            t = stands;
+            seen = seen;
+            simple = simple_still tds bodies f.w (calling_none p.types) f.behind after stands frugal.upper seen frugal.frugal simple;
+            procedure = f.procedure;
+            places = f.places;
+            suspensions = f.suspensions;
+            object = f.object;
+            object_so = f.object_so;
+            place = f.place;
+            based = f.based;
+            formal = same.1.first ∙ f.formal;
+            count = same.1.count ∙ f.count;
+            x = y.0;
+            found = y.1;
+            access = f.access;
+            of_access = y.2.0 ∙ f.of_access;
+            by = f.by;
+            copies = f.copies;
+            done = f.done;
+            of = f.of;
+            record_type = f.record_type;
+            tasks = f.tasks;
+            behind = f.behind;
+            ends = same.0.behind ∙ f.ends;
+            after = f.after;
+            awaited = f.awaited;
+            lower = f.lower;
+            kept = f.kept;
+            rooms = f.rooms;
+            holds = f.holds;
+            frugal = frugal;
+            waits = f.waits;
+            rests = f.rests;
+            aside = f.aside;
+            calm = f.calm;
+            settled = f.settled;
+            tracking = f.tracking;
+            may = f.may;
+            silent = f.silent;
+            bodies = subst (λ (all : List (Activation Value)). AreOf program all (waiting program s f ∷ f.suspensions)) (sym same.0.suspended) f.bodies;
+            standing = standing;
+            typed = typing.0;
+            apart = typing.1;
+            ready = ready;
+          };
+          alters = a;
+          says = subst (λ (procedure : Option ℕ). Says (implicit_of p) (seen_in procedure p) e s.heap after) (sym runs) says;
+        },
+        record { view = refl; object = refl; access = refl; record_type = refl; tasks = refl },
+      )
 
   -- Both take a step.
   both_on :
       (e g : Event) (after stands : State) → Matches f.w e g → Seen tds bodies f.w after stands → Runs after → StaysSimple f.w.tracks.first after.control → Stepped known f.t.heap g stands
-      → Kept stands → Frugally (calling_none p.types) f.lower f.behind stands → InAdjusting program s.heap e after
+      → Kept stands → Frugally (calling_none p.types) f.lower f.behind stands → InAdjusting program s f e after
   both_on e g after stands matches seen same simple step typing frugal =
       let of_after = stands_for tds bodies f.w after stands seen in
       let before : Alters f.t.heap g (blanked f.w after.heap) = subst (Alters f.t.heap g) of_after.heap step.alters in
@@ -336,14 +335,14 @@ module _
       (says_matched f.w known.implicit own e g s.heap after followed matches (says_covered known.implicit known.program own refl judged.covered g s.heap after says))
 
   -- The real one takes a step alone.
-  alone_on : (e : Event) (after : State) → IsSilent f.w e → Seen tds bodies f.w after f.t → Runs after → StaysSimple f.w.tracks.first after.control → InAdjusting program s.heap e after
+  alone_on : (e : Event) (after : State) → IsSilent f.w e → Seen tds bodies f.w after f.t → Runs after → StaysSimple f.w.tracks.first after.control → InAdjusting program s f e after
   alone_on e after silent seen same simple =
       let of_after = stands_for tds bodies f.w after f.t seen in
       let a : Alters s.heap e after.heap =
       alters_unblanked f.w s.heap after.heap e (subst (Alters (blanked f.w s.heap) e) (sym of_t.heap ∙ of_after.heap) (alters_same (blanked f.w s.heap) e)) in
       adjusting_by e after f.t seen same a simple f.standing (f.typed, f.apart) f.ready f.frugal (says_silent f.w known.implicit own e s.heap after followed silent)
 
-  next_on : (n m : Next) → Shown tds bodies f.w f.t n m → Each Runs n → AllStaySimple f.w.tracks.first n → Fine known f.t.heap f.t.masters m → GoesFrugally (calling_none p.types) f.lower f.behind m → Each Kept m → GoesAdjusting program s n
+  next_on : (n m : Next) → Shown tds bodies f.w f.t n m → Each Runs n → AllStaySimple f.w.tracks.first n → Fine known f.t.heap f.t.masters m → GoesFrugally (calling_none p.types) f.lower f.behind m → Each Kept m → GoesAdjusting program s f n
   next_on (halts halt) m is same simple fine goes typing =
       let well_ends : EndsWell halt f.t.heap f.t.masters = subst (Fine known f.t.heap f.t.masters) is fine in
       ends_unblanked f.w halt s.heap s.masters (subst (λ (heap : List Object). EndsWell halt heap s.masters) of_t.heap (subst (EndsWell halt f.t.heap) of_t.masters well_ends))
@@ -359,14 +358,14 @@ module _
       both_on Quiet Quiet (answered granted) (answers granted) (matching.same refl) (seen granted) (same granted) (simple granted) (steps granted) (types granted) (runs granted))
   next_on (picks n taken) m none same simple fine goes typing = none
 
-  pub step_on : GoesAdjusting program s (next tds bodies s)
+  pub step_on : GoesAdjusting program s f (next tds bodies s)
   step_on =
       next_on (next tds bodies s) (next tds bodies f.t) shown (each_both (SameRun s) (SamePlaces s) (next tds bodies s) real_on (each_next (SamePlaces s) (next tds bodies s) places_on)) simple_on fine_on frugal_on
       (each_both (typed.TypedIn known.program) (λ stands. CallApart p.types (is_tracker p) stands.control) (next tds bodies f.t) typed_on (each_next (λ (stands : State). CallApart p.types (is_tracker p) stands.control) (next tds bodies f.t) apart_on))
 
 -- Each step of the body but its end keeps all that is known while it runs.
 pub adjusting_step :
-    (program : Program) → IsWellFormed (program_form program) → (s : State) → IsReached program s → Scoped (program_form program) s → (f : Adjusting program s)
+    (program : Program) → IsWellFormed (program_form program) → (s : State) → IsOrderly program s → (f : Adjusting program s)
     → IsJudged program f.number f.w.tracks → IsWatched f.w (places s) s.heap
-    → is_return_first s.control ≡ false → GoesAdjusting program s (next program.types.items (body_forms program) s)
-adjusting_step program well s reached nested f judged watched inner = step_on program well s reached nested f judged watched inner
+    → is_return_first s.control ≡ false → GoesAdjusting program s f (next program.types.items (body_forms program) s)
+adjusting_step program well s orderly f judged watched inner = step_on program well s orderly f judged watched inner

@@ -3,6 +3,7 @@
 use Rattle.std.proofs.Common.{◌≡◌, ◌≢◌, ℕ, zero, suc, true, List, [], ◌∷◌, refl, sym, ap, subst, ◌∙◌, ◌⊎◌, inl, inr, false}
 use Rattle.std.specs.Prelude.{Option, Some, None}
 use Rattle.std.specs.List.{slice_get, slice_index_or}
+use Rattle.ada_parts.specs.Task.{Task}
 use Rattle.ada_program.specs.declared.program.Program.{Program}
 use Rattle.ada_program.specs.declared.program.VariableKind.{VariableKind}
 use Rattle.ada_program.specs.declared.program.VariableKind.TheVariants as variable
@@ -54,7 +55,7 @@ use Rattle.ada_sound.proofs.Returns.{same_types}
 use Rattle.ada_sound.proofs.Touching.{Touching, waiting_for}
 use Rattle.ada_sound.proofs.Operating.{IsCalm, Sight, WaitsFor, Quietly, Comes, Body, Operates}
 use Rattle.ada_sound.proofs.Starts.{Ordinary, Sound}
-use Rattle.ada_sound.proofs.Adjusting.{Adjusting}
+use Rattle.ada_sound.proofs.Adjusting.{AdjustingCopy}
 use Rattle.ada_typed.proofs.Kept.{behind_call}
 
 -- What is in its collection exists, and an open collection of its type is its home.
@@ -281,9 +282,9 @@ waits_for_end sight behind (frame.Writes ∷ k) ms leads none = waits_for_end si
 waits_for_end sight behind (frame.Returns actuals references ∷ k) ms leads none = rw (leads.2) at (none.1)
 waits_for_end sight behind (f ∷ k) ms leads none = absurd leads
 
-none_waits : (types : List TypeForm) (o : Id) (of : ℕ) (treatment : Treatment) (k behind : Control) → WaitsFor types o of treatment k behind → NoOperationRuns behind → ⊥
-none_waits types o of (frame.begins by done) k behind (part, tasks, is) none = let there : NoOperationRuns (frame.Awaits (Names o) by done of part tasks ∷ k) = rw is at none in absurd (cc (there.0))
-none_waits types o of (frame.ends cause) k behind (tasks, is, inside) none = let there : NoOperationRuns (frame.Confines ∷ treating (Names o) (frame.ends cause) tasks k) = rw is at none in absurd (cc (there.0))
+none_waits : (types : List TypeForm) (o : Id) (of : ℕ) (treatment : Treatment) (tasks : List Task) (k behind : Control) → WaitsFor types o of treatment tasks k behind → NoOperationRuns behind → ⊥
+none_waits types o of (frame.begins by done) tasks k behind (part, is) none = let there : NoOperationRuns (frame.Awaits (Names o) by done of part tasks ∷ k) = rw is at none in absurd (cc (there.0))
+none_waits types o of (frame.ends cause) tasks k behind (is, inside) none = let there : NoOperationRuns (frame.Confines ∷ treating (Names o) (frame.ends cause) tasks k) = rw is at none in absurd (cc (there.0))
 
 -- Wherever a statement begins, but in the body of an operation that touches Integers and Booleans alone, or of an Adjust that tracks components.
 pub agrees_at : (program : Program) (s : State) → Sound program s → BeginsStatement s → IsSpokenOf program s → AgreesThere program s
@@ -299,24 +300,25 @@ agrees_at program s sound b spoken = by sound.goes
         let sight : Sight = record { program = seen_in (Some o.procedure) (program_form program); object = o.object; access = o.access } in
         let body : Body sight o.behind o.upper s.heap o.places o.operands Running (Does (a_stmt b.stmt b.later) ∷ b.outer) = rw (b.runs, b.first) at o.body in
         let none_here : NoOperationRuns (Does (a_stmt b.stmt b.later) ∷ b.outer) = rw b.first at none in
-        none_waits (program_form program).types o.object o.suspended.of o.treatment o.suspended.after o.behind o.suspended.waits
+        none_waits (program_form program).types o.object o.suspended.of o.treatment o.suspended.tasks o.suspended.after o.behind o.suspended.waits
         (waits_for_end sight o.behind (Does (a_stmt b.stmt b.later) ∷ b.outer) o.upper (no_statement sight o.behind o.upper o.operands body.comes) none_here)
 
     unspoken : Operates program s → IsSpokenOf program s → ⊥
     unspoken o (inl none) = runs_apart o none
     unspoken o (inr neither) = neither (inl (o.procedure, o.is_body.0, ap procedure_of o.active, o.is_body.1, o.plain))
 
-    untold : (f : Adjusting program s) → IsSpokenOf program s → ⊥
-    untold f (inl none) =
+    untold : (d : AdjustingCopy program s) → IsSpokenOf program s → ⊥
+    untold d (inl none) =
+        let f = d.adjusting in
         let behind : IsCalm (behind_call s.control) = behind_calm s.control none in
         let left : IsCalm (Some (record { actuals = []; references = []; left = f.behind })) = rw f.ends at behind in
-        none_waits (program_form program).types f.object f.of (frame.begins f.by f.done) f.after f.behind f.awaited left
-    untold f (inr neither) = neither (inr (f.number, f.runs, f.tracker))
+        none_waits (program_form program).types f.object f.of (frame.begins f.by f.done) f.tasks f.after f.behind f.awaited left
+    untold d (inr neither) = neither (inr (d.adjusting.number, d.adjusting.runs, d.adjusting.tracker))
 
-    by : Ordinary program s ⊎ (Operates program s ⊎ (Touching program s ⊎ Adjusting program s)) → AgreesThere program s
+    by : Ordinary program s ⊎ (Operates program s ⊎ (Touching program s ⊎ AdjustingCopy program s)) → AgreesThere program s
     by (inl o) =
         resumes_agrees program s o.suspensions (seen_fits (program_form program) sound.well (running_procedure s)) sound.typed.inside o.stands.behind b (rw (b.runs, b.first) at (o.ready.1))
-    by (inr (inr (inr f))) = absurd (untold f spoken)
+    by (inr (inr (inr d))) = absurd (untold d spoken)
     by (inr (inr (inl f))) =
         resumes_agrees program s (waiting_for program s f) (seen_fits (program_form program) sound.well (running_procedure s)) sound.typed.inside f.stands.behind b (rw (b.runs, b.first) at (f.ready.1))
     by (inr (inl o)) = absurd (unspoken o spoken)

@@ -41,7 +41,7 @@ use Rattle.ada_sound.proofs.Stored.{Stored, stored_new, stored_filled}
 use Rattle.ada_sound.proofs.Alters.{alters_new}
 use Rattle.ada_sound.proofs.Fits.{Fit, Hand, stacked, none_spared, hold_in, place_at, component_access, is_object, weaker_fit, plain_place, as_reliance, less_unnamed, lose_all, put_owner, create_fit, insert_fit}
 use Rattle.ada_sound.proofs.Begins.{root_follows}
-use Rattle.ada_sound.proofs.Invariant.{begun, along, outers, HasRoom, RoomFor, Known, Control, Rooms, NoneBroken, MayRaise, back_onto, named_of, FilledBy, GoesInto, LeadsTo, Filling, FillsTo, Accepts, StoresTo, IsHolder, Initializes, IsMade, Making, goes_to_variable, NamesTo, To, RunsOn, Working, Stepped, Fine, InitialTo, AdjustsFirst, HasCopied, owns_at_first}
+use Rattle.ada_sound.proofs.Invariant.{begun, along, outers, HasRoom, RoomFor, Known, Control, Rooms, NoneBroken, MayRaise, back_onto, named_of, FilledBy, GoesInto, LeadsTo, Filling, FillsTo, Accepts, StoresTo, IsHolder, Initializes, IsMade, Making, goes_to_variable, NamesTo, To, RunsOn, Working, Stepped, Fine, InitialTo, AdjustsFirst, HasCopied, IsPlainFirst}
 use Rattle.ada_sound.proofs.Ready.{running, at_work, ready_on, jumps_less, treats_ready}
 use Rattle.ada_sound.proofs.Followings.{first_kept}
 use Rattle.ada_sound.proofs.Roots.{root_object, object_there, rest_raises, record_raises, selected_raises}
@@ -176,7 +176,7 @@ module _ (known : Known) (k : Control) (a : Activation Value) (rest : List (Acti
   pub items_fine : (items : List ItemForm) (cs : List ComponentKind) → items_fit known.program.types known.program.variables cs items ≡ true → Working known s.heap a.places s.masters (FillsTo known s.heap a.places items k a.operands) → Fine known s.heap s.masters (items_next named items (running k a rest s))
   items_fine [] cs fits w = asked k w
     where
-      all_there : (t : ℕ) → InitialTo known s.heap [] a.operands t → (owns_at_first known.program.types t ≡ false) ⊎ ((r : ℕ) × AdjustsFirst known.program.types t r × HasCopied known s.heap r a.operands)
+      all_there : (t : ℕ) → InitialTo known s.heap [] a.operands t → IsPlainFirst known.program.types t ⊎ ((r : ℕ) × AdjustsFirst known.program.types t r × HasCopied known s.heap r a.operands)
       all_there t (inl none) = inl none
       all_there t (inr (r, first, inl (p, all, of))) = absurd (cc all)
       all_there t (inr (r, first, inr (nothing_left, has))) = inr (r, first, has)
@@ -331,7 +331,7 @@ module _ (known : Known) (k : Control) (a : Activation Value) (rest : List (Acti
 
     answered_fine : (granted : Bool) → Stepped known s.heap Quiet (answered named types access count words home (running k a rest s) granted)
     unfolding cell lost next
-    answered_fine true = record { ready = (tt, treats_ready known (created s.heap words) (begins Creation []) (all_tasks types access PartsFirst) k (create s.heap words cell) a.places (created s.heap words ∷ drop count a.operands) s.masters (inr (refl, refl, made_here, granted_names k (drop count a.operands) w.rest.leads.room w.rest.into w.rest.leads.to), new_may_undo known s.heap words cell k a.places s.masters w.rooms w.holds stored w.roomed w.fit w.rest.leads.starts making) tt); alters = alters_new s.heap Quiet (new_object cell) refl; says = tt }
+    answered_fine true = record { ready = (tt, treats_ready known (created s.heap words) (begins Creation []) (all_tasks types access PartsFirst) k (create s.heap words cell) a.places (created s.heap words ∷ drop count a.operands) s.masters (inr (refl, made_here, granted_names k (drop count a.operands) w.rest.leads.room w.rest.into w.rest.leads.to), new_may_undo known s.heap words cell k a.places s.masters w.rooms w.holds stored w.roomed w.fit w.rest.leads.starts making) tt); alters = alters_new s.heap Quiet (new_object cell) refl; says = tt }
     answered_fine false = jumps_less known k a rest s (Raising StorageError) (at_work w (w.rest.leads.refused refl))
 
   creates_by : ComponentsUntouched known.program.types known.touches → (types : List TypeDefinition) (access count words : ℕ) (home : Option Destination) → home_of access s.masters ≡ home → (w : Working known s.heap a.places s.masters (Filling known s.heap a.places access count [] k a.operands)) → HaveKinds known.program.types (cells_of s.heap) w.rest.leads.components (reverse (take count a.operands)) → Fine known s.heap s.masters (new_next named types access count words home (running k a rest s))

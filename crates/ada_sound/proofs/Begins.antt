@@ -24,7 +24,7 @@ use Rattle.ada_owners.specs.Places.{variable, access_at}
 use Rattle.ada_owners.specs.Reliance.{IsOf}
 use Rattle.ada_owners.specs.Reliance as reliance
 use Rattle.ada_owners.specs.Walks as walks
-use Rattle.ada_owners.specs.Walks.{walk, IsRight}
+use Rattle.ada_owners.specs.Walks.{walk}
 use Rattle.ada_owners.proofs.Walks.{walk_right, every_may}
 use Rattle.ada_owners.proofs.Objects.{present_at}
 use Rattle.ada_owners.proofs.Kernel as kernel
@@ -50,7 +50,7 @@ begins_kind [] (k ∷ ks) c kind begins is = absurd (cc begins)
 begins_kind (d ∷ cs) (k ∷ ks) zero kind begins is = ap Some (alike_kind d k (and_parts (is_alike d k) (begins_with cs ks) begins).0) ∙ is
 begins_kind (d ∷ cs) (k ∷ ks) (suc c) kind begins is = begins_kind cs ks c kind (and_parts (is_alike d k) (begins_with cs ks) begins).1 is
 
-pub drop_kind : (cs : List ComponentKind) (first c : ℕ) → kind_among (Some (drop first cs)) c ≡ kind_among (Some cs) (first + c)
+drop_kind : (cs : List ComponentKind) (first c : ℕ) → kind_among (Some (drop first cs)) c ≡ kind_among (Some cs) (first + c)
 drop_kind cs zero c = ap (λ n. kind_among (Some cs) n) (omega arith)
 drop_kind [] (suc first) c = refl
 drop_kind (k ∷ cs) (suc first) c =

@@ -1,16 +1,18 @@
 -- Records that are copied as items: each of their components counts as an item of its own, which is what it holds at first.
 
-use Rattle.std.proofs.Common.{◌≡◌, ℕ, Bool, true, false, not, ◌&&◌, ◌||◌, List, [], ◌∷◌, ◌++◌, length, map, drop, refl, sym, ap, ◌∙◌, arith, inl, inr}
+use Rattle.std.proofs.Common.{◌≡◌, ℕ, ◌==◌, Bool, true, false, not, ◌&&◌, ◌||◌, List, [], ◌∷◌, ◌++◌, length, map, drop, refl, sym, ap, ◌∙◌, arith, inl, inr}
 use Rattle.std.specs.Prelude.{Option, Some, None}
 use Rattle.std.specs.List.{list_all, list_any}
+use Rattle.std.proofs.lemmas.Bool.{eqb-true}
 use Rattle.ada_text.specs.declared.spot.Spot.{Spot}
 use Rattle.ada_program.specs.declared.program.ComponentKind.{ComponentKind}
 use Rattle.ada_program.specs.declared.program.ComponentKind.TheVariants as component
 use Rattle.ada_program.specs.declared.program.VariableKind.{VariableKind}
-use Rattle.ada_program.specs.Form.{PathForm, RecordPathForm, integer, boolean, ItemForm, null_item, item_of_value, item_of_record}
+use Rattle.ada_program.specs.Form.{PathForm, RecordPathForm, integer, boolean, ItemForm, null_item, item_of_path, item_of_value, item_of_record}
 use Rattle.ada_program.specs.ProgramForm.{TypeForm, VariableForm}
 use Rattle.ada_program.specs.declared.program.Finalization.{Finalization}
-use Rattle.ada_program.specs.WellFormed.{copies_whole, finalization_of, is_copy, is_filled, item_owns, record_fits as fits_record, access_of, path_kind, record_components, object_components, is_alike, begins_with, begins_with_record, has_record_at, is_record_path, item_fits, item_width, width_in, items_fit}
+use Rattle.ada_program.specs.Controlled.{number_in}
+use Rattle.ada_program.specs.WellFormed.{copies_whole, finalization_of, is_copy, is_record_item, is_filled, item_owns, record_fits as fits_record, access_of, path_kind, record_components, object_components, is_alike, begins_with, begins_with_record, has_record_at, is_record_path, item_fits, item_width, width_in, items_fit}
 use Rattle.ada_effects.specs.Effects.{items_raise, item_raises}
 use Rattle.ada_flow.specs.Flow.{Holds, moved_by_item, moved_by_items, named_by_item, is_owning, uses_in, uses_in_item, uses_in_items, copied_to}
 use Rattle.ada_flow.specs.Tracking.{no_tracks}
@@ -18,6 +20,7 @@ use Rattle.ada_meaning.specs.declared.state.Value.{Value}
 use Rattle.ada_meaning.specs.Frame.{Creates, StoresRecord, DeclaresRecord}
 use Rattle.ada_meaning.specs.Step.{in_front}
 use Rattle.ada_meaning.specs.Named.{Object}
+use Rattle.ada_typed.proofs.Parts.{shown_number}
 use Rattle.ada_sound.proofs.Raising.{or_right}
 use Rattle.ada_sound.proofs.Followings.{kept_apart}
 use Rattle.ada_sound.proofs.CopiedOwners.{NameThere, names_in_front}
@@ -238,13 +241,41 @@ record_there types variables p e =
     by (Some to) None leads is e' = absurd (some_first (object_components types (access_of (Some to))) e')
     by (Some to) (Some kinds) leads is e' = record { to = to; leads = leads; kinds = kinds; components = is }
 
+-- A record that gets items gets them whole, where it has controlled parts.
+fits_whole : (types : List TypeForm) (variables : List VariableForm) (t : ℕ) (items : List ItemForm) → fits_record types variables t items ≡ true → copies_whole t (finalization_of types t) items ≡ true
+fits_whole types variables t items fits =
+    (both (is_filled types variables (record_components types t) items && list_all (item_owns variables) items) (copies_whole t (finalization_of types t) items) fits).1
+
+-- The only item is a record of a type.
+abbrev pub IsCopy : (t : ℕ) → List ItemForm → Type 0
+IsCopy t items = (p : RecordPathForm) × (items ≡ item_of_record p ∷ []) × (p.record_type ≡ t)
+
+-- What typing says of such items.
+one_copy : (t : ℕ) (items : List ItemForm) → is_copy t items ≡ true → IsCopy t items
+one_copy t [] e = absurd (cc e)
+one_copy t (i ∷ is) e =
+    let b = both (is_record_item t i) (length is == 0) e in
+    by i is b.0 (eqb-true (length is) 0 b.1)
+  where
+    by : (i : ItemForm) (is : List ItemForm) → is_record_item t i ≡ true → length is ≡ 0 → IsCopy t (i ∷ is)
+    by null_item is e none = absurd (cc e)
+    by (item_of_path path) is e none = absurd (cc e)
+    by (item_of_value value) is e none = absurd (cc e)
+    by (item_of_record p) [] e none = (p, refl, eqb-true p.record_type t e)
+    by (item_of_record p) (j ∷ is) e none = absurd (omega (arith, none))
+
+-- A record with controlled parts that gets items is copied (7.6).
+pub copied_whole : (types : List TypeForm) (variables : List VariableForm) (t of : ℕ) (items : List ItemForm) → shown_number types (Some t) ≡ Some of → fits_record types variables t items ≡ true → IsCopy t items
+copied_whole types variables t of items numbered fits = by (finalization_of types t) numbered (fits_whole types variables t items fits)
+  where
+    by : (found : Option Finalization) → number_in found ≡ Some of → copies_whole t found items ≡ true → IsCopy t items
+    by None none copies = absurd (cc none)
+    by (Some f) is copies = one_copy t items (both (not f.limited) (is_copy t items) copies).1
+
 -- A record that gets items is of a type that is not limited, where it has controlled parts.
 pub may_copy : (types : List TypeForm) (variables : List VariableForm) (t : ℕ) (items : List ItemForm) → fits_record types variables t items ≡ true → (f : Finalization) → finalization_of types t ≡ Some f → f.limited ≡ false
-may_copy types variables t items fits f is = by (finalization_of types t) is whole
+may_copy types variables t items fits f is = by (finalization_of types t) is (fits_whole types variables t items fits)
   where
-    whole : copies_whole t (finalization_of types t) items ≡ true
-    whole = (both (is_filled types variables (record_components types t) items && list_all (item_owns variables) items) (copies_whole t (finalization_of types t) items) fits).1
-
     no_not : (b : Bool) → not b ≡ true → b ≡ false
     no_not true e = absurd (cc e)
     no_not false e = refl

@@ -1,13 +1,14 @@
--- Records that are copied with components of access types, which the Adjust of the only controlled part sees to (7.6).
+-- Records that are copied with components of access types, which the Adjusts of their controlled parts see to (7.6).
 
-use Rattle.std.proofs.Common.{◌≡◌, ℕ, zero, suc, ◌+◌, true, false, List, [], ◌∷◌, length, take, drop, reverse, refl, ◌⊎◌, arith}
+use Rattle.std.proofs.Common.{◌≡◌, ℕ, zero, suc, ◌+◌, ◌<◌, true, false, List, [], ◌∷◌, length, take, drop, reverse, refl, arith}
 use mathlib.Core.List.{reverse_aux}
-use Rattle.std.specs.Prelude.{Some}
-use Rattle.std.specs.List.{Contains, list_any, slice_get}
-use Rattle.ada_parts.specs.declared.tasks.Component.{Component}
+use Rattle.std.specs.Prelude.{Some, flat_map}
+use Rattle.std.specs.List.{Contains, list_any, slice_get, slice_index_or}
 use Rattle.ada_parts.specs.declared.tasks.Direction.TheVariants.{PartsFirst}
-use Rattle.ada_parts.specs.Shape.{Shape, shape_of}
-use Rattle.ada_parts.specs.Task.{Task, performs, treats, opened}
+use Rattle.ada_parts.specs.Law.{Run, parts_left}
+use Rattle.ada_parts.specs.Part.{Part}
+use Rattle.ada_parts.specs.Shape.{shape_of}
+use Rattle.ada_parts.specs.Task.{Task, opened}
 use Rattle.ada_program.specs.declared.program.ComponentKind.{ComponentKind}
 use Rattle.ada_program.specs.declared.program.ComponentKind.TheVariants as component
 use Rattle.ada_program.specs.declared.program.Finalization.{Finalization}
@@ -15,7 +16,7 @@ use Rattle.ada_program.specs.declared.program.TypeNo.{TypeNo}
 use Rattle.ada_program.specs.ProgramForm.{PartForm, TypeForm, record_of}
 use Rattle.ada_program.specs.Walks.{Walks}
 use Rattle.ada_program.specs.WellFormed.{finalization_of, is_inherited, object_named, parts_named, record_components}
-use Rattle.ada_flow.specs.Flow.{is_owning, is_owning_part, is_owning_record, leaves_owners}
+use Rattle.ada_flow.specs.Flow.{is_owning, is_owning_part, leaves_owners}
 use Rattle.ada_flow.specs.Tracking.{access_numbers}
 use Rattle.ada_meaning.specs.declared.event.Birth.{Birth}
 use Rattle.ada_meaning.specs.declared.event.Birth.TheVariants.{Creation, Copy, Adjustment}
@@ -26,8 +27,9 @@ use Rattle.ada_meaning.specs.Step.{in_front}
 use Rattle.ada_meaning.specs.Named.{Object}
 use Rattle.ada_owners.specs.Keeping.{IsThere}
 use Rattle.ada_tracked.specs.Frames.{View, shifted, number_at}
-use Rattle.ada_typed.specs.Holding.{PartsLie, WalksTo}
-use Rattle.ada_typed.proofs.Parts.{shown_number, shown_parts, shown_shapes}
+use Rattle.ada_typed.specs.Holding.{WalksTo}
+use Rattle.ada_typed.proofs.Parts.{firsts_known, shown_number, shown_numbered, shown_parts, shown_shapes}
+use Rattle.ada_sound.proofs.OnlyParts.{IsControlled}
 
 -- What a value names, if it names anything, is there.
 abbrev pub NamesThere : List Object → Value → Type 0
@@ -86,13 +88,21 @@ BeginsCopy (Adjustment number) = Unit {0}
 abbrev pub declared_owners : List TypeForm → (record_type : ℕ) → List ℕ
 declared_owners types r = access_numbers (shown_parts (slice_get types r))
 
--- The components of an object that are those, where a record of the type begins with the component `first`.
-abbrev pub part_owners : List TypeForm → (record_type first : ℕ) → List ℕ
-part_owners types r first = shifted first (declared_owners types r)
+-- Those of the record type that has this number among the types with controlled parts.
+abbrev pub owners_numbered : List TypeForm → (of : ℕ) → List ℕ
+owners_numbered types of = access_numbers (shown_parts (shown_numbered types of))
 
--- The object of a name, in which they are hidden.
-abbrev pub hiding : List TypeForm → (record_type first : ℕ) → Id → View
-hiding types r first o = record { tracks = record { first = 0; components = declared_owners types r }; object = o; base = first }
+-- The components that are those of a controlled part of the objects that are known by the type `access`.
+abbrev pub part_owners : List TypeForm → (access : ℕ) → Part → List ℕ
+part_owners types access part = shifted (slice_index_or (firsts_known types access) part.number 0) (owners_numbered types part.of)
+
+-- Those of all parts that are still to be adjusted (7.6).
+abbrev pub owners_left : List TypeForm → (access : ℕ) → List Task → List ℕ
+owners_left types access tasks = flat_map (part_owners types access) (parts_left (shown_shapes types) tasks)
+
+-- The object of a name, in which components are hidden.
+abbrev pub hiding : List ℕ → Id → View
+hiding owners o = record { tracks = record { first = 0; components = owners }; object = o; base = 0 }
 
 -- A component is one of these.
 abbrev pub IsHidden : List ℕ → (component : ℕ) → Type 0
@@ -115,41 +125,47 @@ pub record SeesToOwners (types : List TypeForm) (record_type of : ℕ) : Type 0 
   pub overridden : is_inherited finalization.operations.adjust ≡ false
   pub declares : list_any (λ c. is_owning_part c.kind) parts ≡ true
 
--- The only controlled part of the objects that are known by the type `access` is such a record, which begins with this component.
-pub record OnlyPart (types : List TypeForm) (access record_type of first : ℕ) : Type 0 where
-  pub one : parts_named types (object_named types (Some access)) ≡ 1
-  pub lies : WalksTo types (object_named types (Some access)) (Some record_type) first 0
-  pub sees : SeesToOwners types record_type of
+-- This component of a record of this type is declared in a controlled record that lies in it, with an access type.
+abbrev pub IsDeclaredWithin : List TypeForm → (t component : ℕ) → Type 0
+IsDeclaredWithin types t c =
+    (r : ℕ) × (first : ℕ) × (part : ℕ) × IsControlled types r × Walks types t first part r × ((e : ℕ) × Contains (declared_owners types r) e × (c ≡ first + e))
 
--- What is left of an adjustment comes to this one operation alone.
-pub data Leads (shapes : List Shape) : (tasks : List Task) (of part : ℕ) → Type 0 where
-  now : {tasks : List Task} {of part : ℕ} → tasks ≡ performs of part ∷ [] → Leads shapes tasks of part
-  later : {tasks : List Task} {of part : ℕ} (c : Component) → tasks ≡ treats (c ∷ []) ∷ [] → Leads shapes (opened shapes PartsFirst c.of c.first) of part → Leads shapes tasks of part
+-- So are all of its components of access types.
+abbrev pub AreDeclaredWithin : List TypeForm → (t : ℕ) → Type 0
+AreDeclaredWithin types t =
+    (kinds : List ComponentKind) (c : ℕ) (access : TypeNo) → record_components types t ≡ Some kinds → slice_get kinds c ≡ Some (component.Access access)
+    → IsDeclaredWithin types t c
 
--- Something is left of it.
-pub leads_some : {shapes : List Shape} {tasks : List Task} {of part : ℕ} → Leads shapes tasks of part → (task : Task) × (rest : List Task) × (tasks ≡ task ∷ rest)
-leads_some {of = of} {part = part} (now is) = (performs of part, [], is)
-leads_some (later c is more) = (treats (c ∷ []), [], is)
+-- Where a record of this type is to be adjusted, these are among the owners of the parts that are left, wherever it lies in an object (7.6).
+abbrev pub AreCovered : List TypeForm → (t : ℕ) → Type 0
+AreCovered types t =
+    (access of first part : ℕ) → shown_number types (Some t) ≡ Some of → WalksTo types (object_named types (Some access)) (Some t) first part
+    → (kinds : List ComponentKind) → record_components types t ≡ Some kinds
+    → Covered (owners_left types access (opened (shown_shapes types) PartsFirst of part)) first kinds
 
--- Records of this type have one controlled part, behind so many elementary components, whose Adjust sees to all of their components of access types; and one
--- controlled part alone have all objects in which such a record lies.
-pub record AdjustsOwners (types : List TypeForm) (t : ℕ) : Type 0 where
-  pub record_type : ℕ
-  pub of : ℕ
-  pub depth : ℕ
-  pub number : ℕ
-  pub sees : SeesToOwners types record_type of
-  pub lies : Walks types t depth 0 record_type
-  pub one : parts_named types (Some t) ≡ 1
-  pub numbered : shown_number types (Some t) ≡ Some number
-  pub leads : (part : ℕ) → Leads (shown_shapes types) (opened (shown_shapes types) PartsFirst number part) of part
-  pub owned :
-      (kinds : List ComponentKind) (c : ℕ) (access : TypeNo) → record_components types t ≡ Some kinds → slice_get kinds c ≡ Some (component.Access access)
-      → (e : ℕ) × Contains (declared_owners types record_type) e × (c ≡ depth + e)
-  pub alone : (access first part : ℕ) → PartsLie types (object_named types (Some access)) (Some t) first part → parts_named types (object_named types (Some access)) ≡ 1
+-- Of the components of access types that a record of this type has, each is declared in a controlled record that lies in it, and the Adjust of each such record that
+-- declares some sees to these (7.6).
+pub record SeesToAll (types : List TypeForm) (t : ℕ) : Type 0 where
+  pub sees :
+      (r first part : ℕ) (c : IsControlled types r) → Walks types t first part r → list_any (λ d. is_owning_part d.kind) c.parts ≡ true
+      → SeesToOwners types r c.finalization.number.0
+  pub owned : AreDeclaredWithin types t
+  pub counts : (of : ℕ) → shown_number types (Some t) ≡ Some of → 0 < parts_named types (Some t)
+  pub covers : AreCovered types t
 
--- A record that may be copied, and of which a copy leaves no two owners, has no component of an access type, or an Adjust sees to them (7.6).
+-- A record that may be copied, and of which a copy leaves no two owners, has such components alone (7.6).
 abbrev pub CopiesWell : List TypeForm → Type 0
-CopiesWell types =
-    (t : ℕ) → leaves_owners types t ≡ false → ((f : Finalization) → finalization_of types t ≡ Some f → f.limited ≡ false)
-    → (is_owning_record types t ≡ false) ⊎ AdjustsOwners types t
+CopiesWell types = (t : ℕ) → leaves_owners types t ≡ false → ((f : Finalization) → finalization_of types t ≡ Some f → f.limited ≡ false) → SeesToAll types t
+
+-- What is left of the adjustment of a record of this type, which was copied into the objects that are known by the type `access` (7.6): these operations are called
+-- still, whatever has been called, and picked.
+pub record CopyLeft (types : List TypeForm) (access record_type : ℕ) (tasks : List Task) : Type 0 where
+  pub of : ℕ
+  pub first : ℕ
+  pub part : ℕ
+  pub steps : ℕ
+  pub calls : List Part
+  pub numbered : shown_number types (Some record_type) ≡ Some of
+  pub lies : WalksTo types (object_named types (Some access)) (Some record_type) first part
+  pub sees : SeesToAll types record_type
+  pub run : Run (shown_shapes types) PartsFirst (opened (shown_shapes types) PartsFirst of part) steps calls tasks

@@ -33,10 +33,9 @@ use Rattle.ada_sound.proofs.Touching.{Touching, waiting_for}
 use Rattle.ada_sound.proofs.Operating.{Sight, Comes, Body, Operates}
 use Rattle.ada_sound.proofs.Uncalled.{body_called}
 use Rattle.ada_sound.proofs.Judged.{judged_in}
-use Rattle.ada_sound.proofs.Adjusting.{Adjusting, waiting}
+use Rattle.ada_sound.proofs.Adjusting.{AdjustingCopy, put_aside, waiting}
 use Rattle.ada_sound.proofs.JudgedForms.{covers_judged, orderly_seen, tracks_seen}
-use Rattle.ada_sound.proofs.AdjustingGoes.{none_comes_out}
-use Rattle.ada_sound.proofs.AdjustingSteps.{InAdjusting}
+use Rattle.ada_sound.proofs.AdjustingCopies.{InCopy, none_leaves}
 use Rattle.ada_sound.proofs.Runs.{Led}
 use Rattle.ada_sound.proofs.Runs as runs
 
@@ -87,22 +86,24 @@ module _ (program : Program) where
   covered_by Quiet before s gs stands says depth a n at is = tt
 
   -- So it is while an Adjust runs that tracks components, as it is judged.
-  judged_free : (all : List (Activation Value)) (s : State) (f : Adjusting program s) (t : ℕ) → s.activations ≡ all → CoveredIn (implicit_of (program_form program)) (seen_in (running_procedure s) (program_form program)) t
+  judged_free : (all : List (Activation Value)) (s : State) (d : AdjustingCopy program s) (t : ℕ) → s.activations ≡ all → CoveredIn (implicit_of (program_form program)) (seen_in (running_procedure s) (program_form program)) t
       → (depth : ℕ) (a : Activation Value) (number : ℕ) → slice_get all depth ≡ Some a → a.procedure ≡ Some number → call_frees (callees.effect_at program number) t ≡ true
-  judged_free [] s f t here may depth a number at is = absurd (cc at)
-  judged_free (b ∷ rest) s f t here may zero a number at is =
+  judged_free [] s d t here may depth a number at is = absurd (cc at)
+  judged_free (b ∷ rest) s d t here may zero a number at is =
+      let f = d.adjusting in
       let own : running_procedure s ≡ Some number = rw here (let e : b ≡ a = cc at in rw e is) in
       let same : f.number ≡ number = let runs = f.runs in cc (runs, own) in
       called_frees number t (f.b, rw (← same) (f.there)) (rw own at may)
-  judged_free (b ∷ rest) s f t here may (suc depth) a number at is =
+  judged_free (b ∷ rest) s d t here may (suc depth) a number at is =
+      let f = d.adjusting in
       let p = program_form program in
       let own = seen_in (Some f.number) p in
       let runs : CoveredIn (implicit_of p) own t = subst (λ (procedure : Option ℕ). CoveredIn (implicit_of p) (seen_in procedure p) t) f.runs may in
       let judged =
       covers_judged own f.w.tracks (tracks_seen p f.number f.b f.w.tracks f.there f.components) (orderly_seen p f.number f.b f.w.tracks f.there f.orderly) (implicit_of p) t runs in
-      waiting_frees (implicit_of p) (judged_in f.w.tracks own) rest (waiting program s f ∷ f.suspensions) t (rw here at (f.bodies)) f.standing.waiting judged depth a number at is
+      waiting_frees (implicit_of p) (judged_in f.w.tracks own) rest (waiting program (put_aside d.owners d.object s) f ∷ f.suspensions) t (rw here at (f.bodies)) f.standing.waiting judged depth a number at is
 
-  adjusting_covered : (e : Event) (before : List Object) (after : State) → InAdjusting program before e after → (depth : ℕ) (a : Activation Value) (number : ℕ) → slice_get after.activations depth ≡ Some a → a.procedure ≡ Some number → IsCovered program number e
+  adjusting_covered : (e : Event) (before : List Object) (after : State) → InCopy program before e after → (depth : ℕ) (a : Activation Value) (number : ℕ) → slice_get after.activations depth ≡ Some a → a.procedure ≡ Some number → IsCovered program number e
   adjusting_covered (Born object part turn type number' by) before after c depth a number at is = tt
   adjusting_covered (Finalized object part turn type number' cause) before after c depth a number at is = tt
   adjusting_covered (Back object access number' pool subpool (Leaving m item)) before after c depth a number at is = tt
@@ -141,11 +142,11 @@ module _ (program : Program) (accepted : IsChecked program) where
       by (inr (inr (inl c))) = covered_by program e before.heap after (waiting_for program after c.body) c.body.stands c.says depth a number at is
       by (inr (inr (inr c))) = adjusting_covered program e before.heap after c depth a number at is
 
-  raises_in : (s : State) → Ordinary program s ⊎ (Operates program s ⊎ (Touching program s ⊎ Adjusting program s)) → (procedure : Option ℕ) (number : ℕ) (e : Exception) → running_procedure s ≡ procedure → procedure ≡ Some number → EndsBody s → s.mode ≡ Raising e → call_raises (callees.effect_at program number) (is_same e) ≡ true
+  raises_in : (s : State) → Ordinary program s ⊎ (Operates program s ⊎ (Touching program s ⊎ AdjustingCopy program s)) → (procedure : Option ℕ) (number : ℕ) (e : Exception) → running_procedure s ≡ procedure → procedure ≡ Some number → EndsBody s → s.mode ≡ Raising e → call_raises (callees.effect_at program number) (is_same e) ≡ true
   raises_in s (inl o) procedure number e runs is ends mode =
       let may = leaves_by program (running_procedure s) o.suspensions e ends.actuals ends.references ends.outer s.control s.mode s.heap _ _ s.masters (o.ready.1) mode ends.first in
       called_raises program number e (rw (runs ∙ is) at (o.stands.body)) (rw (runs ∙ is) at may)
-  raises_in s (inr (inr (inr f))) procedure number e runs is ends mode = absurd (none_comes_out program s f e mode (rw ends.first refl))
+  raises_in s (inr (inr (inr d))) procedure number e runs is ends mode = absurd (none_leaves program s d e mode (rw ends.first refl))
   raises_in s (inr (inr (inl f))) procedure number e runs is ends mode =
       let may = leaves_by program (running_procedure s) (waiting_for program s f) e ends.actuals ends.references ends.outer s.control s.mode s.heap _ _ s.masters (f.ready.1) mode ends.first in
       called_raises program number e (rw (runs ∙ is) at (f.stands.body)) (rw (runs ∙ is) at may)

@@ -1,16 +1,19 @@
--- Record objects are declared with copies of other records as their initial values (3.3.1, 7.6): of Integers and Booleans, or an Adjust sees to their
--- components of access types, which count as null until it has ended.
+-- Record objects are declared with copies of other records as their initial values (3.3.1, 7.6): of Integers and Booleans, or Adjusts see to their components
+-- of access types, which count as null until these have ended.
 
-use Rattle.std.proofs.Common.{◌≡◌, ℕ, zero, suc, ◌+◌, ◌==◌, Bool, true, false, if◌then◌else◌, List, [], ◌∷◌, length, take, drop, reverse, Option, Some, None, refl, sym, ap, ◌∙◌, inl, inr, arith}
+use Rattle.std.proofs.Common.{◌≡◌, ℕ, zero, suc, ◌+◌, ◌==◌, Bool, true, false, if◌then◌else◌, List, [], ◌∷◌, length, take, drop, reverse, Option, Some, None, refl, sym, ap, ◌∙◌, subst, inl, inr, arith}
 use Rattle.std.specs.List.{slice_get, slice_set}
-use Rattle.std.proofs.lemmas.Grind.{common_steps}
 use Rattle.ada_parts.specs.declared.tasks.Direction.TheVariants.{PartsFirst}
+use Rattle.ada_parts.specs.Law.{Run, here}
+use Rattle.ada_parts.specs.Shape.{Shape}
+use Rattle.ada_parts.specs.Task.{Task, opened}
+use Rattle.ada_program.specs.Controlled.{shapes_of}
 use Rattle.ada_program.specs.declared.program.ComponentKind.{ComponentKind}
 use Rattle.ada_program.specs.declared.program.TypeDefinition.{TypeDefinition}
 use Rattle.ada_program.specs.ProgramForm.{TypeForm}
 use Rattle.ada_program.specs.Typed.{count_of, words_of}
 use Rattle.ada_program.specs.Walks.{ends}
-use Rattle.ada_program.specs.WellFormed.{components_reached, has_parts_from, is_record_object, object_named, parts_named, record_components, variable_kind}
+use Rattle.ada_program.specs.WellFormed.{components_reached, is_record_object, object_named, record_components, variable_kind}
 use Rattle.ada_meaning.specs.declared.event.Birth.TheVariants.{Copy}
 use Rattle.ada_meaning.specs.declared.state.Id.{Id}
 use Rattle.ada_meaning.specs.declared.state.Value.{Value}
@@ -19,25 +22,25 @@ use Rattle.ada_meaning.specs.Event.{Quiet}
 use Rattle.ada_meaning.specs.Heap.{Cell}
 use Rattle.ada_meaning.specs.Frame.{DeclaresRecord, begins}
 use Rattle.ada_meaning.specs.State.{Activation, Master, height, record_object}
-use Rattle.ada_meaning.specs.Step.{all_tasks, made, owning, record_cell}
+use Rattle.ada_meaning.specs.Step.{all_tasks, tasks_for, made, owning, record_cell}
 use Rattle.ada_meaning.specs.Named.{Object, State, named, new_object, create, created}
 use Rattle.ada_owners.specs.Keeping.{IsThere}
 use Rattle.ada_owners.proofs.Objects.{next_id, at_older, not_past}
-use Rattle.ada_tracked.specs.Frames.{View, blank_values, blanked, number_at}
+use Rattle.ada_tracked.specs.Frames.{View, shifted, blank_values, blanked, number_at}
 use Rattle.ada_tracked.proofs.Lists.{is_same, is_apart, untracked_read}
-use Rattle.ada_typed.specs.Holding.{HaveKinds, PartsLie, cells_of}
+use Rattle.ada_typed.specs.Holding.{HaveKinds, WalksTo, cells_of}
 use Rattle.ada_typed.proofs.Values.{OperandKind, AreComputed, AreHeld}
 use Rattle.ada_typed.proofs.Control as typed
-use Rattle.ada_typed.proofs.Parts.{shown_shapes}
+use Rattle.ada_typed.proofs.Parts.{shown_number, shown_shapes}
 use Rattle.ada_sound.proofs.Objects.{get_new, set_new, set_get}
 use Rattle.ada_sound.proofs.Alters.{alters_new}
-use Rattle.ada_sound.proofs.CopiedOwners.{NamesThere, NameThere, names_still, names_reverse, AdjustsOwners, Leads, part_owners, hiding}
-use Rattle.ada_sound.proofs.CoveredOwners.{covered_kinds, only_part}
+use Rattle.ada_sound.proofs.CopiedOwners.{NamesThere, NameThere, names_still, names_reverse, CopyLeft, Covered, owners_left, hiding}
 use Rattle.ada_sound.proofs.Defaults.{Reaches}
+use Rattle.ada_sound.proofs.NoneHidden.{shifted_none}
 use Rattle.ada_sound.proofs.HiddenOwners.{StoresWell, covered_stores, names_hidden}
 use Rattle.ada_sound.proofs.Invariant.{outers, AdjustsAside, AdjustsFirst, AdjustsWell, Known, Control, RunsOn, AdjustsTo, RecordsFrom, Working, Stepped}
-use Rattle.ada_sound.proofs.Ready.{running, at_work, adjusts_ready}
-use Rattle.ada_sound.proofs.Records.{NameNothing, StartsBy, has_place, made_works, nothing_in_hand, recorded_plain}
+use Rattle.ada_sound.proofs.Ready.{running, at_work, treats_ready}
+use Rattle.ada_sound.proofs.Records.{NameNothing, Copying, has_place, made_works, nothing_in_hand, recorded_plain}
 
 -- What is hidden is null.
 hidden_null : (hidden : List ℕ) (n c j : ℕ) (vs : List Value) (v : Value) → number_at hidden n c ≡ Some j → slice_get (blank_values hidden vs) c ≡ Some v → v ≡ Null
@@ -82,29 +85,36 @@ got_there heap [] c v names at = absurd (cc at)
 got_there heap (w ∷ vs) zero v names at = let same : w ≡ v = cc at in (λ o is. names.0 o (same ∙ is))
 got_there heap (w ∷ vs) (suc c) v names at = got_there heap vs c v names.1 at
 
-parts_whole : (n : ℕ) → has_parts_from n 0 n ≡ true
-parts_whole n = grind (arith, common_steps)
-
 -- A record object comes to be whose components are those of another one, and then it is adjusted.
 module _ (known : Known) (rest : List (Activation Value)) (s : State) (types : List TypeDefinition) (reaches : Reaches known types) (x t : ℕ) (a : Activation Value) (k : Control) (values : List Value) (u : Value) (is : is_record_object t (variable_kind known.program.variables x) ≡ true) (there : slice_get a.places x ≡ Some u)
     (r : ℕ) (first : AdjustsFirst known.program.types t r) (kinds : List ComponentKind) (components : record_components known.program.types r ≡ Some kinds) (have : HaveKinds known.program.types (cells_of s.heap) kinds values) (names : NameThere s.heap values) where
   abbrev forms : List TypeForm
   forms = known.program.types
 
-  abbrev sees : AdjustsOwners forms r
-  sees = first.1
+  abbrev shapes : List Shape
+  shapes = shown_shapes forms
 
+  abbrev of : ℕ
+  of = first.1.0
+
+  abbrev tasks : List Task
+  tasks = all_tasks types t PartsFirst
+
+  -- Its owners are hidden, as those of the object of a view.
   abbrev hidden : List ℕ
-  hidden = part_owners forms sees.record_type (0 + sees.depth)
+  hidden = owners_left forms t tasks
+
+  abbrev shown : List ℕ
+  shown = shifted 0 hidden
 
   abbrev view : View
-  view = hiding forms sees.record_type (0 + sees.depth) (next_id s.heap)
+  view = hiding hidden (next_id s.heap)
 
   abbrev cell : Cell Value
   cell = record_cell named types t (height s.masters) values
 
   abbrev hidden_cell : Cell Value
-  hidden_cell = record_cell named types t (height s.masters) (blank_values hidden values)
+  hidden_cell = record_cell named types t (height s.masters) (blank_values shown values)
 
   abbrev heap : List Object
   heap = create s.heap (words_of types t) cell
@@ -115,8 +125,24 @@ module _ (known : Known) (rest : List (Activation Value)) (s : State) (types : L
   abbrev masters : List Master
   masters = owning (record { number = height s.masters; owned = record_object t }) s.masters
 
-  well_stored : StoresWell hidden 0 values
-  well_stored = covered_stores forms (cells_of s.heap) hidden 0 kinds values (covered_kinds forms r sees t 0 0 kinds components) have
+  -- All of its controlled parts are to be adjusted.
+  tasks_opened : tasks ≡ opened shapes PartsFirst of 0
+  tasks_opened =
+      ap (tasks_for (shapes_of types) PartsFirst) (reaches.5 t ∙ (ap (shown_number forms) first.0 ∙ first.1.1))
+      ∙ ap (λ (table : List Shape). opened table PartsFirst of 0) (sym reaches.6)
+
+  lies : WalksTo forms (object_named forms (Some t)) (Some r) 0 0
+  lies = rw (first.0) ends
+
+  covers : Covered hidden 0 kinds
+  covers =
+      subst (λ (left : List Task). Covered (owners_left forms t left) 0 kinds) (sym tasks_opened)
+      (first.2.covers t of 0 0 first.1.1 lies kinds components)
+
+  well_stored : StoresWell shown 0 values
+  well_stored =
+      subst (λ (cs : List ℕ). StoresWell cs 0 values) (sym (shifted_none hidden))
+      (covered_stores forms (cells_of s.heap) hidden 0 kinds values covers have)
 
   heap_is : blanked view heap ≡ create s.heap (words_of types t) hidden_cell
   heap_is = rw (get_new s.heap (new_object cell)) (set_new s.heap (new_object cell) (new_object hidden_cell))
@@ -124,47 +150,40 @@ module _ (known : Known) (rest : List (Activation Value)) (s : State) (types : L
   there_later : (p : Id) → IsThere s.heap p → IsThere heap p
   there_later p h = (h.0, at_older s.heap (words_of types t) cell p (not_past s.heap p h.0 h.1) ∙ h.1, h.2)
 
-  lie : PartsLie forms (object_named forms (Some t)) (Some r) 0 0
-  lie = rw (first.0) (parts_whole (parts_named forms (Some r)), λ some. ends)
+  left : CopyLeft forms t r tasks
+  left = record {
+    of = of;
+    first = 0;
+    part = 0;
+    steps = 0;
+    calls = [];
+    numbered = first.1.1;
+    lies = lies;
+    sees = first.2;
+    run = subst (λ (last : List Task). Run shapes PartsFirst (opened shapes PartsFirst of 0) 0 [] last) (sym tasks_opened) here;
+  }
 
-  leads : Leads (shown_shapes forms) (all_tasks types t PartsFirst) sees.of 0
-  leads =
-      let number = ap (λ (o : Option ℕ). o) (reaches.5 t) in
-      let own = first.0 in
-      let one = sees.numbered in
-      rw (number, own, one, ← reaches.6) (sees.leads 0)
-
-  adjusts_next : Working known s.heap a.places s.masters (StartsBy known rest s types x t Copy k) → AdjustsTo known (created s.heap (words_of types t)) (begins Copy []) (all_tasks types t PartsFirst) k heap places masters
+  adjusts_next : Working known s.heap a.places s.masters (Copying known rest s types x t k) → AdjustsTo known (created s.heap (words_of types t)) tasks k heap places masters
   adjusts_next w =
-      let works = made_works known rest s types x t a k (blank_values hidden values) u is there
-      (λ holding kind. nothing_in_hand (outers known) s.heap a.places holding kind 0 (blank_values hidden values) (hidden_nothing hidden values well_stored)) w w.rest.0
+      let works = made_works known rest s types x t a k (blank_values shown values) u is there
+      (λ holding kind. nothing_in_hand (outers known) s.heap a.places holding kind 0 (blank_values shown values) (hidden_nothing shown values well_stored)) w w.rest.0
       {other = λ rooms less. RunsOn known k rooms less × AdjustsWell known t less} w.rest.1 in
-      let aside = at_work {other = λ rooms less. RunsOn known k rooms less × AdjustsAside known t less} works (works.rest.0, (t, works.rest.1, inl refl)) in
+      let aside = at_work {other = λ rooms less. RunsOn known k rooms less × AdjustsAside known t r less} works (works.rest.0, (t, works.rest.1, inl refl)) in
       record {
-        by = Copy;
-        done = [];
-        begun = refl;
-        copies = tt;
         o = next_id s.heap;
         is = refl;
-        record_type = sees.record_type;
-        of = sees.of;
-        first = 0 + sees.depth;
-        part = 0;
-        adjusted = record {
-          x = new_object cell;
-          found = get_new s.heap (new_object cell);
-          there = refl;
-          only = only_part forms r sees t 0 0 lie;
-          named = names_hidden heap hidden values (λ c v at. got_there heap values c v (names_still s.heap heap values there_later names) at);
-          works = rw heap_is aside;
-        };
-        leads = leads;
+        x = new_object cell;
+        found = get_new s.heap (new_object cell);
+        there = refl;
+        record_type = r;
+        left = left;
+        named = names_hidden heap hidden values (λ c v at. got_there heap values c v (names_still s.heap heap values there_later names) at);
+        works = rw heap_is aside;
       }
 
-  made_adjusts : Working known s.heap a.places s.masters (StartsBy known rest s types x t Copy k) → Stepped known s.heap Quiet (made named types x t Copy values (running k a rest s))
+  made_adjusts : Working known s.heap a.places s.masters (Copying known rest s types x t k) → Stepped known s.heap Quiet (made named types x t Copy values (running k a rest s))
   made_adjusts w = record {
-    ready = (tt, adjusts_ready known (created s.heap (words_of types t)) (begins Copy []) (all_tasks types t PartsFirst) k heap places a.operands masters (adjusts_next w));
+    ready = (tt, treats_ready known (created s.heap (words_of types t)) (begins Copy []) tasks k heap places a.operands masters (adjusts_next w) tt);
     alters = alters_new s.heap Quiet (new_object cell) refl;
     says = tt;
   }

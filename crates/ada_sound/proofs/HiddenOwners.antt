@@ -40,7 +40,7 @@ pub names_hidden : (heap : List Object) (bs : List ℕ) (vs : List Value) → ((
 names_hidden heap [] vs each = tt
 names_hidden heap (b ∷ bs) vs each = (names_at heap vs b each, names_hidden heap bs vs each)
 
-names_set : (heap : List Object) (bs : List ℕ) (vs : List Value) (c : ℕ) (v : Value) → NamesThere heap v → NameThere heap (values_at bs vs) → NameThere heap (values_at bs (slice_set vs c v))
+pub names_set : (heap : List Object) (bs : List ℕ) (vs : List Value) (c : ℕ) (v : Value) → NamesThere heap v → NameThere heap (values_at bs vs) → NameThere heap (values_at bs (slice_set vs c v))
 names_set heap [] vs c v new olds = tt
 names_set heap (b ∷ bs) vs c v new olds = (by (same_or_not b c), names_set heap bs vs c v new olds.1)
   where

@@ -28,7 +28,6 @@ use Rattle.ada_meaning.specs.declared.state.Value.TheVariants.{Null, Names, Scal
 use Rattle.ada_meaning.specs.declared.state.Stage.TheVariants.{Existing, Gone}
 use Rattle.ada_meaning.specs.declared.state.Mode.{Mode}
 use Rattle.ada_meaning.specs.declared.state.Mode.TheVariants.{Running, Raising, Exiting, Returning}
-use Rattle.ada_meaning.specs.declared.event.Birth.{Birth}
 use Rattle.ada_meaning.specs.declared.event.Birth.TheVariants.{Creation, Copy, Adjustment}
 use Rattle.ada_meaning.specs.declared.event.Cause.{Cause}
 use Rattle.ada_meaning.specs.declared.event.Cause.TheVariants.{Leaving, Freeing, Assigning, Undoing}
@@ -55,10 +54,9 @@ use Rattle.ada_sound.proofs.Fits.{Outer, Reference, IsReferred, IsPlace, Outside
 use Rattle.ada_sound.proofs.Orderings.{AsGood}
 use Rattle.ada_sound.proofs.InsideRecords.{TasksInside}
 use Rattle.ada_typed.specs.Holding.{PartsLie}
-use Rattle.ada_typed.proofs.Parts.{shown_shapes}
-use Rattle.ada_parts.specs.Part.{Part as TreatedPart}
+use Rattle.ada_typed.proofs.Parts.{shown_number}
 use Rattle.ada_tracked.specs.Frames.{values_at, blanked}
-use Rattle.ada_sound.proofs.CopiedOwners.{NameThere, BeginsCopy, part_owners, hiding, Covered, OnlyPart, Leads, AdjustsOwners}
+use Rattle.ada_sound.proofs.CopiedOwners.{NameThere, owners_left, hiding, Covered, CopyLeft, SeesToAll}
 use Rattle.ada_sound.proofs.Alters.{BackIn, Alters}
 
 -- What is left to do, over names.
@@ -712,25 +710,9 @@ AdjustsWell known t holds = Spares known (known.implicit.adjust_frees t) × Unal
 abbrev pub LiesAmong : Known → (access record_type : ℕ) → Type 0
 LiesAmong known access t = (first part : ℕ) × PartsLie known.program.types (object_named known.program.types (Some access)) (Some t) first part
 
--- So it is with what may be freed where an object is adjusted that is known by this type, or a record in it that has controlled parts.
-abbrev pub AdjustsAside : Known → (access : ℕ) → Holds → Type 0
-AdjustsAside known access holds =
-    (t : ℕ) × AdjustsWell known t holds × ((t ≡ access) ⊎ ((finalization_of known.program.types t ≢ None) × LiesAmong known access t))
-
--- What holds of the type by which the object is known that a value names, if it names one.
-abbrev pub OfItsType : List Object → Value → (ℕ → Type 0) → Type 0
-OfItsType heap v more = (o : Id) (x : Object) → v ≡ Names o → object_at heap o ≡ Some x → more x.cell.access
-
--- What is left goes on, perhaps behind the adjustment of a record that was assigned to (7.6), in the object of this name that is known by this type; and with
--- less known, where its operations free objects.
-abbrev pub RunsBehind : Known → Value → (access : ℕ) → Control → Rooms → Holds → Type 0
-RunsBehind known v access [] rooms holds = To (RunsOn known [] rooms) holds
-RunsBehind known v access (Treats w (begins Creation done) tasks ∷ k) rooms holds = ⊥
-RunsBehind known v access (Treats w (begins Copy done) tasks ∷ k) rooms holds = ⊥
-RunsBehind known v access (Treats w (begins (Adjustment number) done) tasks ∷ k) rooms holds =
-    (w ≡ v) × To (λ less. RunsOn known k rooms less × AdjustsAside known access less) holds
-RunsBehind known v access (Treats w (ends cause) tasks ∷ k) rooms holds = ⊥
-RunsBehind known v access (f ∷ k) rooms holds = To (RunsOn known (f ∷ k) rooms) holds
+-- So it is with what may be freed where an object is adjusted that is known by this type, or the record in it that was copied.
+abbrev pub AdjustsAside : Known → (access record_type : ℕ) → Holds → Type 0
+AdjustsAside known access r holds = (t : ℕ) × AdjustsWell known t holds × ((t ≡ access) ⊎ (t ≡ r))
 
 -- An object is there, and so many of its components, from one on, are Integers and Booleans.
 abbrev pub IsPlainIn : Known → List Object → Value → (first count : ℕ) → Type 0
@@ -743,26 +725,21 @@ IsPlainIn known heap (Scalar v) first count = ⊥
 IsPlainIn known heap (Part o base) first count = ⊥
 
 -- So many components of an object that is known by this type, from one on, get those of a record of a type, and then the record is adjusted (5.2, 7.6): the
--- Adjust of the object's only controlled part sees to all of them that are of access types. What is left goes on behind that, perhaps with less known, and of
--- what that Adjust may free there is no alias.
+-- Adjusts of its controlled parts see to all of them that are of access types. What is left goes on behind that, perhaps with less known, and of what these
+-- Adjusts may free there is no alias.
 pub record AdjustedBehind (known : Known) (v : Value) (access record_type first count : ℕ) (k : Control) (rooms : Rooms) (holds : Holds) : Type 0 where
   pub number : ℕ
   pub tasks : List Task
   pub behind : Control
-  pub is : k ≡ Treats v (begins (Adjustment number) []) tasks ∷ behind
+  pub is : k ≡ treating v (begins (Adjustment number) []) tasks behind
   pub kinds : List ComponentKind
   pub components : record_components known.program.types record_type ≡ Some kinds
   pub counted : count ≡ length kinds
-  pub part_type : ℕ
-  pub of : ℕ
-  pub owns : ℕ
-  pub part : ℕ
-  pub only : OnlyPart known.program.types access part_type of owns
-  pub leads : Leads (shown_shapes known.program.types) tasks of part
+  pub left : CopyLeft known.program.types access record_type tasks
   pub covers :
       (reached : List ComponentKind) → reached_components known.program.types access ≡ Some reached
-      → Covered (part_owners known.program.types part_type owns) first (take count (drop first reached))
-  pub runs : To (λ less. RunsOn known behind rooms less × AdjustsAside known access less) holds
+      → Covered (owners_left known.program.types access tasks) first (take count (drop first reached))
+  pub runs : To (λ less. RunsOn known behind rooms less × AdjustsAside known access record_type less) holds
 
 -- The object of a value is there, and is such a one.
 abbrev pub IsAdjustedIn : Known → List Object → Value → (record_type first count : ℕ) → Control → Rooms → Holds → Type 0
@@ -775,7 +752,7 @@ IsAdjustedIn known heap (Part o base) t first count k rooms holds = ⊥
 
 -- So many components of an object that is there are Integers and Booleans, and what is left goes on behind them.
 abbrev pub PlainBehind : Known → List Object → Value → (first count : ℕ) → Control → Rooms → Holds → Type 0
-PlainBehind known heap v first count k rooms holds = IsPlainIn known heap v first count × OfItsType heap v (λ access. RunsBehind known v access k rooms holds)
+PlainBehind known heap v first count k rooms holds = IsPlainIn known heap v first count × To (RunsOn known k rooms) holds
 
 -- The components of an object get those of a record of this type: they are Integers and Booleans, or an Adjust sees to them.
 abbrev pub StoresSo : Known → List Object → Value → (record_type first count : ℕ) → Control → Rooms → Holds → Type 0
@@ -803,9 +780,13 @@ Recording known x t k rooms holds =
     (is_record_object t (variable_kind known.program.variables x) ≡ true) × MayOwn rooms t
     × To (λ less. RunsOn known k rooms less × AdjustsWell known t less) (slice_set holds x (hold.Own Whole))
 
--- The object that is known by a type is a record of this type, of which an Adjust sees to all components of access types (7.6).
+-- The object that is known by a type is a record of this type, which has controlled parts, whose Adjusts see to all components of access types (7.6).
 abbrev pub AdjustsFirst : List TypeForm → (object_type record_type : ℕ) → Type 0
-AdjustsFirst types t r = (object_named types (Some t) ≡ Some r) × AdjustsOwners types r
+AdjustsFirst types t r = (object_named types (Some t) ≡ Some r) × ((of : ℕ) × (shown_number types (Some r) ≡ Some of)) × SeesToAll types r
+
+-- It has no component of an access type, and no controlled parts.
+abbrev pub IsPlainFirst : List TypeForm → (object_type : ℕ) → Type 0
+IsPlainFirst types t = (owns_at_first types t ≡ false) × (shown_number types (object_named types (Some t)) ≡ None)
 
 -- The newest operands are the components of a record of this type, which is copied: what they name is there.
 abbrev pub HasCopied : Known → List Object → (record_type : ℕ) → (operands : List Value) → Type 0
@@ -817,15 +798,15 @@ abbrev pub CopiesFirst : Known → List Object → (record_type : ℕ) → List 
 CopiesFirst known heap r todo operands =
     ((p : RecordPathForm) × (todo ≡ item_of_record p ∷ []) × (p.record_type ≡ r)) ⊎ ((todo ≡ []) × HasCopied known heap r operands)
 
--- Items are left of the initial value of a record object, which has no component of an access type, or an Adjust sees to them.
+-- Items are left of the initial value of a record object, which has no component of an access type and no controlled parts, or Adjusts see to such components.
 abbrev pub InitialTo : Known → List Object → List ItemForm → (operands : List Value) → (object_type : ℕ) → Type 0
 InitialTo known heap todo operands t =
-    (owns_at_first known.program.types t ≡ false) ⊎ ((r : ℕ) × AdjustsFirst known.program.types t r × CopiesFirst known heap r todo operands)
+    IsPlainFirst known.program.types t ⊎ ((r : ℕ) × AdjustsFirst known.program.types t r × CopiesFirst known heap r todo operands)
 
 -- The newest operands are all of it.
 abbrev pub RecordsFrom : Known → List Object → (operands : List Value) → (x object_type : ℕ) → Control → Rooms → Holds → Type 0
 RecordsFrom known heap operands x t k rooms holds =
-    ((owns_at_first known.program.types t ≡ false) ⊎ ((r : ℕ) × AdjustsFirst known.program.types t r × HasCopied known heap r operands))
+    (IsPlainFirst known.program.types t ⊎ ((r : ℕ) × AdjustsFirst known.program.types t r × HasCopied known heap r operands))
     × Recording known x t k rooms holds
 
 abbrev pub FillsTo : Known → List Object → List Value → List ItemForm → Control → (operands : List Value) → Rooms → Holds → Type 0
@@ -987,10 +968,6 @@ RightIs heap places (allocates access items) v = ⊥
 RightIs heap places (allocates_default access) v = ⊥
 RightIs heap places (computes e) v = ⊥
 
--- A value refers to a record in an object that is there, of which so many components from the record's first one on are Integers and Booleans.
-abbrev pub IsTarget : Known → List Object → (count : ℕ) → Value → Type 0
-IsTarget known heap count v = (o : Id) × (place : Place) × (v ≡ Part o place) × IsPlainIn known heap (Names o) place.component count
-
 -- A value refers to a record in an object that is there.
 abbrev pub IsSource : List Object → Value → Type 0
 IsSource heap v = (o : Id) × (place : Place) × (v ≡ Part o place) × IsThere heap o
@@ -1003,13 +980,11 @@ MayCopy known t = (f : Finalization) → finalization_of known.program.types t �
 abbrev pub IsCopied : Known → (record_type : ℕ) → Type 0
 IsCopied known t = (f : Finalization) × (finalization_of known.program.types t ≡ Some f) × (f.limited ≡ false)
 
--- The two newest operands refer to records of a type, without access values, or an Adjust sees to these, of which the newest one is assigned to the other (5.2,
--- 7.6).
+-- The two newest operands refer to records of a type whose Adjusts see to components of access types, of which the newest one is assigned to the other (5.2, 7.6).
 abbrev pub AreAssigned : Known → List Object → (record_type : ℕ) → (operands : List Value) → Type 0
 AreAssigned known heap t operands =
     (kinds : List ComponentKind) × (record_components known.program.types t ≡ Some kinds)
-    × (IsTarget known heap (length kinds) (first_or Null (older operands)) ⊎ (IsSource heap (first_or Null (older operands)) × AdjustsOwners known.program.types t))
-    × IsSource heap (first_or Null operands) × MayCopy known t
+    × IsSource heap (first_or Null (older operands)) × SeesToAll known.program.types t × IsSource heap (first_or Null operands) × MayCopy known t
 
 -- Of what the assignment of a record of this type may free, no suspended activation and no variable has an alias, and the running body may free it (5.2, 7.6).
 abbrev pub AssignsWell : Known → (record_type : ℕ) → Holds → Type 0
@@ -1376,18 +1351,10 @@ abbrev pub IsMade : Known → Value → Control → List Object → (places : Li
 IsMade known v k heap places masters =
     (o : Id) (x : Object) → v ≡ Names o → object_at heap o ≡ Some x → known.touches x.cell.access ≡ true → Making known o x.cell.access k heap places masters
 
--- Behind that of a record object what is left goes on. Of what its adjustment may free there is no alias, where a record was copied to it (7.6).
-abbrev pub BeginsBy : Known → Value → Birth → Control → List Object → (places : List Value) → List Master → Type 0
-BeginsBy known v Creation k heap places masters = Beginning known v k heap places masters
-BeginsBy known v Copy k heap places masters =
-    Working known heap places masters (λ rooms holds. RunsOn known k rooms holds × OfItsType heap v (λ access. AdjustsAside known access holds))
-BeginsBy known v (Adjustment number) k heap places masters =
-    Working known heap places masters (λ rooms holds. RunsOn known k rooms holds × OfItsType heap v (λ access. AdjustsAside known access holds))
-
--- So it does behind that of any object.
-abbrev pub BegunTo : Known → Value → Birth → Control → List Object → (places operands : List Value) → List Master → Type 0
-BegunTo known v by k heap places operands masters =
-    BeginsBy known v by k heap places masters ⊎ ((by ≡ Creation) × (first_or Null operands ≡ v) × IsMade known v k heap places masters × NamesTo known k heap places operands masters)
+-- Behind that of a record object what is left goes on; and so it does behind that of any object.
+abbrev pub BegunTo : Known → Value → Control → List Object → (places operands : List Value) → List Master → Type 0
+BegunTo known v k heap places operands masters =
+    Beginning known v k heap places masters ⊎ ((first_or Null operands ≡ v) × IsMade known v k heap places masters × NamesTo known k heap places operands masters)
 
 -- Behind the finalization of an object stands its end.
 abbrev pub EndsTo : Known → Value → Control → List Object → List Value → List Master → Type 0
@@ -1427,12 +1394,10 @@ UndoneTo known v k heap places masters e =
     × (((known.touches access ≡ false) × Freed known None none_spared (on_object finished heap v) places masters (λ rooms holds. To ((ways known k rooms).raised e) holds))
     ⊎ Freed known (Some o) none_spared heap places masters (λ rooms holds. To ((ways known k rooms).raised e) holds × BeginsWell known access holds))
 
--- A new object may be undone, where an exception comes out of its initialization; what is copied or adjusted never is (7.6, 7.6.1).
-abbrev pub MayUndo : Known → Value → Birth → Control → List Object → List Value → List Master → Type 0
-MayUndo known v Creation k heap places masters =
+-- A new object may be undone, where an exception comes out of its initialization (7.6, 7.6.1).
+abbrev pub MayUndo : Known → Value → Control → List Object → List Value → List Master → Type 0
+MayUndo known v k heap places masters =
     Stored (outers known).under heap masters × ((e : Exception) → StartsRaise known heap v e → UndoneTo known v k heap places masters e)
-MayUndo known v Copy k heap places masters = Unit {0}
-MayUndo known v (Adjustment number) k heap places masters = Unit {0}
 
 -- Behind a finalization stands the end of the object, or, where it is that of a record that is assigned to, the copy (5.2, 7.6.1).
 abbrev pub EndsBy : Known → Value → Cause → Control → List Object → (places operands : List Value) → List Master → Type 0
@@ -1455,37 +1420,28 @@ abbrev pub IsOfAssigned : List TypeForm → Treatment → List Task → Control 
 IsOfAssigned types (begins by done) tasks k = Unit {0}
 IsOfAssigned types (ends cause) tasks k = IsOfCopied types cause tasks k
 
--- An object is treated (7.6, 7.6.1): whatever is left of that, what is behind is ready; and so it is where a new object is undone.
-abbrev pub TreatsBy : Known → Value → Treatment → Control → List Object → (places operands : List Value) → List Master → Type 0
-TreatsBy known v (begins by done) k heap places operands masters = BegunTo known v by k heap places operands masters × MayUndo known v by k heap places masters
-TreatsBy known v (ends cause) k heap places operands masters = EndsBy known v cause k heap places operands masters
-
--- A record in an object was copied to, and its Adjust comes next, in front of this (7.6): its components of access types name what those of the other record
--- name, and so they count as null until it has ended; what they name is there, and of what that Adjust may free there is no alias.
-pub record Adjusted (known : Known) (o : Id) (record_type of first : ℕ) (k : Control) (heap : List Object) (places : List Value) (masters : List Master) : Type 0 where
+-- A record in an object was copied to, and this is left of its adjustment, in front of what is left (7.6): the components of access types that are still to be
+-- adjusted name what those of the other record name, and so they count as null until then; what they name is there, and of what their Adjusts may free there is no
+-- alias.
+pub record AdjustsTo (known : Known) (v : Value) (tasks : List Task) (k : Control) (heap : List Object) (places : List Value) (masters : List Master) : Type 0 where
+  pub o : Id
+  pub is : v ≡ Names o
   pub x : Object
   pub found : object_at heap o ≡ Some x
   pub there : is_there x.stage ≡ true
-  pub only : OnlyPart known.program.types x.cell.access record_type of first
-  pub named : NameThere heap (values_at (part_owners known.program.types record_type first) x.cell.values)
-  pub works :
-      Working known (blanked (hiding known.program.types record_type first o) heap) places masters (λ rooms holds.
-      RunsOn known k rooms holds × AdjustsAside known x.cell.access holds)
-
--- What is left of a treatment is such an adjustment, which comes to that Adjust alone.
-pub record AdjustsTo (known : Known) (v : Value) (treatment : Treatment) (tasks : List Task) (k : Control) (heap : List Object) (places : List Value) (masters : List Master) : Type 0 where
-  pub by : Birth
-  pub done : List TreatedPart
-  pub begun : treatment ≡ begins by done
-  pub copies : BeginsCopy by
-  pub o : Id
-  pub is : v ≡ Names o
   pub record_type : ℕ
-  pub of : ℕ
-  pub first : ℕ
-  pub part : ℕ
-  pub adjusted : Adjusted known o record_type of first k heap places masters
-  pub leads : Leads (shown_shapes known.program.types) tasks of part
+  pub left : CopyLeft known.program.types x.cell.access record_type tasks
+  pub named : NameThere heap (values_at (owners_left known.program.types x.cell.access tasks) x.cell.values)
+  pub works :
+      Working known (blanked (hiding (owners_left known.program.types x.cell.access tasks) o) heap) places masters (λ rooms holds.
+      RunsOn known k rooms holds × AdjustsAside known x.cell.access record_type holds)
+
+-- An object is treated (7.6, 7.6.1), and this is left of that: what is behind is ready; and so it is where a new object is undone.
+abbrev pub TreatsBy : Known → Value → Treatment → (tasks : List Task) → Control → List Object → (places operands : List Value) → List Master → Type 0
+TreatsBy known v (begins Creation done) tasks k heap places operands masters = BegunTo known v k heap places operands masters × MayUndo known v k heap places masters
+TreatsBy known v (begins Copy done) tasks k heap places operands masters = AdjustsTo known v tasks k heap places masters
+TreatsBy known v (begins (Adjustment number) done) tasks k heap places operands masters = AdjustsTo known v tasks k heap places masters
+TreatsBy known v (ends cause) tasks k heap places operands masters = EndsBy known v cause k heap places operands masters
 
 -- An object exists that a value names.
 abbrev pub IsLive : List Object → Value → Type 0
@@ -1495,7 +1451,7 @@ IsLive heap v = (cell : Cell Value) × (look heap v ≡ finds cell)
 abbrev pub ConfinesBy : Known → Control → List Object → (places operands : List Value) → List Master → Type 0
 ConfinesBy known k heap places operands masters =
     (v : Value) × (cause : Cause) × (tasks : List Task) × (behind : Control) × (k ≡ treating v (ends cause) tasks behind)
-    × TreatsBy known v (ends cause) behind heap places operands masters × IsOfCopied known.program.types cause tasks behind
+    × TreatsBy known v (ends cause) tasks behind heap places operands masters × IsOfCopied known.program.types cause tasks behind
 
 -- What holds where a frame is next. What is awaited counts as stored already.
 abbrev pub ReadyBy : Known → Frame Value → Control → List Object → (places operands : List Value) → List Master → Type 0
@@ -1550,9 +1506,8 @@ ReadyBy known (Declares x) k heap places operands masters =
     Working known heap (slice_set places x (first_or Null operands)) masters (λ rooms holds. HasRoom rooms × RunsOn known k rooms holds)
 ReadyBy known (DeclaresRecord x t) k heap places operands masters = Working known heap places masters (RecordsFrom known heap operands x t k)
 ReadyBy known (Treats v treatment tasks) k heap places operands masters =
-    (TreatsBy known v treatment k heap places operands masters × IsOfAssigned known.program.types treatment tasks k)
-    ⊎ AdjustsTo known v treatment tasks k heap places masters
-ReadyBy known (frame.Awaits v by done of part tasks) k heap places operands masters = IsLive heap v × TreatsBy known v (begins by done) k heap places operands masters
+    TreatsBy known v treatment tasks k heap places operands masters × IsOfAssigned known.program.types treatment tasks k
+ReadyBy known (frame.Awaits v by done of part tasks) k heap places operands masters = IsLive heap v × TreatsBy known v (begins by done) tasks k heap places operands masters
 ReadyBy known frame.Confines k heap places operands masters = ConfinesBy known k heap places operands masters
 ReadyBy known (frame.Resumes mode) k heap places operands masters = Working known heap places masters (λ rooms holds. To (By mode (ways known k rooms)) holds)
 ReadyBy known Writes k heap places operands masters = Working known heap places masters (RunsOn known k)

@@ -38,16 +38,20 @@ pub mod InsideRecords
 pub mod OnlyParts
 -- where such a part lies
 pub mod OnlyPlaces
--- types of which a copy adjusts one part
+-- types whose components stand in the order of what is declared
 pub mod OnlyRows
--- records that own by one controlled part
-pub mod OnlyOwners
 -- records that are copied with components of access types
 pub mod CopiedOwners
--- what their adjustments come to
-pub mod CopiedLeads
--- and that records are seen to
-pub mod CopiedWell
+-- heaps in which nothing is hidden
+pub mod NoneHidden
+-- what is left of their adjustment, as parts are picked and called
+pub mod CopyParts
+-- where the records lie whose Adjusts are called
+pub mod Placed
+-- components of access types that Adjusts see to
+pub mod SeenOwners
+-- where the parts lie that are left
+pub mod PartsApart
 -- what every step keeps
 pub mod Invariant
 -- objects are stored in each state
@@ -108,6 +112,8 @@ pub mod Endings
 pub mod Emptying
 -- an exception comes out of an initialization
 pub mod Undone
+-- an object changes whose parts are adjusted
+pub mod AdjustsKept
 -- controlled parts are initialized and finalized
 pub mod Treatments
 -- an Integer or a Boolean goes into an object that is treated
@@ -124,6 +130,10 @@ pub mod FrugalBodies
 pub mod SimpleBodies
 -- they are of the forms of which the laws on tracked components speak
 pub mod OrderlyBodies
+-- bodies that reach no more than their record
+pub mod ConfinedBodies
+-- states in which components hold null are typed
+pub mod TypedAside
 -- no exception comes out of them by what they call implicitly
 pub mod SimpleEffects
 -- procedures that track stand apart
@@ -225,8 +235,8 @@ pub mod AdjustingBegins
 pub mod AdjustingEnters
 -- which Adjust that is
 pub mod TracksAs
--- what is known there where each component counts as an owner
-pub mod PlainAdjusts
+-- what the next operation of a copy sees to
+pub mod CopySteps
 -- what that may free
 mod AdjustedParts
 -- so its body begins in a sound state
@@ -243,6 +253,10 @@ mod AdjustingSteps
 pub mod AdjustingEnds
 -- each step, its end included
 pub mod AdjustingGoes
+-- states in which components of an object are put aside
+mod PutAside
+-- each step of such a body, where other parts of the copy are adjusted later
+pub mod AdjustingCopies
 -- the first state
 pub mod Starts
 -- one step
@@ -348,6 +362,7 @@ pub mod ExampleUndoing
 pub mod ExampleFilling
 -- and those whose Adjust allocates
 pub mod ExampleDuplicating
+pub mod ExamplePairing
 pub mod ExampleCopying
 -- where flow is not agreed with
 pub mod ExampleInside

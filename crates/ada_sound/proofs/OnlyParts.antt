@@ -1,19 +1,16 @@
 -- Records with one controlled part (7.6): it lies in one place alone, and where the record is controlled itself, no component of it has controlled parts.
 
-use Rattle.std.proofs.Common.{◌≡◌, ℕ, zero, suc, ◌+◌, ◌<◌, ◌≤◌, ◌==◌, Bool, true, false, ◌&&◌, ◌||◌, List, [], ◌∷◌, Option, Some, None, arith, refl, sym, ap, ◌∙◌, subst}
+use Rattle.std.proofs.Common.{◌≡◌, ℕ, zero, suc, ◌+◌, ◌<◌, ◌≤◌, ◌==◌, Bool, true, false, ◌&&◌, ◌||◌, List, [], ◌∷◌, Option, Some, None, arith, refl, ap, subst}
 use Rattle.std.specs.Prelude.{nat_lt}
 use Rattle.std.specs.List.{list_all, slice_get}
 use Rattle.std.proofs.lemmas.Bool.{and_parts, eqb-true, ltb-true}
 use Rattle.ada_program.specs.declared.program.ComponentKind.{ComponentKind}
 use Rattle.ada_program.specs.declared.program.Finalization.{Finalization}
-use Rattle.ada_program.specs.declared.program.PartKind.{PartKind}
-use Rattle.ada_program.specs.declared.program.PartKind.TheVariants as part
-use Rattle.ada_program.specs.declared.program.TypeNo.{TypeNo}
 use Rattle.ada_program.specs.Controlled.{number_in}
 use Rattle.ada_program.specs.ProgramForm.{PartForm, TypeForm, record_of, access_to, object_of}
 use Rattle.ada_program.specs.Walks.{Walks, ends, into}
 use Rattle.ada_program.specs.WellFormed.{kind_fits, finalization_in, finalization_of, count_said, part_count, parts_within, is_parent, is_of_earlier, parts_in_order, parent_first, says_parts, is_numbered_alone, type_fits}
-use Rattle.ada_typed.proofs.Parts.{shows_parent, shown_parts}
+use Rattle.ada_typed.proofs.Parts.{shows_parent}
 
 -- A record type that is controlled itself, not only by what lies in it (7.6): it has the parent part.
 pub record IsControlled (types : List TypeForm) (t : ℕ) : Type 0 where
@@ -56,32 +53,6 @@ counted_at types count from (q ∷ ps) (suc i) p ordered at =
     let least = later.0 in
     (omega (arith, least), later.1)
 
--- Where at most one is counted, one declared component alone has a controlled part.
-pub one_alone :
-    (types : List TypeForm) (count from : ℕ) (ps : List PartForm) (i j : ℕ) (p q : PartForm) → parts_in_order types count from ps ≡ true → count ≤ 1 + from
-    → slice_get ps i ≡ Some p → slice_get ps j ≡ Some q → 0 < parts_within types p.kind → 0 < parts_within types q.kind → p ≡ q
-one_alone types count from [] i j p q ordered most at there some more = absurd (cc at)
-one_alone types count from (r ∷ ps) zero zero p q ordered most at there some more = cc (at, there)
-one_alone types count from (r ∷ ps) zero (suc j) p q ordered most at there some more =
-    let one : r ≡ p = cc at in
-    let both = and_parts (r.part == from) (parts_in_order types count (from + parts_within types r.kind) ps) ordered in
-    let later = counted_at types count (from + parts_within types r.kind) ps j q both.1 there in
-    let least = later.0 in
-    let last = later.1 in
-    let here : 0 < parts_within types r.kind = subst (λ (s : PartForm). 0 < parts_within types s.kind) (sym one) some in
-    absurd (omega (arith, most, least, last, here, more))
-one_alone types count from (r ∷ ps) (suc i) zero p q ordered most at there some more =
-    let one : r ≡ q = cc there in
-    let both = and_parts (r.part == from) (parts_in_order types count (from + parts_within types r.kind) ps) ordered in
-    let later = counted_at types count (from + parts_within types r.kind) ps i p both.1 at in
-    let least = later.0 in
-    let last = later.1 in
-    let here : 0 < parts_within types r.kind = subst (λ (s : PartForm). 0 < parts_within types s.kind) (sym one) more in
-    absurd (omega (arith, most, least, last, here, some))
-one_alone types count from (r ∷ ps) (suc i) (suc j) p q ordered most at there some more =
-    let both = and_parts (r.part == from) (parts_in_order types count (from + parts_within types r.kind) ps) ordered in
-    one_alone types count (from + parts_within types r.kind) ps i j p q both.1 (omega (arith, most)) at there some more
-
 -- A parent part is one of the declared components.
 pub parent_at : (ps : List PartForm) → shows_parent ps ≡ true → (i : ℕ) × (p : PartForm) × (slice_get ps i ≡ Some p) × (is_parent p.kind ≡ true)
 parent_at [] own = absurd (cc own)
@@ -92,12 +63,6 @@ parent_at (p ∷ ps) own = go (parent_at ps) (is_parent p.kind) refl own
         → (i : ℕ) × (q : PartForm) × (slice_get (p ∷ ps) i ≡ Some q) × (is_parent q.kind ≡ true)
     go later true is own = (0, p, refl, is)
     go later false is own = let found = later own in (suc found.0, found.1, found.2, found.3)
-
--- It is one controlled part.
-pub parent_counts : (types : List TypeForm) (kind : PartKind) → is_parent kind ≡ true → 0 < parts_within types kind
-parent_counts types (part.Elementary kind) is = absurd (cc is)
-parent_counts types (part.Record t) is = absurd (cc is)
-parent_counts types part.Parent is = omega arith
 
 module _ (types : List TypeForm) (fit : list_all (type_fits types) types ≡ true) where
   -- What a record type says of its controlled parts.
@@ -161,90 +126,3 @@ module _ (types : List TypeForm) (fit : list_all (type_fits types) types ≡ tru
       let within : parts_within types p.kind ≡ part_count types v.0 = ap (parts_within types) is in
       let count : part_count types t ≡ f.parts = ap (λ (o : Option TypeForm). count_said (finalization_in o)) at in
       omega (arith, inside, own, within, count)
-
-  -- No component of a record type has controlled parts that is controlled itself and has only one.
-  pub none_beside :
-      (t i : ℕ) (p : PartForm) (v : TypeNo) (c : IsControlled types t) → part_count types t ≤ 1 → slice_get c.parts i ≡ Some p → p.kind ≡ part.Record v
-      → part_count types v.0 ≡ 0
-  none_beside t i p v c most at is = go (part_count types v.0) refl
-    where
-      own : (j : ℕ) × (q : PartForm) × (slice_get c.parts j ≡ Some q) × (is_parent q.kind ≡ true)
-      own = parent_at c.parts c.own
-
-      count : part_count types t ≡ c.finalization.parts
-      count = ap (λ (o : Option TypeForm). count_said (finalization_in o)) c.declared
-
-      go : (n : ℕ) → part_count types v.0 ≡ n → part_count types v.0 ≡ 0
-      go zero e = e
-      go (suc n) e =
-          let within : parts_within types p.kind ≡ part_count types v.0 = ap (parts_within types) is in
-          let ordered = in_order t c.name c.parts c.components (Some c.finalization) c.declared in
-          let same = one_alone types c.finalization.parts 0 c.parts i own.0 p own.1 ordered (omega (arith, most, count)) at own.2 (omega (arith, within, e))
-          (parent_counts types own.1.kind own.3) in
-          let both : is_parent (part.Record v) ≡ true = ap is_parent (sym is) ∙ ap (λ (q : PartForm). is_parent q.kind) same ∙ own.3 in
-          absurd (cc both)
-
-  pub plain_beside :
-      (t i : ℕ) (p : PartForm) (v : TypeNo) (c : IsControlled types t) → part_count types t ≤ 1 → slice_get c.parts i ≡ Some p → p.kind ≡ part.Record v
-      → finalization_of types v.0 ≡ None
-  plain_beside t i p v c most at is = uncounted v.0 (none_beside t i p v c most at is)
-
-  -- So nothing that has controlled parts lies in it but itself.
-  pub only_itself :
-      (t first k r : ℕ) → IsControlled types t → part_count types t ≤ 1 → Walks types t first k r → (t ≡ r) × (0 ≡ first) × (0 ≡ k)
-  only_itself t _ _ _ c most ends = (refl, refl, refl)
-  only_itself t _ _ r c most (into i first k _ m name ps components f p v at there is known walks) =
-      let same : c.parts ≡ ps = ap shown_parts (sym c.declared ∙ at) in
-      let some = numbered_counts v.0 m known in
-      let none = none_beside t i p v c most (ap (λ (qs : List PartForm). slice_get qs i) same ∙ there) is in
-      absurd (omega (arith, some, none))
-
-  -- Records that are controlled themselves and lie in one with only one controlled part are one record.
-  pub one_place :
-      (t first k r other l u : ℕ) → part_count types t ≤ 1 → IsControlled types r → IsControlled types u → Walks types t first k r → Walks types t other l u
-      → (r ≡ u) × (first ≡ other) × (k ≡ l)
-  one_place t _ _ _ other l u most c d ends walks = only_itself t other l u c most walks
-  one_place t _ _ r other l u most c d (into i first k _ m name ps components f p v at there is known walks) others =
-      by other l u d others (λ x y w own more. one_place v.0 first k r x y w least c own walks more)
-    where
-      ordered : parts_in_order types f.parts 0 ps ≡ true
-      ordered = in_order t name ps components (Some f) at
-
-      count : part_count types t ≡ f.parts
-      count = ap (λ (o : Option TypeForm). count_said (finalization_in o)) at
-
-      within : parts_within types p.kind ≡ part_count types v.0
-      within = ap (parts_within types) is
-
-      least : part_count types v.0 ≤ 1
-      least = let last = (counted_at types f.parts 0 ps i p ordered there).1 in omega (arith, last, count, within, most)
-
-      by : (x y w : ℕ) → IsControlled types w → Walks types t x y w
-          → ((x y w : ℕ) → IsControlled types w → Walks types v.0 x y w → (r ≡ w) × (first ≡ x) × (k ≡ y))
-          → (r ≡ w) × (p.first + first ≡ x) × (p.part + k ≡ y)
-      by _ _ w own ends more =
-          let found = only_itself t (p.first + first) (p.part + k) r own most (into i first k r m name ps components f p v at there is known walks) in
-          (sym found.0, sym found.1, sym found.2)
-      by _ _ w own (into j x y _ n name_two qs components_two g q z at_two there_two is_two known_two further) more =
-          let same : ps ≡ qs = ap shown_parts (sym at ∙ at_two) in
-          let some = numbered_counts v.0 m known in
-          let some_two = numbered_counts z.0 n known_two in
-          let within_two : parts_within types q.kind ≡ part_count types z.0 = ap (parts_within types) is_two in
-          let at_same = ap (λ (rs : List PartForm). slice_get rs j) same ∙ there_two in
-          let one = one_alone types f.parts 0 ps i j p q ordered (omega (arith, most, count)) there at_same
-          (omega (arith, within, some)) (omega (arith, within_two, some_two)) in
-          let kinds : part.Record v ≡ part.Record z = sym is ∙ ap (λ (s : PartForm). s.kind) one ∙ is_two in
-          let type : z ≡ v = cc kinds in
-          let found = more x y w own (subst (λ (a : TypeNo). Walks types a.0 x y w) type further) in
-          let before : p.first ≡ q.first = ap (λ (s : PartForm). s.first) one in
-          let number : p.part ≡ q.part = ap (λ (s : PartForm). s.part) one in
-          let rest = found.1 in
-          let behind = found.2 in
-          (found.0, omega (arith, before, rest), omega (arith, number, behind))
-
-  -- It has the first number.
-  pub first_part : (t first k r : ℕ) → part_count types t ≤ 1 → IsControlled types r → Walks types t first k r → k ≡ 0
-  first_part t first k r most c walks =
-      let some = controlled_counts r c in
-      let within = walked_counts t first k r walks in
-      omega (arith, some, within, most)

@@ -17,12 +17,10 @@ use Rattle.ada_program.specs.declared.program.TypeNo.{TypeNo}
 use Rattle.ada_program.specs.Controlled.{number_in}
 use Rattle.ada_program.specs.ProgramForm.{PartForm, TypeForm, record_of, access_to, object_of}
 use Rattle.ada_program.specs.Walks.{Walks, ends, into}
-use Rattle.ada_program.specs.WellFormed.{kind_fits, finalization_in, part_count, parts_within, is_parent, parts_in_order, parent_first, says_parts, has_number, numbered_types, is_numbered_alone, type_fits, has_parts_from, parts_named}
-use Rattle.ada_typed.specs.Holding.{WalksTo, PartsLie}
+use Rattle.ada_program.specs.WellFormed.{kind_fits, finalization_in, part_count, parts_within, is_parent, parts_in_order, parent_first, says_parts, has_number, numbered_types, is_numbered_alone, type_fits}
+use Rattle.ada_typed.specs.Holding.{WalksTo}
 use Rattle.ada_typed.proofs.Parts.{shows_parent, shown_number, shown_shape, shown_parts, shown_numbered, shown_up_to, shown_shapes}
-use Rattle.ada_typed.proofs.Records.{parts_behind}
-use Rattle.ada_typed.proofs.Walking.{walks_to}
-use Rattle.ada_sound.proofs.OnlyParts.{IsControlled, passed_at, counted_at, in_order, controlled_counts, walked_counts, one_place}
+use Rattle.ada_sound.proofs.OnlyParts.{IsControlled, passed_at, counted_at, in_order, controlled_counts, walked_counts}
 
 -- Declared components that have one controlled part in common are one.
 shared_part :
@@ -60,7 +58,7 @@ no_parent (p ∷ ps) none =
     go true e later = absurd (cc e)
     go false e later = later
 
-behind_parent :
+pub behind_parent :
     (types : List TypeForm) (count : ℕ) (ps : List PartForm) (i : ℕ) (p : PartForm) (v : TypeNo) → parent_first ps ≡ true
     → parts_in_order types count 0 ps ≡ true
     → shows_parent ps ≡ true → slice_get ps i ≡ Some p → p.kind ≡ part.Record v → 0 < p.part
@@ -143,7 +141,7 @@ module _ (types : List TypeForm) (fit : list_all (type_fits types) types ≡ tru
       let both = and_parts (nat_lt f.number.0 (numbered_types types)) (count_by (λ u. has_number f.number.0 (finalization_in (Some u))) types == 1) last in
       (ltb-true f.number.0 (numbered_types types) both.0, eqb-true (count_by (λ u. has_number f.number.0 (finalization_in (Some u))) types) 1 both.1)
 
-  parents_first :
+  pub parents_first :
       (t : ℕ) (name : List ℕ) (ps : List PartForm) (components : List ComponentKind) (o : Option Finalization)
       → slice_get types t ≡ Some (record_of name ps components o)
       → parent_first ps ≡ true
@@ -254,34 +252,3 @@ module _ (types : List TypeForm) (fit : list_all (type_fits types) types ≡ tru
       → l < k + part_count types t → Within t first k u other l
   lies_within_object None first k t other l u c walks others low high = absurd walks
   lies_within_object (Some a) first k t other l u c walks others low high = lies_within a first k t other l u c walks others low high
-
-  -- Where an object has one controlled part, records that are controlled themselves and lie in it are one.
-  pub one_place_to :
-      (object : Option ℕ) (r first k u other l : ℕ) → parts_named types object ≤ 1 → IsControlled types r → IsControlled types u
-      → WalksTo types object (Some r) first k
-      → WalksTo types object (Some u) other l → (r ≡ u) × (first ≡ other) × (k ≡ l)
-  one_place_to None r first k u other l most c d walks others = absurd walks
-  one_place_to (Some a) r first k u other l most c d walks others = one_place types fit a first k r other l u most c d walks others
-
-  pub one_place_lies :
-      (object : Option ℕ) (r first k u other l : ℕ) → parts_named types object ≤ 1 → IsControlled types r → IsControlled types u
-      → PartsLie types object (Some r) first k
-      → PartsLie types object (Some u) other l → (r ≡ u) × (first ≡ other) × (k ≡ l)
-  one_place_lies object r first k u other l most c d lies others =
-      one_place_to object r first k u other l most c d (lies.1 (controlled_counts types fit r c)) (others.1 (controlled_counts types fit u d))
-
-  -- A record that lies in one whose controlled parts lie in an object lies there with its own.
-  parts_on : (count part within : ℕ) → (0 < count → part + count ≤ within) → has_parts_from count part within ≡ true
-  parts_on zero part within fits = refl
-  parts_on (suc n) part within fits = let last = fits (omega arith) in grind (arith, common_steps, last)
-
-  pub lies_on :
-      (object : Option ℕ) (t first k before number u : ℕ) → PartsLie types object (Some t) first k → Walks types t before number u
-      → PartsLie types object (Some u) (first + before) (k + number)
-  lies_on object t first k before number u lies walks =
-      let inside = walked_counts types fit t before number u walks in (
-        parts_on (part_count types u) (k + number) (parts_named types object) (λ some.
-            let outer = parts_behind (part_count types t) k (parts_named types object) (omega (arith, some, inside)) lies.0 in
-            omega (arith, outer, inside)),
-        λ some. walks_to types object (Some t) (Some u) first k before number (lies.1 (omega (arith, some, inside))) walks,
-      )

@@ -1,4 +1,4 @@
--- Types of which a copy adjusts at most one controlled part (7.6), and the components of access types that their declared components have.
+-- Types whose components stand in the order of their declared components (3.8), and the components of access types that these have.
 
 use Rattle.std.proofs.Common.{◌≡◌, ℕ, zero, suc, ◌+◌, ◌-◌, ◌<◌, ◌≤◌, ◌==◌, Bool, true, false, ◌||◌, List, [], ◌∷◌, ◌++◌, length, Option, Some, None, inl, inr, arith, refl, sym, ap, ◌∙◌, subst}
 use Rattle.std.specs.List.{list_all, list_any, slice_get}
@@ -6,7 +6,6 @@ use Rattle.std.proofs.lemmas.Bool.{and_parts, cases_lt, eqb-true}
 use Rattle.ada_parts.proofs.Facts.{eq_self}
 use Rattle.ada_program.specs.declared.program.ComponentKind.{ComponentKind}
 use Rattle.ada_program.specs.declared.program.ComponentKind.TheVariants as component
-use Rattle.ada_program.specs.declared.program.Finalization.{Finalization}
 use Rattle.ada_program.specs.declared.program.PartKind.{PartKind}
 use Rattle.ada_program.specs.declared.program.PartKind.TheVariants as part
 use Rattle.ada_program.specs.declared.program.TypeNo.{TypeNo}
@@ -15,20 +14,15 @@ use Rattle.ada_program.specs.declared.program.VariableKind.TheVariants as variab
 use Rattle.ada_program.specs.ProgramForm.{PartForm, TypeForm}
 use Rattle.ada_program.specs.WellFormed.{is_parent, type_fits, held_kind, component_kind, kind_among, has_record_at, components_lie, is_alike, begins_with}
 use Rattle.ada_typed.proofs.Records.{inside_kind}
-use Rattle.ada_quiet.specs.InUse.{size_of_part, stand_in_a_row, is_copied_alone, count_found}
+use Rattle.ada_quiet.specs.InUse.{size_of_part, stand_in_a_row, is_copied_in_order, count_found}
 use Rattle.ada_flow.specs.Flow.{is_owning, owns_among, is_owning_part}
 use Rattle.ada_flow.specs.Tracking.{number_within, access_numbers}
 
--- The types of a program in which no copy of a record has two parts that are adjusted.
-pub record AreCopiedAlone (types : List TypeForm) : Type 0 where
+-- The types of a program in which the components of each record stand in the order of its declared components.
+pub record AreCopiedInOrder (types : List TypeForm) : Type 0 where
   pub types_fit : list_all (type_fits types) types ≡ true
   pub components_lie : list_all (components_lie types) types ≡ true
-  pub copied_alone : list_all (is_copied_alone types) types ≡ true
-
--- A record type whose objects may not be copied (7.5), if it is one with controlled parts.
-abbrev pub is_limited : Option Finalization → Bool
-is_limited None = false
-is_limited (Some f) = f.limited
+  pub copied_in_order : list_all (is_copied_in_order types) types ≡ true
 
 -- What some element passes, and what none does.
 pub some_passes : {X : Type 0} (test : X → Bool) (xs : List X) → list_any test xs ≡ true → (i : ℕ) × (x : X) × (slice_get xs i ≡ Some x) × (test x ≡ true)

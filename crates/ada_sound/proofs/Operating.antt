@@ -85,10 +85,9 @@ StaysLive Gone = ⊥
 
 -- The body of an operation of this object is in front of this: it begins a part of the object, of this type, or finalizes one, and then what is left of that
 -- comes, and what is behind.
-abbrev pub WaitsFor : List TypeForm → Id → (of : ℕ) → Treatment → (k behind : Control) → Type 0
-WaitsFor types o of (begins by done) k behind = (part : ℕ) × (tasks : List Task) × (behind ≡ frame.Awaits (Names o) by done of part tasks ∷ k)
-WaitsFor types o of (ends cause) k behind =
-    (tasks : List Task) × (behind ≡ frame.Confines ∷ treating (Names o) (ends cause) tasks k) × IsOfCopied types cause tasks k
+abbrev pub WaitsFor : List TypeForm → Id → (of : ℕ) → Treatment → (tasks : List Task) → (k behind : Control) → Type 0
+WaitsFor types o of (begins by done) tasks k behind = (part : ℕ) × (behind ≡ frame.Awaits (Names o) by done of part tasks ∷ k)
+WaitsFor types o of (ends cause) tasks k behind = (behind ≡ frame.Confines ∷ treating (Names o) (ends cause) tasks k) × IsOfCopied types cause tasks k
 
 -- The operation that a procedure overrides is the one that is called: what begins a part of a new object calls Initialize of the part's type, what ends one
 -- calls Finalize, and what begins a part of a copy calls Adjust (7.6).
@@ -260,8 +259,9 @@ pub record Suspended (program : Program) (object : Id) (treatment : Treatment) (
   pub suspensions : List Suspension
   pub after : Control
   pub of : ℕ
-  pub waits : WaitsFor (program_form program).types object of treatment after behind
-  pub treats : TreatsBy (known_in program caller.procedure suspensions) (Names object) treatment after s.heap caller.places caller.operands lower
+  pub tasks : List Task
+  pub waits : WaitsFor (program_form program).types object of treatment tasks after behind
+  pub treats : TreatsBy (known_in program caller.procedure suspensions) (Names object) treatment tasks after s.heap caller.places caller.operands lower
   pub stands : Stands program suspensions (behind_operation (caller ∷ rest) behind lower s)
   pub calm : IsCalm (behind_call behind)
   pub settled : under_in (callers_of program suspensions) ≡ []

@@ -149,9 +149,9 @@ module _ (program : Program) (well : IsWellFormed (program_form program)) (of nu
       let more : body_raises no_calls b (λ f. true) ≡ true = body_more no_calls tt (program_form program).types b (is_same e) (λ f. true) (λ f same. refl) may in
       cc (none, more)
 
-  comes_out : (a : Activation Value) (rest : List (Activation Value)) (o : Id) (heap : List Object) (x : Object) → object_at heap o ≡ Some x → (treatment : Treatment) (k behind : Control) → LetsNothingOut treatment b → IsCalled (operations_of program.types.items of) treatment number → (types : List TypeForm) → WaitsFor types o of treatment k behind
+  comes_out : (a : Activation Value) (rest : List (Activation Value)) (o : Id) (heap : List Object) (x : Object) → object_at heap o ≡ Some x → (treatment : Treatment) (tasks : List Task) (k behind : Control) → LetsNothingOut treatment b → IsCalled (operations_of program.types.items of) treatment number → (types : List TypeForm) → WaitsFor types o of treatment tasks k behind
       → typed.Waiting (program_form program) (cells_of heap) (Some number) (Returns [] [] ∷ behind) (a ∷ rest) → (e : Exception) → body_raises no_calls b (is_same e) ≡ true → lets_out (implicit_of (program_form program)) x.cell.access treatment e ≡ true
-  comes_out a rest o heap x found (begins Creation done) k behind quiet called types (part, tasks, is) waiting e may =
+  comes_out a rest o heap x found (begins Creation done) tasks k behind quiet called types (part, is) waiting e may =
       let t : typed.IsTreated (seen_in a.procedure (program_form program)).types (cells_of heap) (Names o) (begins Creation done) (performs of part ∷ tasks) =
       part_behind (program_form program) (cells_of heap) (Some number) (Names o) Creation done of part tasks k a rest (rw is at waiting) in
       let operable : IsOperable (program_form program).types t.0 of part =
@@ -162,9 +162,9 @@ module _ (program : Program) (well : IsWellFormed (program_form program)) (of nu
     where
       some_same : {c d : Cell Value} → Some c ≡ Some d → c ≡ d
       some_same e' = cc e'
-  comes_out a rest o heap x found (begins Copy done) k behind quiet called types waits waiting e may = absurd (none_out quiet e may)
-  comes_out a rest o heap x found (begins (Adjustment n) done) k behind quiet called types waits waiting e may = absurd (none_out quiet e may)
-  comes_out a rest o heap x found (ends cause) k behind quiet called types waits waiting e may = absurd (none_out quiet e may)
+  comes_out a rest o heap x found (begins Copy done) tasks k behind quiet called types waits waiting e may = absurd (none_out quiet e may)
+  comes_out a rest o heap x found (begins (Adjustment n) done) tasks k behind quiet called types waits waiting e may = absurd (none_out quiet e may)
+  comes_out a rest o heap x found (ends cause) tasks k behind quiet called types waits waiting e may = absurd (none_out quiet e may)
 
 -- The body begins.
 module _ (program : Program) (well : IsWellFormed (program_form program)) (a : Activation Value) (rest : List (Activation Value)) (gs : List Suspension) (s : State) (k : Control) where
@@ -172,11 +172,11 @@ module _ (program : Program) (well : IsWellFormed (program_form program)) (a : A
       → typed.Typed (program_form program) after → (c : Begins (known_in program a.procedure gs) a rest s program.types.items (body_forms program) k IsOperated e after) → PlainBody (program_form program).types c.b × LetsNothingOut c.treatment c.b → Operates program after
   begins_operation IsOperated e after stands calm settled typing c (plain, quiet) =
       let begun = operating named c.number c.b (Part c.o c.place) c.behind (record (running k a rest s) { heap = c.heap }) in
-      let waits = subst (λ (types : List TypeForm). WaitsFor types c.o c.of c.treatment k c.behind) (same_types a.procedure (program_form program)) c.waits in
+      let waits = subst (λ (types : List TypeForm). WaitsFor types c.o c.of c.treatment c.tasks k c.behind) (same_types a.procedure (program_form program)) c.waits in
       let now : typed.Typed (program_form program) begun = rw c.is at typing in
       let inside : typed.TypedIn (seen_in (Some c.number) (program_form program)) begun = now.inside in
       let own : typed.TypedIn (seen_by c.number c.b (program_form program)) begun = rw (seen_as (program_form program) c.number c.b c.there) at inside in
-      rw c.is (operation_begins program c.number c.b c.there plain a rest gs s stands c.o c.of c.treatment k c.behind (Part c.o c.place)
+      rw c.is (operation_begins program c.number c.b c.there plain a rest gs s stands c.o c.of c.treatment c.tasks k c.behind (Part c.o c.place)
       e c.heap c.x c.found c.live c.alters waits c.treats
       (formal_holds program c.number c.b c.o c.place begun (_, refl) c.x c.found own) (scalars_hold program c.number c.b c.o c.place begun (_, refl) c.x c.found own) calm settled
-      (comes_out program well c.of c.number c.b c.there a rest c.o c.heap c.x c.found c.treatment k c.behind quiet c.called (program_form program).types waits (now.waiting)))
+      (comes_out program well c.of c.number c.b c.there a rest c.o c.heap c.x c.found c.treatment c.tasks k c.behind quiet c.called (program_form program).types waits (now.waiting)))

@@ -3,6 +3,7 @@
 use Rattle.std.proofs.Common.{◌≡◌, ℕ, true, List, ◌∷◌, refl, inl, subst, sym}
 use Rattle.std.specs.Prelude.{Some}
 use Rattle.std.specs.List.{slice_set}
+use Rattle.ada_parts.specs.Task.{Task}
 use Rattle.ada_program.specs.declared.program.Exception.{Exception}
 use Rattle.ada_program.specs.declared.program.Program.{Program}
 use Rattle.ada_program.specs.ProgramForm.{program_form, TypeForm}
@@ -30,29 +31,29 @@ pub is_live : (heap : List Object) (o : Id) (x : Object) → object_at heap o �
 is_live heap o x found live = (x.cell, rw found (found_by x x.stage live))
 
 -- What is behind the body of an operation is ready.
-pub ready_for : (known : Known) (o : Id) (of : ℕ) (treatment : Treatment) (k behind : Control) (heap : List Object) (places operands : List Value) (ms : List Master) → IsLive heap (Names o) → WaitsFor known.program.types o of treatment k behind → TreatsBy known (Names o) treatment k heap places operands ms → ReadyIn known Running behind heap places operands ms
-ready_for known o of (begins by done) k behind heap places operands ms live (part, tasks, is) r = rw is (live, r)
-ready_for known o of (ends cause) k behind heap places operands ms live (tasks, is, inside) r = rw is (Names o, cause, tasks, k, refl, r, inside)
+pub ready_for : (known : Known) (o : Id) (of : ℕ) (treatment : Treatment) (tasks : List Task) (k behind : Control) (heap : List Object) (places operands : List Value) (ms : List Master) → IsLive heap (Names o) → WaitsFor known.program.types o of treatment tasks k behind → TreatsBy known (Names o) treatment tasks k heap places operands ms → ReadyIn known Running behind heap places operands ms
+ready_for known o of (begins by done) tasks k behind heap places operands ms live (part, is) r = rw is (live, r)
+ready_for known o of (ends cause) tasks k behind heap places operands ms live (is, inside) r = rw is (Names o, cause, tasks, k, refl, r, inside)
 
 -- So it is where an exception comes out of the body: the object is a new one, which is undone then.
-pub ready_raising : (known : Known) (o : Id) (of : ℕ) (treatment : Treatment) (access : ℕ) (k behind : Control) (heap : List Object) (places operands : List Value) (ms : List Master) (e : Exception) (x : Object) → object_at heap o ≡ Some x → x.cell.access ≡ access → IsLive heap (Names o) → WaitsFor known.program.types o of treatment k behind
-    → lets_out known.implicit access treatment e ≡ true → TreatsBy known (Names o) treatment k heap places operands ms → ReadyIn known (Raising e) behind heap places operands ms
-ready_raising known o of (begins Creation done) access k behind heap places operands ms e x found same live (part, tasks, is) out r =
+pub ready_raising : (known : Known) (o : Id) (of : ℕ) (treatment : Treatment) (access : ℕ) (tasks : List Task) (k behind : Control) (heap : List Object) (places operands : List Value) (ms : List Master) (e : Exception) (x : Object) → object_at heap o ≡ Some x → x.cell.access ≡ access → IsLive heap (Names o) → WaitsFor known.program.types o of treatment tasks k behind
+    → lets_out known.implicit access treatment e ≡ true → TreatsBy known (Names o) treatment tasks k heap places operands ms → ReadyIn known (Raising e) behind heap places operands ms
+ready_raising known o of (begins Creation done) access tasks k behind heap places operands ms e x found same live (part, is) out r =
     rw is (refl, live, r.1.0, (o, x, refl, found, rw same out), r.1.1 e (o, x, refl, found, rw same out))
-ready_raising known o of (begins Copy done) access k behind heap places operands ms e x found same live waits out r = absurd (cc out)
-ready_raising known o of (begins (Adjustment number) done) access k behind heap places operands ms e x found same live waits out r = absurd (cc out)
-ready_raising known o of (ends cause) access k behind heap places operands ms e x found same live waits out r = absurd (cc out)
+ready_raising known o of (begins Copy done) access tasks k behind heap places operands ms e x found same live waits out r = absurd (cc out)
+ready_raising known o of (begins (Adjustment number) done) access tasks k behind heap places operands ms e x found same live waits out r = absurd (cc out)
+ready_raising known o of (ends cause) access tasks k behind heap places operands ms e x found same live waits out r = absurd (cc out)
 
 module _ (program : Program) (o : Id) (treatment : Treatment) (caller : Activation Value) (rest : List (Activation Value)) (behind : Control) (lower : List Master) where
   -- The types are those that the caller sees.
-  waits_as : (s : State) (w : Suspended program o treatment caller rest behind lower s) → WaitsFor (known_in program caller.procedure w.suspensions).program.types o w.of treatment w.after behind
-  waits_as s w = subst (λ (types : List TypeForm). WaitsFor types o w.of treatment w.after behind) (sym (same_types caller.procedure (program_form program))) w.waits
+  waits_as : (s : State) (w : Suspended program o treatment caller rest behind lower s) → WaitsFor (known_in program caller.procedure w.suspensions).program.types o w.of treatment w.tasks w.after behind
+  waits_as s w = subst (λ (types : List TypeForm). WaitsFor types o w.of treatment w.tasks w.after behind) (sym (same_types caller.procedure (program_form program))) w.waits
 
   -- The body ends: what waits for it goes on.
   pub goes_behind : (s : State) (x : Object) → object_at s.heap o ≡ Some x → StaysLive x.stage → (w : Suspended program o treatment caller rest behind lower s) → CrossesTo program w.suspensions s.heap Quiet (behind_operation (caller ∷ rest) behind lower s)
   goes_behind s x found live w = record {
     stepped = stays (known_in program caller.procedure w.suspensions) Quiet (behind_operation (caller ∷ rest) behind lower s)
-        (tt, ready_for (known_in program caller.procedure w.suspensions) o w.of treatment w.after behind s.heap caller.places caller.operands lower (is_live s.heap o x found live) (waits_as s w) w.treats) tt;
+        (tt, ready_for (known_in program caller.procedure w.suspensions) o w.of treatment w.tasks w.after behind s.heap caller.places caller.operands lower (is_live s.heap o x found live) (waits_as s w) w.treats) tt;
     stands = w.stands;
   }
 
@@ -61,7 +62,7 @@ module _ (program : Program) (o : Id) (treatment : Treatment) (caller : Activati
       → CrossesTo program w.suspensions s.heap Quiet (record (behind_operation (caller ∷ rest) behind lower s) { mode = Raising e })
   raises_behind s access e x found same live out w = record {
     stepped = stays (known_in program caller.procedure w.suspensions) Quiet (record (behind_operation (caller ∷ rest) behind lower s) { mode = Raising e })
-        (tt, ready_raising (known_in program caller.procedure w.suspensions) o w.of treatment access w.after behind s.heap caller.places caller.operands lower e x found same (is_live s.heap o x found live) (waits_as s w) out w.treats) tt;
+        (tt, ready_raising (known_in program caller.procedure w.suspensions) o w.of treatment access w.tasks w.after behind s.heap caller.places caller.operands lower e x found same (is_live s.heap o x found live) (waits_as s w) out w.treats) tt;
     stands = stands_kept program (behind_operation (caller ∷ rest) behind lower s) (record (behind_operation (caller ∷ rest) behind lower s) { mode = Raising e }) w.suspensions w.stands Quiet
         (record { procedure = refl; suspended = refl }) (alters_same s.heap Quiet);
   }
@@ -72,8 +73,9 @@ module _ (program : Program) (o : Id) (treatment : Treatment) (caller : Activati
     suspensions = w.suspensions;
     after = w.after;
     of = w.of;
+    tasks = w.tasks;
     waits = w.waits;
-    treats = rw heap (treats_written c v nameless (known_in program caller.procedure w.suspensions) lower s.heap o x found treatment caller.places caller.operands w.after w.treats);
+    treats = rw heap (treats_written c v nameless (known_in program caller.procedure w.suspensions) lower s.heap o x found treatment w.tasks caller.places caller.operands w.after w.treats);
     stands = stands_kept program (behind_operation (caller ∷ rest) behind lower s) (behind_operation (caller ∷ rest) behind lower after) w.suspensions w.stands Quiet
         (record { procedure = refl; suspended = refl })
         (rw heap (alters_set s.heap Quiet o x (filled c v x) found (refl, refl, refl) (λ h. h) (λ h. inl h)));
@@ -87,6 +89,7 @@ module _ (program : Program) (o : Id) (treatment : Treatment) (caller : Activati
     suspensions = w.suspensions;
     after = w.after;
     of = w.of;
+    tasks = w.tasks;
     waits = w.waits;
     treats = rw heap w.treats;
     stands = stands_kept program (behind_operation (caller ∷ rest) behind lower s) (behind_operation (caller ∷ rest) behind lower after) w.suspensions w.stands Quiet

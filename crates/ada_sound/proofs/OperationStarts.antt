@@ -3,6 +3,7 @@
 use Rattle.std.proofs.Common.{◌≡◌, ℕ, zero, suc, Bool, true, false, List, [], ◌∷◌, drop, refl, sym, subst, ◌⊎◌, inl, inr}
 use Rattle.std.specs.Prelude.{Some, ◌||◌, ◌&&◌, not}
 use Rattle.std.specs.List.{list_all, slice_get}
+use Rattle.ada_parts.specs.Task.{Task}
 use Rattle.ada_program.specs.declared.program.Exception.{Exception}
 use Rattle.ada_program.specs.declared.program.Program.{Program}
 use Rattle.ada_program.specs.declared.program.VariableKind.{VariableKind}
@@ -103,22 +104,22 @@ starts sight b same out plain behind m = (
 )
 
 -- No operation but this one runs.
-pub calm_behind : (types : List TypeForm) (o : Id) (of : ℕ) (treatment : Treatment) (k behind : Control) → WaitsFor types o of treatment k behind → IsCalm (behind_call k) → IsCalm (behind_call behind)
-calm_behind types o of (begins by done) k behind (part, tasks, is) calm = rw is calm
-calm_behind types o of (ends cause) k behind (tasks, is, inside) calm = rw (is, behind_treating (Names o) (ends cause) tasks k) calm
+pub calm_behind : (types : List TypeForm) (o : Id) (of : ℕ) (treatment : Treatment) (tasks : List Task) (k behind : Control) → WaitsFor types o of treatment tasks k behind → IsCalm (behind_call k) → IsCalm (behind_call behind)
+calm_behind types o of (begins by done) tasks k behind (part, is) calm = rw is calm
+calm_behind types o of (ends cause) tasks k behind (is, inside) calm = rw (is, behind_treating (Names o) (ends cause) tasks k) calm
 
 -- What waits for an operation is behind the end of its body.
-pub is_awaited : (types : List TypeForm) (o : Id) (of : ℕ) (treatment : Treatment) (k behind : Control) → WaitsFor types o of treatment k behind → IsAwaited behind
-is_awaited types o of (begins by done) k behind (part, tasks, is) = subst IsAwaited (sym is) tt
-is_awaited types o of (ends cause) k behind (tasks, is, inside) = subst IsAwaited (sym is) tt
+pub is_awaited : (types : List TypeForm) (o : Id) (of : ℕ) (treatment : Treatment) (tasks : List Task) (k behind : Control) → WaitsFor types o of treatment tasks k behind → IsAwaited behind
+is_awaited types o of (begins by done) tasks k behind (part, is) = subst IsAwaited (sym is) tt
+is_awaited types o of (ends cause) tasks k behind (is, inside) = subst IsAwaited (sym is) tt
 
 -- The operation of a part of an object begins: what waits for it is behind the treatment of the object.
-module _ (program : Program) (number : ℕ) (b : BodyForm) (there : slice_get (body_forms program) number ≡ Some b) (plain : PlainBody (program_form program).types b) (caller : Activation Value) (rest : List (Activation Value)) (gs : List Suspension) (s : State) (stands : Stands program gs (record s { activations = caller ∷ rest })) (o : Id) (of : ℕ) (treatment : Treatment) (k behind : Control) (reference : Value) where
+module _ (program : Program) (number : ℕ) (b : BodyForm) (there : slice_get (body_forms program) number ≡ Some b) (plain : PlainBody (program_form program).types b) (caller : Activation Value) (rest : List (Activation Value)) (gs : List Suspension) (s : State) (stands : Stands program gs (record s { activations = caller ∷ rest })) (o : Id) (of : ℕ) (treatment : Treatment) (tasks : List Task) (k behind : Control) (reference : Value) where
   abbrev pub sight : Object → Sight
   sight x = record { program = seen_by number b (program_form program); object = o; access = x.cell.access }
 
-  pub operation_begins : (e : Event) (heap : List Object) (x : Object) → object_at heap o ≡ Some x → StaysLive x.stage → Alters s.heap e heap → WaitsFor (program_form program).types o of treatment k behind
-      → TreatsBy (known_in program caller.procedure gs) (Names o) treatment k heap caller.places caller.operands s.masters
+  pub operation_begins : (e : Event) (heap : List Object) (x : Object) → object_at heap o ≡ Some x → StaysLive x.stage → Alters s.heap e heap → WaitsFor (program_form program).types o of treatment tasks k behind
+      → TreatsBy (known_in program caller.procedure gs) (Names o) treatment tasks k heap caller.places caller.operands s.masters
       → Holds (sight x) (variable_kind b.variables 0) reference → HoldScalars (sight x) x → IsCalm (behind_call k) → under_in (callers_of program gs) ≡ []
       → ((e' : Exception) → body_raises no_calls b (is_same e') ≡ true → lets_out (implicit_of (program_form program)) x.cell.access treatment e' ≡ true)
       → Operates program (operating named number b reference behind (record s { activations = caller ∷ rest; heap = heap; mode = Running }))
@@ -155,11 +156,12 @@ module _ (program : Program) (number : ℕ) (b : BodyForm) (there : slice_get (b
           suspensions = gs;
           after = k;
           of = of;
+          tasks = tasks;
           waits = waits;
           treats = treats;
           stands = stands_kept program (record s { activations = caller ∷ rest }) (behind_operation (caller ∷ rest) behind s.masters after) gs stands e
               (record { procedure = refl; suspended = refl }) alters;
-          calm = calm_behind (program_form program).types o of treatment k behind waits calm;
+          calm = calm_behind (program_form program).types o of treatment tasks k behind waits calm;
           settled = settled;
         };
         prepared = rw (seen_as (program_form program) number b there) out;

@@ -28,7 +28,7 @@ use Rattle.ada_sound.proofs.SimpleBodies.{simple_parts}
 use Rattle.ada_sound.proofs.WatchedBy.{hold_bare}
 
 -- What is held is there, and no record (3.3.1).
-abbrev is_value : Option VariableKind → Bool
+abbrev pub is_value : Option VariableKind → Bool
 is_value None = false
 is_value (Some variable.Integer) = true
 is_value (Some variable.Boolean) = true
@@ -36,21 +36,21 @@ is_value (Some (variable.Access access)) = true
 is_value (Some (variable.Record object)) = false
 
 -- So it is with what has a type, or an access type, is compared with null, or is assigned to.
-scalar_value : (found : Option VariableKind) (t : ScalarType) → scalar_of found ≡ Some t → is_value found ≡ true
+pub scalar_value : (found : Option VariableKind) (t : ScalarType) → scalar_of found ≡ Some t → is_value found ≡ true
 scalar_value None t is = absurd (cc is)
 scalar_value (Some variable.Integer) t is = refl
 scalar_value (Some variable.Boolean) t is = refl
 scalar_value (Some (variable.Access access)) t is = refl
 scalar_value (Some (variable.Record object)) t is = absurd (cc is)
 
-access_value : (found : Option VariableKind) → is_some (value_access found) ≡ true → is_value found ≡ true
+pub access_value : (found : Option VariableKind) → is_some (value_access found) ≡ true → is_value found ≡ true
 access_value None is = absurd (cc is)
 access_value (Some variable.Integer) is = refl
 access_value (Some variable.Boolean) is = refl
 access_value (Some (variable.Access access)) is = refl
 access_value (Some (variable.Record object)) is = absurd (cc is)
 
-this_there : (access : ℕ) (t : Option ℕ) → is_this access t ≡ true → is_some t ≡ true
+pub this_there : (access : ℕ) (t : Option ℕ) → is_this access t ≡ true → is_some t ≡ true
 this_there access None is = absurd (cc is)
 this_there access (Some t) is = refl
 
@@ -58,11 +58,11 @@ freed_there : (types : List TypeForm) (access : ℕ) (t : Option ℕ) → is_fre
 freed_there types access None is = absurd (cc is)
 freed_there types access (Some t) is = refl
 
-tested_there : (access : Option ℕ) (t : ScalarType) → (if is_some access then Some Boolean else None) ≡ Some t → is_some access ≡ true
+pub tested_there : (access : Option ℕ) (t : ScalarType) → (if is_some access then Some Boolean else None) ≡ Some t → is_some access ≡ true
 tested_there None t is = absurd (cc is)
 tested_there (Some access) t is = refl
 
-right_value : (types : List TypeForm) (variables : List VariableForm) (found : Option VariableKind) (right : RightForm) → right_fits types variables found right ≡ true → is_value found ≡ true
+pub right_value : (types : List TypeForm) (variables : List VariableForm) (found : Option VariableKind) (right : RightForm) → right_fits types variables found right ≡ true → is_value found ≡ true
 right_value types variables None right fit = absurd (cc fit)
 right_value types variables (Some variable.Integer) right fit = refl
 right_value types variables (Some variable.Boolean) right fit = refl
@@ -70,7 +70,7 @@ right_value types variables (Some (variable.Access access)) right fit = refl
 right_value types variables (Some (variable.Record object)) right fit = absurd (cc fit)
 
 -- It is there, and where it is that of a path without selectors, so it is with its variable.
-value_there : (found : Option VariableKind) → is_value found ≡ true → is_some found ≡ true
+pub value_there : (found : Option VariableKind) → is_value found ≡ true → is_some found ≡ true
 value_there None is = absurd (cc is)
 value_there (Some kind) is = refl
 
@@ -108,11 +108,11 @@ module _ (types : List TypeForm) (tracks : Tracks) (own : List VariableForm) (tr
   root_within : (x : ℕ) → is_some (variable_kind own x) ≡ true → x < tracks.first
   root_within x is = let less = variable_within own x is in omega (arith, less, tracking.behind)
 
-  variable_orderly : (x : ℕ) → is_value (variable_kind own x) ≡ true → IsVariable tracks.first x
+  pub variable_orderly : (x : ℕ) → is_value (variable_kind own x) ≡ true → IsVariable tracks.first x
   variable_orderly x is = (behind_formal x is, root_within x (value_there (variable_kind own x) is))
 
   -- Paths to values (4.1).
-  path_from : (of_record : Bool) (root : ℕ) (cs : List ℕ) → is_value (selectors_kind types (root_kind of_record (variable_kind own root)) cs) ≡ true → IsFrom tracks.first root cs
+  pub path_from : (of_record : Bool) (root : ℕ) (cs : List ℕ) → is_value (selectors_kind types (root_kind of_record (variable_kind own root)) cs) ≡ true → IsFrom tracks.first root cs
   path_from of_record root [] is = variable_orderly root (root_value of_record (variable_kind own root) is)
   path_from of_record root (c ∷ cs) is =
       root_within root (root_there types of_record (variable_kind own root) (c ∷ cs) (value_there (selectors_kind types (root_kind of_record (variable_kind own root)) (c ∷ cs)) is))
@@ -236,7 +236,7 @@ module _ (types : List TypeForm) (tracks : Tracks) (own : List VariableForm) (tr
   -- Statements (5.1).
   module _ (texts exceptions : List (List ℕ)) (callable : List Profile) where
     mutual
-      statement_orderly : (inside : Bool) (f : StmtForm) → statement_fits types own texts exceptions callable inside f ≡ true → is_simple_stmt types f ≡ true → StatementIsOrderly tracks f
+      statement_orderly : (inside : Bool) (f : StmtForm) → statement_fits types own texts exceptions callable inside f ≡ true → is_simple_stmt types true f ≡ true → StatementIsOrderly tracks f
       statement_orderly inside skips fit simple = tt
       statement_orderly inside (assigns target right) fit simple =
           let fits = (apart _ _ fit).0 in
@@ -273,14 +273,14 @@ module _ (types : List TypeForm) (tracks : Tracks) (own : List VariableForm) (tr
           let firsts = apart _ _ simples.0 in
           (declarations_orderly ds fronts.0 firsts.0, statements_orderly inside fs fronts.1 firsts.1, handlers_orderly inside hs fits.1 simples.1)
 
-      statements_orderly : (inside : Bool) (fs : StmtsForm) → stmts_fit types own texts exceptions callable inside fs ≡ true → are_simple types fs ≡ true → StatementsAreOrderly tracks fs
+      statements_orderly : (inside : Bool) (fs : StmtsForm) → stmts_fit types own texts exceptions callable inside fs ≡ true → are_simple types true fs ≡ true → StatementsAreOrderly tracks fs
       statements_orderly inside no_stmts fit simple = tt
       statements_orderly inside (a_stmt f fs) fit simple =
           let fits = apart _ _ fit in
           let simples = apart _ _ simple in
           (statement_orderly inside f fits.0 simples.0, statements_orderly inside fs fits.1 simples.1)
 
-      branches_orderly : (inside : Bool) (branches : BranchesForm) → branches_fit types own texts exceptions callable inside branches ≡ true → are_simple_branches types branches ≡ true → BranchesAreOrderly tracks branches
+      branches_orderly : (inside : Bool) (branches : BranchesForm) → branches_fit types own texts exceptions callable inside branches ≡ true → are_simple_branches types true branches ≡ true → BranchesAreOrderly tracks branches
       branches_orderly inside (otherwise fs) fit simple = statements_orderly inside fs fit simple
       branches_orderly inside (a_branch e fs branches) fit simple =
           let fits = apart _ _ fit in
@@ -288,7 +288,7 @@ module _ (types : List TypeForm) (tracks : Tracks) (own : List VariableForm) (tr
           let simples = apart _ _ simple in
           (typed_orderly Boolean e fronts.0, statements_orderly inside fs fronts.1 simples.0, branches_orderly inside branches fits.1 simples.1)
 
-      handlers_orderly : (inside : Bool) (hs : HandlersForm) → handlers_fit types own texts exceptions callable inside hs ≡ true → are_simple_handlers types hs ≡ true → HandlersAreOrderly tracks hs
+      handlers_orderly : (inside : Bool) (hs : HandlersForm) → handlers_fit types own texts exceptions callable inside hs ≡ true → are_simple_handlers types true hs ≡ true → HandlersAreOrderly tracks hs
       handlers_orderly inside no_handlers fit simple = tt
       handlers_orderly inside (a_handler choices fs hs) fit simple =
           let fits = apart _ _ fit in
@@ -299,7 +299,7 @@ module _ (types : List TypeForm) (tracks : Tracks) (own : List VariableForm) (tr
 -- In a well-formed program a simple body is orderly, if it tracks components of its formal parameter.
 pub orderly_body :
     (p : ProgramForm) → IsWellFormed p → (number : ℕ) (b : BodyForm) → slice_get p.bodies number ≡ Some b → (tracks : Tracks) → TracksComponents p.types tracks b.variables
-    → is_simple_body p.types b ≡ true → BodyIsOrderly tracks b
+    → is_simple_body p.types true b ≡ true → BodyIsOrderly tracks b
 orderly_body p well number b there tracks tracking is =
     let own = seen_by number b p in
     let fit : SeenFits own = subst SeenFits (seen_as p number b there) (seen_fits p well (Some number)) in
@@ -311,5 +311,5 @@ orderly_body p well number b there tracks tracking is =
     }
 
 -- Each variable of it but the formal parameter holds an Integer, a Boolean, or values of an access type whose objects have no controlled parts.
-pub lone_body : (types : List TypeForm) (b : BodyForm) → is_simple_body types b ≡ true → hold_bare types (drop 1 b.variables) ≡ true
+pub lone_body : (types : List TypeForm) (b : BodyForm) → is_simple_body types true b ≡ true → hold_bare types (drop 1 b.variables) ≡ true
 lone_body types b is = (simple_parts types b is).variables

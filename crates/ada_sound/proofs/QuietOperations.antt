@@ -25,7 +25,7 @@ use Rattle.ada_scopes.specs.Scopes.{NestsAnywhere, AllNestAnywhere, OperationsNe
 use Rattle.ada_quiet.specs.Apart.{is_this_one, is_adjust_of}
 use Rattle.ada_quiet.specs.Quiet.{is_quiet_stmt, are_quiet, are_quiet_branches, are_quiet_handlers, are_quiet_declarations, is_plain_body, is_plain_procedure, is_quiet_procedure, is_plain_operation, is_quiet_operation, has_access, operation_body}
 use Rattle.ada_quiet.specs.Frugal.{is_frugal_body, frugal_procedures, thrift_of, is_frugal_operation, own_effects, is_silent_procedure, is_silent_operation}
-use Rattle.ada_quiet.specs.InUse.{may_be_frugal, uses_initialize, uses_finalize, uses_operations, operations_are_in_use, may_track, uses_adjust}
+use Rattle.ada_quiet.specs.InUse.{may_be_frugal, uses_initialize, uses_finalize, uses_operations, operations_are_in_use, adjusts_alone, may_track, uses_adjust}
 use Rattle.ada_quiet.specs.Simple.{is_simple_body, is_simple_procedure, is_simple_operation}
 use Rattle.ada_quiet.proofs.FrugalAt.{frugal_at}
 use Rattle.ada_quiet.proofs.InUse.{plain_procedure, plain_operation}
@@ -36,7 +36,7 @@ use Rattle.ada_meaning.specs.declared.event.Birth.TheVariants.{Creation, Copy, A
 use Rattle.ada_meaning.specs.declared.event.Cause.{Cause}
 use Rattle.ada_meaning.specs.Frame.{Treatment, begins, ends}
 use Rattle.ada_sound.proofs.FrugalBodies.{frugal_nests}
-use Rattle.ada_sound.proofs.SimpleBodies.{simple_nests}
+use Rattle.ada_sound.proofs.SimpleBodies.{simple_nests, simple_with}
 use Rattle.ada_sound.proofs.Operating.{IsCalled, PlainBody}
 
 -- Quiet statements create nothing but Integers and Booleans.
@@ -140,7 +140,7 @@ module _ (p : ProgramForm) where
   IsSilent number = is_silent_procedure (own_effects p) (slice_get p.bodies number) ≡ true
 
   abbrev pub IsSimple : ℕ → Type 0
-  IsSimple number = (may_track p ≡ true) × (is_simple_procedure p.types (slice_get p.bodies number) ≡ true)
+  IsSimple number = (may_track p ≡ true) × (is_simple_procedure p.types (adjusts_alone p) (slice_get p.bodies number) ≡ true)
 
   -- What overrides Initialize is plain or frugal, what overrides Adjust is quiet, or simple and silent and of a type that owns, and what overrides Finalize is
   -- quiet, or frugal and silent.
@@ -175,7 +175,9 @@ module _ (p : ProgramForm) where
           let both = apart (may_be_frugal p) (is_frugal_operation p o) three.0 in
           inr ((both.0, frugal_one o number both.1 is), silent_one o number three.1 is)
 
-  simple_one : (o : Option ProcedureNo) (number : ℕ) → is_simple_operation p o ≡ true → procedure_number o ≡ Some number → is_simple_procedure p.types (slice_get p.bodies number) ≡ true
+  simple_one :
+      (o : Option ProcedureNo) (number : ℕ) → is_simple_operation p (adjusts_alone p) o ≡ true → procedure_number o ≡ Some number
+      → is_simple_procedure p.types (adjusts_alone p) (slice_get p.bodies number) ≡ true
   simple_one None number simple is = absurd (cc is)
   simple_one (Some procedure) number simple is = let same : procedure.0 ≡ number = cc is in rw same at simple
 
@@ -183,12 +185,12 @@ module _ (p : ProgramForm) where
   adjust_one owns o number uses is = by (owns && is_some (operation_body p o)) refl uses
     where
       by : (tracks : Bool) → (owns && is_some (operation_body p o)) ≡ tracks
-          → (if tracks then may_track p && is_simple_operation p o && is_silent_operation p o else is_quiet_operation p o) ≡ true
+          → (if tracks then may_track p && is_simple_operation p (adjusts_alone p) o && is_silent_operation p o else is_quiet_operation p o) ≡ true
           → IsQuiet number ⊎ (IsSimple number × IsSilent number × (owns ≡ true))
       by false so uses' = inl (quiet_one o number uses' is)
       by true so uses' =
-          let three = apart (may_track p && is_simple_operation p o) (is_silent_operation p o) uses' in
-          let both = apart (may_track p) (is_simple_operation p o) three.0 in
+          let three = apart (may_track p && is_simple_operation p (adjusts_alone p) o) (is_silent_operation p o) uses' in
+          let both = apart (may_track p) (is_simple_operation p (adjusts_alone p) o) three.0 in
           inr ((both.0, simple_one o number both.1 is), silent_one o number three.1 is, (apart owns (is_some (operation_body p o)) so).0)
 
   initialize_one : (o : Option ProcedureNo) (number : ℕ) → uses_initialize p o ≡ true → procedure_number o ≡ Some number → IsPlain number ⊎ IsFrugal number
@@ -310,7 +312,7 @@ module _ (p : ProgramForm) where
     where
       by : IsQuiet procedure.0 ⊎ (IsSimple procedure.0 × IsSilent procedure.0 × (owns ≡ true)) → NestsAnywhere (callees_of p) (Some procedure)
       by (inl quiet) = plain_nests t (Some procedure) right (plain_operation p (Some procedure) quiet)
-      by (inr both) = let b = there_one t (Some procedure) procedure.0 right refl in nests_there procedure.0 b.0 b.1 (λ callees around. simple_nests p.types callees b.0 around (rw (b.1) at both.0.1))
+      by (inr both) = let b = there_one t (Some procedure) procedure.0 right refl in nests_there procedure.0 b.0 b.1 (λ callees around. simple_nests p.types callees b.0 around (simple_with p.types (adjusts_alone p) b.0 (rw (b.1) at both.0.1)))
 
   nests_three : (t : ℕ) (owns : Bool) (f : Option Finalization) → has_operations p.types (callable_in p) t f ≡ true → uses_operations p owns f ≡ true → AllNestAnywhere (callees_of p) (operations_in f)
   nests_three t owns None right uses = (tt, tt, tt)
@@ -355,9 +357,9 @@ AdjustsCopy (begins Copy done) = Unit {0}
 AdjustsCopy (begins (Adjustment number) done) = Unit {0}
 AdjustsCopy (ends cause) = ⊥
 
--- An Adjust may track components of its formal parameter: it is simple, and lets no exception out.
+-- An Adjust may track components of its formal parameter: it is simple, frees nothing where a record has two controlled parts, and lets no exception out.
 abbrev pub MayTrack : ProgramForm → BodyForm → Type 0
-MayTrack p b = (may_track p ≡ true) × (is_simple_body p.types b ≡ true) × (body_raises (own_effects p) b (λ e. true) ≡ false)
+MayTrack p b = (may_track p ≡ true) × (is_simple_body p.types (adjusts_alone p) b ≡ true) × (body_raises (own_effects p) b (λ e. true) ≡ false)
 
 -- A type of this number, among the controlled ones, declares a component of an access type directly, and the procedure overrides its Adjust (3.10, 7.6).
 pub record AdjustsOwn (types : List TypeForm) (of number : ℕ) : Type 0 where

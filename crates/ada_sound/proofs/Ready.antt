@@ -1,37 +1,31 @@
 -- What is left of the program is ready to run, or to be passed by a jump.
 
-use Rattle.std.proofs.Common.{◌≡◌, ◌≢◌, ℕ, List, [], ◌∷◌, ◌⊎◌, inl, inr, refl, sym, ap, subst, ◌∙◌}
-use Rattle.std.specs.Prelude.{Some}
+use Rattle.std.proofs.Common.{◌≡◌, ℕ, List, [], ◌∷◌, inl, inr, subst}
 use Rattle.std.specs.List.{slice_set}
 use Rattle.ada_program.specs.declared.program.Exception.{Exception}
 use Rattle.ada_flow.specs.declared.rule.Hold.TheVariants as hold
 use Rattle.ada_flow.specs.Flow.{Holds}
 use Rattle.ada_parts.specs.Task.{Task}
 use Rattle.ada_meaning.specs.declared.event.Cause.TheVariants.{Leaving, Freeing, Assigning, Undoing}
-use Rattle.ada_meaning.specs.declared.state.Id.{Id}
 use Rattle.ada_meaning.specs.declared.state.Value.{Value}
-use Rattle.ada_meaning.specs.declared.event.Birth.{Birth}
 use Rattle.ada_meaning.specs.declared.event.Birth.TheVariants.{Creation, Copy, Adjustment}
 use Rattle.ada_meaning.specs.declared.state.Value.TheVariants.{Null, Names, Scalar, Part}
 use Rattle.ada_meaning.specs.declared.state.Mode.{Mode}
 use Rattle.ada_meaning.specs.declared.state.Mode.TheVariants.{Running, Raising, Exiting, Returning}
 use Rattle.ada_meaning.specs.Frame as frame
-use Rattle.ada_meaning.specs.Frame.{Frame, Elaborates, Does, Decides, Repeats, Turns, Ranges, Counts, Exits, Handles, Closes, Leaves, Calls, Returns, Evaluates, Computes, TestsNull, Refers, Opens, Continues, Applies, AppliesAlone, Fills, Copies, Stores, StoresIn, StoresRecord, Assigns, Declares, Treats, Writes, Ends, Treatment, begins, ends}
+use Rattle.ada_meaning.specs.Frame.{Frame, Elaborates, Does, Decides, Repeats, Turns, Ranges, Counts, Exits, Handles, Closes, Leaves, Calls, Returns, Evaluates, Computes, TestsNull, Refers, Opens, Continues, Applies, AppliesAlone, Fills, Copies, Stores, StoresIn, StoresRecord, Assigns, Declares, Writes, Ends, Treatment, begins, ends}
 use Rattle.ada_meaning.specs.Event.{Quiet}
 use Rattle.ada_meaning.specs.State.{Activation, Master}
 use Rattle.ada_meaning.specs.Step.{first_or, older, jumping, treating}
-use Rattle.ada_meaning.specs.Named.{Object, State, object_at}
+use Rattle.ada_meaning.specs.Named.{Object, State}
 use Rattle.ada_meaning.specs.Run.{Event}
-use Rattle.ada_owners.proofs.Kernel.{same_id}
-use Rattle.ada_owners.proofs.Objects.{at_other}
 use Rattle.ada_sound.proofs.Items.{NoMaster}
-use Rattle.ada_sound.proofs.Objects.{set_here}
 use Rattle.ada_sound.proofs.Fits.{MayFollow, weaker_fit, spare_fit, put_lost, sparing}
 use Rattle.ada_sound.proofs.Orderings.{AsGood}
 use Rattle.ada_sound.proofs.Alters.{alters_same}
 use Rattle.ada_sound.proofs.Stored.{Stored}
-use Rattle.ada_sound.proofs.CopiedOwners.{leads_some}
-use Rattle.ada_sound.proofs.Invariant.{AdjustsAside, OfItsType, AdjustsTo, under_in, outers, StoresOn, Caller, below_callers, below, at_end, nowhere, Known, Control, Rooms, Roomed, To, RunsOn, RunsBehind, GoesOn, RaisesAt, CopiesTo, PassesTo, Awaits, IsHolder, Working, Parting, HalfBy, Resumes, NamesTo, BeginsBy, BegunTo, EndsTo, StoresBehind, CopiesBehind, TreatsBy, RaisesBy, ReadyIn, Ready, Says, Stepped, By, innermost, ways, IsOfAssigned, LiesIn, EndsBy}
+use Rattle.ada_sound.proofs.NoneHidden.{blanked_none}
+use Rattle.ada_sound.proofs.Invariant.{AdjustsAside, AdjustsTo, under_in, outers, StoresOn, Caller, below_callers, below, at_end, nowhere, Known, Control, Rooms, Roomed, To, RunsOn, GoesOn, RaisesAt, CopiesTo, PassesTo, Awaits, IsHolder, Working, Parting, HalfBy, Resumes, NamesTo, Beginning, BegunTo, EndsTo, StoresBehind, CopiesBehind, TreatsBy, RaisesBy, ReadyIn, Ready, Says, Stepped, By, innermost, ways, IsOfAssigned, LiesIn, EndsBy}
 use Rattle.ada_meaning.specs.declared.event.Cause.{Cause}
 
 -- The state at work on something, with a running activation; and in another mode.
@@ -76,16 +70,6 @@ pub left_stored : (known : Known) (mode : Mode) (heap : List Object) (ms : List 
 left_stored known mode heap ms [] holds g stored = none_stored known.callers mode heap ms holds g stored
 left_stored known mode heap ms (gone ∷ rooms) holds g stored = nowhere_goes mode holds g
 
--- What holds of the type by which an object is known holds of it still where the object changes.
-pub type_set : (heap : List Object) (o : Id) (x y : Object) → object_at heap o ≡ Some x → y.cell.access ≡ x.cell.access → (v : Value) (more : ℕ → Type 0) → OfItsType heap v more → OfItsType (slice_set heap o.0 y) v more
-type_set heap o x y found same v more of q z is at = by (same_id q o)
-  where
-    by : (q ≡ o) ⊎ (q ≢ o) → more z.cell.access
-    by (inl one) =
-        let new : z ≡ y = let here = set_here heap o.0 x y found in cc (rw one at at, here) in
-        subst more (sym same ∙ ap (λ (w : Object). w.cell.access) (sym new)) (of o x (is ∙ ap (λ (i : Id). Names i) one) found)
-    by (inr ne) = of q z is (sym (at_other heap o q y ne) ∙ at)
-
 module _ (known : Known) where
   -- A step that leaves objects as they are.
   pub stays : (e : Event) (after : State) → Ready known after → Says known.implicit known.program e after.heap after → Stepped known after.heap e after
@@ -106,34 +90,6 @@ module _ (known : Known) where
   runs_ready (Leaves mode ∷ k) heap places operands ms w = parts w
   runs_ready (Returns actuals references ∷ k) heap places operands ms w = w
   runs_ready (f ∷ k) heap places operands ms w = absurd (w.rest)
-
-  -- What is left goes on also where no record is adjusted.
-  pub runs_behind : (v : Value) (access : ℕ) (k : Control) (rooms : Rooms) (holds : Holds) → To (RunsOn known k rooms) holds → RunsBehind known v access k rooms holds
-  runs_behind v access [] rooms holds r = r
-  runs_behind v access (Treats w treatment tasks ∷ k) rooms holds r = absurd (r.2)
-  runs_behind v access (f ∷ k) rooms holds r = r
-
-  -- The object that is adjusted is known by its type.
-  adjusted_ready : (v w : Value) (access : ℕ) (k : Control) (heap : List Object) (places : List Value) (ms : List Master) → OfItsType heap v (λ t. t ≡ access)
-      → (works : Working known heap places ms (λ rooms holds. (w ≡ v) × To (λ less. RunsOn known k rooms less × AdjustsAside known access less) holds))
-      → Working known heap places ms (λ rooms holds. RunsOn known k rooms holds × OfItsType heap w (λ t. AdjustsAside known t holds))
-  adjusted_ready v w access k heap places ms of works =
-      let on = at_less {other = λ rooms less. RunsOn known k rooms less × AdjustsAside known access less} works works.rest.1 in
-      at_work on (on.rest.0, λ o x is at. subst (λ (t : ℕ). AdjustsAside known t on.holds) (sym (of o x (sym works.rest.0 ∙ is) at)) on.rest.1)
-
-  pub behind_ready : (v : Value) (access : ℕ) (k : Control) (heap : List Object) (places operands : List Value) (ms : List Master) → OfItsType heap v (λ t. t ≡ access) → Working known heap places ms (RunsBehind known v access k) → ReadyIn known Running k heap places operands ms
-  behind_ready v access [] heap places operands ms of w = runs_ready [] heap places operands ms (at_less w w.rest)
-  behind_ready v access (Treats u (begins Creation done) tasks ∷ k) heap places operands ms of w = absurd (w.rest)
-  behind_ready v access (Treats u (begins Copy done) tasks ∷ k) heap places operands ms of w = absurd (w.rest)
-  behind_ready v access (Treats u (begins (Adjustment number) done) tasks ∷ k) heap places operands ms of w =
-      inl ((inl (adjusted_ready v u access k heap places ms of w), tt), tt)
-  behind_ready v access (Treats u (ends cause) tasks ∷ k) heap places operands ms of w = absurd (w.rest)
-  behind_ready v access (f ∷ k) heap places operands ms of w = runs_ready (f ∷ k) heap places operands ms (at_less w w.rest)
-
-  -- It does so behind the adjustment of a record, or at once, where nothing is to be adjusted.
-  pub treating_behind : (v : Value) (access number : ℕ) (tasks : List Task) (k : Control) (rooms : Rooms) (holds : Holds) → To (λ less. RunsOn known k rooms less × AdjustsAside known access less) holds → RunsBehind known v access (treating v (begins (Adjustment number) []) tasks k) rooms holds
-  treating_behind v access number [] k rooms holds r = runs_behind v access k rooms holds (r.0, r.1, r.2.0)
-  treating_behind v access number (task ∷ tasks) k rooms holds r = (refl, r)
 
   -- An exception that passes the frames is on its way: nothing that passes them awaits the body of an operation.
   pub raises_by : (e : Exception) (f : Frame Value) (k : Control) (heap : List Object) (places : List Value) (ms : List Master) → Working known heap places ms (GoesOn known (Raising e) (f ∷ k)) → RaisesBy known e f k heap places ms
@@ -168,14 +124,19 @@ module _ (known : Known) where
   names_ready (StoresIn o c ∷ k) heap places operands ms r = inl (r.0, inl r.1)
   names_ready (f ∷ k) heap places operands ms r = absurd r
 
-  pub begins_work : (v : Value) (by : Birth) (k : Control) (heap : List Object) (places : List Value) (ms : List Master) → BeginsBy known v by k heap places ms → Working known heap places ms (RunsOn known k)
-  begins_work v Creation k heap places ms b = record { rooms = b.rooms; holds = b.holds; stored = b.stored; roomed = b.roomed; fit = b.fit; rest = b.runs }
-  begins_work v Copy k heap places ms w = at_work w w.rest.0
-  begins_work v (Adjustment number) k heap places ms w = at_work w w.rest.0
+  pub begins_work : (v : Value) (k : Control) (heap : List Object) (places : List Value) (ms : List Master) → Beginning known v k heap places ms → Working known heap places ms (RunsOn known k)
+  begins_work v k heap places ms b = record { rooms = b.rooms; holds = b.holds; stored = b.stored; roomed = b.roomed; fit = b.fit; rest = b.runs }
 
-  begun_ready : (v : Value) (by : Birth) (k : Control) (heap : List Object) (places operands : List Value) (ms : List Master) → BegunTo known v by k heap places operands ms → ReadyIn known Running k heap places operands ms
-  begun_ready v by k heap places operands ms (inl b) = runs_ready k heap places operands ms (begins_work v by k heap places ms b)
-  begun_ready v by k heap places operands ms (inr r) = names_ready k heap places operands ms r.3
+  begun_ready : (v : Value) (k : Control) (heap : List Object) (places operands : List Value) (ms : List Master) → BegunTo known v k heap places operands ms → ReadyIn known Running k heap places operands ms
+  begun_ready v k heap places operands ms (inl b) = runs_ready k heap places operands ms (begins_work v k heap places ms b)
+  begun_ready v k heap places operands ms (inr r) = names_ready k heap places operands ms r.2
+
+  -- Where nothing is left to be adjusted, no component is hidden.
+  adjusted_ready : (v : Value) (k : Control) (heap : List Object) (places operands : List Value) (ms : List Master) → AdjustsTo known v [] k heap places ms → ReadyIn known Running k heap places operands ms
+  adjusted_ready v k heap places operands ms to =
+      let works : Working known heap places ms (λ rooms holds. RunsOn known k rooms holds × AdjustsAside known to.x.cell.access to.record_type holds) =
+      subst (λ (objects : List Object). Working known objects places ms (λ rooms holds. RunsOn known k rooms holds × AdjustsAside known to.x.cell.access to.record_type holds)) (blanked_none to.o heap) to.works in
+      runs_ready k heap places operands ms (at_work works works.rest.0)
 
   ends_ready : (v : Value) (k : Control) (heap : List Object) (places operands : List Value) (ms : List Master) → EndsTo known v k heap places ms → ReadyIn known Running k heap places operands ms
   ends_ready v [] heap places operands ms r = absurd r
@@ -229,19 +190,12 @@ module _ (known : Known) where
   ended_ready v (Assigning number) k heap places operands ms r = copies_ready k heap places operands ms r
   ended_ready v (Undoing number) k heap places operands ms r = ends_ready v k heap places operands ms r
 
-  pub treats_ready : (v : Value) (treatment : Treatment) (tasks : List Task) (k : Control) (heap : List Object) (places operands : List Value) (ms : List Master) → TreatsBy known v treatment k heap places operands ms → IsOfAssigned known.program.types treatment tasks k → ReadyIn known Running (treating v treatment tasks k) heap places operands ms
-  treats_ready v (begins by done) [] k heap places operands ms r of = begun_ready v by k heap places operands ms r.0
+  pub treats_ready : (v : Value) (treatment : Treatment) (tasks : List Task) (k : Control) (heap : List Object) (places operands : List Value) (ms : List Master) → TreatsBy known v treatment tasks k heap places operands ms → IsOfAssigned known.program.types treatment tasks k → ReadyIn known Running (treating v treatment tasks k) heap places operands ms
+  treats_ready v (begins Creation done) [] k heap places operands ms r of = begun_ready v k heap places operands ms r.0
+  treats_ready v (begins Copy done) [] k heap places operands ms r of = adjusted_ready v k heap places operands ms r
+  treats_ready v (begins (Adjustment number) done) [] k heap places operands ms r of = adjusted_ready v k heap places operands ms r
   treats_ready v (ends cause) [] k heap places operands ms r of = ended_ready v cause k heap places operands ms r
-  treats_ready v treatment (task ∷ tasks) k heap places operands ms r of = inl (r, of)
-
-  -- So is an adjustment that comes to one Adjust alone.
-  pub adjusts_ready : (v : Value) (treatment : Treatment) (tasks : List Task) (k : Control) (heap : List Object) (places operands : List Value) (ms : List Master) → AdjustsTo known v treatment tasks k heap places ms → ReadyIn known Running (treating v treatment tasks k) heap places operands ms
-  adjusts_ready v treatment tasks k heap places operands ms to = by (leads_some to.leads)
-    where
-      by : (task : Task) × (left : List Task) × (tasks ≡ task ∷ left) → ReadyIn known Running (treating v treatment tasks k) heap places operands ms
-      by (task, left, is) =
-          let there : AdjustsTo known v treatment (task ∷ left) k heap places ms = rw is at to in
-          rw is (inr there)
+  treats_ready v treatment (task ∷ tasks) k heap places operands ms r of = (r, of)
 
   -- Any value is stored where nothing relies on it.
   pub lost_stored : (x : ℕ) (k : Control) (v : Value) (heap : List Object) (places : List Value) (ms : List Master) → Working known heap places ms (λ rooms holds. RunsOn known k rooms (slice_set holds x hold.Lost)) → Working known heap (slice_set places x v) ms (RunsOn known k)
@@ -298,7 +252,7 @@ module _ (known : Known) where
   awaits_passes heap places (Refers p ∷ k) below rooms holds f = f
   awaits_passes heap places (Opens path ∷ k) below rooms holds f = f
   awaits_passes heap places (Calls procedure b actuals ∷ k) below rooms holds f = f
-  awaits_passes heap places (Assigns t ∷ k) below rooms holds f = let source = (f Null).0.3 in let is = source.2 in absurd (cc is)
+  awaits_passes heap places (Assigns t ∷ k) below rooms holds f = let source = (f Null).0.4 in let is = source.2 in absurd (cc is)
   awaits_passes heap places (f' ∷ k) below rooms holds f = absurd (f Null)
 
   pub passes_ready : (k : Control) (heap : List Object) (places operands : List Value) (ms : List Master) → Working known heap places ms (PassesTo known heap places operands k) → ReadyIn known Running k heap places operands ms

@@ -1,16 +1,18 @@
 -- Record objects are declared: each is stored at its own item, and its variable owns it.
 
-use Rattle.std.proofs.Common.{◌≡◌, ℕ, zero, suc, Bool, true, false, ◌&&◌, ◌||◌, List, [], ◌∷◌, length, take, drop, reverse, map, refl, sym, ap, ◌∙◌, ◌⊎◌, inl, inr, ◌≢◌}
+use Rattle.std.proofs.Common.{◌≡◌, ℕ, zero, suc, Bool, true, false, ◌&&◌, ◌||◌, List, [], ◌∷◌, length, take, drop, reverse, map, refl, sym, ap, subst, ◌∙◌, ◌⊎◌, inl, inr, ◌≢◌}
 use Rattle.std.proofs.lemmas.Bool.{eqb-true}
 use Rattle.std.specs.Prelude.{Option, Some, None}
 use Rattle.std.specs.List.{list_any, slice_get, slice_index_or, slice_set}
 use Rattle.ada_program.specs.declared.program.ComponentKind.{ComponentKind}
 use Rattle.ada_program.specs.declared.program.ComponentKind.TheVariants as component
 use Rattle.ada_parts.specs.declared.tasks.Direction.TheVariants.{PartsFirst}
+use Rattle.ada_parts.specs.Task.{Task}
+use Rattle.ada_program.specs.Controlled.{shapes_of}
 use Rattle.ada_program.specs.declared.program.TypeDefinition.{TypeDefinition}
 use Rattle.ada_program.specs.declared.program.VariableKind.{VariableKind}
 use Rattle.ada_program.specs.declared.program.VariableKind.TheVariants as variable
-use Rattle.ada_program.specs.Form.{RecordPathForm, ItemForm, item_of_record, StmtsForm, HandlersForm, DeclarationForm, declares_record}
+use Rattle.ada_program.specs.Form.{ItemForm, StmtsForm, HandlersForm, DeclarationForm, declares_record}
 use Rattle.ada_program.specs.declared.program.Exception.{Exception}
 use Rattle.ada_program.specs.declared.program.Exception.TheVariants.{ConstraintError}
 use Rattle.ada_program.specs.Handling.{is_same}
@@ -28,13 +30,13 @@ use Rattle.ada_meaning.specs.declared.state.Id.{Id}
 use Rattle.ada_meaning.specs.declared.state.Value.{Value}
 use Rattle.ada_meaning.specs.declared.state.Value.TheVariants.{Null, Names}
 use Rattle.ada_meaning.specs.Event.{Quiet}
-use Rattle.ada_meaning.specs.declared.event.Birth.{Birth}
-use Rattle.ada_meaning.specs.declared.event.Birth.TheVariants.{Creation, Copy, Adjustment}
+use Rattle.ada_meaning.specs.declared.event.Birth.TheVariants.{Creation, Copy}
+use Rattle.ada_meaning.specs.declared.state.Mode.TheVariants.{Running}
 use Rattle.ada_meaning.specs.Heap.{Cell}
 use Rattle.ada_meaning.specs.Frame.{Elaborates, Handles, Closes, Fills, DeclaresRecord, begins}
 use Rattle.ada_meaning.specs.State.{Activation, record_object, Master, height}
-use Rattle.ada_meaning.specs.Step.{all_tasks, owning, made, record_next, record_cell, initial_value, initial_values}
-use Rattle.ada_meaning.specs.Named.{Object, State, named, new_object, create, created, object_at}
+use Rattle.ada_meaning.specs.Step.{all_tasks, tasks_for, treating, owning, made, record_next, record_cell, initial_value, initial_values}
+use Rattle.ada_meaning.specs.Named.{Object, State, named, new_object, create, created}
 use Rattle.ada_meaning.specs.Law.{items_of}
 use Rattle.ada_owners.specs.Places.{Place, variable, component, elsewhere, value_at}
 use Rattle.ada_owners.specs.Reliance.{Owns, Borrows, AreInHand}
@@ -51,10 +53,11 @@ use Rattle.ada_sound.proofs.Stored.{Stored, stored_new, stored_owning}
 use Rattle.ada_typed.specs.Holding.{Cells, HasKind, HaveKinds, cells_of}
 use Rattle.ada_typed.proofs.Values.{OperandKind, AreComputed, AreHeld, active_placed}
 use Rattle.ada_typed.proofs.Control as typed
+use Rattle.ada_typed.proofs.Parts.{shown_number}
 use Rattle.ada_sound.proofs.Fits.{Outsiders, Fit, Hand, IsUnreferred, outer_access, bare, stacked, none_spared, place_at, hold_in, weaker_fit, put_lost, put_owner, create_fit, hand_is_unnamed, less_unnamed}
 use Rattle.ada_sound.proofs.Alters.{alters_new}
-use Rattle.ada_sound.proofs.Invariant.{outers, below, AdjustsAside, AdjustsWell, Known, Control, OfItsType, Rooms, Roomed, To, Raised, Doing, Handled, Outside, Elaborating, Giving, MayOwn, InitialTo, Recording, owns_at_first, RunsOn, StartsTo, Spares, Unaliased, IsAside, Beginning, BeginsBy, MayUndo, Working, Stepped, Fine, ways}
-use Rattle.ada_sound.proofs.Ready.{running, at_work, treats_ready, ready_on}
+use Rattle.ada_sound.proofs.Invariant.{outers, below, AdjustsFirst, AdjustsWell, IsPlainFirst, Known, Control, Rooms, Roomed, To, Raised, Doing, Handled, Outside, Elaborating, Giving, MayOwn, InitialTo, Recording, ReadyIn, RunsOn, StartsTo, Spares, Unaliased, IsAside, Beginning, Working, Stepped, Fine, ways}
+use Rattle.ada_sound.proofs.Ready.{running, at_work, runs_ready, treats_ready, ready_on}
 use Rattle.ada_sound.proofs.Outcomes.{before_lost, goes_map, to_before, raised_before, using_goes, ends_goes, loses_goes}
 use Rattle.ada_sound.proofs.Raising.{or_left, or_right, any_more}
 use Rattle.ada_sound.proofs.Values.{lost_here}
@@ -63,10 +66,10 @@ use Rattle.ada_flow.specs.Flow.{left_finalized}
 use Rattle.ada_sound.proofs.LeftFinalized.{finalized_losing, freed_apart, freed_none}
 use Rattle.ada_sound.proofs.Undone.{beginning_undone}
 use Rattle.ada_sound.proofs.Followings.{first_kept}
-use Rattle.ada_sound.proofs.Copied.{items_keep, copied_plain, may_copy}
+use Rattle.ada_sound.proofs.Copied.{IsCopy, items_keep, copied_plain, copied_whole, may_copy}
 use Rattle.ada_sound.proofs.Defaults.{Reaches}
 use Rattle.ada_sound.proofs.Gathered.{gathered_first_well}
-use Rattle.ada_sound.proofs.CopiedOwners.{AdjustsOwners, CopiesWell}
+use Rattle.ada_sound.proofs.CopiedOwners.{CopiesWell}
 
 -- What a component holds at first names nothing.
 first_blank : (kind : ComponentKind) (o : Id) → initial_value named kind ≡ Names o → ⊥
@@ -132,10 +135,16 @@ has_place types cells variables places x t held is = by (variable_kind variables
     by (Some kind) of e = (slice_index_or places x Null, active_placed types cells variables [] (bare places ∷ []) x kind (held, tt) of)
 
 -- The type of an object whose initial value is written is not limited, where it has controlled parts.
-initial_copies : (types : List TypeForm) (variables : List VariableForm) (x t : ℕ) (items : List ItemForm) (r : ℕ) (f : Finalization) → named_in (slice_get types t) ≡ Some r → finalization_of types r ≡ Some f → record_initial_is_of_kind types variables (object_named types (Some t)) (Some items) ≡ true → f.limited ≡ false
-initial_copies types variables x t items r f named found fits =
+initial_copies : (types : List TypeForm) (variables : List VariableForm) (t : ℕ) (items : List ItemForm) (r : ℕ) (f : Finalization) → named_in (slice_get types t) ≡ Some r → finalization_of types r ≡ Some f → record_initial_is_of_kind types variables (object_named types (Some t)) (Some items) ≡ true → f.limited ≡ false
+initial_copies types variables t items r f named found fits =
     let own : record_initial_is_of_kind types variables (Some r) (Some items) ≡ true = rw named at fits in
     may_copy types variables r items own f found
+
+-- Such a value is a copy.
+initial_whole : (types : List TypeForm) (variables : List VariableForm) (t : ℕ) (items : List ItemForm) (r of : ℕ) → named_in (slice_get types t) ≡ Some r → shown_number types (Some r) ≡ Some of → record_initial_is_of_kind types variables (object_named types (Some t)) (Some items) ≡ true → IsCopy r items
+initial_whole types variables t items r of named numbered fits =
+    let own : record_initial_is_of_kind types variables (Some r) (Some items) ≡ true = rw named at fits in
+    copied_whole types variables r of items numbered own
 
 -- No place that is relied on names a new object, and no call refers to it.
 module _ {types : List TypeForm} {variables : List VariableForm} {outer : Outsiders} {heap : List Object} {places : List Value} {holds : Holds} (words : ℕ) (cell : Cell Value) (f : Fit types variables outer none_spared heap places holds) where
@@ -196,11 +205,8 @@ module _ (known : Known) (rest : List (Activation Value)) (s : State) (types : L
     pub unaliased : Unaliased known.program.variables (known.implicit.start_frees t) after
 
   -- What is copied is never undone: what is behind goes on, and of what its adjustment may free there is no alias.
-  abbrev pub StartsBy : Birth → Control → Rooms → Holds → Type 0
-  StartsBy Creation k rooms holds = Initializing k rooms holds
-  StartsBy Copy k rooms holds = MayOwn rooms t × To (λ less. RunsOn known k rooms less × AdjustsWell known t less) (slice_set holds x (hold.Own Whole))
-  StartsBy (Adjustment number) k rooms holds =
-      MayOwn rooms t × To (λ less. RunsOn known k rooms less × AdjustsWell known t less) (slice_set holds x (hold.Own Whole))
+  abbrev pub Copying : Control → Rooms → Holds → Type 0
+  Copying k rooms holds = MayOwn rooms t × To (λ less. RunsOn known k rooms less × AdjustsWell known t less) (slice_set holds x (hold.Own Whole))
 
   -- An object comes to be whose components name nothing, and its variable owns it.
   module _ (a : Activation Value) (k : Control) (values : List Value) (u : Value) (is : is_record_object t (variable_kind known.program.variables x) ≡ true) (there : slice_get a.places x ≡ Some u) (in_hand : (holding : Place → Hold) (kind : ℕ → Option ℕ) → AreInHand s.heap (stacked a.places (outers known)) holding kind 0 values) where
@@ -257,21 +263,11 @@ module _ (known : Known) (rest : List (Activation Value)) (s : State) (types : L
       pub made_works : {other : Rooms → Holds → Type 0} → To (other w.rooms) (slice_set w.holds x (hold.Own Whole)) → Working known heap places masters other
       made_works runs = record { rooms = w.rooms; holds = runs.0; stored = made_stored; roomed = made_roomed; fit = made_fit runs.0 runs.1; rest = runs.2 }
 
-    -- It is the object that is adjusted.
-    made_aside_works : Working known heap places masters (λ rooms less. RunsOn known k rooms less × AdjustsWell known t less)
-        → Working known heap places masters (λ rooms less. RunsOn known k rooms less × OfItsType heap new (λ access. AdjustsAside known access less))
-    made_aside_works w = at_work w (w.rest.0, λ o y named at. adjusted_so o y named at)
-      where
-        adjusted_so : (o : Id) (y : Object) → new ≡ Names o → object_at heap o ≡ Some y → AdjustsAside known y.cell.access w.holds
-        adjusted_so o y named at =
-            let same : next_id s.heap ≡ o = cc named in
-            let one : new_object cell ≡ y = let made = get_new s.heap (new_object cell) in cc (rw (← same) at at, made) in
-            (t, w.rest.1, inl (ap (λ (z : Object). z.cell.access) one))
-
-    made_begins : (by : Birth) → Working known s.heap a.places s.masters (StartsBy by k) → BeginsBy known new by k heap places masters × MayUndo known new by k heap places masters
-    made_begins Creation w =
+    -- Where it is no copy, its controlled parts are initialized.
+    made_begins : Working known s.heap a.places s.masters (Initializing k) → Beginning known new k heap places masters
+    made_begins w =
         let i = w.rest in
-        let b : Beginning known new k heap places masters = record {
+        record {
           o = next_id s.heap;
           object = new_object cell;
           is = refl;
@@ -286,16 +282,24 @@ module _ (known : Known) (rest : List (Activation Value)) (s : State) (types : L
           runs = i.runs;
           undone = i.undone;
           well = (i.spares, i.unaliased);
-        } in
-        (b, (b.stored, beginning_undone known new k heap places masters b))
-    made_begins Copy w = (made_aside_works (made_works w w.rest.0 {other = λ rooms less. RunsOn known k rooms less × AdjustsWell known t less} w.rest.1), tt)
-    made_begins (Adjustment number) w = (made_aside_works (made_works w w.rest.0 {other = λ rooms less. RunsOn known k rooms less × AdjustsWell known t less} w.rest.1), tt)
+        }
 
-    pub made_fine : (by : Birth) → Working known s.heap a.places s.masters (StartsBy by k) → Stepped known s.heap Quiet (made named types x t by values (running k a rest s))
-    made_fine by w =
-        let b = made_begins by w in
+    pub made_fine : Working known s.heap a.places s.masters (Initializing k) → Stepped known s.heap Quiet (made named types x t Creation values (running k a rest s))
+    made_fine w =
+        let b = made_begins w in
         record {
-          ready = (tt, treats_ready known new (begins by []) (all_tasks types t PartsFirst) k heap places a.operands masters (inl b.0, b.1) tt);
+          ready = (tt, treats_ready known new (begins Creation []) (all_tasks types t PartsFirst) k heap places a.operands masters (inl b, (b.stored, beginning_undone known new k heap places masters b)) tt);
+          alters = alters_new s.heap Quiet (new_object cell) refl;
+          says = tt;
+        }
+
+    -- A copy without controlled parts is not adjusted.
+    pub made_plain : all_tasks types t PartsFirst ≡ [] → Working known s.heap a.places s.masters (Copying k) → Stepped known s.heap Quiet (made named types x t Copy values (running k a rest s))
+    made_plain none w =
+        let works = made_works w w.rest.0 {other = λ rooms less. RunsOn known k rooms less × AdjustsWell known t less} w.rest.1 in
+        let next : ReadyIn known Running k heap places a.operands masters = runs_ready known k heap places a.operands masters (at_work works works.rest.0) in
+        record {
+          ready = (tt, subst (λ (tasks : List Task). ReadyIn known Running (treating new (begins Copy []) tasks k) heap places a.operands masters) (sym none) next);
           alters = alters_new s.heap Quiet (new_object cell) refl;
           says = tt;
         }
@@ -373,31 +377,32 @@ module _ (known : Known) (a : Activation Value) (rest : List (Activation Value))
           keeps = items_keep program.types spot None holds [] items kept.1;
           raises = λ raises. (let either = or_left (items_raise items) false raises in n.1 either ConstraintError either);
         },
-        first_well (gathered_first_well program.types copies spot holds t items (λ r f named found. initial_copies program.types program.variables x t items r f named found fits) (copied_plain owning spot kept.0) kept.1),
+        first_well (gathered_first_well program.types copies spot holds t items (λ r f named found. initial_copies program.types program.variables t items r f named found fits) (λ r of named numbered. initial_whole program.types program.variables t items r of named numbered fits) (copied_plain owning spot kept.0) kept.1),
         (is, e.0.0, (n.0.0, n.0.1, ((e.0.1, n.0.2.0), n.0.2.1))),
       )
     where
-      first_well : (owns_at_first known.program.types t ≡ false) ⊎ ((r : ℕ) × (named_in (slice_get known.program.types t) ≡ Some r) × AdjustsOwners known.program.types r × ((p : RecordPathForm) × (items ≡ item_of_record p ∷ []) × (p.record_type ≡ r))) → InitialTo known heap items operands t
+      first_well : IsPlainFirst known.program.types t ⊎ ((r : ℕ) × AdjustsFirst known.program.types t r × IsCopy r items) → InitialTo known heap items operands t
       first_well (inl none) = inl none
-      first_well (inr (r, named, sees, copy)) = inr (r, (named, sees), inl copy)
+      first_well (inr (r, first, copy)) = inr (r, first, inl copy)
 
   pub record_fine : CopiesWell known.program.types → (initial : Option (List ItemForm)) → record_initial_is_of_kind known.program.types known.program.variables (object_named known.program.types (Some t)) initial ≡ true → (u : Value) → slice_get a.places x ≡ Some u → is_record_object t (variable_kind known.program.variables x) ≡ true → Working known s.heap a.places s.masters (RunsOn known (Elaborates (declares_record x t initial ∷ ds) fs hs ∷ k)) → Fine known s.heap s.masters (record_next named types x t initial (running (Elaborates ds fs hs ∷ k) a rest s))
   record_fine copies None fits u there is w =
       made_fine known rest s types x t a (Elaborates ds fs hs ∷ k) (initial_values named (reached_of types t)) u is there
-      (λ holding kind. initials_in_hand (outers known) s.heap a.places holding kind (reached_of types t)) Creation (at_work w (by_default w.holds w.rooms is w.rest))
+      (λ holding kind. initials_in_hand (outers known) s.heap a.places holding kind (reached_of types t)) (at_work w (by_default w.holds w.rooms is w.rest))
   record_fine copies (Some items) fits u there is w =
       ready_on known (Fills items ∷ DeclaresRecord x t ∷ Elaborates ds fs hs ∷ k) a rest s a.operands (at_work w (by_items copies items fits s.heap a.operands w.holds w.rooms is w.rest))
 
--- A record object of Integers and Booleans comes to be with the items of its initial value.
-pub recorded_plain : (known : Known) (k : Control) (a : Activation Value) (rest : List (Activation Value)) (s : State) (types : List TypeDefinition) → Reaches known types → (x t : ℕ) (kinds : List OperandKind) → typed.Fits known.program (cells_of s.heap) kinds (DeclaresRecord x t ∷ k) → AreComputed known.program.types (cells_of s.heap) kinds a.operands → AreHeld known.program.types (cells_of s.heap) known.program.variables a.places → Working known s.heap a.places s.masters (λ rooms holds. (owns_at_first known.program.types t ≡ false) × Recording known x t k rooms holds) → Stepped known s.heap Quiet (made named types x t Copy (reverse (take (words_of types t) a.operands)) (running k (record a { operands = drop (words_of types t) a.operands }) rest s))
+-- A record object of Integers and Booleans without controlled parts comes to be with the items of its initial value.
+pub recorded_plain : (known : Known) (k : Control) (a : Activation Value) (rest : List (Activation Value)) (s : State) (types : List TypeDefinition) → Reaches known types → (x t : ℕ) (kinds : List OperandKind) → typed.Fits known.program (cells_of s.heap) kinds (DeclaresRecord x t ∷ k) → AreComputed known.program.types (cells_of s.heap) kinds a.operands → AreHeld known.program.types (cells_of s.heap) known.program.variables a.places → Working known s.heap a.places s.masters (λ rooms holds. IsPlainFirst known.program.types t × Recording known x t k rooms holds) → Stepped known s.heap Quiet (made named types x t Copy (reverse (take (words_of types t) a.operands)) (running k (record a { operands = drop (words_of types t) a.operands }) rest s))
 recorded_plain known k a rest s types reaches x t kinds (ks, object, cs, is, of, one, reached, other, more) computed held w = by w.rest
   where
-    by : (owns_at_first known.program.types t ≡ false) × Recording known x t k w.rooms w.holds → Stepped known s.heap Quiet (made named types x t Copy (reverse (take (words_of types t) a.operands)) (running k (record a { operands = drop (words_of types t) a.operands }) rest s))
-    by (none_owns, (of_record, owns, runs)) =
+    by : IsPlainFirst known.program.types t × Recording known x t k w.rooms w.holds → Stepped known s.heap Quiet (made named types x t Copy (reverse (take (words_of types t) a.operands)) (running k (record a { operands = drop (words_of types t) a.operands }) rest s))
+    by ((none_owns, unnumbered), (of_record, owns, runs)) =
         let counted : words_of types t ≡ length cs = ap count_of (reaches.0 t ∙ reached) in
         let have = (typed.split known.program.types (cells_of s.heap) cs ks a.operands (rw is at computed)).0 in
         let plain : list_any is_owning cs ≡ false = rw reached at none_owns in
         let none = plain_names_nothing known.program.types (cells_of s.heap) cs (reverse (take (length cs) a.operands)) plain have in
         let place = has_place known.program.types (cells_of s.heap) known.program.variables a.places x t held of_record in
-        made_fine known rest s types x t (record a { operands = drop (words_of types t) a.operands }) k (reverse (take (words_of types t) a.operands)) place.0 of_record place.1
-        (λ holding kind. nothing_in_hand (outers known) s.heap a.places holding kind 0 (reverse (take (words_of types t) a.operands)) (rw counted none)) Copy (at_work w (owns, runs))
+        let untreated : all_tasks types t PartsFirst ≡ [] = ap (tasks_for (shapes_of types) PartsFirst) (reaches.5 t ∙ unnumbered) in
+        made_plain known rest s types x t (record a { operands = drop (words_of types t) a.operands }) k (reverse (take (words_of types t) a.operands)) place.0 of_record place.1
+        (λ holding kind. nothing_in_hand (outers known) s.heap a.places holding kind 0 (reverse (take (words_of types t) a.operands)) (rw counted none)) untreated (at_work w (owns, runs))

@@ -25,7 +25,7 @@ use Rattle.ada_meaning.specs.State.{Activation, Master}
 use Rattle.ada_meaning.specs.declared.state.Mode.{Mode}
 use Rattle.ada_meaning.specs.declared.state.Mode.TheVariants.{Running, Raising, Exiting, Returning}
 use Rattle.ada_meaning.specs.Frame as frame
-use Rattle.ada_meaning.specs.Frame.{Frame, Treatment, begins, Calls, Returns, Treats, is_master, landing}
+use Rattle.ada_meaning.specs.Frame.{Frame, Treatment, Calls, Returns, Treats, is_master, landing}
 use Rattle.ada_finalized.specs.Law.{NoOperationRuns}
 use Rattle.ada_sound.specs.Agreement.{running_procedure}
 use Rattle.ada_sound.specs.Callees.{IsCovered}
@@ -50,16 +50,15 @@ use Rattle.ada_sound.proofs.Stored.{IsUnder, Stored, there_listed}
 use Rattle.ada_sound.proofs.Leavings.{HeldIn}
 use Rattle.ada_sound.proofs.CollectsApartRuns.{apart_where_reached}
 use Rattle.ada_sound.proofs.InOrder.{in_order}
-use Rattle.ada_sound.proofs.Sees.{reaches_in, may_call, adjust_overridden}
+use Rattle.ada_sound.proofs.Sees.{reaches_in, may_call}
 use Rattle.ada_sound.proofs.TracksWell.{copies_at, allocates_at, called_apart}
 use Rattle.ada_sound.proofs.Trackers.{calls_stand_apart, stand_apart}
-use Rattle.ada_sound.proofs.TracksAs.{tracks_as}
-use Rattle.ada_sound.proofs.PlainAdjusts.{plain_adjusts}
-use Rattle.ada_sound.proofs.Adjusting.{Adjusting}
+use Rattle.ada_sound.proofs.TracksAs.{adjust_tracks}
+use Rattle.ada_sound.proofs.CopySteps.{next_overrides, sees_to_none}
+use Rattle.ada_sound.proofs.Adjusting.{AdjustingCopy}
 use Rattle.ada_sound.proofs.AdjustingEnters.{filled_in_program}
 use Rattle.ada_sound.proofs.AdjustingStarts.{adjusting_starts}
-use Rattle.ada_sound.proofs.AdjustingSteps.{InAdjusting}
-use Rattle.ada_sound.proofs.AdjustingGoes.{WentOn, adjusting_goes, adjusting_stored}
+use Rattle.ada_sound.proofs.AdjustingCopies.{InCopy, WentOn, copy_goes, copy_stored}
 use Rattle.ada_finalized.proofs.Standing.{nothing_begins, untreated_start}
 use Rattle.ada_sound.proofs.CallsApartRuns.{step_apart}
 use Rattle.ada_quiet.specs.Apart.{is_tracker}
@@ -83,11 +82,9 @@ use Rattle.ada_sound.proofs.StoredStates.{IsStored, ready_stored}
 use Rattle.ada_sound.proofs.Finalization.{finalizes_in}
 use Rattle.ada_sound.proofs.Starts.{IsReached, Ordinary, Sound}
 use Rattle.ada_sound.proofs.Calm.{filled_in, typed_calm, behind_calm}
-use Rattle.ada_sound.proofs.Treatments.{inside_left, TellsNothing, Begins, BeginsAdjust, StaysHere, TreatedIn, treats_fine, adjusts_fine}
-use Rattle.ada_sound.proofs.CopiedOwners.{SeesToOwners}
+use Rattle.ada_sound.proofs.AdjustsKept.{adjusts_picked}
+use Rattle.ada_sound.proofs.Treatments.{inside_left, TellsNothing, Begins, BeginsAdjust, StaysHere, TreatedIn, treats_fine}
 use Rattle.ada_typed.proofs.Parts.{shown_shapes, shapes_shown}
-use Rattle.ada_parts.specs.Part as parts
-use Rattle.ada_meaning.specs.declared.event.Birth.{Birth}
 use Rattle.ada_sound.proofs.Operating.{Sight, StaysLive, IsCalm, Operates, StepsTo, behind_operation}
 use Rattle.ada_sound.proofs.OperationBegins.{begins_operation}
 use Rattle.ada_sound.proofs.OperationSteps.{acting, Wrote, IsMild}
@@ -216,7 +213,7 @@ pub record InOperation (program : Program) (before : List Object) (e : Event) (a
 -- What a step leads to: the ordinary invariant, or the body of an operation runs.
 abbrev pub Led : Program → List Object → Event → State → Type 0
 Led program before e after =
-    ((c : Crosses program before e after) × IsCalm (behind_call after.control) × (under_in (callers_of program c.suspensions) ≡ [])) ⊎ (InOperation program before e after ⊎ (InTouching program before e after ⊎ InAdjusting program before e after))
+    ((c : Crosses program before e after) × IsCalm (behind_call after.control) × (under_in (callers_of program c.suspensions) ≡ [])) ⊎ (InOperation program before e after ⊎ (InTouching program before e after ⊎ InCopy program before e after))
 
 -- What tells of no storage says nothing of objects, and covers nothing.
 told_says : (e : Event) (before : List Object) (after : State) → TellsNothing e → (implicit : Implicit) (p : ProgramForm) → Says implicit p e before after
@@ -371,8 +368,7 @@ module _ (program : Program) (a : Activation Value) (rest : List (Activation Val
     -- The Adjust is called that tracks the components of a copy.
     begins_adjusting : (e : Event) (after : State) → next program.types.items (body_forms program) whole ≡ moves e after → BeginsAdjust treater a rest s program.types.items (body_forms program) v k IsOperated e after → Led program s.heap e after
     begins_adjusting e after is c =
-        let sees = subst (λ (types : List TypeForm). SeesToOwners types c.record_type c.of) (same_types a.procedure (program_form program)) c.adjusted.only.sees in
-        let tracks = tracks_as program sound.well sound.in_use c.record_type c.of sees c.by c.copies c.done c.number c.b c.there c.called in
+        let tracks = adjust_tracks program sound.well sound.in_use a rest s o.suspensions v k IsOperated e after c in
         let untreated = untreated_start program sound.reached.0 sound.reached.1 whole calm_here sound.reached.2 v c.by c.done tasks k (ap (λ (by : Treatment). Treats v by tasks ∷ k) (sym c.operated.0)) in
         let adjusting = adjusting_starts program sound.well sound.obeys a rest s o.suspensions v k IsOperated e after c tracks.0 tracks.1
         (filled_in_program (program_form program) a.procedure whole sound.typed.inside)
@@ -393,7 +389,7 @@ module _ (program : Program) (a : Activation Value) (rest : List (Activation Val
       covered = told_covered program e c.tells;
     }))
     begun_as e after is c (inr (inr (copies, tracks, own))) =
-        begins_adjusting e after is (plain_adjusts program sound.well tracks.0 a rest s k v treatment o.suspensions e after c copies own)
+        absurd (sees_to_none program sound.well tracks.0 a rest s o.suspensions k IsOperated e after c copies own)
     begun_as e after is c (inr (inl (touches, may, frugal, silent))) = inr (inr (inl (record {
       body = touching_starts program a rest s k v treatment tasks o.suspensions whole refl refl sound calm_here o.calm o.settled (restand Running (Treats v treatment tasks) o.suspensions o.stands) e after c touches may silent frugal
           (step_typed program sound.well whole after settled e sound.typed (rw is (refl, refl)));
@@ -423,22 +419,16 @@ module _ (program : Program) (a : Activation Value) (rest : List (Activation Val
       named,
     )
 
-    -- An adjustment is no finalization of a record that is assigned to.
-    begun_assigned : (by : Treatment) (birth : Birth) (done : List parts.Part) → by ≡ begins birth done → IsOfAssigned treater.program.types by tasks k
-    begun_assigned by birth done is = rw is tt
-
     treating_by : ReadyBy treater (Treats v treatment tasks) k s.heap a.places a.operands s.masters → FineIn program whole (frame_next named program.types.items (body_forms program) (Treats v treatment tasks) (state_with Running k (a ∷ rest) s))
     unfolding next
-    treating_by (inr to) =
-        treated_led _ refl (adjusts_fine treater a rest s program.types.items (body_forms program) k IsOperated v
-        (subst (λ (types : List TypeForm). shown_shapes types ≡ shapes_of program.types.items) (sym (same_types a.procedure (program_form program))) (shapes_shown program.types.items (program_form program).types refl))
-        (λ r of sees. adjust_overridden program a.procedure sound.well r of sees)
-        treatment tasks (operated (begun_assigned treatment to.by to.done to.begun)) to)
-    treating_by (inl ready) =
+    treating_by ready =
         treated_led _ refl (treats_fine treater a rest s program.types.items (body_forms program) k IsOperated v
+        (subst (λ (types : List TypeForm). shown_shapes types ≡ shapes_of program.types.items) (sym (same_types a.procedure (program_form program))) (shapes_shown program.types.items (program_form program).types refl))
+        (λ left i at to. adjusts_picked program sound.well treater (same_types a.procedure (program_form program)) v left i k s.heap a.places s.masters at to)
+        (λ of part left to owns. next_overrides program sound.well a.procedure o.suspensions v k s.heap a.places s.masters of part left to owns)
         (λ t direction left i inside. subst (λ (types : List TypeForm). TasksInside types t (picked_task (shapes_of program.types.items) direction left i)) (sym (same_types a.procedure (program_form program)))
         (picked_inside program t direction left i (subst (λ (types : List TypeForm). TasksInside types t left) (same_types a.procedure (program_form program)) inside)))
-        (task_next tasks) treatment tasks (operated ready.1) (finalizes_in program sound.well whole sound.reached sound.typed o.calm treater.program.types) ready.0 ready.1)
+        (task_next tasks) treatment tasks refl (operated ready.1) (finalizes_in program sound.well whole sound.reached sound.typed o.calm treater.program.types) ready.0 ready.1)
 
     treating_step : FineIn program whole (frame_next named program.types.items (body_forms program) (Treats v treatment tasks) (state_with Running k (a ∷ rest) s))
     treating_step = treating_by o.ready.1
@@ -571,9 +561,9 @@ led_went program before e after (inl f) = inr (inr (inl f))
 led_went program before e after (inr o) = inl o
 
 -- A step of the body of an Adjust that tracks components.
-led_adjusting : (program : Program) (s : State) (f : Adjusting program s) (e : Event) (after : State) → WentOn program s f e after → Led program s.heap e after
-led_adjusting program s f e after (inl c) = inr (inr (inr c))
-led_adjusting program s f e after (inr (crosses, behind)) = inl (crosses_to crosses, rw behind f.calm, f.settled)
+led_adjusting : (program : Program) (s : State) (d : AdjustingCopy program s) (e : Event) (after : State) → WentOn program s d e after → Led program s.heap e after
+led_adjusting program s d e after (inl c) = inr (inr (inr c))
+led_adjusting program s d e after (inr (crosses, behind)) = inl (crosses_to crosses, rw behind d.adjusting.calm, d.adjusting.settled)
 
 -- So what comes next is known.
 led_next : (program : Program) (s : State) (IsSo : Event → State → Type 0) → ((e : Event) (after : State) → IsSo e after → Led program s.heap e after) → (n : Next) → StepsTo IsSo s n → FineIn program s n
@@ -588,13 +578,13 @@ step_fine : (program : Program) (s : State) → Sound program s → FineIn progr
 unfolding next
 step_fine program s sound = by sound.goes
   where
-    by : Ordinary program s ⊎ (Operates program s ⊎ (Touching program s ⊎ Adjusting program s)) → FineIn program s (next program.types.items (body_forms program) s)
+    by : Ordinary program s ⊎ (Operates program s ⊎ (Touching program s ⊎ AdjustingCopy program s)) → FineIn program s (next program.types.items (body_forms program) s)
     by (inl o) = step_by program s.mode s.control s.activations s sound o
     by (inr (inl o)) = operating_step program s o
     by (inr (inr (inl f))) = led_next program s (Went program s.heap) (led_went program s.heap) (next program.types.items (body_forms program) s) (touching_step program s sound f)
-    by (inr (inr (inr f))) =
-        led_next program s (WentOn program s f) (led_adjusting program s f) (next program.types.items (body_forms program) s)
-        (adjusting_goes program sound.well f.tracking sound.frees_own s sound.reached sound.nested sound.typed f)
+    by (inr (inr (inr d))) =
+        led_next program s (WentOn program s d) (led_adjusting program s d) (next program.types.items (body_forms program) s)
+        (copy_goes program sound.well d.adjusting.tracking sound.frees_own s sound.reached sound.nested sound.typed d)
 
 -- Where a choice leads, the invariant holds.
 leads_fine : (program : Program) (s : State) (n : Next) (choice : Choice) (e : Event) (after : State) → FineIn program s n → Leads n choice e after → Led program s.heap e after
@@ -624,7 +614,7 @@ does_so program before e after (inr (inl c)) = record { implicit = implicit_of (
 pub stepped : (program : Program) (s : State) (choice : Choice) (e : Event) (after : State) → Sound program s → Step program s choice e after → Does s.heap e after
 stepped program s choice e after r step = does_so program s.heap e after (led program s choice e after r step)
 
-goes_so : (program : Program) (before : List Object) (e : Event) (after : State) → Led program before e after → Ordinary program after ⊎ (Operates program after ⊎ (Touching program after ⊎ Adjusting program after))
+goes_so : (program : Program) (before : List Object) (e : Event) (after : State) → Led program before e after → Ordinary program after ⊎ (Operates program after ⊎ (Touching program after ⊎ AdjustingCopy program after))
 goes_so program before e after (inl (c, calm, none)) = inl (record { suspensions = c.suspensions; ready = c.stepped.ready; stands = c.stands; calm = calm; settled = none })
 goes_so program before e after (inr (inl c)) = inr (inl c.operates)
 goes_so program before e after (inr (inr (inl c))) = inr (inr (inl c.body))
@@ -658,10 +648,10 @@ below_has n access pool (m ∷ upper) lower has = has_after n access pool m.item
 pub housed : (program : Program) (s : State) → Sound program s → (o : Id) (x : Object) → object_at s.heap o ≡ Some x → x.out ≡ true → HasItem x.cell.home.item x.cell.access x.cell.home.pool (items_of s.masters)
 housed program s sound o x found out = by sound.goes
   where
-    by : Ordinary program s ⊎ (Operates program s ⊎ (Touching program s ⊎ Adjusting program s)) → HasItem x.cell.home.item x.cell.access x.cell.home.pool (items_of s.masters)
+    by : Ordinary program s ⊎ (Operates program s ⊎ (Touching program s ⊎ AdjustingCopy program s)) → HasItem x.cell.home.item x.cell.access x.cell.home.pool (items_of s.masters)
     by (inl n) = ((stored_in program s n).1.sane o x found).housed out
     by (inr (inr (inl f))) = ((ready_stored (known_in program (running_procedure s) (waiting_for program s f)) s f.ready).1.sane o x found).housed out
-    by (inr (inr (inr f))) = ((adjusting_stored program s f).1.sane o x found).housed out
+    by (inr (inr (inr d))) = ((copy_stored program s d).1.sane o x found).housed out
     by (inr (inl n)) =
         let c = operation_ends program s n in
         let stored = ready_stored (known_in program n.caller.procedure n.suspended.suspensions) (behind_operation (n.caller ∷ n.rest) n.behind n.lower s) c.stepped.ready in

@@ -64,8 +64,12 @@ may_call program procedure gs well = record {
 }
 
 -- Where no Adjust is of a type that declares components of access types, all that a body copies owns nothing.
-pub copies_in : (program : Program) (procedure : Option ℕ) (gs : List Suspension) → AdjustsNoOwners (program_form program).types → CopiesWell (known_in program procedure gs).program.types
-copies_in program procedure gs none = copies_nothing (seen_in procedure (program_form program)).types (subst AdjustsNoOwners (sym (same_types procedure (program_form program))) none)
+pub copies_in :
+    (program : Program) (procedure : Option ℕ) (gs : List Suspension) → IsWellFormed (program_form program) → AdjustsNoOwners (program_form program).types
+    → CopiesWell (known_in program procedure gs).program.types
+copies_in program procedure gs well none =
+    let p = program_form program in
+    subst CopiesWell (sym (same_types procedure p)) (copies_nothing p.types well.types_fit well.components_lie none)
 
 -- Nor do the records own anything that are items of an allocator that it evaluates next.
 pub allocates_in : (program : Program) (procedure : Option ℕ) (gs : List Suspension) (k : Control) → AdjustsNoOwners (program_form program).types → ComponentsUntouched (program_form program).types (known_in program procedure gs).touches → AllocatesApart (known_in program procedure gs).touches k

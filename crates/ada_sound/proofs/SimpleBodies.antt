@@ -1,6 +1,6 @@
 -- A simple body (7.6) is frugal, whatever is known of procedures: it calls none.
 
-use Rattle.std.proofs.Common.{◌≡◌, ℕ, true, List, [], ◌∷◌, drop, refl}
+use Rattle.std.proofs.Common.{◌≡◌, ℕ, Bool, true, ◌&&◌, List, [], ◌∷◌, drop, refl}
 use Rattle.std.specs.List.{list_all}
 use Rattle.ada_program.specs.Form.{RightForm, nothing, value_of, allocates, allocates_default, computes, StmtForm, skips, assigns, assigns_record, frees, gets, writes, writes_text, chooses, repeats, counts, exits, calls, returns, raises, encloses, StmtsForm, no_stmts, a_stmt, BranchesForm, otherwise, a_branch, HandlersForm, no_handlers, a_handler, DeclarationForm, creates_pool, collects, declares, declares_record}
 use Rattle.ada_program.specs.Nested.{Callees, body_nests}
@@ -8,6 +8,7 @@ use Rattle.ada_program.specs.ProgramForm.{TypeForm, BodyForm}
 use Rattle.ada_quiet.specs.Bare.{allocates_bare, has_bare_objects}
 use Rattle.ada_quiet.specs.Frugal.{Thrift, are_frugal_declarations, is_frugal_stmt, are_frugal, are_frugal_branches, are_frugal_handlers, is_frugal_body}
 use Rattle.ada_quiet.specs.Simple.{is_plain_item, is_simple_right, are_simple_declarations, is_simple_stmt, are_simple, are_simple_branches, are_simple_handlers, is_simple_body, is_bare_kind}
+use Rattle.ada_typed.proofs.OfKinds.{and_both}
 use Rattle.ada_sound.proofs.FrugalBodies.{calling_none, lone_nests}
 use Rattle.ada_sound.proofs.OperationStarts.{apart}
 
@@ -30,7 +31,7 @@ frugal_declarations types (declares_record x t initial ∷ ds) is = absurd (cc i
 
 module _ (frugal : Thrift) where
   mutual
-    frugal_stmt : (f : StmtForm) → is_simple_stmt frugal.types f ≡ true → is_frugal_stmt frugal f ≡ true
+    frugal_stmt : (f : StmtForm) → is_simple_stmt frugal.types true f ≡ true → is_frugal_stmt frugal f ≡ true
     frugal_stmt skips is = refl
     frugal_stmt (assigns target right) is = right_bare frugal.types right is
     frugal_stmt (assigns_record target items) is = absurd (cc is)
@@ -50,37 +51,83 @@ module _ (frugal : Thrift) where
         let three = apart _ _ two.0 in
         rw (frugal_declarations frugal.types ds three.0, frugal_stmts fs three.1, frugal_handlers hs two.1) refl
 
-    frugal_stmts : (fs : StmtsForm) → are_simple frugal.types fs ≡ true → are_frugal frugal fs ≡ true
+    frugal_stmts : (fs : StmtsForm) → are_simple frugal.types true fs ≡ true → are_frugal frugal fs ≡ true
     frugal_stmts no_stmts is = refl
     frugal_stmts (a_stmt f fs) is = let both = apart _ _ is in rw (frugal_stmt f both.0, frugal_stmts fs both.1) refl
 
-    frugal_branches : (branches : BranchesForm) → are_simple_branches frugal.types branches ≡ true → are_frugal_branches frugal branches ≡ true
+    frugal_branches : (branches : BranchesForm) → are_simple_branches frugal.types true branches ≡ true → are_frugal_branches frugal branches ≡ true
     frugal_branches (otherwise fs) is = frugal_stmts fs is
     frugal_branches (a_branch e fs branches) is = let both = apart _ _ is in rw (frugal_stmts fs both.0, frugal_branches branches both.1) refl
 
-    frugal_handlers : (hs : HandlersForm) → are_simple_handlers frugal.types hs ≡ true → are_frugal_handlers frugal hs ≡ true
+    frugal_handlers : (hs : HandlersForm) → are_simple_handlers frugal.types true hs ≡ true → are_frugal_handlers frugal hs ≡ true
     frugal_handlers no_handlers is = refl
     frugal_handlers (a_handler choices fs hs) is = let both = apart _ _ is in rw (frugal_stmts fs both.0, frugal_handlers hs both.1) refl
+
+-- What is simple where bodies may free objects, or where they may not, is simple where they may.
+module _ (types : List TypeForm) (may_free : Bool) where
+  mutual
+    stmt_with : (f : StmtForm) → is_simple_stmt types may_free f ≡ true → is_simple_stmt types true f ≡ true
+    stmt_with skips is = refl
+    stmt_with (assigns target right) is = is
+    stmt_with (assigns_record target items) is = is
+    stmt_with (frees access path) is = (apart may_free (has_bare_objects types access) is).1
+    stmt_with (gets target) is = refl
+    stmt_with (writes e) is = refl
+    stmt_with (writes_text text) is = refl
+    stmt_with (chooses branches) is = branches_with branches is
+    stmt_with (repeats condition fs spot) is = stmts_with fs is
+    stmt_with (counts x low high fs spot) is = stmts_with fs is
+    stmt_with (exits condition spot) is = refl
+    stmt_with (calls procedure actuals) is = is
+    stmt_with (returns spot) is = refl
+    stmt_with (raises e) is = refl
+    stmt_with (encloses ds fs hs) is =
+        let two = apart (are_simple_declarations types ds && are_simple types may_free fs) (are_simple_handlers types may_free hs) is in
+        let three = apart (are_simple_declarations types ds) (are_simple types may_free fs) two.0 in
+        rw (three.0, stmts_with fs three.1, handlers_with hs two.1) refl
+
+    stmts_with : (fs : StmtsForm) → are_simple types may_free fs ≡ true → are_simple types true fs ≡ true
+    stmts_with no_stmts is = refl
+    stmts_with (a_stmt f fs) is = let both = apart _ _ is in rw (stmt_with f both.0, stmts_with fs both.1) refl
+
+    branches_with : (branches : BranchesForm) → are_simple_branches types may_free branches ≡ true → are_simple_branches types true branches ≡ true
+    branches_with (otherwise fs) is = stmts_with fs is
+    branches_with (a_branch e fs branches) is = let both = apart _ _ is in rw (stmts_with fs both.0, branches_with branches both.1) refl
+
+    handlers_with : (hs : HandlersForm) → are_simple_handlers types may_free hs ≡ true → are_simple_handlers types true hs ≡ true
+    handlers_with no_handlers is = refl
+    handlers_with (a_handler choices fs hs) is = let both = apart _ _ is in rw (stmts_with fs both.0, handlers_with hs both.1) refl
+
+  -- Such a body.
+  pub simple_with : (b : BodyForm) → is_simple_body types may_free b ≡ true → is_simple_body types true b ≡ true
+  simple_with b is =
+      let variables = list_all (λ x. is_bare_kind types x.kind) (drop 1 b.variables) in
+      let declarations = are_simple_declarations types b.declarations in
+      let statements = are_simple types may_free b.statements in
+      let four = apart (variables && declarations && statements) (are_simple_handlers types may_free b.handlers) is in
+      let three = apart (variables && declarations) statements four.0 in
+      and_both (variables && declarations && are_simple types true b.statements) (are_simple_handlers types true b.handlers)
+      (and_both (variables && declarations) (are_simple types true b.statements) three.0 (stmts_with b.statements three.1)) (handlers_with b.handlers four.1)
 
 -- The parts of a simple body.
 pub record SimpleParts (types : List TypeForm) (b : BodyForm) : Type 0 where
   pub variables : list_all (λ x. is_bare_kind types x.kind) (drop 1 b.variables) ≡ true
   pub declarations : are_simple_declarations types b.declarations ≡ true
-  pub statements : are_simple types b.statements ≡ true
-  pub handlers : are_simple_handlers types b.handlers ≡ true
+  pub statements : are_simple types true b.statements ≡ true
+  pub handlers : are_simple_handlers types true b.handlers ≡ true
 
-pub simple_parts : (types : List TypeForm) (b : BodyForm) → is_simple_body types b ≡ true → SimpleParts types b
+pub simple_parts : (types : List TypeForm) (b : BodyForm) → is_simple_body types true b ≡ true → SimpleParts types b
 simple_parts types b is =
     let four = apart _ _ is in
     let three = apart _ _ four.0 in
     let two = apart _ _ three.0 in
     record { variables = two.0; declarations = two.1; statements = three.1; handlers = four.1 }
 
-pub simple_frugal : (frugal : Thrift) (b : BodyForm) → is_simple_body frugal.types b ≡ true → is_frugal_body frugal b ≡ true
+pub simple_frugal : (frugal : Thrift) (b : BodyForm) → is_simple_body frugal.types true b ≡ true → is_frugal_body frugal b ≡ true
 simple_frugal frugal b is =
     let parts = simple_parts frugal.types b is in
     rw (frugal_declarations frugal.types b.declarations parts.declarations, frugal_stmts frugal b.statements parts.statements, frugal_handlers frugal b.handlers parts.handlers) refl
 
 -- It creates no collection, so it nests anywhere.
-pub simple_nests : (types : List TypeForm) (callees : Callees) (b : BodyForm) (around : List ℕ) → is_simple_body types b ≡ true → body_nests types callees b around ≡ true
+pub simple_nests : (types : List TypeForm) (callees : Callees) (b : BodyForm) (around : List ℕ) → is_simple_body types true b ≡ true → body_nests types callees b around ≡ true
 simple_nests types callees b around is = lone_nests types callees b around (simple_frugal (calling_none types) b is)

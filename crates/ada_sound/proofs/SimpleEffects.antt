@@ -23,7 +23,7 @@ use Rattle.ada_sound.proofs.SimpleBodies.{simple_frugal}
 -- Where no exception comes out of a simple body by its text, none comes out as it is judged.
 pub simple_silent :
     (program : Program) → IsWellFormed (program_form program) → (number : ℕ) (b : BodyForm) → slice_get (program_form program).bodies number ≡ Some b
-    → is_simple_body (program_form program).types b ≡ true → body_raises (own_effects (program_form program)) b (λ e. true) ≡ false
+    → is_simple_body (program_form program).types true b ≡ true → body_raises (own_effects (program_form program)) b (λ e. true) ≡ false
     → (tracks : Tracks) → TracksComponents (program_form program).types tracks b.variables → BodyIsOrderly tracks b
     → (e : Exception) → body_among (implicit_of (program_form program)) (known_judged program number tracks []).program e ≡ true → ⊥
 simple_silent program well number b there is silent tracks components orderly e among =

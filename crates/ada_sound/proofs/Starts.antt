@@ -35,7 +35,7 @@ use Rattle.ada_sound.proofs.Exits.{no_exits, no_exit_handlers}
 use Rattle.ada_sound.proofs.Invariant.{Ready, under_in}
 use Rattle.ada_sound.proofs.Callers.{Suspension, known_in, Stands, callers_of}
 use Rattle.ada_sound.proofs.Touching.{Touching}
-use Rattle.ada_sound.proofs.Adjusting.{Adjusting}
+use Rattle.ada_sound.proofs.Adjusting.{AdjustingCopy}
 use Rattle.ada_sound.proofs.Operating.{IsCalm, Operates}
 use Rattle.ada_sound.proofs.QuietOperations.{operations_nest}
 use Rattle.ada_sound.proofs.Returns.{same_types}
@@ -65,7 +65,7 @@ pub record Sound (program : Program) (s : State) : Type 0 where
   pub in_use : operations_are_in_use (program_form program) ≡ true
   pub frees_own : FreesItsOwn (program_form program)
   pub obeys : Obeys program
-  pub goes : Ordinary program s ⊎ (Operates program s ⊎ (Touching program s ⊎ Adjusting program s))
+  pub goes : Ordinary program s ⊎ (Operates program s ⊎ (Touching program s ⊎ AdjustingCopy program s))
   pub apart : operations_stand_apart (program_form program) ≡ true → CallApart (program_form program).types (is_tracker (program_form program)) s.control
   pub typed : typed.Typed (program_form program) s
   pub nested : Scoped (program_form program) s

@@ -369,8 +369,14 @@ module _ (known : Known) where
         bare None is none = sym (reaches.4 target.record_type) ∙ is
         bare (Some n) is none = absurd (cc none)
 
+        parted : (found : Option ℕ) → number_of defined (Some target.record_type) ≡ found → is_some found ≡ true → (of : ℕ) × (shown_number known.program.types (Some target.record_type) ≡ Some of)
+        parted None is some = absurd (cc some)
+        parted (Some n) is some = (n, sym (reaches.4 target.record_type) ∙ is)
+
         assigned_fine : (parts : Bool) → has_parts defined target.record_type ≡ parts → Fine known s.heap s.masters (record_assign_next named parts target items (running (Does fs ∷ k) a rest s))
-        assigned_fine true has = copy_begins known a rest s copies target items fs k w.rest.4 two.0 two.1 (at_work w w.rest.1)
+        assigned_fine true has =
+            let some = parted (number_of defined (Some target.record_type)) refl has in
+            copy_begins known a rest s copies target items fs k some.0 some.1 w.rest.4 two.0 two.1 (at_work w w.rest.1)
         assigned_fine false has = record_begins known a rest s copies target items fs k (bare (number_of defined (Some target.record_type)) refl has) (record_there known.program.types known.program.variables target two.0) (at_work w w.rest.1)
     stmt_fine may defined reaches bodies copies inside here (frees access path) calling fs k homes freely fits own w =
         let types = known.program.types in

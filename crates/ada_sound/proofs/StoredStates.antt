@@ -10,7 +10,8 @@ use Rattle.ada_meaning.specs.declared.state.Value.{Value}
 use Rattle.ada_meaning.specs.declared.state.Value.TheVariants.{Null, Names, Scalar, Part}
 use Rattle.ada_meaning.specs.declared.state.Mode.{Mode}
 use Rattle.ada_meaning.specs.declared.state.Mode.TheVariants.{Running, Raising, Exiting, Returning}
-use Rattle.ada_meaning.specs.declared.event.Birth.{Birth}
+use Rattle.ada_meaning.specs.declared.event.Birth.TheVariants.{Creation, Copy, Adjustment}
+use Rattle.ada_parts.specs.Task.{Task}
 use Rattle.ada_meaning.specs.Frame as frame
 use Rattle.ada_meaning.specs.Frame.{Frame, Elaborates, Does, Decides, Repeats, Turns, Ranges, Counts, Exits, Handles, Closes, Leaves, Calls, Returns, Evaluates, Computes, Follows, TestsNull, Refers, RefersIn, Opens, OpensIn, Continues, Applies, AppliesAlone, Fills, Copies, Creates, Stores, Targets, StoresIn, TargetsRecord, StoresRecord, Assigns, Receives, FreesIn, Declares, DeclaresRecord, Treats, Writes, Ends, GivesBack, Clears, ClearsIn, Treatment, begins, ends}
 use Rattle.ada_meaning.specs.State.{Master}
@@ -19,9 +20,9 @@ use Rattle.ada_meaning.specs.Named.{Object, State, store}
 use Rattle.ada_sound.proofs.Stored.{Stored}
 use Rattle.ada_sound.proofs.Back.{stored_before}
 use Rattle.ada_sound.proofs.Ready.{begins_work}
-use Rattle.ada_sound.proofs.CopiedOwners.{hiding}
+use Rattle.ada_sound.proofs.CopiedOwners.{hiding, owners_left}
 use Rattle.ada_sound.proofs.HiddenOwners.{stored_shown}
-use Rattle.ada_sound.proofs.Invariant.{Known, Control, Rooms, Working, HalfBy, Resumes, Clearing, EvaluatesTo, TargetsTo, StoringIn, HalfFollows, NamesTo, BegunTo, EndsTo, CopiesBehind, TreatsBy, EndingBy, BackingBy, ReadyBy, RaisesBy, ReadyIn, Ready}
+use Rattle.ada_sound.proofs.Invariant.{Known, Control, Rooms, Working, HalfBy, Resumes, Clearing, EvaluatesTo, TargetsTo, StoringIn, HalfFollows, NamesTo, BegunTo, AdjustsTo, EndsTo, CopiesBehind, TreatsBy, EndingBy, BackingBy, ReadyBy, RaisesBy, ReadyIn, Ready}
 use Rattle.ada_meaning.specs.declared.event.Cause.TheVariants.{Leaving, Freeing, Assigning, Undoing}
 
 -- Objects are stored, where one at most is under way.
@@ -100,9 +101,13 @@ module _ (known : Known) where
   names_stored (StoresIn o c ∷ k) heap places operands ms r = (_, stored_before heap ms o c (first_or Null operands) r.1.stored)
   names_stored (f ∷ k) heap places operands ms r = absurd r
 
-  begun_stored : (v : Value) (by : Birth) (k : Control) (heap : List Object) (places operands : List Value) (ms : List Master) → BegunTo known v by k heap places operands ms → IsStored heap ms
-  begun_stored v by k heap places operands ms (inl b) = let w = begins_work known v by k heap places ms b in (_, w.stored)
-  begun_stored v by k heap places operands ms (inr r) = names_stored k heap places operands ms r.3
+  begun_stored : (v : Value) (k : Control) (heap : List Object) (places operands : List Value) (ms : List Master) → BegunTo known v k heap places operands ms → IsStored heap ms
+  begun_stored v k heap places operands ms (inl b) = let w = begins_work known v k heap places ms b in (_, w.stored)
+  begun_stored v k heap places operands ms (inr r) = names_stored k heap places operands ms r.2
+
+  adjusts_stored : (v : Value) (tasks : List Task) (k : Control) (heap : List Object) (places : List Value) (ms : List Master) → AdjustsTo known v tasks k heap places ms → IsStored heap ms
+  adjusts_stored v tasks k heap places ms r =
+      (_, stored_shown heap ms (hiding (owners_left known.program.types r.x.cell.access tasks) r.o) r.works.stored)
 
   ends_stored : (v : Value) (k : Control) (heap : List Object) (places : List Value) (ms : List Master) → EndsTo known v k heap places ms → IsStored heap ms
   ends_stored v [] heap places ms r = absurd r
@@ -114,12 +119,14 @@ module _ (known : Known) where
   copies_stored (Copies first t ∷ k) heap places operands ms (copied, w) = (_, w.stored)
   copies_stored (f ∷ k) heap places operands ms r = absurd r
 
-  treats_stored : (v : Value) (treatment : Treatment) (k : Control) (heap : List Object) (places operands : List Value) (ms : List Master) → TreatsBy known v treatment k heap places operands ms → IsStored heap ms
-  treats_stored v (begins by done) k heap places operands ms r = begun_stored v by k heap places operands ms r.0
-  treats_stored v (ends (Leaving m item)) k heap places operands ms r = ends_stored v k heap places ms r
-  treats_stored v (ends (Freeing number)) k heap places operands ms r = ends_stored v k heap places ms r
-  treats_stored v (ends (Assigning number)) k heap places operands ms r = copies_stored k heap places operands ms r
-  treats_stored v (ends (Undoing number)) k heap places operands ms r = ends_stored v k heap places ms r
+  treats_stored : (v : Value) (treatment : Treatment) (tasks : List Task) (k : Control) (heap : List Object) (places operands : List Value) (ms : List Master) → TreatsBy known v treatment tasks k heap places operands ms → IsStored heap ms
+  treats_stored v (begins Creation done) tasks k heap places operands ms r = begun_stored v k heap places operands ms r.0
+  treats_stored v (begins Copy done) tasks k heap places operands ms r = adjusts_stored v tasks k heap places ms r
+  treats_stored v (begins (Adjustment number) done) tasks k heap places operands ms r = adjusts_stored v tasks k heap places ms r
+  treats_stored v (ends (Leaving m item)) tasks k heap places operands ms r = ends_stored v k heap places ms r
+  treats_stored v (ends (Freeing number)) tasks k heap places operands ms r = ends_stored v k heap places ms r
+  treats_stored v (ends (Assigning number)) tasks k heap places operands ms r = copies_stored k heap places operands ms r
+  treats_stored v (ends (Undoing number)) tasks k heap places operands ms r = ends_stored v k heap places ms r
 
   -- By what is next.
   frame_stored : (f : Frame Value) (k : Control) (heap : List Object) (places operands : List Value) (ms : List Master) → ReadyBy known f k heap places operands ms → IsStored heap ms
@@ -160,11 +167,9 @@ module _ (known : Known) where
   frame_stored (FreesIn access c) k heap places operands ms r = (_, r.stored)
   frame_stored (Declares x) k heap places operands ms r = (_, r.stored)
   frame_stored (DeclaresRecord x t) k heap places operands ms r = (_, r.stored)
-  frame_stored (Treats v treatment tasks) k heap places operands ms (inl r) = treats_stored v treatment k heap places operands ms r.0
-  frame_stored (Treats v treatment tasks) k heap places operands ms (inr r) =
-      (_, stored_shown heap ms (hiding known.program.types r.record_type r.first r.o) r.adjusted.works.stored)
-  frame_stored (frame.Awaits v by done of part tasks) k heap places operands ms r = begun_stored v by k heap places operands ms r.1.0
-  frame_stored frame.Confines k heap places operands ms (v, cause, tasks, behind, is, r, of) = treats_stored v (ends cause) behind heap places operands ms r
+  frame_stored (Treats v treatment tasks) k heap places operands ms r = treats_stored v treatment tasks k heap places operands ms r.0
+  frame_stored (frame.Awaits v by done of part tasks) k heap places operands ms r = treats_stored v (begins by done) tasks k heap places operands ms r.1
+  frame_stored frame.Confines k heap places operands ms (v, cause, tasks, behind, is, r, of) = treats_stored v (ends cause) tasks behind heap places operands ms r
   frame_stored (frame.Resumes mode) k heap places operands ms r = (_, r.stored)
   frame_stored Writes k heap places operands ms r = (_, r.stored)
   frame_stored (Ends v) k heap places operands ms r = value_stored v k heap places ms r

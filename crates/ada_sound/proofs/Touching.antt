@@ -5,6 +5,7 @@
 use Rattle.std.proofs.Common.{◌≡◌, ◌≢◌, ℕ, true, false, List, [], ◌∷◌, ◌++◌, ◌⊎◌, Option, drop, length, suc, take}
 use Rattle.std.specs.Prelude.{Bool, Some}
 use Rattle.std.specs.List.{slice_get, slice_set, list_any}
+use Rattle.ada_parts.specs.Task.{Task}
 use Rattle.ada_program.specs.declared.program.Exception.{Exception}
 use Rattle.ada_quiet.specs.Bare.{has_bare_objects}
 use Rattle.ada_quiet.specs.InUse.{may_be_frugal}
@@ -32,7 +33,7 @@ use Rattle.ada_sound.proofs.Bodies.{IsBody}
 use Rattle.ada_sound.proofs.Callers.{Suspension, known_in, Stands, callers_of}
 use Rattle.ada_sound.proofs.Fits.{Fit, Outsiders, IsPlace, IsRelied, IsSaid, IsUnreferred, none_spared, outer_hold, outer_value, place_at, Reference, IsReferred}
 use Rattle.ada_sound.proofs.FrugalControl.{Frugally}
-use Rattle.ada_sound.proofs.Invariant.{body_among, Control, Rooms, Roomed, GoesTo, RoomFor, RunsOn, Known, IsNewest, Ready, Spares, StartsTo, Unaliased, below, innermost, outers, BeginsWell, CameOut, To, By, ways, IsAwaited, under_in, AssignsWell, IsCopied, LiesAmong, RunsBehind, AdjustedBehind, IsCovered}
+use Rattle.ada_sound.proofs.Invariant.{body_among, Control, Rooms, Roomed, GoesTo, RoomFor, RunsOn, Known, IsNewest, Ready, Spares, StartsTo, Unaliased, below, innermost, outers, BeginsWell, CameOut, To, By, ways, IsAwaited, under_in, AssignsWell, IsCopied, LiesAmong, AdjustedBehind, IsCovered}
 use Rattle.ada_sound.proofs.Operating.{WaitsFor, IsCalm, lets_out}
 use Rattle.ada_sound.proofs.Stored.{Stored}
 use Rattle.ada_sound.specs.Agreement.{running_procedure}
@@ -121,14 +122,14 @@ RestsAtEnd known object access home places after lower rooms holds =
     Resting known object home places after lower rooms holds
     ⊎ (Undoes known object access home places after rooms holds ⊎ Empties known object access home places after rooms holds)
 
--- The components of a record of this type in the object get those of another one, which are Integers and Booleans, or an Adjust sees to them, and then what is
--- left goes on (5.2).
+-- The components of a record of this type in the object get those of another one, which are Integers and Booleans, or Adjusts see to them, and then what is left
+-- goes on (5.2).
 abbrev pub StoresInto : Known → (object : Id) → (access record_type : ℕ) → Control → Rooms → Holds → Type 0
 StoresInto known object access t [] rooms holds = ⊥
 StoresInto known object access t (StoresRecord v first count ∷ k) rooms holds =
     (v ≡ Names object)
     × ((((components : List ComponentKind) → reached_components known.program.types access ≡ Some components → list_any is_owning (take count (drop first components)) ≡ false)
-    × RunsBehind known (Names object) access k rooms holds)
+    × To (RunsOn known k rooms) holds)
     ⊎ AdjustedBehind known (Names object) access t first count k rooms holds)
 StoresInto known object access t (f ∷ k) rooms holds = ⊥
 
@@ -261,7 +262,8 @@ pub record Touching (program : Program) (s : State) : Type 0 where
   pub of : ℕ
   pub behind : Control
   pub after : Control
-  pub awaited : WaitsFor (program_form program).types object of treatment after behind
+  pub tasks : List Task
+  pub awaited : WaitsFor (program_form program).types object of treatment tasks after behind
   pub lower : List Master
   pub kept : Keeping
   pub rooms : Rooms

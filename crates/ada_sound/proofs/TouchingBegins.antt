@@ -9,6 +9,7 @@ use Rattle.ada_deeds.specs.Implicit.{implicit_of}
 use Rattle.ada_effects.specs.Effects.{body_frees, effects_of}
 use Rattle.ada_program.specs.declared.program.FormalMode.{FormalMode}
 use Rattle.ada_program.specs.declared.program.FormalMode.TheVariants.{In, InOut}
+use Rattle.ada_parts.specs.Task.{Task}
 use Rattle.ada_program.specs.declared.program.Program.{Program}
 use Rattle.ada_program.specs.declared.program.TypeNo.{TypeNo}
 use Rattle.ada_program.specs.declared.program.VariableKind.TheVariants as variable_kinds
@@ -214,9 +215,9 @@ module _ (program : Program) (well : IsWellFormed (program_form program)) (obeys
     under_low (frame.ends (Undoing number)) q (inl same) = rw (← same) object_low
     under_low (frame.ends (Undoing number)) q (inr none) = absurd none
 
-    pub touching_begins : (e : Event) (of : ℕ) → Alters s.heap e heap → WaitsFor (program_form program).types o of treatment k behind → IsAwaited behind → Stands program gs (record s { activations = a ∷ rest }) → IsCalm (behind_call behind) → under_in (callers_of program gs) ≡ []
+    pub touching_begins : (e : Event) (of : ℕ) (tasks : List Task) → Alters s.heap e heap → WaitsFor (program_form program).types o of treatment tasks k behind → IsAwaited behind → Stands program gs (record s { activations = a ∷ rest }) → IsCalm (behind_call behind) → under_in (callers_of program gs) ≡ []
         → Touching program (operating named number b (Part o place) behind (record s { activations = a ∷ rest; heap = heap; mode = Running }))
-    touching_begins e of alters awaited waited stands calm settled =
+    touching_begins e of tasks alters awaited waited stands calm settled =
         let after = operating named number b (Part o place) behind (record s { activations = a ∷ rest; heap = heap; mode = Running }) in
         let still = stands_kept program (record s { activations = a ∷ rest }) (behind_operation (a ∷ rest) behind s.masters after) gs stands e (record { procedure = refl; suspended = refl }) alters in
         record {
@@ -239,6 +240,7 @@ module _ (program : Program) (well : IsWellFormed (program_form program)) (obeys
           of = of;
           behind = behind;
           after = k;
+          tasks = tasks;
           awaited = awaited;
           lower = s.masters;
           kept = waiting.kept;

@@ -43,7 +43,7 @@ use Rattle.ada_sound.proofs.BareObjects.{components_are_bare}
 use Rattle.ada_sound.proofs.Emptying.{null_again}
 use Rattle.ada_sound.proofs.Touching.{IsNamedNowhere, Touching, Empties, Resting, Rests, RestsAtEnd, Starting, Naming, under_way, Undoes, origin, called_by, Overwrites, RestsBy, StoresInto}
 use Rattle.ada_sound.proofs.Fits.{Fit, Hand, kinds_of, hold_in, is_object, stacked, none_spared, plain_place, put_owner, sparing, outer_hold, outer_value_at, spare_fit, weaker_fit, IsReferred, Reference}
-use Rattle.ada_sound.proofs.Invariant.{AllWait, Control, Known, OfItsType, Rooms, RunsBehind, GoesOn, Working, Ending, EndsTo, ReadyIn, TreatsBy, innermost, outer_of, outers, IsLive, Beginning, StartsTo, BeginsWell, Ready, IsActive, AreSuspended, CopiesBehind, EndsBy, LiesIn, StoresBehind, FreesWell, IsCovered, Spares, Unaliased, GoesTo, HasRoom, IsMade, Making, NamesTo, RoomFor, To, RunsOn}
+use Rattle.ada_sound.proofs.Invariant.{AllWait, Control, Known, Rooms, GoesOn, Working, Ending, EndsTo, ReadyIn, TreatsBy, innermost, outer_of, outers, IsLive, Beginning, StartsTo, BeginsWell, Ready, IsActive, AreSuspended, CopiesBehind, EndsBy, LiesIn, StoresBehind, FreesWell, IsCovered, Spares, Unaliased, GoesTo, HasRoom, IsMade, Making, NamesTo, RoomFor, To, RunsOn}
 use Rattle.ada_sound.proofs.Operating.{behind_operation, lets_out, WaitsFor}
 use Rattle.ada_sound.proofs.Waiting.{stands_behind}
 use Rattle.ada_sound.proofs.Returns.{CrossesTo, same_types}
@@ -392,25 +392,16 @@ module _ (program : Program) (well : IsWellFormed (program_form program)) (s : S
     names_by (StoresIn v c ∷ k) room to = absurd to
     names_by (g ∷ k) room to = absurd to
 
-    making_treats : TreatsBy own (Names f.object) (begins Creation done) f.after s.heap f.places b.operands f.lower
+    making_treats : TreatsBy own (Names f.object) (begins Creation done) f.tasks f.after s.heap f.places b.operands f.lower
     making_treats = (
-      inr (refl, named_here r.named, is_made, names_by f.after r.room r.to),
+      inr (named_here r.named, is_made, names_by f.after r.room r.to),
       (own_stored (begins Creation done) is, λ e raises. making_undone own f.object f.access f.after s.heap f.places f.lower making (f.x, f.found, f.of_access) e raises),
     )
-
-  behind_there : (v : Value) (k : Control) (rooms : Rooms) (holds : Holds) → v ≡ Names f.object → RunsBehind own (Names f.object) f.access k rooms holds
-      → OfItsType s.heap v (λ access. RunsBehind own v access k rooms holds)
-  behind_there v k rooms holds is behind o y names at =
-      let same : f.object ≡ o = cc (is, names) in
-      let one : y ≡ f.x = let found = f.found in cc (rw (← same) at at, found) in
-      let access : f.access ≡ y.cell.access = sym (ap (λ (z : Object). z.cell.access) one ∙ f.of_access) in
-      subst (λ (u : Value). RunsBehind own u y.cell.access k rooms holds) (sym is)
-      (subst (λ (t : ℕ). RunsBehind own (Names f.object) t k rooms holds) access behind)
 
   stores_next : (t : ℕ) (k : Control) (rooms : Rooms) (holds : Holds) → StoresInto own f.object f.access t k rooms holds → StoresBehind own s.heap t k rooms holds
   stores_next t [] rooms holds r = absurd r
   stores_next t (StoresRecord v first count ∷ k) rooms holds (is, inl (plain, behind)) =
-      inl (rw is (f.x, f.found, rw exists_still refl, λ components reached. plain components (rw (← f.of_access) reached)), behind_there v k rooms holds is behind)
+      inl (rw is (f.x, f.found, rw exists_still refl, λ components reached. plain components (rw (← f.of_access) reached)), behind)
   stores_next t (StoresRecord v first count ∷ k) rooms holds (is, inr adjusted) =
       inr (rw is (f.x, f.found, rw exists_still refl, rw f.of_access adjusted))
   stores_next t (f' ∷ k) rooms holds r = absurd r
@@ -439,7 +430,7 @@ module _ (program : Program) (well : IsWellFormed (program_form program)) (s : S
   ends_by (Assigning number) is r = copies_next number is r
   ends_by (Undoing number) is (none_also, r) = ends_next (Undoing number) tt is r
 
-  treats_by : (treatment : Treatment) → f.treatment ≡ treatment → Rests own treatment f.object f.access f.home f.places f.operands f.also f.after f.lower f.rooms f.holds → TreatsBy own (Names f.object) treatment f.after s.heap f.places b.operands f.lower
+  treats_by : (treatment : Treatment) → f.treatment ≡ treatment → Rests own treatment f.object f.access f.home f.places f.operands f.also f.after f.lower f.rooms f.holds → TreatsBy own (Names f.object) treatment f.tasks f.after s.heap f.places b.operands f.lower
   treats_by (begins Creation done) is (creation, none_also, inl r) =
       let b = beginning done is r in (
         inl b,
@@ -453,12 +444,12 @@ module _ (program : Program) (well : IsWellFormed (program_form program)) (s : S
   live : IsLive s.heap (Names f.object)
   live = (f.x.cell, rw (f.found, exists_still) refl)
 
-  awaited_there : WaitsFor own.program.types f.object f.of f.treatment f.after f.behind
-  awaited_there = subst (λ (types : List TypeForm). WaitsFor types f.object f.of f.treatment f.after f.behind) (sym (same_types f.procedure (program_form program))) f.awaited
+  awaited_there : WaitsFor own.program.types f.object f.of f.treatment f.tasks f.after f.behind
+  awaited_there = subst (λ (types : List TypeForm). WaitsFor types f.object f.of f.treatment f.tasks f.after f.behind) (sym (same_types f.procedure (program_form program))) f.awaited
 
   behind_ready : ReadyIn own Running f.behind s.heap f.places b.operands f.lower
   behind_ready =
-      ready_for own f.object f.of f.treatment f.after f.behind s.heap f.places b.operands f.lower live awaited_there (treats_by f.treatment refl f.rests)
+      ready_for own f.object f.of f.treatment f.tasks f.after f.behind s.heap f.places b.operands f.lower live awaited_there (treats_by f.treatment refl f.rests)
 
   -- What waits goes on.
   crosses : (after : State) → after.activations ≡ b ∷ rest → after.heap ≡ s.heap → ReadyIn own after.mode after.control after.heap f.places b.operands after.masters → CrossesTo program f.suspensions s.heap Quiet after
@@ -492,7 +483,7 @@ module _ (program : Program) (well : IsWellFormed (program_form program)) (s : S
   raises_back : (e : Exception) → lets_out (implicit_of (program_form program)) f.access f.treatment e ≡ true → CrossesTo program f.suspensions s.heap Quiet (left_in (Raising e))
   raises_back e out =
       crosses (left_in (Raising e)) refl refl
-      (ready_raising own f.object f.of f.treatment f.access f.after f.behind s.heap f.places b.operands f.lower e f.x f.found f.of_access live awaited_there out (treats_by f.treatment refl f.rests))
+      (ready_raising own f.object f.of f.treatment f.access f.tasks f.after f.behind s.heap f.places b.operands f.lower e f.x f.found f.of_access live awaited_there out (treats_by f.treatment refl f.rests))
 
   raised_out : (e : Exception) (rooms : Rooms) (holds : Holds) → GoesOn running (Raising e) (Returns [] [] ∷ f.behind) rooms holds → lets_out (implicit_of (program_form program)) f.access f.treatment e ≡ true
   raised_out e [] holds (may, is, keeps) = f.lets e may

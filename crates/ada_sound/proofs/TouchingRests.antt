@@ -331,7 +331,7 @@ module _ (known : Known) (o : Id) (x : Object) (heap : List Object) (found : obj
     into_here : (t first count : ℕ) (k : Control) (rooms : Rooms) (holds : Holds) → StoresBehind known heap t (StoresRecord (Names o) first count ∷ k) rooms holds → StoresInto known o x.cell.access t (StoresRecord (Names o) first count ∷ k) rooms holds
     into_here t first count k rooms holds (inl ((y, at, there, plain), behind)) =
         let one : y ≡ x = cc (at, found) in
-        (refl, inl (rw one at plain, behind o x refl found))
+        (refl, inl (rw one at plain, behind))
     into_here t first count k rooms holds (inr (y, at, there, adjusted)) =
         let one : y ≡ x = cc (at, found) in
         (refl, inr (rw one at adjusted))
@@ -472,6 +472,6 @@ module _ (known : Known) (o : Id) (x : Object) (heap : List Object) (found : obj
     unaliased = m.well.1;
   }
 
-  pub at_start : known.touches x.cell.access ≡ true → (done : List parts.Part) (k : Control) → TreatsBy known (Names o) (begins Creation done) k heap places operands masters → NothingTreated k → Enters known (begins Creation done) o x k heap places operands masters
-  at_start touches done k (inl b, may) untreated = begins_here done k untreated b
-  at_start touches done k (inr (creation, named, made, names), may) untreated = made_here done k untreated named (made o x refl found touches)
+  pub at_start : known.touches x.cell.access ≡ true → (done : List parts.Part) (tasks : List Task) (k : Control) → TreatsBy known (Names o) (begins Creation done) tasks k heap places operands masters → NothingTreated k → Enters known (begins Creation done) o x k heap places operands masters
+  at_start touches done tasks k (inl b, may) untreated = begins_here done k untreated b
+  at_start touches done tasks k (inr (named, made, names), may) untreated = made_here done k untreated named (made o x refl found touches)

@@ -73,9 +73,9 @@ treating_before w cause (task ∷ tasks) k before = refl
 
 module _ (program : Program) (s : State) (f : Touching program s) where
   -- In front of what waits for the body, nothing of another object begins.
-  waits_begin : (v : Value) → (v ≢ Names f.object) → (treatment : Treatment) → WaitsFor (program_form program).types f.object f.of treatment f.after f.behind → NothingBegins v f.behind
-  waits_begin v ne (begins by done) (part, tasks, is) = subst (NothingBegins v) (sym is) ((λ same. ne (sym same)), f.waits.untreated v ne)
-  waits_begin v ne (ends cause) (tasks, is, inside) = subst (NothingBegins v) (sym is) (treating_begin v (Names f.object) cause tasks f.after (f.waits.untreated v ne))
+  waits_begin : (v : Value) → (v ≢ Names f.object) → (treatment : Treatment) → WaitsFor (program_form program).types f.object f.of treatment f.tasks f.after f.behind → NothingBegins v f.behind
+  waits_begin v ne (begins by done) (part, is) = subst (NothingBegins v) (sym is) ((λ same. ne (sym same)), f.waits.untreated v ne)
+  waits_begin v ne (ends cause) (is, inside) = subst (NothingBegins v) (sym is) (treating_begin v (Names f.object) cause f.tasks f.after (f.waits.untreated v ne))
 
   -- What is left to do initializes and adjusts no other object.
   begins_nothing : (v : Value) → (v ≢ Names f.object) → NothingBegins v s.control
@@ -84,8 +84,8 @@ module _ (program : Program) (s : State) (f : Touching program s) where
   -- Where an object is finalized that then ceases to exist, it does so to none.
   finalizes_nothing : (cause : Cause) → f.treatment ≡ ends cause → NothingTreated f.after → (v : Value) → NothingBegins v s.control
   finalizes_nothing cause is untreated v =
-      let waits : WaitsFor (program_form program).types f.object f.of (ends cause) f.after f.behind = rw is at f.awaited in
-      let behind = subst (NothingBegins v) (sym waits.1) (treating_begin v (Names f.object) cause waits.0 f.after (nothing_begins v f.after untreated)) in
+      let waits : WaitsFor (program_form program).types f.object f.of (ends cause) f.tasks f.after f.behind = rw is at f.awaited in
+      let behind = subst (NothingBegins v) (sym waits.0) (treating_begin v (Names f.object) cause f.tasks f.after (nothing_begins v f.after untreated)) in
       frugal_begin (thrift_of (program_form program)) v f.behind s.mode s.control f.frugal.upper behind f.frugal.frugal
 
 -- What a frugal body frees has no controlled parts.
@@ -153,7 +153,7 @@ pub touching_unlisted :
     → f.x.listed ≡ false
 touching_unlisted program s reached f ends_next cause end is = go f.x.listed refl
   where
-    waits : WaitsFor (program_form program).types f.object f.of (ends cause) f.after f.behind
+    waits : WaitsFor (program_form program).types f.object f.of (ends cause) f.tasks f.after f.behind
     waits = rw is at f.awaited
 
     EndsObject : Type 0
@@ -178,9 +178,9 @@ touching_unlisted program s reached f ends_next cause end is = go f.x.listed ref
         let o = Names f.object in
         let none = none_runs_on_listed program reached.0 reached.1 s reached.2 f.object f.x f.found listed (finalizes_nothing program s f cause is before.1 o) in
         let behind : NoOperationRunsOn o f.behind = subst (NoOperationRunsOn o) ends_next none in
-        let confined : NoOperationRunsOn o (frame.Confines ∷ treating o (ends cause) waits.0 f.after) =
-        subst (NoOperationRunsOn o) waits.1 behind in
-        confined.0 (treating_before o cause waits.0 f.after before.0)
+        let confined : NoOperationRunsOn o (frame.Confines ∷ treating o (ends cause) f.tasks f.after) =
+        subst (NoOperationRunsOn o) waits.0 behind in
+        confined.0 (treating_before o cause f.tasks f.after before.0)
 
     go : (b : Bool) → f.x.listed ≡ b → b ≡ false
     go true listed = absurd (never listed)

@@ -101,15 +101,15 @@ module _ (program : Program) (a : Activation Value) (rest : List (Activation Val
         subst (λ (types : List TypeForm). has_bare_objects types access ≡ false) (sym same) (holder_is_not_bare program sound.well t f found access first part lie)
 
     -- The record that is copied behind an assignment has some.
-    copied_behind : (u : Value) (by : Treatment) (j : Control) (heap : List Object) → TreatsBy known u by j heap a.places a.operands s.masters → IsAssignedBehind p.types by j
-    copied_behind u (begins by done) j heap treats = tt
-    copied_behind u (ends (Leaving m item)) j heap treats = tt
-    copied_behind u (ends (Freeing number)) j heap treats = tt
-    copied_behind u (ends (Assigning number)) [] heap treats = tt
-    copied_behind u (ends (Assigning number)) (Copies first t ∷ j) heap ((f, found, limited), w) =
+    copied_behind : (u : Value) (by : Treatment) (left : List Task) (j : Control) (heap : List Object) → TreatsBy known u by left j heap a.places a.operands s.masters → IsAssignedBehind p.types by j
+    copied_behind u (begins by done) left j heap treats = tt
+    copied_behind u (ends (Leaving m item)) left j heap treats = tt
+    copied_behind u (ends (Freeing number)) left j heap treats = tt
+    copied_behind u (ends (Assigning number)) left [] heap treats = tt
+    copied_behind u (ends (Assigning number)) left (Copies first t ∷ j) heap ((f, found, limited), w) =
         (f, subst (λ (types : List TypeForm). finalization_of types t ≡ Some f) (same_types a.procedure p) found)
-    copied_behind u (ends (Assigning number)) (g ∷ j) heap treats = tt
-    copied_behind u (ends (Undoing number)) j heap treats = tt
+    copied_behind u (ends (Assigning number)) left (g ∷ j) heap treats = tt
+    copied_behind u (ends (Undoing number)) left j heap treats = tt
 
     -- The control, by what is treated.
     control_by : (by : Treatment) → by ≡ treatment → whole.control ≡ Treats v by tasks ∷ k
@@ -159,20 +159,20 @@ module _ (program : Program) (a : Activation Value) (rest : List (Activation Val
       ends_for cause end one treats =
           ends_by known o x heap found a.places a.operands s.masters not_bare fits_here goes_ahead bare_components touches (ends_in_starts p) cause end k treats (ended_untreated cause one)
 
-      enters : (by : Treatment) → by ≡ treatment → MayTouch by → TreatsBy known (Names o) by k heap a.places a.operands s.masters → Enters known by o x k heap a.places a.operands s.masters
-      enters (begins Creation done) one may' treats =
-          at_start known o x heap found a.places a.operands s.masters not_bare fits_here touches done k treats
+      enters : (by : Treatment) (left : List Task) → by ≡ treatment → MayTouch by → TreatsBy known (Names o) by left k heap a.places a.operands s.masters → Enters known by o x k heap a.places a.operands s.masters
+      enters (begins Creation done) left one may' treats =
+          at_start known o x heap found a.places a.operands s.masters not_bare fits_here touches done left k treats
           (untreated_start program sound.reached.0 sound.reached.1 whole still sound.reached.2 v Creation done tasks k (control_by (begins Creation done) one))
-      enters (begins Copy done) one may' treats = absurd may'
-      enters (begins (Adjustment n) done) one may' treats = absurd may'
-      enters (ends (Leaving m item)) one may' treats = ends_for (Leaving m item) tt one treats
-      enters (ends (Freeing number)) one may' treats = ends_for (Freeing number) tt one treats
-      enters (ends (Assigning number)) one may' treats =
+      enters (begins Copy done) left one may' treats = absurd may'
+      enters (begins (Adjustment n) done) left one may' treats = absurd may'
+      enters (ends (Leaving m item)) left one may' treats = ends_for (Leaving m item) tt one treats
+      enters (ends (Freeing number)) left one may' treats = ends_for (Freeing number) tt one treats
+      enters (ends (Assigning number)) left one may' treats =
           assigns_by known o x heap found a.places a.operands s.masters not_bare fits_here number lies_parted k treats
           (λ first t behind at. subst (λ (u : Value). AdjustsAlone u behind) named
           (adjusts_alone program sound.reached.0 sound.reached.1 whole still sound.reached.2 v (Assigning number) tasks first t behind
           (control_by (ends (Assigning number)) one ∙ ap (λ (j : Control). Treats v (ends (Assigning number)) tasks ∷ j) at)))
-      enters (ends (Undoing number)) one may' treats = ends_for (Undoing number) tt one treats
+      enters (ends (Undoing number)) left one may' treats = ends_for (Undoing number) tt one treats
 
     pub touching_starts : (e : Event) (after : State) (c : Begins known a rest s program.types.items (body_forms program) k IsOperated e after) → MayTouch c.treatment → may_be_frugal p ≡ true → LetsNone p c.treatment c.b → is_frugal_body (thrift_of p) c.b ≡ true → typed.Typed p after → Touching program after
     touching_starts e after c touches may silent frugal typing =
@@ -180,11 +180,11 @@ module _ (program : Program) (a : Activation Value) (rest : List (Activation Val
         let of_type : c.x.cell.access ≡ operated.0 = kept_type s.heap c.heap e c.o c.x operated.0 c.alters c.found operated.2 in
         let parted : has_bare_objects p.types c.x.cell.access ≡ false = rw of_type (operable_is_not_bare program sound.well operated.0 c.of operated.1 operated.3) in
         let at : Enters known c.treatment c.o c.x k c.heap a.places a.operands s.masters =
-        enters may c.o c.x c.heap c.operated.3 c.found (subst (λ (types : List TypeForm). has_bare_objects types c.x.cell.access ≡ false) (sym (same_types a.procedure p)) parted) c.treatment c.operated.0 touches c.treats in
+        enters may c.o c.x c.heap c.operated.3 c.found (subst (λ (types : List TypeForm). has_bare_objects types c.x.cell.access ≡ false) (sym (same_types a.procedure p)) parted) c.treatment c.tasks c.operated.0 touches c.treats in
         let operation = operation_for program sound.well c.of c.number c.treatment touches c.called in
         let body : operation.body ≡ c.b = let found = operation.there in let there = c.there in cc (found, there) in
         let lone : IsAlone c.b = alone c.b operation.object (rw body at operation.formals) in
-        let waits : WaitsFor p.types c.o c.of c.treatment k c.behind = subst (λ (types : List TypeForm). WaitsFor types c.o c.of c.treatment k c.behind) (same_types a.procedure p) c.waits in
+        let waits : WaitsFor p.types c.o c.of c.treatment c.tasks k c.behind = subst (λ (types : List TypeForm). WaitsFor types c.o c.of c.treatment c.tasks k c.behind) (same_types a.procedure p) c.waits in
         let begun = operating named c.number c.b (Part c.o c.place) c.behind (record s { activations = a ∷ rest; heap = c.heap; mode = Running; control = k }) in
         let now : typed.Typed p begun = rw c.is at typing in
         let inside : typed.TypedIn (seen_in (Some c.number) p) begun = now.inside in
@@ -192,8 +192,8 @@ module _ (program : Program) (a : Activation Value) (rest : List (Activation Val
         let holds = formal_holds program c.number c.b c.o c.place begun (_, refl) c.x c.found own in
         let within : IsWithin p.types (variable_kind c.b.variables 0) c.x.cell.access c.place.component = formal_within p.types (variable_kind c.b.variables 0) c.o c.x.cell.access c.place lone.object lone.is (rw lone.is at holds) in
         let frees : (t : ℕ) → CoveredIn (implicit_of p) (seen_in (Some c.number) p) t → at.may t ≡ true =
-        λ t covered. at.includes t (treated_frees_of program sound.well c.x.cell.access c.of operated.1 c.number c.b (rw of_type operated.3) c.treatment k (rw (c.operated.0) (c.operated.2)) (copied_behind (Names c.o) c.treatment k c.heap c.treats) touches c.called c.there t covered) in
+        λ t covered. at.includes t (treated_frees_of program sound.well c.x.cell.access c.of operated.1 c.number c.b (rw of_type operated.3) c.treatment k (rw (c.operated.0) (c.operated.2)) (copied_behind (Names c.o) c.treatment c.tasks k c.heap c.treats) touches c.called c.there t covered) in
         let lets : (raised : Exception) → body_among (implicit_of p) (seen_in (Some c.number) p) raised ≡ true → lets_out (implicit_of p) c.x.cell.access c.treatment raised ≡ true =
         touches_let program sound.well c.x.cell.access c.of operated.1 c.number c.b (rw of_type operated.3) c.treatment touches silent c.called c.there frugal in
-        rw c.is (touching_begins program sound.well sound.obeys c.number (touches_apart program sound.obeys.0 c.of c.number c.treatment touches c.called) c.b c.there may frugal lone a rest gs s k c.o c.x c.heap c.found (live_there c.x.stage c.live) c.place within c.treatment at c.behind frees lets e c.of c.alters waits (is_awaited p.types c.o c.of c.treatment k c.behind waits) stands
-        (calm_behind p.types c.o c.of c.treatment k c.behind waits calm) settled)
+        rw c.is (touching_begins program sound.well sound.obeys c.number (touches_apart program sound.obeys.0 c.of c.number c.treatment touches c.called) c.b c.there may frugal lone a rest gs s k c.o c.x c.heap c.found (live_there c.x.stage c.live) c.place within c.treatment at c.behind frees lets e c.of c.tasks c.alters waits (is_awaited p.types c.o c.of c.treatment c.tasks k c.behind waits) stands
+        (calm_behind p.types c.o c.of c.treatment c.tasks k c.behind waits calm) settled)

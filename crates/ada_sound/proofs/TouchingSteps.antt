@@ -119,6 +119,7 @@ module _ (program : Program) (s : State) (f : Touching program s) where
           of = f.of;
           behind = f.behind;
           after = f.after;
+          tasks = f.tasks;
           awaited = f.awaited;
           lower = f.lower;
           kept = f.kept;
@@ -286,7 +287,7 @@ module _ (program : Program) (a : Activation Value) (k : Control) (s : State) wh
           let control = same_control program a.procedure g (gs ++ behind_it) mode actuals references k w.rooms w.holds w.rest in
           let none : IsAwaited k → ⊥ = λ awaited. calls.0 (subst IsAwaited control awaited) in
           let placed = placed_in (seen_in a.procedure (program_form program)) a (b ∷ rest) ending refl sound.typed.inside in
-          let leads = frugal_returns (thrift_of (program_form program)) f.behind mode actuals references k f.frugal.upper (is_awaited (program_form program).types f.object f.of f.treatment f.after f.behind f.awaited) none f.frugal.frugal in
+          let leads = frugal_returns (thrift_of (program_form program)) f.behind mode actuals references k f.frugal.upper (is_awaited (program_form program).types f.object f.of f.treatment f.tasks f.after f.behind f.awaited) none f.frugal.frugal in
           touching_on program ending f gs Quiet back calls.2
           (ap (λ (running : Option ℕ). called_by running gs) (back_runs mode actuals a.places b rest ∙ stands.bodies.0) ∙ operates)
           (back_operands (length gs) mode actuals a.places b rest ∙ computed)
@@ -302,7 +303,7 @@ module _ (program : Program) (a : Activation Value) (k : Control) (s : State) wh
       own_ends : f.inner ≡ [] → LeavesBody behind_it → next tds bodies ending ≡ moves Quiet back → Went program s.heap Quiet back
       own_ends none w is =
           let control = same_control program a.procedure (origin program ending f) f.suspensions mode actuals references k w.rooms w.holds w.rest in
-          let awaited : IsAwaited k = subst IsAwaited (sym control) (is_awaited (program_form program).types f.object f.of f.treatment f.after f.behind f.awaited) in
+          let awaited : IsAwaited k = subst IsAwaited (sym control) (is_awaited (program_form program).types f.object f.of f.treatment f.tasks f.after f.behind f.awaited) in
           let end = frugal_ends (thrift_of (program_form program)) f.behind mode actuals references k f.frugal.upper awaited f.frugal.frugal in
           let next_is : ending.control ≡ Returns [] [] ∷ f.behind = rw (end.0, end.1, end.2) refl in
           let masters_are : ending.masters ≡ f.lower = f.frugal.masters ∙ ap (λ (upper : List Master). upper ++ f.lower) end.3 in

@@ -24,7 +24,7 @@ use Rattle.ada_program.specs.WellFormed.{IsWellFormed, finalization_in, has_oper
 use Rattle.ada_flow.specs.Flow.{is_owning_part, object_record, is_procedure, tracked_of, tracked_by_adjust, tracks_of}
 use Rattle.ada_flow.specs.Tracking.{no_tracks, tracks_behind, access_numbers, number_within}
 use Rattle.ada_quiet.specs.Apart.{is_this_one, is_adjust_of, is_tracker, body_calls_apart, overrides_apart, operations_apart, operations_stand_apart}
-use Rattle.ada_quiet.specs.InUse.{uses_adjust, allocates_no_parts, may_allocate_parts, may_be_frugal, uses_operations, operations_are_in_use, is_copied_alone, may_track}
+use Rattle.ada_quiet.specs.InUse.{uses_adjust, allocates_no_parts, may_allocate_parts, may_be_frugal, uses_operations, operations_are_in_use, is_copied_in_order, may_track}
 use Rattle.ada_quiet.specs.Quiet.{has_access, is_of_access, operation_body}
 use Rattle.ada_sound.proofs.OperationStarts.{apart}
 use Rattle.ada_sound.specs.Untracked.{AdjustsNoOwners}
@@ -79,15 +79,15 @@ module _ (p : ProgramForm) where
       by true may = inr may
       by false never = inl (none_among 0 p.types well.operations_fit uses never)
 
-  -- Where they may be, operations may be frugal, and records are copied alone.
-  frugal_and_alone : may_track p ≡ true → (may_be_frugal p ≡ true) × (list_all (is_copied_alone p.types) p.types ≡ true)
-  frugal_and_alone may = apart (may_be_frugal p) (list_all (is_copied_alone p.types) p.types) may
+  -- Where they may be, operations may be frugal, and the components of each record stand in order.
+  frugal_and_order : may_track p ≡ true → (may_be_frugal p ≡ true) × (list_all (is_copied_in_order p.types) p.types ≡ true)
+  frugal_and_order may = apart (may_be_frugal p) (list_all (is_copied_in_order p.types) p.types) may
 
   pub frugal_too : may_track p ≡ true → may_be_frugal p ≡ true
-  frugal_too may = (frugal_and_alone may).0
+  frugal_too may = (frugal_and_order may).0
 
-  pub alone_too : may_track p ≡ true → list_all (is_copied_alone p.types) p.types ≡ true
-  alone_too may = (frugal_and_alone may).1
+  pub order_too : may_track p ≡ true → list_all (is_copied_in_order p.types) p.types ≡ true
+  order_too may = (frugal_and_order may).1
 
   -- Where operations may be frugal, they stand apart.
   pub apart_too : may_be_frugal p ≡ true → operations_stand_apart p ≡ true

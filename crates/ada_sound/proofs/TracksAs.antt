@@ -1,36 +1,47 @@
 -- The Adjust that sees to the components of access types of a record (7.6) is simple and silent, and tracks them.
 
-use Rattle.std.proofs.Common.{◌≡◌, ℕ, Bool, true, false, not, ◌&&◌, List, length, refl, sym, ◌∙◌, subst}
-use Rattle.std.specs.Prelude.{Option, Some, None}
+use Rattle.std.proofs.Common.{◌≡◌, ℕ, Bool, true, false, not, ◌&&◌, List, length, refl, sym, ◌∙◌, subst, [], ◌∷◌, ◌≢◌}
 use Rattle.std.specs.List.{list_any, slice_get}
+use Rattle.std.specs.Prelude.{Option, Some, None}
+use Rattle.ada_effects.specs.Effects.{body_raises}
+use Rattle.ada_meaning.specs.Frame.{begins, Treatment}
+use Rattle.ada_meaning.specs.Named.{State}
+use Rattle.ada_meaning.specs.Run.{Event}
+use Rattle.ada_meaning.specs.State.{Activation}
+use Rattle.ada_meaning.specs.declared.event.Birth.{Birth}
+use Rattle.ada_meaning.specs.declared.state.Id.{Id}
+use Rattle.ada_meaning.specs.declared.state.Value.{Value}
 use Rattle.ada_parts.specs.Part as parts
 use Rattle.ada_parts.specs.Shape.{shape_of}
-use Rattle.ada_effects.specs.Effects.{body_raises}
-use Rattle.ada_meaning.specs.declared.event.Birth.{Birth}
-use Rattle.ada_meaning.specs.Frame.{begins}
+use Rattle.ada_parts.specs.Task.{performs}
 use Rattle.ada_program.specs.Controlled.{number_in, operations_of, procedure_number}
+use Rattle.ada_program.specs.ProgramForm.{TypeForm, PartForm, record_of, access_to, object_of, BodyForm, ProgramForm, body_forms, program_form}
+use Rattle.ada_program.specs.WellFormed.{IsWellFormed, finalization_in, is_inherited, is_parent}
 use Rattle.ada_program.specs.declared.program.ComponentKind.{ComponentKind}
 use Rattle.ada_program.specs.declared.program.Finalization.{Finalization}
 use Rattle.ada_program.specs.declared.program.ProcedureNo.{ProcedureNo}
 use Rattle.ada_program.specs.declared.program.Program.{Program}
-use Rattle.ada_program.specs.ProgramForm.{TypeForm, PartForm, record_of, access_to, object_of, BodyForm, ProgramForm, body_forms, program_form}
-use Rattle.ada_program.specs.WellFormed.{IsWellFormed, finalization_in, is_inherited, is_parent}
 use Rattle.ada_quiet.specs.Apart.{is_this_one, is_adjust_of, is_tracker}
 use Rattle.ada_quiet.specs.Frugal.{own_effects}
-use Rattle.ada_quiet.specs.InUse.{adjusts_at_most_one, adjusts_itself, is_copied_alone, may_track, operations_are_in_use, stand_in_a_row, uses_adjust, uses_finalize, uses_initialize, uses_operations}
+use Rattle.ada_quiet.specs.InUse.{adjusts_alone, adjusts_itself, is_copied_in_order, may_track, operations_are_in_use, stand_in_a_row, uses_adjust, uses_finalize, uses_initialize, uses_operations}
 use Rattle.ada_quiet.specs.Quiet.{has_access}
 use Rattle.ada_quiet.specs.Simple.{is_simple_body}
 use Rattle.ada_sound.proofs.AdjustingEnters.{own_adjust}
-use Rattle.ada_sound.proofs.CopiedOwners.{BeginsCopy, SeesToOwners}
-use Rattle.ada_sound.proofs.OnlyOwners.{parent_shown}
+use Rattle.ada_sound.proofs.Callers.{Suspension, known_in}
+use Rattle.ada_sound.proofs.CopiedOwners.{BeginsCopy, SeesToOwners, CopyLeft, owners_numbered}
+use Rattle.ada_sound.proofs.Invariant.{Control}
 use Rattle.ada_sound.proofs.OnlyParts.{passed_at}
 use Rattle.ada_sound.proofs.OnlyPlaces.{shown_as_controlled}
 use Rattle.ada_sound.proofs.OnlyRows.{none_passes}
 use Rattle.ada_sound.proofs.Operating.{IsCalled}
 use Rattle.ada_sound.proofs.OperationStarts.{apart}
+use Rattle.ada_sound.proofs.PartsApart.{called_sees}
 use Rattle.ada_sound.proofs.QuietOperations.{AdjustsOwn, MayTrack, no_no, this_one}
-use Rattle.ada_sound.proofs.TracksWell.{copied_alone}
+use Rattle.ada_sound.proofs.Returns.{same_types}
+use Rattle.ada_sound.proofs.SeenOwners.{parent_shown}
 use Rattle.ada_sound.proofs.Trackers.{owns_access}
+use Rattle.ada_sound.proofs.TracksWell.{copied_in_order}
+use Rattle.ada_sound.proofs.Treatments.{BeginsAdjust}
 use Rattle.ada_typed.proofs.Parts.{shows_parent, shown_shapes}
 
 -- The Adjust of a type that declares a component of an access type is in use: it may track.
@@ -40,8 +51,8 @@ uses_body p (Some procedure) number b is there uses =
     let same : procedure.0 ≡ number = cc is in
     let body : slice_get p.bodies procedure.0 ≡ Some b = rw same there in
     let all = rw body at uses in
-    let three = apart (may_track p && is_simple_body p.types b) (not (body_raises (own_effects p) b (λ e. true))) all in
-    let both = apart (may_track p) (is_simple_body p.types b) three.0 in
+    let three = apart (may_track p && is_simple_body p.types (adjusts_alone p) b) (not (body_raises (own_effects p) b (λ e. true))) all in
+    let both = apart (may_track p) (is_simple_body p.types (adjusts_alone p) b) three.0 in
     (both.0, both.1, no_no (body_raises (own_effects p) b (λ e. true)) three.1)
 
 -- What some type of a program has makes a procedure one that tracks.
@@ -92,6 +103,21 @@ tracks_as program well uses r of s by copies done number b there called =
       tracks_at (program_form program) number r (form program well r of s) s.at (own_access program well r of s) (this_one s.finalization.operations.adjust number is),
     )
 
+-- So is the Adjust that is called for a part of a copy which declares such components.
+pub adjust_tracks :
+    (program : Program) → IsWellFormed (program_form program) → operations_are_in_use (program_form program) ≡ true
+    → (a : Activation Value) (rest : List (Activation Value)) (s : State) (gs : List Suspension) (v : Value) (k : Control) (IsOperated : Treatment → Id → ℕ → Type 0) (e : Event) (after : State)
+    → (c : BeginsAdjust (known_in program a.procedure gs) a rest s program.types.items (body_forms program) v k IsOperated e after)
+    → MayTrack (program_form program) c.b × (is_tracker (program_form program) c.number ≡ true)
+adjust_tracks program well uses a rest s gs v k IsOperated e after c =
+    let same = same_types a.procedure (program_form program) in
+    let access = c.to.x.cell.access in
+    let r = c.to.record_type in
+    let left = subst (λ (types : List TypeForm). CopyLeft types access r (performs c.of c.part ∷ c.tasks)) same c.to.left in
+    let owns = subst (λ (types : List TypeForm). owners_numbered types c.of ≢ []) same c.owns in
+    let sees = called_sees program well access r c.of c.part c.tasks left owns in
+    tracks_as program well uses sees.0 c.of sees.1 c.by c.copies c.done c.number c.b c.there c.called
+
 -- A type that overrides Adjust inherits none.
 overrides_some : (number : ℕ) (o : Option ProcedureNo) → is_this_one number o ≡ true → is_inherited o ≡ false
 overrides_some number None is = absurd (cc is)
@@ -105,8 +131,8 @@ module _ (program : Program) (well : IsWellFormed (program_form program)) (may :
   parent_so : (r : ℕ) (name : List ℕ) (ps : List PartForm) (components : List ComponentKind) (f : Finalization) → slice_get types r ≡ Some (record_of name ps components (Some f))
       → is_inherited f.operations.adjust ≡ false → shows_parent ps ≡ true
   parent_so r name ps components f at overrides =
-      let alone = passed_at (is_copied_alone types) types r (record_of name ps components (Some f)) (copied_alone (program_form program) well may).copied_alone at in
-      let last = (apart (stand_in_a_row types 0 ps (length components) && adjusts_at_most_one (Some f)) (adjusts_itself ps (Some f)) alone).1 in
+      let order = passed_at (is_copied_in_order types) types r (record_of name ps components (Some f)) (copied_in_order (program_form program) well may).copied_in_order at in
+      let last = (apart (stand_in_a_row types 0 ps (length components)) (adjusts_itself ps (Some f)) order).1 in
       let parent : list_any (λ c. is_parent c.kind) ps ≡ true = rw overrides at last in
       sym (parent_shown ps) ∙ parent
 

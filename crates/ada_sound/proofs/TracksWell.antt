@@ -1,64 +1,52 @@
 -- Where nothing tracks components (7.6), no record with owners is copied; and where they may be tracked, an Adjust sees to those of each copy, and nothing but the
 -- treatment of an object calls that. Where an operation may touch storage, no allocator with items makes an object for which one is called (4.8).
 
-use Rattle.std.proofs.Common.{◌≡◌, ℕ, Bool, true, false, ◌&&◌, not, List, ◌∷◌, length, refl, sym, subst, inl, inr}
-use Rattle.std.specs.Prelude.{Option, Some, None}
-use Rattle.std.specs.List.{list_all, slice_get}
-use Rattle.ada_program.specs.declared.program.Finalization.{Finalization}
+use Rattle.std.proofs.Common.{◌≡◌, ℕ, Bool, true, false, ◌&&◌, not, List, ◌∷◌, refl, sym, subst, inl, inr}
+use Rattle.std.specs.Prelude.{Option}
+use Rattle.std.specs.List.{list_all}
 use Rattle.ada_program.specs.declared.program.Program.{Program}
 use Rattle.ada_program.specs.Form.{ActualForm, ItemForm, allocates}
-use Rattle.ada_program.specs.ProgramForm.{TypeForm, record_of, access_to, object_of, BodyForm, ProgramForm, program_form}
-use Rattle.ada_program.specs.WellFormed.{IsWellFormed, finalization_in, finalization_of}
-use Rattle.std.proofs.lemmas.Bool.{and_parts, eqb-true}
+use Rattle.ada_program.specs.ProgramForm.{TypeForm, BodyForm, ProgramForm, program_form}
+use Rattle.ada_program.specs.WellFormed.{IsWellFormed}
+use Rattle.std.proofs.lemmas.Bool.{and_parts}
 use Rattle.ada_meaning.specs.Frame.{Calls, Evaluates}
 use Rattle.ada_meaning.specs.Named.{State}
 use Rattle.ada_quiet.specs.Apart.{is_bare_item, is_tracker, operations_stand_apart}
 use Rattle.ada_quiet.specs.Bare.{has_bare_objects}
-use Rattle.ada_quiet.specs.InUse.{is_copied_alone, stand_in_a_row, adjusts_at_most_one, adjusts_itself, may_be_frugal, may_track}
+use Rattle.ada_quiet.specs.InUse.{may_be_frugal, may_track}
 use Rattle.ada_sound.proofs.Callers.{Suspension, known_in}
 use Rattle.ada_sound.proofs.CallsApart.{CallApart}
 use Rattle.ada_sound.proofs.CallsApartRuns.{no_record_allocated, no_tracker_called}
 use Rattle.ada_sound.proofs.CopiedOwners.{CopiesWell}
-use Rattle.ada_sound.proofs.CopiedWell.{copies_well}
 use Rattle.ada_sound.proofs.Gathered.{AllocatesApart, AllocatesBare, allocates_bare}
 use Rattle.ada_sound.proofs.Invariant.{Control}
-use Rattle.ada_sound.proofs.OnlyRows.{AreCopiedAlone}
-use Rattle.ada_sound.proofs.OnlyParts.{passed_at}
+use Rattle.ada_sound.proofs.OnlyRows.{AreCopiedInOrder}
+use Rattle.ada_sound.proofs.CoveredOwners.{covered_there}
+use Rattle.ada_sound.proofs.SeenOwners.{copies_well}
 use Rattle.ada_sound.proofs.Returns.{same_types}
 use Rattle.ada_sound.proofs.Sees.{copies_in, allocates_in}
 use Rattle.ada_sound.proofs.BareObjects.{components_untouched}
 use Rattle.ada_sound.proofs.Touched.{ComponentsUntouched, touches_in}
-use Rattle.ada_sound.proofs.Trackers.{TracksSafely, alone_too, apart_too, nothing_adjusts, stand_apart}
+use Rattle.ada_sound.proofs.Trackers.{TracksSafely, order_too, apart_too, nothing_adjusts, stand_apart}
 
-module _ (p : ProgramForm) (well : IsWellFormed p) (may : may_track p ≡ true) where
-  pub copied_alone : AreCopiedAlone p.types
-  copied_alone = record {
-    types_fit = well.types_fit;
-    components_lie = well.components_lie;
-    copied_alone = alone_too p may;
-  }
+-- Where components may be tracked, those of each record stand in order.
+pub copied_in_order : (p : ProgramForm) → IsWellFormed p → may_track p ≡ true → AreCopiedInOrder p.types
+copied_in_order p well may = record {
+  types_fit = well.types_fit;
+  components_lie = well.components_lie;
+  copied_in_order = order_too p may;
+}
 
-  -- No record type has two controlled parts.
-  pub one_part_each : (t : ℕ) (f : Finalization) → finalization_of p.types t ≡ Some f → f.parts ≡ 1
-  one_part_each t f is = by (slice_get p.types t) refl is
-    where
-      by : (o : Option TypeForm) → slice_get p.types t ≡ o → finalization_in o ≡ Some f → f.parts ≡ 1
-      by None at is' = absurd (cc is')
-      by (Some (access_to name designated pool)) at is' = absurd (cc is')
-      by (Some (object_of record_type)) at is' = absurd (cc is')
-      by (Some (record_of name ps components finalization)) at is' =
-          let alone = passed_at (is_copied_alone p.types) p.types t (record_of name ps components finalization) copied_alone.copied_alone at in
-          let two = and_parts (stand_in_a_row p.types 0 ps (length components) && adjusts_at_most_one finalization) (adjusts_itself ps finalization) alone in
-          let one = (and_parts (stand_in_a_row p.types 0 ps (length components)) (adjusts_at_most_one finalization) two.0).1 in
-          eqb-true f.parts 1 (rw is' at one)
-
-  pub tracked_well : CopiesWell p.types
-  tracked_well = copies_well p.types copied_alone one_part_each
+-- So copies that leave no two owners are seen to.
+pub tracked_well : (program : Program) → IsWellFormed (program_form program) → may_track (program_form program) ≡ true → CopiesWell (program_form program).types
+tracked_well program well may =
+    let p = program_form program in
+    copies_well p.types (copied_in_order p well may) (covered_there program well)
 
 -- What a body copies leaves no two owners.
 pub copies_at : (program : Program) (procedure : Option ℕ) (gs : List Suspension) → IsWellFormed (program_form program) → TracksSafely (program_form program) → CopiesWell (known_in program procedure gs).program.types
-copies_at program procedure gs well (inl none) = copies_in program procedure gs (nothing_adjusts (program_form program) none)
-copies_at program procedure gs well (inr may) = subst CopiesWell (sym (same_types procedure (program_form program))) (tracked_well (program_form program) well may)
+copies_at program procedure gs well (inl none) = copies_in program procedure gs well (nothing_adjusts (program_form program) none)
+copies_at program procedure gs well (inr may) = subst CopiesWell (sym (same_types procedure (program_form program))) (tracked_well program well may)
 
 -- Where operations stand apart, what is left to do calls nothing that tracks, and no allocator in it makes an object with controlled parts from items, or copies a
 -- record with some.
@@ -81,9 +69,10 @@ makes_apart p s apart' access items behind is = by (may_be_frugal p) refl
     by true may = rw ((bare_next p s (apart_too p may) apart' access items behind is).0) refl
 
 -- And the records among those items own nothing.
-pub tracked_bare : (p : ProgramForm) → IsWellFormed p → may_track p ≡ true → ComponentsUntouched p.types (touches_in p) → (s : State) → StaysApart p s.control → AllocatesBare p.types (touches_in p) s.control
-tracked_bare p well may untouched s apart' =
-    allocates_bare p.types (tracked_well p well may) s.control
+pub tracked_bare : (program : Program) → IsWellFormed (program_form program) → may_track (program_form program) ≡ true → ComponentsUntouched (program_form program).types (touches_in (program_form program)) → (s : State) → StaysApart (program_form program) s.control → AllocatesBare (program_form program).types (touches_in (program_form program)) s.control
+tracked_bare program well may untouched s apart' =
+    let p = program_form program in
+    allocates_bare p.types (tracked_well program well may) s.control
     (λ access items behind is. (bare_next p s (stand_apart p may) apart' access items behind is).1) untouched (makes_apart p s apart')
 
 -- So it is with an allocator that a body of the program evaluates next.
@@ -93,7 +82,7 @@ allocates_at program procedure gs s well (inl none) apart' =
     allocates_in program procedure gs s.control (nothing_adjusts (program_form program) none) (components_untouched program well) (makes_apart (program_form program) s apart')
 allocates_at program procedure gs s well (inr may) apart' =
     let p = program_form program in
-    subst (λ (types : List TypeForm). AllocatesBare types (touches_in p) s.control) (sym (same_types procedure p)) (tracked_bare p well may (components_untouched program well) s apart')
+    subst (λ (types : List TypeForm). AllocatesBare types (touches_in p) s.control) (sym (same_types procedure p)) (tracked_bare program well may (components_untouched program well) s apart')
 
 -- What is called next tracks nothing.
 pub called_apart : (program : Program) (s : State) (number : ℕ) (b : BodyForm) (actuals : List ActualForm) (k : Control) → s.control ≡ Calls number b actuals ∷ k → TracksSafely (program_form program)

@@ -1,14 +1,15 @@
 -- The controlled parts of an object are initialized or finalized (7.6, 7.6.1): what is relied on stays as it is, and so does what is behind.
 
-use Rattle.std.proofs.Common.{◌≡◌, ◌≢◌, ℕ, suc, ◌≤◌, Bool, true, false, List, [], ◌∷◌, ◌++◌, refl, sym, ap, subst, ◌∙◌, ◌⊎◌, inl, inr, arith, append-nil}
+use Rattle.std.proofs.Common.{◌≡◌, ◌≢◌, ℕ, suc, ◌≤◌, Bool, true, false, List, [], ◌∷◌, length, refl, sym, ap, subst, ◌∙◌, ◌⊎◌, inl, inr}
 use Rattle.std.specs.Prelude.{◌==◌, if◌then◌else◌, Option, Some, None}
 use Rattle.std.specs.List.{slice_get, slice_set}
 use Rattle.ada_parts.specs.declared.tasks.Next.{Next as Follows}
 use Rattle.ada_parts.specs.declared.tasks.Next.TheVariants.{Done, Pick, Perform}
 use Rattle.ada_parts.specs.Part as parts
-use Rattle.ada_parts.specs.declared.tasks.Component.{Component}
 use Rattle.ada_parts.specs.declared.tasks.Direction.TheVariants.{PartsFirst}
-use Rattle.ada_parts.specs.Task.{Task, treats, opened, performed, next as task_next}
+use Rattle.ada_parts.specs.Shape.{Shape}
+use Rattle.ada_parts.specs.Task.{Task, performs, treats, taken, performed, IsOpen, next as task_next}
+use Rattle.ada_parts.proofs.Runs.{call_is}
 use Rattle.ada_program.specs.declared.program.TypeDefinition.{TypeDefinition}
 use Rattle.ada_program.specs.Controlled.{operations_of, procedure_number, shapes_of}
 use Rattle.ada_program.specs.ProgramForm.{BodyForm, TypeForm}
@@ -43,9 +44,12 @@ use Rattle.ada_sound.proofs.Fits.{Fit, treated_fit, same_unnamed, gone_fit}
 use Rattle.ada_sound.proofs.Alters.{Alters, alters_same, alters_set}
 use Rattle.ada_owners.specs.Places.{is_there}
 use Rattle.ada_typed.proofs.Parts.{shown_shapes}
-use Rattle.ada_sound.proofs.CopiedOwners.{BeginsCopy, SeesToOwners, Leads, now, later}
-use Rattle.ada_sound.proofs.Invariant.{outers, Adjusted, AdjustsAside, AdjustsTo, Known, Control, OfItsType, Rooms, RunsBehind, RunsOn, Working, IsHolder, IsPlainIn, IsAdjustedIn, IsLive, NamesTo, BeginsBy, BegunTo, EndsTo, StoresBehind, CopiesBehind, TreatsBy, ThenBack, Ending, ConfinesBy, EndsWell, Stepped, Fine, IsOfAssigned, IsOfCopied, LiesIn}
-use Rattle.ada_sound.proofs.Ready.{running, at_work, stays, treats_ready, adjusts_ready, type_set}
+use Rattle.ada_tracked.specs.Frames.{watched, blank_object, blanked, values_at}
+use Rattle.ada_tracked.proofs.Heaps.{blanked_here}
+use Rattle.ada_sound.proofs.CopiedOwners.{BeginsCopy, hiding, names_still, owners_numbered}
+use Rattle.ada_sound.proofs.AdjustsKept.{adjusts_set, adjusts_skipped, set_blanked}
+use Rattle.ada_sound.proofs.Invariant.{outers, AdjustsTo, Beginning, Known, Control, Rooms, RunsOn, Working, IsHolder, IsPlainIn, IsAdjustedIn, IsLive, NamesTo, BegunTo, EndsTo, StoresBehind, CopiesBehind, TreatsBy, ThenBack, Ending, ConfinesBy, EndsWell, Stepped, Fine, IsOfAssigned, IsOfCopied, LiesIn}
+use Rattle.ada_sound.proofs.Ready.{running, at_work, stays, treats_ready}
 use Rattle.ada_sound.proofs.Endings.{swapped, gone_still, under_set, frees_set, named_set, behind_set}
 use Rattle.ada_sound.proofs.Undone.{beginning_set, made_set, undo_set}
 use Rattle.ada_sound.proofs.Operating.{StaysLive, WaitsFor, IsCalled}
@@ -173,30 +177,32 @@ module _ (change : PartState → PartState) (part : ℕ) where
     names_set places operands (StoresIn h c ∷ k) r = put_set h c _ places k r
     names_set places operands (f ∷ k) r = absurd r
 
-    aside_set : (v : Value) (places : List Value) (k : Control)
-        → Working known heap places ms (λ rooms holds. RunsOn known k rooms holds × OfItsType heap v (λ access. AdjustsAside known access holds))
-        → Working known (slice_set heap o.0 (treated change part x)) places ms (λ rooms holds.
-        RunsOn known k rooms holds × OfItsType (slice_set heap o.0 (treated change part x)) v (λ access. AdjustsAside known access holds))
-    aside_set v places k w =
-        works_set heap o x found known ms
-        (at_work w (w.rest.0, type_set heap o x (treated change part x) found refl v (λ access. AdjustsAside known access w.holds) w.rest.1))
-
-    begins_set : (v : Value) (by : Birth) (places : List Value) (k : Control) → v ≡ Names o → BeginsBy known v by k heap places ms → BeginsBy known v by k (slice_set heap o.0 (treated change part x)) places ms
-    begins_set v Creation places k is b =
+    begins_set : (v : Value) (places : List Value) (k : Control) → v ≡ Names o → Beginning known v k heap places ms → Beginning known v k (slice_set heap o.0 (treated change part x)) places ms
+    begins_set v places k is b =
         beginning_set known heap places ms o x (treated change part x) found refl (stored_treated change part o x found) (λ holds f. treated_fit change part o x found f)
         (λ holds aside. (same_unnamed heap o x found o aside.0 (treated change part x) refl (λ c. refl), aside.1)) v k is b
-    begins_set v Copy places k is w = aside_set v places k w
-    begins_set v (Adjustment number) places k is w = aside_set v places k w
 
-    begun_set : (v : Value) (by : Birth) (places operands : List Value) (k : Control) → v ≡ Names o → BegunTo known v by k heap places operands ms → BegunTo known v by k (slice_set heap o.0 (treated change part x)) places operands ms
-    begun_set v by places operands k is (inl b) = inl (begins_set v by places k is b)
-    begun_set v by places operands k is (inr r) = inr (
+    begun_set : (v : Value) (places operands : List Value) (k : Control) → v ≡ Names o → BegunTo known v k heap places operands ms → BegunTo known v k (slice_set heap o.0 (treated change part x)) places operands ms
+    begun_set v places operands k is (inl b) = inl (begins_set v places k is b)
+    begun_set v places operands k is (inr r) = inr (
       r.0,
-      r.1,
       made_set known heap places ms o x (treated change part x) found refl (stored_treated change part o x found) (λ holds f. treated_fit change part o x found f)
-          (λ holds aside. (same_unnamed heap o x found o aside.0 (treated change part x) refl (λ c. refl), aside.1)) v k is r.2,
-      names_set places operands k r.3,
+          (λ holds aside. (same_unnamed heap o x found o aside.0 (treated change part x) refl (λ c. refl), aside.1)) v k is r.1,
+      names_set places operands k r.2,
     )
+
+    -- So does what is left of an adjustment: no component changes, whether it is hidden or not.
+    hidden_set : (owners : List ℕ) (places : List Value) (more : Rooms → Holds → Type 0) → Working known (blanked (hiding owners o) heap) places ms more
+        → Working known (blanked (hiding owners o) (slice_set heap o.0 (treated change part x))) places ms more
+    hidden_set owners places more w =
+        subst (λ (objects : List Object). Working known objects places ms more) (set_blanked (hiding owners o) heap x found (treated change part) refl)
+        (works_set (blanked (hiding owners o) heap) o (blank_object (watched (hiding owners o)) x) (blanked_here (hiding owners o) heap x found) known ms w)
+
+    copy_set : (v : Value) (tasks : List Task) (places : List Value) (k : Control) → v ≡ Names o → AdjustsTo known v tasks k heap places ms → AdjustsTo known v tasks k (slice_set heap o.0 (treated change part x)) places ms
+    copy_set v tasks places k is to =
+        adjusts_set known heap places ms o x (treated change part x) found refl refl
+        (λ owners there. names_still heap (slice_set heap o.0 (treated change part x)) (values_at owners x.cell.values) (there_set heap o x found) there)
+        (λ owners more w. hidden_set owners places more w) v tasks k is to
 
     -- So does what is copied to a record that is assigned to.
     lies_set : (t : ℕ) (v : Value) → LiesIn known heap t v → LiesIn known (slice_set heap o.0 (treated change part x)) t v
@@ -237,8 +243,7 @@ module _ (change : PartState → PartState) (part : ℕ) where
 
     stores_set : (t : ℕ) (k : Control) (rooms : Rooms) (holds : Holds) → StoresBehind known heap t k rooms holds → StoresBehind known (slice_set heap o.0 (treated change part x)) t k rooms holds
     stores_set t [] rooms holds r = absurd r
-    stores_set t (StoresRecord p first count ∷ k) rooms holds (inl r) =
-        inl (plain_set p first count r.0, type_set heap o x (treated change part x) found refl p (λ access. RunsBehind known p access k rooms holds) r.1)
+    stores_set t (StoresRecord p first count ∷ k) rooms holds (inl r) = inl (plain_set p first count r.0, r.1)
     stores_set t (StoresRecord p first count ∷ k) rooms holds (inr r) = inr (adjusted_set p t first count k rooms holds r)
     stores_set t (f ∷ k) rooms holds r = absurd r
 
@@ -248,22 +253,24 @@ module _ (change : PartState → PartState) (part : ℕ) where
         (copied, works_set heap o x found known ms (at_work w (lies_set t (first_or Null operands) w.rest.0, stores_set t k w.rooms w.holds w.rest.1, w.rest.2)))
     copies_set places operands (f ∷ k) r = absurd r
 
-    treats_set : (v : Value) (treatment : Treatment) (places operands : List Value) (k : Control) → v ≡ Names o → TreatsBy known v treatment k heap places operands ms → TreatsBy known v treatment k (slice_set heap o.0 (treated change part x)) places operands ms
-    treats_set v (begins by done) places operands k is r = (
-      begun_set v by places operands k is r.0,
+    treats_set : (v : Value) (treatment : Treatment) (tasks : List Task) (places operands : List Value) (k : Control) → v ≡ Names o → TreatsBy known v treatment tasks k heap places operands ms → TreatsBy known v treatment tasks k (slice_set heap o.0 (treated change part x)) places operands ms
+    treats_set v (begins Creation done) tasks places operands k is r = (
+      begun_set v places operands k is r.0,
       rw is (undo_set known heap places ms o x (treated change part x) found refl (stored_treated change part o x found)
           (λ holds f. gone_fit heap o x (treated change part x) found f) (λ holds f. treated_fit change part o x found f)
-          (λ holds aside. (same_unnamed heap o x found o aside.0 (treated change part x) refl (λ c. refl), aside.1)) by k (rw is at r.1)),
+          (λ holds aside. (same_unnamed heap o x found o aside.0 (treated change part x) refl (λ c. refl), aside.1)) k (rw is at r.1)),
     )
-    treats_set v (ends (Leaving m item)) places operands k is r = ends_set heap o x found known ms v places k is r
-    treats_set v (ends (Freeing number)) places operands k is r = ends_set heap o x found known ms v places k is r
-    treats_set v (ends (Assigning number)) places operands k is r = copies_set places operands k r
-    treats_set v (ends (Undoing number)) places operands k is r = ends_set heap o x found known ms v places k is r
+    treats_set v (begins Copy done) tasks places operands k is r = copy_set v tasks places k is r
+    treats_set v (begins (Adjustment number) done) tasks places operands k is r = copy_set v tasks places k is r
+    treats_set v (ends (Leaving m item)) tasks places operands k is r = ends_set heap o x found known ms v places k is r
+    treats_set v (ends (Freeing number)) tasks places operands k is r = ends_set heap o x found known ms v places k is r
+    treats_set v (ends (Assigning number)) tasks places operands k is r = copies_set places operands k r
+    treats_set v (ends (Undoing number)) tasks places operands k is r = ends_set heap o x found known ms v places k is r
 
-  pub treats_changed : (known : Known) (ms : List Master) (heap : List Object) (v : Value) (treatment : Treatment) (places operands : List Value) (k : Control) → TreatsBy known v treatment k heap places operands ms → TreatsBy known v treatment k (on_object (treated change part) heap v) places operands ms
-  treats_changed known ms heap v treatment places operands k r =
-      changed_or_same (λ objects. TreatsBy known v treatment k objects places operands ms) heap v r
-      (λ o x is found. treats_set known ms heap o x found v treatment places operands k is r)
+  pub treats_changed : (known : Known) (ms : List Master) (heap : List Object) (v : Value) (treatment : Treatment) (tasks : List Task) (places operands : List Value) (k : Control) → TreatsBy known v treatment tasks k heap places operands ms → TreatsBy known v treatment tasks k (on_object (treated change part) heap v) places operands ms
+  treats_changed known ms heap v treatment tasks places operands k r =
+      changed_or_same (λ objects. TreatsBy known v treatment tasks k objects places operands ms) heap v r
+      (λ o x is found. treats_set known ms heap o x found v treatment tasks places operands k is r)
 
 -- The object that a value names is there.
 record IsFound (heap : List Object) (v : Value) (cell : Cell Value) : Type 0 where
@@ -328,16 +335,15 @@ none_inside types (ends (Assigning number)) (f ∷ k) = tt
 none_inside types (ends (Undoing number)) k = tt
 
 -- What begins a part of an object is called where that part is, and what is left of the treatment waits for it (7.6).
-pub record BeginsPart (o : Id) (x : Object) (place : Place) (by : Birth) (done : List parts.Part) (of : ℕ) (k behind : Control) : Type 0 where
+pub record BeginsPart (o : Id) (x : Object) (place : Place) (by : Birth) (done : List parts.Part) (of : ℕ) (tasks : List Task) (k behind : Control) : Type 0 where
   pub part : ℕ
-  pub tasks : List Task
   pub p : PartState
   pub state : slice_get x.cell.parts part ≡ Some p
   pub at : place ≡ record { component = p.first; part = part }
   pub awaits : behind ≡ frame.Awaits (Names o) by done of part tasks ∷ k
 
 -- The body begins of a procedure that overrides an operation, of a controlled type of which the next task is known to speak: for a part of an object that is
--- there, and that is ready for what waits behind it (7.6, 7.6.1).
+-- there, and that is ready for what waits behind it (7.6, 7.6.1). Where it is an Adjust, the part declares no component of an access type.
 pub record Begins (known : Known) (a : Activation Value) (rest : List (Activation Value)) (s : State) (types : List TypeDefinition) (bodies : List BodyForm) (k : Control) (IsOperated : Treatment → Id → ℕ → Type 0) (e : Event) (after : State) : Type 0 where
   pub of : ℕ
   pub number : ℕ
@@ -353,37 +359,36 @@ pub record Begins (known : Known) (a : Activation Value) (rest : List (Activatio
   pub operated : IsOperated treatment o of
   pub called : IsCalled (operations_of types of) treatment number
   pub behind : Control
-  pub waits : WaitsFor known.program.types o of treatment k behind
-  pub treats : TreatsBy known (Names o) treatment k heap a.places a.operands s.masters
+  pub tasks : List Task
+  pub waits : WaitsFor known.program.types o of treatment tasks k behind
+  pub treats : TreatsBy known (Names o) treatment tasks k heap a.places a.operands s.masters
   pub alters : Alters s.heap e heap
   pub tells : TellsNothing e
   pub begun : (by : Birth) (done : List parts.Part) → treatment ≡ begins by done → (heap ≡ s.heap) × (e ≡ Quiet)
-  pub standing : (by : Birth) (done : List parts.Part) → treatment ≡ begins by done → BeginsPart o x place by done of k behind
+  pub standing : (by : Birth) (done : List parts.Part) → treatment ≡ begins by done → BeginsPart o x place by done of tasks k behind
+  pub plain : (by : Birth) (done : List parts.Part) → treatment ≡ begins by done → BeginsCopy by → owners_numbered known.program.types of ≡ []
   pub is : after ≡ operating named number b (Part o place) behind (record (running k a rest s) { heap = heap })
 
--- The body of an Adjust begins, after a copy, that sees to the components of access types of the only controlled part of an object. These count as null until
--- it has ended. The part begins with the component `p.first`.
+-- The body of an Adjust begins, after a copy, that sees to the components of access types of a controlled part of an object. These count as null until it has
+-- ended, and so do those of the parts that are left to be adjusted. The part begins with the component `p.first`.
 pub record BeginsAdjust (known : Known) (a : Activation Value) (rest : List (Activation Value)) (s : State) (types : List TypeDefinition) (bodies : List BodyForm) (v : Value) (k : Control) (IsOperated : Treatment → Id → ℕ → Type 0) (e : Event) (after : State) : Type 0 where
   pub number : ℕ
   pub b : BodyForm
   pub there : slice_get bodies number ≡ Some b
   pub by : Birth
   pub done : List parts.Part
-  pub tasks : List Task
   pub copies : BeginsCopy by
-  pub o : Id
-  pub names : v ≡ Names o
-  pub record_type : ℕ
   pub of : ℕ
-  pub first : ℕ
   pub part : ℕ
-  pub adjusted : Adjusted known o record_type of first k s.heap a.places s.masters
+  pub tasks : List Task
+  pub to : AdjustsTo known v (performs of part ∷ tasks) k s.heap a.places s.masters
+  pub owns : owners_numbered known.program.types of ≢ []
   pub p : PartState
-  pub state : slice_get adjusted.x.cell.parts part ≡ Some p
-  pub operated : IsOperated (begins by done) o of
+  pub state : slice_get to.x.cell.parts part ≡ Some p
+  pub operated : IsOperated (begins by done) to.o of
   pub called : IsCalled (operations_of types of) (begins by done) number
   pub quiet : e ≡ Quiet
-  pub is : after ≡ operating named number b (Part o (record { component = p.first; part = part })) (frame.Awaits (Names o) by done of part tasks ∷ k) (running k a rest s)
+  pub is : after ≡ operating named number b (Part to.o (record { component = p.first; part = part })) (frame.Awaits (Names to.o) by done of part tasks ∷ k) (running k a rest s)
 
 -- An object that is there is found.
 looks_there : (heap : List Object) (o : Id) (x : Object) → object_at heap o ≡ Some x → is_there x.stage ≡ true → look heap (Names o) ≡ finds x.cell
@@ -393,6 +398,17 @@ looks_there heap o x found there = rw found (by x.stage there)
     by Building there' = refl
     by Existing there' = refl
     by Gone there' = absurd (cc there')
+
+-- What is left, by what comes next.
+done_is : (tasks : List Task) → task_next tasks ≡ Done → tasks ≡ []
+done_is [] e = refl
+done_is (performs of part ∷ tasks) e = absurd (cc e)
+done_is (treats components ∷ tasks) e = absurd (cc e)
+
+open_is : (tasks : List Task) (count i : ℕ) → task_next tasks ≡ Pick count → suc i ≤ count → IsOpen tasks i
+open_is [] count i e lt = absurd (cc e)
+open_is (performs of part ∷ tasks) count i e lt = absurd (cc e)
+open_is (treats components ∷ tasks) count i e lt = let so : length components ≡ count = cc e in rw so lt
 
 -- The next step of a treatment: one of some components is picked, or a part comes to have a value, or its value is finalized; or nothing is left; or the body
 -- of an operation begins.
@@ -419,29 +435,35 @@ module _ (known : Known) (a : Activation Value) (rest : List (Activation Value))
     Treated n = TreatedIn v n
 
     -- What is left goes on.
-    goes_on : (treatment : Treatment) (tasks : List Task) → TreatsBy known v treatment k s.heap a.places a.operands s.masters → IsOfAssigned known.program.types treatment tasks k → Stepped known s.heap Quiet (treated_on named v treatment tasks (running k a rest s))
+    goes_on : (treatment : Treatment) (tasks : List Task) → TreatsBy known v treatment tasks k s.heap a.places a.operands s.masters → IsOfAssigned known.program.types treatment tasks k → Stepped known s.heap Quiet (treated_on named v treatment tasks (running k a rest s))
     goes_on treatment tasks r of =
         stays known Quiet (treated_on named v treatment tasks (running k a rest s))
         (tt, treats_ready known v treatment tasks k s.heap a.places a.operands s.masters r of) tt
 
+    -- Whatever has begun.
+    done_on : (by : Birth) (done more : List parts.Part) (tasks : List Task) (heap : List Object) → TreatsBy known v (begins by done) tasks k heap a.places a.operands s.masters → TreatsBy known v (begins by more) tasks k heap a.places a.operands s.masters
+    done_on Creation done more tasks heap r = r
+    done_on Copy done more tasks heap r = r
+    done_on (Adjustment number) done more tasks heap r = r
+
     -- A part comes to have a value.
-    born_fine : (by : Birth) (done : List parts.Part) (of part : ℕ) (tasks : List Task) (p : PartState) → TreatsBy known v (begins by done) k s.heap a.places a.operands s.masters
+    born_fine : (by : Birth) (done : List parts.Part) (of part : ℕ) (tasks : List Task) (p : PartState) → TreatsBy known v (begins by done) tasks k s.heap a.places a.operands s.masters
         → Fine known s.heap s.masters (born_next named v by done of part tasks (Some p) (running k a rest s))
     born_fine by done of part tasks p r =
         let change = born_part (counted s.born) in
-        let treatment = begins by (record { of = of; number = part } ∷ done) in
+        let more = record { of = of; number = part } ∷ done in
         record {
           ready = (
             tt,
-            treats_ready known v treatment tasks k (on_object (treated change part) s.heap v) a.places a.operands s.masters
-                (treats_changed change part known s.masters s.heap v treatment a.places a.operands k r) tt,
+            treats_ready known v (begins by more) tasks k (on_object (treated change part) s.heap v) a.places a.operands s.masters
+                (treats_changed change part known s.masters s.heap v (begins by more) tasks a.places a.operands k (done_on by done more tasks s.heap r)) tt,
           );
           alters = alters_treated change part s.heap _ v;
           says = tt;
         }
 
     -- Behind the body of the operation that begins it.
-    pub awaits_fine : (by : Birth) (done : List parts.Part) (of part : ℕ) (tasks : List Task) → IsLive s.heap v → TreatsBy known v (begins by done) k s.heap a.places a.operands s.masters → Fine known s.heap s.masters (awaited_next named v by done of part tasks (look s.heap v) (running k a rest s))
+    pub awaits_fine : (by : Birth) (done : List parts.Part) (of part : ℕ) (tasks : List Task) → IsLive s.heap v → TreatsBy known v (begins by done) tasks k s.heap a.places a.operands s.masters → Fine known s.heap s.masters (awaited_next named v by done of part tasks (look s.heap v) (running k a rest s))
     awaits_fine by done of part tasks (cell, live) r = rw live (begins_part (slice_get cell.parts part))
       where
         begins_part : (state : Option PartState) → Fine known s.heap s.masters (born_next named v by done of part tasks state (running k a rest s))
@@ -463,20 +485,19 @@ module _ (known : Known) (a : Activation Value) (rest : List (Activation Value))
 
       -- The part that begins is one of the object.
       part_stands : (by : Birth) (done : List parts.Part) (of part : ℕ) (tasks : List Task) (p : PartState) → slice_get cell.parts part ≡ Some p → (birth : Birth) (before : List parts.Part) → begins by done ≡ begins birth before
-          → BeginsPart there.o there.x (record { component = p.first; part = part }) birth before of k (frame.Awaits v by done of part tasks ∷ k)
+          → BeginsPart there.o there.x (record { component = p.first; part = part }) birth before of tasks k (frame.Awaits v by done of part tasks ∷ k)
       part_stands by done of part tasks p state birth before is = record {
         part = part;
-        tasks = tasks;
         p = p;
         state = subst (λ (held : Cell Value). slice_get held.parts part ≡ Some p) (sym (there.cell_so)) state;
         at = refl;
         awaits = awaits_it by done of part tasks birth before is;
       }
 
-      calls_first : (by : Birth) (done : List parts.Part) (of part : ℕ) (tasks : List Task) (p : PartState) (number : ℕ) → ((o : Id) → v ≡ Names o → IsOperated (begins by done) o of) × (beginning by (operations_of types of) ≡ Some number) → slice_get cell.parts part ≡ Some p → TreatsBy known v (begins by done) k s.heap a.places a.operands s.masters
+      calls_first : (by : Birth) (done : List parts.Part) (of part : ℕ) (tasks : List Task) (p : PartState) (number : ℕ) → (BeginsCopy by → owners_numbered known.program.types of ≡ []) → ((o : Id) → v ≡ Names o → IsOperated (begins by done) o of) × (beginning by (operations_of types of) ≡ Some number) → slice_get cell.parts part ≡ Some p → TreatsBy known v (begins by done) tasks k s.heap a.places a.operands s.masters
           → (found : Option BodyForm) → slice_get bodies number ≡ found → Treated (operation_next named number found (part_reference named v part p) (frame.Awaits v by done of part tasks ∷ k) Quiet (running k a rest s))
-      calls_first by done of part tasks p number called state r None at = tt
-      calls_first by done of part tasks p number called state r (Some b) at = inr (inl (record {
+      calls_first by done of part tasks p number plain called state r None at = tt
+      calls_first by done of part tasks p number plain called state r (Some b) at = inr (inl (record {
         of = of;
         number = number;
         b = b;
@@ -491,33 +512,35 @@ module _ (known : Known) (a : Activation Value) (rest : List (Activation Value))
         operated = called.0 there.o there.names;
         called = called.1;
         behind = frame.Awaits v by done of part tasks ∷ k;
-        waits = (part, tasks, ap (λ (u : Value). frame.Awaits u by done of part tasks ∷ k) (there.names));
-        treats = subst (λ (u : Value). TreatsBy known u (begins by done) k s.heap a.places a.operands s.masters) (there.names) r;
+        tasks = tasks;
+        waits = (part, ap (λ (u : Value). frame.Awaits u by done of part tasks ∷ k) (there.names));
+        treats = subst (λ (u : Value). TreatsBy known u (begins by done) tasks k s.heap a.places a.operands s.masters) (there.names) r;
         alters = alters_same s.heap Quiet;
         tells = tt;
         begun = λ birth before is. (refl, refl);
         standing = λ birth before is. part_stands by done of part tasks p state birth before is;
+        plain = λ birth before is copies. (let same : by ≡ birth = cc is in plain (subst (λ (one : Birth). BeginsCopy one) (sym same) copies));
         is = ap (λ (u : Value). operating named number b (part_reference named u part p) (frame.Awaits v by done of part tasks ∷ k) (running k a rest s)) (there.names);
       }))
 
-      begun_fine : (by : Birth) (done : List parts.Part) (of part : ℕ) (tasks : List Task) (operation : Option ℕ) → ((number : ℕ) → operation ≡ Some number → ((o : Id) → v ≡ Names o → IsOperated (begins by done) o of) × (beginning by (operations_of types of) ≡ Some number)) → (state : Option PartState) → slice_get cell.parts part ≡ state → TreatsBy known v (begins by done) k s.heap a.places a.operands s.masters
+      begun_fine : (by : Birth) (done : List parts.Part) (of part : ℕ) (tasks : List Task) (operation : Option ℕ) → (BeginsCopy by → owners_numbered known.program.types of ≡ []) → ((number : ℕ) → operation ≡ Some number → ((o : Id) → v ≡ Names o → IsOperated (begins by done) o of) × (beginning by (operations_of types of) ≡ Some number)) → (state : Option PartState) → slice_get cell.parts part ≡ state → TreatsBy known v (begins by done) tasks k s.heap a.places a.operands s.masters
           → Treated (begun_next named bodies v by done of part tasks operation state (running k a rest s))
-      begun_fine by done of part tasks operation called None at r = tt
-      begun_fine by done of part tasks None called (Some p) at r =
+      begun_fine by done of part tasks operation plain called None at r = tt
+      begun_fine by done of part tasks None plain called (Some p) at r =
           inl (born_fine by done of part tasks p r, (refl, behind_treating v (begins by (record { of = of; number = part } ∷ done)) tasks k))
-      begun_fine by done of part tasks (Some number) called (Some p) at r =
-          calls_first by done of part tasks p number (called number refl) at r (slice_get bodies number) refl
+      begun_fine by done of part tasks (Some number) plain called (Some p) at r =
+          calls_first by done of part tasks p number plain (called number refl) at r (slice_get bodies number) refl
 
       -- A value that is finalized exists; Finalize is called for it.
-      treats_after : (cause : Cause) (part : ℕ) → TreatsBy known v (ends cause) k s.heap a.places a.operands s.masters → TreatsBy known v (ends cause) k (on_object (treated finalized_part part) s.heap v) a.places a.operands s.masters
-      treats_after cause part r = treats_changed finalized_part part known s.masters s.heap v (ends cause) a.places a.operands k r
+      treats_after : (cause : Cause) (part : ℕ) (tasks : List Task) → TreatsBy known v (ends cause) tasks k s.heap a.places a.operands s.masters → TreatsBy known v (ends cause) tasks k (on_object (treated finalized_part part) s.heap v) a.places a.operands s.masters
+      treats_after cause part tasks r = treats_changed finalized_part part known s.masters s.heap v (ends cause) tasks a.places a.operands k r
 
       changed_there : (part : ℕ) → object_at (on_object (treated finalized_part part) s.heap v) there.o ≡ Some (treated finalized_part part there.x)
       changed_there part =
           subst (λ (u : Value). object_at (on_object (treated finalized_part part) s.heap u) there.o ≡ Some (treated finalized_part part there.x)) (sym (there.names))
           (changed_at (treated finalized_part part) s.heap there.o there.x there.found)
 
-      calls_last : (cause : Cause) (of part : ℕ) (tasks : List Task) (p : PartState) (number : ℕ) → ((o : Id) → v ≡ Names o → IsOperated (ends cause) o of) × (procedure_number (operations_of types of).finalize ≡ Some number) → TreatsBy known v (ends cause) k s.heap a.places a.operands s.masters → IsOfCopied known.program.types cause tasks k
+      calls_last : (cause : Cause) (of part : ℕ) (tasks : List Task) (p : PartState) (number : ℕ) → ((o : Id) → v ≡ Names o → IsOperated (ends cause) o of) × (procedure_number (operations_of types of).finalize ≡ Some number) → TreatsBy known v (ends cause) tasks k s.heap a.places a.operands s.masters → IsOfCopied known.program.types cause tasks k
           → (found : Option BodyForm) → slice_get bodies number ≡ found
           → Treated (operation_next named number found (part_reference named v part p) (frame.Confines ∷ treating v (ends cause) tasks k) (Finalized v part p.turn of p.number cause) (record (running k a rest s) { heap = on_object (treated finalized_part part) s.heap v }))
       calls_last cause of part tasks p number called r inside None at = tt
@@ -536,20 +559,22 @@ module _ (known : Known) (a : Activation Value) (rest : List (Activation Value))
         operated = called.0 there.o there.names;
         called = called.1;
         behind = frame.Confines ∷ treating v (ends cause) tasks k;
-        waits = (tasks, ap (λ (u : Value). frame.Confines ∷ treating u (ends cause) tasks k) (there.names), inside);
-        treats = subst (λ (u : Value). TreatsBy known u (ends cause) k (on_object (treated finalized_part part) s.heap v) a.places a.operands s.masters) (there.names) (treats_after cause part r);
+        tasks = tasks;
+        waits = (ap (λ (u : Value). frame.Confines ∷ treating u (ends cause) tasks k) (there.names), inside);
+        treats = subst (λ (u : Value). TreatsBy known u (ends cause) tasks k (on_object (treated finalized_part part) s.heap v) a.places a.operands s.masters) (there.names) (treats_after cause part tasks r);
         alters = alters_treated finalized_part part s.heap _ v;
         tells = tt;
         begun = λ birth before is. absurd (cc is);
         standing = λ birth before is. absurd (cc is);
+        plain = λ birth before is copies. absurd (cc is);
         is = ap (λ (u : Value). operating named number b (part_reference named u part p) (frame.Confines ∷ treating v (ends cause) tasks k) (record (running k a rest s) { heap = on_object (treated finalized_part part) s.heap v })) (there.names);
       }))
 
-      ended_fine : (cause : Cause) (of part : ℕ) (tasks : List Task) (p : PartState) (operation : Option ℕ) → ((number : ℕ) → operation ≡ Some number → ((o : Id) → v ≡ Names o → IsOperated (ends cause) o of) × (procedure_number (operations_of types of).finalize ≡ Some number)) → TreatsBy known v (ends cause) k s.heap a.places a.operands s.masters → IsOfCopied known.program.types cause tasks k
+      ended_fine : (cause : Cause) (of part : ℕ) (tasks : List Task) (p : PartState) (operation : Option ℕ) → ((number : ℕ) → operation ≡ Some number → ((o : Id) → v ≡ Names o → IsOperated (ends cause) o of) × (procedure_number (operations_of types of).finalize ≡ Some number)) → TreatsBy known v (ends cause) tasks k s.heap a.places a.operands s.masters → IsOfCopied known.program.types cause tasks k
           → Treated (ended_next named bodies v part p (treating v (ends cause) tasks k) operation (Finalized v part p.turn of p.number cause) (record (running k a rest s) { heap = on_object (treated finalized_part part) s.heap v }))
       ended_fine cause of part tasks p None called r inside = inl (
         record {
-          ready = (tt, treats_ready known v (ends cause) tasks k (on_object (treated finalized_part part) s.heap v) a.places a.operands s.masters (treats_after cause part r) inside);
+          ready = (tt, treats_ready known v (ends cause) tasks k (on_object (treated finalized_part part) s.heap v) a.places a.operands s.masters (treats_after cause part tasks r) inside);
           alters = alters_treated finalized_part part s.heap _ v;
           says = tt;
         },
@@ -558,7 +583,7 @@ module _ (known : Known) (a : Activation Value) (rest : List (Activation Value))
       ended_fine cause of part tasks p (Some number) called r inside = calls_last cause of part tasks p number (called number refl) r inside (slice_get bodies number) refl
 
       finalized_fine : (cause : Cause) (of part : ℕ) (tasks : List Task) (operation : Option ℕ) → ((number : ℕ) → operation ≡ Some number → ((o : Id) → v ≡ Names o → IsOperated (ends cause) o of) × (procedure_number (operations_of types of).finalize ≡ Some number)) → (state : Option PartState)
-          → (finalized_next named bodies v cause of part tasks operation state (running k a rest s) ≡ halts (Erroneous FinalizesTwice) → ⊥) → TreatsBy known v (ends cause) k s.heap a.places a.operands s.masters → IsOfCopied known.program.types cause tasks k
+          → (finalized_next named bodies v cause of part tasks operation state (running k a rest s) ≡ halts (Erroneous FinalizesTwice) → ⊥) → TreatsBy known v (ends cause) tasks k s.heap a.places a.operands s.masters → IsOfCopied known.program.types cause tasks k
           → Treated (finalized_next named bodies v cause of part tasks operation state (running k a rest s))
       finalized_fine cause of part tasks operation called None once r inside = tt
       finalized_fine cause of part tasks operation called (Some p) once r inside =
@@ -569,43 +594,34 @@ module _ (known : Known) (a : Activation Value) (rest : List (Activation Value))
           by true n once' fine = fine
           by false n once' fine = absurd (once' refl)
 
-    performed_fine : (treatment : Treatment) (of part : ℕ) (tasks : List Task) (found : Found (Cell Value)) → look s.heap v ≡ found → (performed_next named types bodies v treatment of part tasks found (running k a rest s) ≡ halts (Erroneous FinalizesTwice) → ⊥) → ((o : Id) → v ≡ Names o → IsOperated treatment o of) → TreatsBy known v treatment k s.heap a.places a.operands s.masters → IsOfAssigned known.program.types treatment tasks k → Treated (performed_next named types bodies v treatment of part tasks found (running k a rest s))
-    performed_fine treatment of part tasks on_null at once operated r inside = tt
-    performed_fine treatment of part tasks on_gone at once operated r inside = absurd (once refl)
-    performed_fine treatment of part tasks on_other at once operated r inside = tt
-    performed_fine (begins by done) of part tasks (finds cell) at once operated r inside =
-        begun_fine cell at by done of part tasks (beginning by (operations_of types of)) (λ number is. (operated, is)) (slice_get cell.parts part) refl r
-    performed_fine (ends cause) of part tasks (finds cell) at once operated r inside =
+    performed_by : (treatment : Treatment) (of part : ℕ) (tasks : List Task) (found : Found (Cell Value)) → ((by : Birth) (done : List parts.Part) → treatment ≡ begins by done → BeginsCopy by → owners_numbered known.program.types of ≡ []) → look s.heap v ≡ found → (performed_next named types bodies v treatment of part tasks found (running k a rest s) ≡ halts (Erroneous FinalizesTwice) → ⊥) → ((o : Id) → v ≡ Names o → IsOperated treatment o of) → TreatsBy known v treatment tasks k s.heap a.places a.operands s.masters → IsOfAssigned known.program.types treatment tasks k → Treated (performed_next named types bodies v treatment of part tasks found (running k a rest s))
+    performed_by treatment of part tasks on_null plain at once operated r inside = tt
+    performed_by treatment of part tasks on_gone plain at once operated r inside = absurd (once refl)
+    performed_by treatment of part tasks on_other plain at once operated r inside = tt
+    performed_by (begins by done) of part tasks (finds cell) plain at once operated r inside =
+        begun_fine cell at by done of part tasks (beginning by (operations_of types of)) (λ copies. plain by done refl copies) (λ number is. (operated, is)) (slice_get cell.parts part) refl r
+    performed_by (ends cause) of part tasks (finds cell) plain at once operated r inside =
         finalized_fine cell at cause of part tasks (procedure_number (operations_of types of).finalize) (λ number is. (operated, is)) (slice_get cell.parts part) once r inside
 
-    pub treats_fine : ((t : ℕ) (direction : Direction) (tasks : List Task) (i : ℕ) → TasksInside known.program.types t tasks → TasksInside known.program.types t (picked_task (shapes_of types) direction tasks i)) → (n : Follows) (treatment : Treatment) (tasks : List Task) → ((of part : ℕ) → n ≡ Perform of part → (o : Id) → v ≡ Names o → IsOperated treatment o of) → (treats_next named types bodies v treatment tasks n (running k a rest s) ≡ halts (Erroneous FinalizesTwice) → ⊥) → TreatsBy known v treatment k s.heap a.places a.operands s.masters → IsOfAssigned known.program.types treatment tasks k → Treated (treats_next named types bodies v treatment tasks n (running k a rest s))
-    treats_fine chosen Done treatment tasks operated once r inside = inl (goes_on treatment [] r (none_inside known.program.types treatment k), (refl, refl))
-    treats_fine chosen (Perform of part) treatment tasks operated once r inside =
-        performed_fine treatment of part (performed tasks) (look s.heap v) refl once (operated of part refl) r (inside_left known.program.types treatment tasks (performed tasks) k inside (λ t. performed_inside known.program.types t tasks))
-    treats_fine chosen (Pick count) treatment tasks operated once r inside = by (count == 0)
-      where
-        by : (b : Bool) → Treated (if b then halts Stuck else picks count (λ i. treated_on named v treatment (picked_task (shapes_of types) (direction_of treatment) tasks i) (running k a rest s)))
-        by true = tt
-        by false = λ i lt.
-            (goes_on treatment (picked_task (shapes_of types) (direction_of treatment) tasks i) r (inside_left known.program.types treatment tasks (picked_task (shapes_of types) (direction_of treatment) tasks i) k inside (λ t. chosen t (direction_of treatment) tasks i)), (refl, behind_treating v treatment (picked_task (shapes_of types) (direction_of treatment) tasks i) k))
+    -- What is left of an adjustment is known as what is behind it is.
+    copy_treats : (by : Birth) → BeginsCopy by → (done : List parts.Part) (tasks : List Task) → AdjustsTo known v tasks k s.heap a.places s.masters → TreatsBy known v (begins by done) tasks k s.heap a.places a.operands s.masters
+    copy_treats Creation copies done tasks to = absurd copies
+    copy_treats Copy copies done tasks to = to
+    copy_treats (Adjustment number) copies done tasks to = to
 
-    -- An adjustment that comes to one Adjust alone: that is called next, or what leads to it is picked.
-    adjusts_on : (treatment : Treatment) (tasks : List Task) → AdjustsTo known v treatment tasks k s.heap a.places s.masters → Stepped known s.heap Quiet (treated_on named v treatment tasks (running k a rest s)) × StaysHere (treated_on named v treatment tasks (running k a rest s))
-    adjusts_on treatment tasks to = (
-      stays known Quiet (treated_on named v treatment tasks (running k a rest s)) (tt, adjusts_ready known v treatment tasks k s.heap a.places a.operands s.masters to) tt,
-      (refl, behind_treating v treatment tasks k),
-    )
-
+    -- What is left of an adjustment is known still once a component is picked, and an operation is overridden that sees to components of access types.
     module _ (shapes : shown_shapes known.program.types ≡ shapes_of types)
-        (overrides : (r of : ℕ) → SeesToOwners known.program.types r of → (number : ℕ) × (procedure_number (operations_of types of).adjust ≡ Some number)) where
-      adjust_begins : (by : Birth) → BeginsCopy by → (r of : ℕ) → SeesToOwners known.program.types r of → beginning by (operations_of types of) ≡ None → ⊥
-      adjust_begins Creation copies r of sees none = copies
-      adjust_begins Copy copies r of sees none = let o = overrides r of sees in cc (o.1, none)
-      adjust_begins (Adjustment number) copies r of sees none = let o = overrides r of sees in cc (o.1, none)
+        (picked : (tasks : List Task) (i : ℕ) → IsOpen tasks i → AdjustsTo known v tasks k s.heap a.places s.masters → AdjustsTo known v (taken (shown_shapes known.program.types) PartsFirst tasks i) k s.heap a.places s.masters)
+        (overrides : (of part : ℕ) (tasks : List Task) → AdjustsTo known v (performs of part ∷ tasks) k s.heap a.places s.masters → owners_numbered known.program.types of ≢ [] → (number : ℕ) × (procedure_number (operations_of types of).adjust ≡ Some number)) where
+      -- An Adjust is called that sees to components of access types.
+      module _ (by : Birth) (copies : BeginsCopy by) (done : List parts.Part) (of part : ℕ) (tasks : List Task) (to : AdjustsTo known v (performs of part ∷ tasks) k s.heap a.places s.masters) (owns : owners_numbered known.program.types of ≢ []) (operated : IsOperated (begins by done) to.o of) where
+        adjust_begins : (birth : Birth) → BeginsCopy birth → beginning birth (operations_of types of) ≡ None → ⊥
+        adjust_begins Creation copying none = copying
+        adjust_begins Copy copying none = let o = overrides of part tasks to owns in cc (o.1, none)
+        adjust_begins (Adjustment number) copying none = let o = overrides of part tasks to owns in cc (o.1, none)
 
-      module _ (o : Id) (names : v ≡ Names o) (by : Birth) (done : List parts.Part) (copies : BeginsCopy by) (r of first part : ℕ) (adjusted : Adjusted known o r of first k s.heap a.places s.masters) (operated : IsOperated (begins by done) o of) where
-        adjust_called : (p : PartState) → slice_get adjusted.x.cell.parts part ≡ Some p → (number : ℕ) → beginning by (operations_of types of) ≡ Some number → (found : Option BodyForm) → slice_get bodies number ≡ found
-            → Treated (operation_next named number found (part_reference named (Names o) part p) (frame.Awaits (Names o) by done of part [] ∷ k) Quiet (running k a rest s))
+        adjust_called : (p : PartState) → slice_get to.x.cell.parts part ≡ Some p → (number : ℕ) → beginning by (operations_of types of) ≡ Some number → (found : Option BodyForm) → slice_get bodies number ≡ found
+            → Treated (operation_next named number found (part_reference named (Names to.o) part p) (frame.Awaits (Names to.o) by done of part tasks ∷ k) Quiet (running k a rest s))
         adjust_called p state number called None at = tt
         adjust_called p state number called (Some b) at = inr (inr (record {
           number = number;
@@ -613,15 +629,12 @@ module _ (known : Known) (a : Activation Value) (rest : List (Activation Value))
           there = at;
           by = by;
           done = done;
-          tasks = [];
           copies = copies;
-          o = o;
-          names = names;
-          record_type = r;
           of = of;
-          first = first;
           part = part;
-          adjusted = adjusted;
+          tasks = tasks;
+          to = to;
+          owns = owns;
           p = p;
           state = state;
           operated = operated;
@@ -630,60 +643,63 @@ module _ (known : Known) (a : Activation Value) (rest : List (Activation Value))
           is = refl;
         }))
 
-        adjust_by : (operation : Option ℕ) → beginning by (operations_of types of) ≡ operation → (state : Option PartState) → slice_get adjusted.x.cell.parts part ≡ state
-            → Treated (begun_next named bodies (Names o) by done of part [] operation state (running k a rest s))
+        adjust_by : (operation : Option ℕ) → beginning by (operations_of types of) ≡ operation → (state : Option PartState) → slice_get to.x.cell.parts part ≡ state
+            → Treated (begun_next named bodies (Names to.o) by done of part tasks operation state (running k a rest s))
         adjust_by operation called None at = tt
-        adjust_by None called (Some p) at = absurd (adjust_begins by copies r of adjusted.only.sees called)
+        adjust_by None called (Some p) at = absurd (adjust_begins by copies called)
         adjust_by (Some number) called (Some p) at = adjust_called p at number called (slice_get bodies number) refl
 
-        adjust_performed : Treated (performed_next named types bodies (Names o) (begins by done) of part [] (look s.heap (Names o)) (running k a rest s))
+        adjust_performed : Treated (performed_next named types bodies v (begins by done) of part tasks (look s.heap v) (running k a rest s))
         adjust_performed =
-            rw (looks_there s.heap o adjusted.x adjusted.found adjusted.there)
-            (adjust_by (beginning by (operations_of types of)) refl (slice_get adjusted.x.cell.parts part) refl)
+            let here : TreatedIn v (performed_next named types bodies (Names to.o) (begins by done) of part tasks (look s.heap (Names to.o)) (running k a rest s)) =
+            rw (looks_there s.heap to.o to.x to.found to.there)
+            (adjust_by (beginning by (operations_of types of)) refl (slice_get to.x.cell.parts part) refl) in
+            subst (λ (u : Value). TreatedIn v (performed_next named types bodies u (begins by done) of part tasks (look s.heap u) (running k a rest s))) (sym to.is) here
 
-      module _ (treatment : Treatment) (tasks : List Task) (to : AdjustsTo known v treatment tasks k s.heap a.places s.masters) where
-        leads_on : (left : List Task) → Leads (shown_shapes known.program.types) left to.of to.part → AdjustsTo known v treatment left k s.heap a.places s.masters
-        leads_on left more = record {
-          by = to.by;
-          done = to.done;
-          begun = to.begun;
-          copies = to.copies;
-          o = to.o;
-          is = to.is;
-          record_type = to.record_type;
-          of = to.of;
-          first = to.first;
-          part = to.part;
-          adjusted = to.adjusted;
-          leads = more;
-        }
+      -- A part is adjusted: it declares no component of an access type, or its Adjust sees to these.
+      copied_fine : (by : Birth) → BeginsCopy by → (done : List parts.Part) (of part : ℕ) (tasks : List Task) → (performed_next named types bodies v (begins by done) of part tasks (look s.heap v) (running k a rest s) ≡ halts (Erroneous FinalizesTwice) → ⊥) → ((o : Id) → v ≡ Names o → IsOperated (begins by done) o of)
+          → AdjustsTo known v (performs of part ∷ tasks) k s.heap a.places s.masters → Treated (performed_next named types bodies v (begins by done) of part tasks (look s.heap v) (running k a rest s))
+      copied_fine by copies done of part tasks once operated to = go (owners_numbered known.program.types of) refl
+        where
+          go : (owners : List ℕ) → owners_numbered known.program.types of ≡ owners → Treated (performed_next named types bodies v (begins by done) of part tasks (look s.heap v) (running k a rest s))
+          go [] none =
+              performed_by (begins by done) of part tasks (look s.heap v) (λ birth before is copying. none) refl once operated
+              (copy_treats by copies done tasks (adjusts_skipped known v of part tasks k s.heap a.places s.masters none to)) tt
+          go (c ∷ cs) some = adjust_performed by copies done of part tasks to (λ none. cc (none, some)) (operated to.o to.is)
 
-        picked : (c : Component) → Leads (shown_shapes known.program.types) (opened (shown_shapes known.program.types) PartsFirst c.of c.first) to.of to.part
-            → (i : ℕ) → i ≡ 0 → Stepped known s.heap Quiet (treated_on named v treatment (picked_task (shapes_of types) (direction_of treatment) (treats (c ∷ []) ∷ []) i) (running k a rest s)) × StaysHere (treated_on named v treatment (picked_task (shapes_of types) (direction_of treatment) (treats (c ∷ []) ∷ []) i) (running k a rest s))
-        picked c more i none =
-            let left = opened (shapes_of types) PartsFirst c.of c.first in
-            let all : left ++ [] ≡ left = append-nil left in
-            let next : AdjustsTo known v treatment left k s.heap a.places s.masters = rw shapes at (leads_on (opened (shown_shapes known.program.types) PartsFirst c.of c.first) more) in
-            let on = adjusts_on treatment left next in
-            rw (none, ap direction_of (to.begun), all) on
+      performed_fine : (treatment : Treatment) (of part : ℕ) (tasks : List Task) → (performed_next named types bodies v treatment of part tasks (look s.heap v) (running k a rest s) ≡ halts (Erroneous FinalizesTwice) → ⊥) → ((o : Id) → v ≡ Names o → IsOperated treatment o of)
+          → TreatsBy known v treatment (performs of part ∷ tasks) k s.heap a.places a.operands s.masters → IsOfAssigned known.program.types treatment tasks k → Treated (performed_next named types bodies v treatment of part tasks (look s.heap v) (running k a rest s))
+      performed_fine (begins Creation done) of part tasks once operated r inside =
+          performed_by (begins Creation done) of part tasks (look s.heap v)
+          (λ birth before is copies. (let same : Creation ≡ birth = cc is in absurd (subst (λ (one : Birth). BeginsCopy one) (sym same) copies))) refl once operated r inside
+      performed_fine (begins Copy done) of part tasks once operated r inside = copied_fine Copy tt done of part tasks once operated r
+      performed_fine (begins (Adjustment number) done) of part tasks once operated r inside = copied_fine (Adjustment number) tt done of part tasks once operated r
+      performed_fine (ends cause) of part tasks once operated r inside = performed_by (ends cause) of part tasks (look s.heap v) (λ birth before is copies. absurd (cc is)) refl once operated r inside
 
-        performs_now : (calls : IsOperated (begins to.by to.done) to.o to.of) → Treated (performed_next named types bodies v treatment to.of to.part [] (look s.heap v) (running k a rest s))
-        performs_now calls =
-            let now' = adjust_performed to.o to.is to.by to.done to.copies to.record_type to.of to.first to.part to.adjusted calls in
-            let at_name : TreatedIn v (performed_next named types bodies (Names to.o) treatment to.of to.part [] (look s.heap (Names to.o)) (running k a rest s)) =
-            subst (λ (by : Treatment). TreatedIn v (performed_next named types bodies (Names to.o) by to.of to.part [] (look s.heap (Names to.o)) (running k a rest s))) (sym to.begun) now' in
-            subst (λ (u : Value). TreatedIn v (performed_next named types bodies u treatment to.of to.part [] (look s.heap u) (running k a rest s))) (sym to.is) at_name
+      -- What is left once one of the components that are open is picked.
+      treats_picked : (treatment : Treatment) (tasks : List Task) (i : ℕ) → IsOpen tasks i → TreatsBy known v treatment tasks k s.heap a.places a.operands s.masters → TreatsBy known v treatment (picked_task (shapes_of types) (direction_of treatment) tasks i) k s.heap a.places a.operands s.masters
+      treats_picked (begins Creation done) tasks i ready r = r
+      treats_picked (begins Copy done) tasks i ready r =
+          subst (λ (table : List Shape). AdjustsTo known v (taken table PartsFirst tasks i) k s.heap a.places s.masters) shapes (picked tasks i ready r)
+      treats_picked (begins (Adjustment number) done) tasks i ready r =
+          subst (λ (table : List Shape). AdjustsTo known v (taken table PartsFirst tasks i) k s.heap a.places s.masters) shapes (picked tasks i ready r)
+      treats_picked (ends cause) tasks i ready r = r
 
-        by_leads : (left : List Task) → Leads (shown_shapes known.program.types) left to.of to.part → ((of part : ℕ) → task_next left ≡ Perform of part → (o : Id) → v ≡ Names o → IsOperated treatment o of)
-            → Treated (treats_next named types bodies v treatment left (task_next left) (running k a rest s))
-        by_leads left (now is) operated =
-            let calls : IsOperated treatment to.o to.of = operated to.of to.part (rw is refl) to.o to.is in
-            let own : IsOperated (begins to.by to.done) to.o to.of = rw (to.begun) at calls in
-            rw is (performs_now own)
-        by_leads left (later c is more) operated = rw is (λ i lt. picked c more i (omega (arith, lt)))
-
-      pub adjusts_fine : (treatment : Treatment) (tasks : List Task) → ((of part : ℕ) → task_next tasks ≡ Perform of part → (o : Id) → v ≡ Names o → IsOperated treatment o of) → AdjustsTo known v treatment tasks k s.heap a.places s.masters → Treated (treats_next named types bodies v treatment tasks (task_next tasks) (running k a rest s))
-      adjusts_fine treatment tasks operated to = by_leads treatment tasks to tasks to.leads operated
+      pub treats_fine : ((t : ℕ) (direction : Direction) (tasks : List Task) (i : ℕ) → TasksInside known.program.types t tasks → TasksInside known.program.types t (picked_task (shapes_of types) direction tasks i)) → (n : Follows) (treatment : Treatment) (tasks : List Task) → task_next tasks ≡ n → ((of part : ℕ) → n ≡ Perform of part → (o : Id) → v ≡ Names o → IsOperated treatment o of) → (treats_next named types bodies v treatment tasks n (running k a rest s) ≡ halts (Erroneous FinalizesTwice) → ⊥) → TreatsBy known v treatment tasks k s.heap a.places a.operands s.masters → IsOfAssigned known.program.types treatment tasks k → Treated (treats_next named types bodies v treatment tasks n (running k a rest s))
+      treats_fine chosen Done treatment tasks next operated once r inside =
+          let none : TreatsBy known v treatment [] k s.heap a.places a.operands s.masters =
+          subst (λ (left : List Task). TreatsBy known v treatment left k s.heap a.places a.operands s.masters) (done_is tasks next) r in
+          inl (goes_on treatment [] none (none_inside known.program.types treatment k), (refl, refl))
+      treats_fine chosen (Perform of part) treatment tasks next operated once r inside =
+          performed_fine treatment of part (performed tasks) once (operated of part refl)
+          (subst (λ (left : List Task). TreatsBy known v treatment left k s.heap a.places a.operands s.masters) (call_is tasks of part next) r)
+          (inside_left known.program.types treatment tasks (performed tasks) k inside (λ t. performed_inside known.program.types t tasks))
+      treats_fine chosen (Pick count) treatment tasks next operated once r inside = by (count == 0)
+        where
+          by : (b : Bool) → Treated (if b then halts Stuck else picks count (λ i. treated_on named v treatment (picked_task (shapes_of types) (direction_of treatment) tasks i) (running k a rest s)))
+          by true = tt
+          by false = λ i lt.
+              (goes_on treatment (picked_task (shapes_of types) (direction_of treatment) tasks i) (treats_picked treatment tasks i (open_is tasks count i next lt) r) (inside_left known.program.types treatment tasks (picked_task (shapes_of types) (direction_of treatment) tasks i) k inside (λ t. chosen t (direction_of treatment) tasks i)), (refl, behind_treating v treatment (picked_task (shapes_of types) (direction_of treatment) tasks i) k))
 
 -- Behind the body of a Finalize.
 pub confines_fine : (known : Known) (a : Activation Value) (rest : List (Activation Value)) (s : State) (k : Control) → ConfinesBy known k s.heap a.places a.operands s.masters → Stepped known s.heap Quiet (running k a rest s)

@@ -17,8 +17,6 @@ use Rattle.ada_meaning.specs.declared.state.Value.TheVariants.{Null, Names, Scal
 use Rattle.ada_meaning.specs.declared.state.Stage.{Stage}
 use Rattle.ada_meaning.specs.declared.state.Stage.TheVariants.{Building, Existing, Gone}
 use Rattle.ada_meaning.specs.declared.state.Mode.TheVariants.{Raising}
-use Rattle.ada_meaning.specs.declared.event.Birth.{Birth}
-use Rattle.ada_meaning.specs.declared.event.Birth.TheVariants.{Creation, Copy, Adjustment}
 use Rattle.ada_meaning.specs.declared.event.Cause.TheVariants.{Undoing}
 use Rattle.ada_meaning.specs.Event.{Quiet}
 use Rattle.ada_meaning.specs.Frame.{Ends, GivesBack, Resumes, ends}
@@ -79,10 +77,8 @@ module _ (known : Known) (heap : List Object) (places : List Value) (ms : List M
         inr (record { rooms = u.rooms; holds = u.holds; roomed = u.roomed; fit = keeps u.holds u.fit; aside = apart u.holds aside; rest = u.rest }),
       )
 
-  pub undo_set : (by : Birth) (k : Control) → MayUndo known (Names o) by k heap places ms → MayUndo known (Names o) by k (slice_set heap o.0 y) places ms
-  undo_set Creation k may = (kept may.0, λ e raises. undone_set k e (may.1 e (raises_before e raises)))
-  undo_set Copy k may = tt
-  undo_set (Adjustment number) k may = tt
+  pub undo_set : (k : Control) → MayUndo known (Names o) k heap places ms → MayUndo known (Names o) k (slice_set heap o.0 y) places ms
+  undo_set k may = (kept may.0, λ e raises. undone_set k e (may.1 e (raises_before e raises)))
 
 -- It is initialized still: what is behind goes on.
 module _ (known : Known) (heap : List Object) (places : List Value) (ms : List Master) (o : Id) (x y : Object) (found : object_at heap o ≡ Some x) (same : y.cell.access ≡ x.cell.access) (kept : Stored (outers known).under heap ms → Stored (outers known).under (slice_set heap o.0 y) ms)
@@ -202,7 +198,7 @@ module _ (known : Known) (heap : List Object) (words : _) (cell : Cell Value) wh
 
   -- So a new object may be undone that an allocator made: where operations may touch storage that are called for it, nothing relies on it.
   pub new_may_undo : (k : Control) (places : List Value) (ms : List Master) (rooms : Rooms) (holds : Holds) → Stored (outers known).under (create heap words cell) ms → Roomed (below known) ms rooms → Fit known.program.types known.program.variables (outers known) none_spared heap places holds → StartsTo known cell.access k rooms holds
-      → (known.touches cell.access ≡ true → Making known (record { 0 = length heap }) cell.access k (create heap words cell) places ms) → MayUndo known (created heap words) Creation k (create heap words cell) places ms
+      → (known.touches cell.access ≡ true → Making known (record { 0 = length heap }) cell.access k (create heap words cell) places ms) → MayUndo known (created heap words) k (create heap words cell) places ms
   new_may_undo k places ms rooms holds stored roomed fit starts made = (stored, λ e raises. undone_by e raises (known.touches cell.access) refl)
     where
       next : Id

@@ -1,11 +1,10 @@
--- Records as wholes: they are copied and assigned to, where their components are Integers and Booleans.
+-- Records as wholes: they are copied and assigned to, where their components are Integers and Booleans, or Adjusts see to those of access types.
 
 use Rattle.std.proofs.Common.{◌≡◌, ℕ, ◌+◌, Bool, true, false, ◌||◌, ◌&&◌, List, [], ◌∷◌, ◌++◌, length, take, drop, reverse, refl, sym, ap, subst, ◌∙◌, inl, inr}
 use Rattle.std.proofs.lemmas.Bool.{eqb-true}
 use Rattle.std.specs.Prelude.{Option, Some, None, ◌==◌, if◌then◌else◌}
 use Rattle.std.specs.List.{list_any}
 use Rattle.ada_program.specs.declared.program.ComponentKind.{ComponentKind}
-use Rattle.ada_program.specs.declared.program.ComponentKind.TheVariants as component
 use Rattle.ada_program.specs.declared.program.Exception.{Exception}
 use Rattle.ada_program.specs.declared.program.Exception.TheVariants.{ConstraintError}
 use Rattle.ada_program.specs.declared.program.TypeDefinition.{TypeDefinition}
@@ -40,12 +39,14 @@ use Rattle.ada_sound.proofs.Stored.{Stored, stored_filled}
 use Rattle.ada_sound.proofs.Fits.{Fit, MayFollow, none_spared, place_at, store_blank}
 use Rattle.ada_sound.proofs.Alters.{Alters, alters_same, alters_set, alters_then}
 use Rattle.ada_sound.proofs.Begins.{root_follows}
-use Rattle.ada_sound.proofs.CopiedOwners.{NameThere, names_drop, names_take, names_reverse, names_in_front, names_all, part_owners, hiding, IsHidden, Covered, CopiesWell}
+use Rattle.ada_sound.proofs.CopiedOwners.{NameThere, names_drop, names_take, names_reverse, names_in_front, names_all, CopyLeft, owners_left, hiding, IsHidden, Covered, CopiesWell}
+use Rattle.ada_sound.proofs.CoveredOwners.{alike_owns}
+use Rattle.ada_sound.proofs.NoneHidden.{shifted_none}
 use Rattle.ada_sound.proofs.HiddenOwners.{names_hidden, hide_set, components_there, stored_hidden, StoresWell, covered_stores, Hides, hide_all}
-use Rattle.ada_tracked.specs.Frames.{View, blanked}
+use Rattle.ada_tracked.specs.Frames.{View, shifted, blanked, values_at}
 use Rattle.ada_typed.proofs.Parts.{shown_number}
-use Rattle.ada_sound.proofs.Invariant.{outers, AdjustsAside, Known, Control, OfItsType, Rooms, Goes, To, Raised, RunsOn, RunsBehind, RaisesAt, IsPlainIn, AdjustedBehind, IsAdjustedIn, StoresSo, StoresFrom, AdjustsTo, ReadyIn, CopiesTo, RecordIn, Working, Fine, ways, begun, along}
-use Rattle.ada_sound.proofs.Ready.{running, at_work, at_less, stays, runs_behind, behind_ready, jumps_less}
+use Rattle.ada_sound.proofs.Invariant.{outers, AdjustsAside, Known, Control, Rooms, Goes, To, Raised, RunsOn, RaisesAt, IsPlainIn, AdjustedBehind, IsAdjustedIn, StoresSo, StoresFrom, AdjustsTo, ReadyIn, CopiesTo, RecordIn, Working, Fine, ways, begun, along}
+use Rattle.ada_sound.proofs.Ready.{running, at_work, at_less, stays, runs_ready, treats_ready, jumps_less}
 use Rattle.ada_sound.proofs.Outcomes.{raised_before, using_goes, ends_goes, loses_to}
 use Rattle.ada_sound.proofs.Followings.{first_kept, kept_apart}
 use Rattle.ada_sound.proofs.Handings.{passed_safe}
@@ -72,19 +73,8 @@ neither : (a b : Bool) → (a || b) ≡ false → (a ≡ false) × (b ≡ false)
 neither true b e = absurd (cc e)
 neither false b e = (refl, e)
 
-alike_owns : (c kind : ComponentKind) → is_alike c kind ≡ true → is_owning c ≡ is_owning kind
-alike_owns (component.Integer i) (component.Integer j) e = refl
-alike_owns (component.Boolean i) (component.Boolean j) e = refl
-alike_owns (component.Access t) (component.Access u) e = refl
-alike_owns (component.Integer i) (component.Boolean j) e = absurd (cc e)
-alike_owns (component.Integer i) (component.Access u) e = absurd (cc e)
-alike_owns (component.Boolean i) (component.Integer j) e = absurd (cc e)
-alike_owns (component.Boolean i) (component.Access u) e = absurd (cc e)
-alike_owns (component.Access t) (component.Integer j) e = absurd (cc e)
-alike_owns (component.Access t) (component.Boolean j) e = absurd (cc e)
-
 -- Where one of the two lists is plain, the other is.
-to_object : (components kinds : List ComponentKind) → begins_with components kinds ≡ true → list_any is_owning kinds ≡ false → list_any is_owning (take (length kinds) components) ≡ false
+pub to_object : (components kinds : List ComponentKind) → begins_with components kinds ≡ true → list_any is_owning kinds ≡ false → list_any is_owning (take (length kinds) components) ≡ false
 to_object components [] begins plain = refl
 to_object [] (kind ∷ kinds) begins plain = absurd (cc begins)
 to_object (c ∷ components) (kind ∷ kinds) begins plain =
@@ -100,7 +90,7 @@ from_object (c ∷ components) (kind ∷ kinds) begins plain =
     let p = neither (is_owning c) (list_any is_owning (take (length kinds) components)) plain in
     rw (← alike_owns c kind b.0, p.0) (from_object components kinds b.1 p.1)
 
--- Where the components of one of the two lists are covered, those of the other are.
+-- Where the components of an object are covered, those of a record are with which they are alike.
 covers_same : (c kind : ComponentKind) → is_alike c kind ≡ true → (X : Type 0) → (is_owning c ≡ true → X) → is_owning kind ≡ true → X
 covers_same c kind e X covers owns = covers (alike_owns c kind e ∙ owns)
 
@@ -110,13 +100,6 @@ covered_to hidden first [] (kind ∷ kinds) begins covers = absurd (cc begins)
 covered_to hidden first (c ∷ components) (kind ∷ kinds) begins covers =
     let b = both (is_alike c kind) (begins_with components kinds) begins in
     (covers_same c kind b.0 (IsHidden hidden first) covers.0, covered_to hidden (first + 1) components kinds b.1 covers.1)
-
-pub covered_from : (hidden : List ℕ) (first : ℕ) (components kinds : List ComponentKind) → begins_with components kinds ≡ true → Covered hidden first kinds → Covered hidden first (take (length kinds) components)
-covered_from hidden first components [] begins covers = tt
-covered_from hidden first [] (kind ∷ kinds) begins covers = absurd (cc begins)
-covered_from hidden first (c ∷ components) (kind ∷ kinds) begins covers =
-    let b = both (is_alike c kind) (begins_with components kinds) begins in
-    ((λ owns. covers.0 (sym (alike_owns c kind b.0) ∙ owns)), covered_from hidden (first + 1) components kinds b.1 covers.1)
 
 -- As many values as are copied.
 whole_length : (count : ℕ) (values vs : List Value) → if_whole count values ≡ Some vs → length vs ≡ count
@@ -218,7 +201,7 @@ module _ (known : Known) (types : List TypeDefinition) (reaches : Reaches known 
       let plain = plain_there first t o there.0 below kinds there.1 there.2 in_record.0 items fits computed in
       rw (there.1, (w.stored.sane o there.0 there.1).there_exists there.2)
       (stays known (Followed (Names o)) (running (Fills items ∷ StoresRecord (Names o) first (width_of types t) ∷ k) (record a { operands = below }) rest s)
-      (tt, at_work w (in_record.1, (plain, λ q x is at. runs_behind known (Names o) x.cell.access k w.rooms w.holds in_record.2))) (followed o there w.stored))
+      (tt, at_work w (in_record.1, (plain, in_record.2))) (followed o there w.stored))
   record_target_fine first t items (Scalar n) below kinds fits computed w = tt
   record_target_fine first t items (Part object_id base) below kinds fits computed w = tt
 
@@ -231,30 +214,30 @@ module _ (known : Known) (types : List TypeDefinition) (reaches : Reaches known 
       let b = begins_some (reached_components known.program.types object.cell.access) first rs (rw same at lies) in
       rw counted (plain_names_nothing known.program.types (cells_of s.heap) rs (reverse (take (length rs) a.operands)) (from_object (drop first b.0) rs b.2 (rw counted at (plain b.0 b.1))) have)
 
-  stored_whole : (o : Id) (object : Object) (first count : ℕ) (found : Option (List Value)) → object_at s.heap o ≡ Some object → is_there object.stage ≡ true → NameNothing (reverse (take count a.operands)) → Working known s.heap a.places s.masters (RunsBehind known (Names o) object.cell.access k) → Fine known s.heap s.masters (record_stored_next named (Names o) first (reverse (take count a.operands)) found (running k (record a { operands = drop count a.operands }) rest s))
+  stored_whole : (o : Id) (object : Object) (first count : ℕ) (found : Option (List Value)) → object_at s.heap o ≡ Some object → is_there object.stage ≡ true → NameNothing (reverse (take count a.operands)) → Working known s.heap a.places s.masters (λ rooms holds. To (RunsOn known k rooms) holds) → Fine known s.heap s.masters (record_stored_next named (Names o) first (reverse (take count a.operands)) found (running k (record a { operands = drop count a.operands }) rest s))
   stored_whole o object first count None found listed none w = tt
   stored_whole o object first count (Some before) found listed none w =
       let vs = reverse (take count a.operands) in
       let after = stored_from named s.heap (Names o) first vs in
       let all = store_all known s.heap a.places s.masters w.holds o object first vs found none w.stored w.fit in
-      let kept = all.alters.kept o object found in
-      let of_type : OfItsType after (Names o) (λ t. t ≡ object.cell.access) = λ q x is at.
-      (let same : o ≡ q = cc is in
-      let one : x ≡ kept.0 = let there = kept.1 in cc (rw (← same) at at, there) in
-      ap (λ (y : Object). y.cell.access) one ∙ kept.2.0) in
+      let works : Working known after a.places s.masters (λ rooms holds. To (RunsOn known k rooms) holds) =
+      record { rooms = w.rooms; holds = w.holds; stored = all.stored; roomed = w.roomed; fit = all.fit; rest = w.rest } in
       record {
-        ready = (tt, behind_ready known (Names o) object.cell.access k after a.places (drop count a.operands) s.masters of_type (record { rooms = w.rooms; holds = w.holds; stored = all.stored; roomed = w.roomed; fit = all.fit; rest = w.rest }));
+        ready = (tt, runs_ready known k after a.places (drop count a.operands) s.masters (at_less works works.rest));
         alters = all.alters;
         says = followed o (object, found, listed) w.stored;
       }
 
-  -- Where an Adjust sees to components of access types, these count as null until it has ended.
+  -- Where Adjusts see to components of access types, these count as null until they have ended.
   module _ (o : Id) (object : Object) (t first count : ℕ) (found : object_at s.heap o ≡ Some object) (listed : is_there object.stage ≡ true) {more : Rooms → Holds → Type 0} (w : Working known s.heap a.places s.masters more) (to : AdjustedBehind known (Names o) object.cell.access t first count k w.rooms w.holds) where
     abbrev hidden : List ℕ
-    hidden = part_owners known.program.types to.part_type to.owns
+    hidden = owners_left known.program.types object.cell.access to.tasks
 
     abbrev view : View
-    view = hiding known.program.types to.part_type to.owns o
+    view = hiding hidden o
+
+    abbrev shown : List ℕ
+    shown = shifted 0 hidden
 
     abbrev values : List Value
     values = reverse (take count a.operands)
@@ -262,57 +245,59 @@ module _ (known : Known) (types : List TypeDefinition) (reaches : Reaches known 
     abbrev stores : List Object
     stores = stored_from named s.heap (Names o) first values
 
-    well_stored : (kinds : List OperandKind) → typed.Fits known.program (cells_of s.heap) kinds (StoresRecord (Names o) first count ∷ k) → AreComputed known.program.types (cells_of s.heap) kinds a.operands → StoresWell hidden first values
+    well_stored : (kinds : List OperandKind) → typed.Fits known.program (cells_of s.heap) kinds (StoresRecord (Names o) first count ∷ k) → AreComputed known.program.types (cells_of s.heap) kinds a.operands → StoresWell shown first values
     well_stored kinds (ks, access, rs, is, counted, name, designates, lies, rest') computed =
         let have = (typed.split known.program.types (cells_of s.heap) rs ks a.operands (rw is at computed)).0 in
         let of : Some access.0 ≡ Some object.cell.access = kind_names known.program.types s.heap (variable.Access access) o object designates found in
         let same : access.0 ≡ object.cell.access = cc of in
         let b = begins_some (reached_components known.program.types object.cell.access) first rs (rw same at lies) in
         let covers : Covered hidden first (take (length rs) (drop first b.0)) = rw counted at (to.covers b.0 b.1) in
-        rw counted (covered_stores known.program.types (cells_of s.heap) hidden first rs (reverse (take (length rs) a.operands)) (covered_to hidden first (drop first b.0) rs b.2 covers) have)
+        let well = covered_stores known.program.types (cells_of s.heap) hidden first rs (reverse (take (length rs) a.operands)) (covered_to hidden first (drop first b.0) rs b.2 covers) have in
+        rw counted (subst (λ (cs : List ℕ). StoresWell cs first (reverse (take (length rs) a.operands))) (sym (shifted_none hidden)) well)
 
     fits_hidden : Fit known.program.types known.program.variables (outers known) none_spared (blanked view s.heap) a.places w.holds
-    fits_hidden = rw found (hide_set s.heap o object found w.fit hidden)
+    fits_hidden = rw found (hide_set s.heap o object found w.fit shown)
 
-    hides : StoresWell hidden first values → NameThere s.heap (take count a.operands) → Hides (outers known) known.program.types known.program.variables s.heap a.places s.masters w.holds view object stores
+    hides : StoresWell shown first values → NameThere s.heap (take count a.operands) → Hides (outers known) known.program.types known.program.variables s.heap a.places s.masters w.holds view object stores
     hides well names =
         hide_all (outers known) known.program.types known.program.variables a.places s.masters w.holds view refl s.heap object first values found well
-        (names_reverse s.heap (take count a.operands) names) (names_hidden s.heap hidden object.cell.values (components_there s.heap o object found w.fit listed)) w.stored fits_hidden
+        (names_reverse s.heap (take count a.operands) names) (names_hidden s.heap shown object.cell.values (components_there s.heap o object found w.fit listed)) w.stored fits_hidden
 
-    hidden_works : Hides (outers known) known.program.types known.program.variables s.heap a.places s.masters w.holds view object stores → Working known (blanked view stores) a.places s.masters (λ rooms holds. To (λ less. RunsOn known to.behind rooms less × AdjustsAside known object.cell.access less) holds)
+    hidden_works : Hides (outers known) known.program.types known.program.variables s.heap a.places s.masters w.holds view object stores → Working known (blanked view stores) a.places s.masters (λ rooms holds. To (λ less. RunsOn known to.behind rooms less × AdjustsAside known object.cell.access t less) holds)
     hidden_works h = record { rooms = w.rooms; holds = w.holds; stored = stored_hidden view h.object h.found h.stored; roomed = w.roomed; fit = h.fit; rest = to.runs }
 
-    adjusts_next : Hides (outers known) known.program.types known.program.variables s.heap a.places s.masters w.holds view object stores → AdjustsTo known (Names o) (frame.begins (Adjustment to.number) []) to.tasks to.behind stores a.places s.masters
+    -- What is left of its adjustment, where the object is known by this type.
+    abbrev LeftOf : (vs : List Value) → (access : ℕ) → Type 0
+    LeftOf vs access =
+        CopyLeft known.program.types access t to.tasks
+        × NameThere stores (values_at (owners_left known.program.types access to.tasks) vs)
+        × Working known (blanked (hiding (owners_left known.program.types access to.tasks) o) stores) a.places s.masters (λ rooms holds. RunsOn known to.behind rooms holds × AdjustsAside known access t holds)
+
+    adjusts_next : Hides (outers known) known.program.types known.program.variables s.heap a.places s.masters w.holds view object stores → AdjustsTo known (Names o) to.tasks to.behind stores a.places s.masters
     adjusts_next h =
         let works = hidden_works h in
+        let named : NameThere stores (values_at hidden h.object.cell.values) = subst (λ (cs : List ℕ). NameThere stores (values_at cs h.object.cell.values)) (shifted_none hidden) h.named in
+        let here : LeftOf h.object.cell.values object.cell.access =
+        (to.left, named, at_less {other = λ rooms less. RunsOn known to.behind rooms less × AdjustsAside known object.cell.access t less} works works.rest) in
+        let there : LeftOf h.object.cell.values h.object.cell.access = subst (LeftOf h.object.cell.values) (sym h.access) here in
         record {
-          by = Adjustment to.number;
-          done = [];
-          begun = refl;
-          copies = tt;
           o = o;
           is = refl;
-          record_type = to.part_type;
-          of = to.of;
-          first = to.owns;
-          part = to.part;
-          adjusted = record {
-            x = h.object;
-            found = h.found;
-            there = rw (h.stage) listed;
-            only = rw (h.access) (to.only);
-            named = h.named;
-            works =
-                subst (λ (access : ℕ). Working known (blanked view stores) a.places s.masters (λ rooms holds. RunsOn known to.behind rooms holds × AdjustsAside known access holds)) (sym (h.access))
-                (at_less {other = λ rooms less. RunsOn known to.behind rooms less × AdjustsAside known object.cell.access less} works works.rest);
-          };
-          leads = to.leads;
+          x = h.object;
+          found = h.found;
+          there = rw (h.stage) listed;
+          record_type = t;
+          left = there.0;
+          named = there.1;
+          works = there.2;
         }
 
     adjusts_ready : Hides (outers known) known.program.types known.program.variables s.heap a.places s.masters w.holds view object stores → ReadyIn known Running k stores a.places (drop count a.operands) s.masters
-    adjusts_ready h = let next = inr (adjusts_next h) in rw (to.is) next
+    adjusts_ready h =
+        subst (λ (c : Control). ReadyIn known Running c stores a.places (drop count a.operands) s.masters) (sym to.is)
+        (treats_ready known (Names o) (frame.begins (Adjustment to.number) []) to.tasks to.behind stores a.places (drop count a.operands) s.masters (adjusts_next h) tt)
 
-    stored_adjusted : (before : Option (List Value)) → StoresWell hidden first values → NameThere s.heap (take count a.operands) → Fine known s.heap s.masters (record_stored_next named (Names o) first values before (running k (record a { operands = drop count a.operands }) rest s))
+    stored_adjusted : (before : Option (List Value)) → StoresWell shown first values → NameThere s.heap (take count a.operands) → Fine known s.heap s.masters (record_stored_next named (Names o) first values before (running k (record a { operands = drop count a.operands }) rest s))
     stored_adjusted None well names = tt
     stored_adjusted (Some before) well names =
         let h = hides well names in
@@ -332,7 +317,7 @@ module _ (known : Known) (types : List TypeDefinition) (reaches : Reaches known 
           let p = r.0 in
           let none = named_nothing o first count kinds fits' computed p in
           let looks : look s.heap (Names o) ≡ finds p.0.cell = rw (p.1, (w.stored.sane o p.0 p.1).there_exists p.2) refl in
-          rw looks (stored_whole o p.0 first count (record_in p.0.cell.values first count) p.1 p.2 none (at_work w (r.1 o p.0 refl p.1)))
+          rw looks (stored_whole o p.0 first count (record_in p.0.cell.values first count) p.1 p.2 none (at_work w r.1))
       by (Names o) fits' (inr r) =
           let p = r.1 in
           let looks : look s.heap (Names o) ≡ finds p.0.cell = rw (p.1, (w.stored.sane o p.0 p.1).there_exists p.2) refl in

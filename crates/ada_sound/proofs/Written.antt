@@ -1,10 +1,10 @@
 -- An Integer or a Boolean goes into a component of an object while that is treated (7.6): what is behind the treatment stays as it is.
 
 use Rattle.std.proofs.Common.{◌≡◌, ◌≢◌, ℕ, List, [], ◌∷◌, refl, sym, ap, subst, ◌∙◌, ◌⊎◌, inl, inr}
-use Rattle.std.specs.Prelude.{Some}
+use Rattle.std.specs.Prelude.{Option, Some, None}
 use Rattle.std.specs.List.{slice_set}
+use Rattle.ada_parts.specs.Task.{Task}
 use Rattle.ada_flow.specs.Flow.{Holds}
-use Rattle.ada_meaning.specs.declared.event.Birth.{Birth}
 use Rattle.ada_meaning.specs.declared.event.Birth.TheVariants.{Creation, Copy, Adjustment}
 use Rattle.ada_meaning.specs.declared.state.Id.{Id}
 use Rattle.ada_meaning.specs.declared.state.Value.{Value}
@@ -17,11 +17,16 @@ use Rattle.ada_owners.specs.Keeping.{IsThere}
 use Rattle.ada_owners.proofs.Kernel.{same_id, same_or_not}
 use Rattle.ada_owners.proofs.Objects.{at_other}
 use Rattle.ada_owners.proofs.Changes.{store_is}
+use Rattle.ada_tracked.specs.Frames.{watched, number_of, blank_object, blanked, values_at}
+use Rattle.ada_tracked.proofs.Heaps.{blanked_here, store_untracked, store_tracked}
 use Rattle.ada_sound.proofs.Objects.{set_here, set_twice}
 use Rattle.ada_sound.proofs.Stored.{stored_filled}
 use Rattle.ada_sound.proofs.Fits.{Fit, none_spared, store_blank, wrote_unnamed, gone_fit}
-use Rattle.ada_sound.proofs.Invariant.{outers, AdjustsAside, Known, Control, OfItsType, Rooms, RunsBehind, RunsOn, Working, IsHolder, IsPlainIn, IsAdjustedIn, NamesTo, BeginsBy, BegunTo, EndsTo, StoresBehind, CopiesBehind, TreatsBy, ThenBack, Ending, LiesIn}
-use Rattle.ada_sound.proofs.Ready.{at_work, type_set}
+use Rattle.ada_sound.proofs.AdjustsKept.{adjusts_set}
+use Rattle.ada_sound.proofs.CopiedOwners.{NameThere, names_still, hiding}
+use Rattle.ada_sound.proofs.HiddenOwners.{names_set as names_replaced}
+use Rattle.ada_sound.proofs.Invariant.{outers, AdjustsTo, Beginning, Known, Control, Rooms, RunsOn, Working, IsHolder, IsPlainIn, IsAdjustedIn, NamesTo, BegunTo, EndsTo, StoresBehind, CopiesBehind, TreatsBy, ThenBack, Ending, LiesIn}
+use Rattle.ada_sound.proofs.Ready.{at_work}
 use Rattle.ada_sound.proofs.Endings.{KeepsFit, swapped, gone_still, under_set, frees_set, named_set, behind_set}
 use Rattle.ada_sound.proofs.Undone.{beginning_set, made_set, undo_set}
 use Rattle.ada_meaning.specs.declared.event.Cause.TheVariants.{Leaving, Freeing, Assigning, Undoing}
@@ -156,30 +161,50 @@ module _ (c : ℕ) (v : Value) (nameless : (p : Id) → v ≡ Names p → ⊥) w
     names_set places operands (StoresIn h d ∷ k) r = put_set h d _ places k r
     names_set places operands (f ∷ k) r = absurd r
 
-    aside_set : (places : List Value) (k : Control)
-        → Working known heap places ms (λ rooms holds. RunsOn known k rooms holds × OfItsType heap (Names o) (λ access. AdjustsAside known access holds))
-        → Working known (slice_set heap o.0 (wrote x)) places ms (λ rooms holds.
-        RunsOn known k rooms holds × OfItsType (slice_set heap o.0 (wrote x)) (Names o) (λ access. AdjustsAside known access holds))
-    aside_set places k w =
-        works_set heap o x found known ms
-        (at_work w (w.rest.0, type_set heap o x (wrote x) found refl (Names o) (λ access. AdjustsAside known access w.holds) w.rest.1))
-
-    begins_set : (by : Birth) (places : List Value) (k : Control) → BeginsBy known (Names o) by k heap places ms → BeginsBy known (Names o) by k (slice_set heap o.0 (wrote x)) places ms
-    begins_set Creation places k b =
+    begins_set : (places : List Value) (k : Control) → Beginning known (Names o) k heap places ms → Beginning known (Names o) k (slice_set heap o.0 (wrote x)) places ms
+    begins_set places k b =
         beginning_set known heap places ms o x (wrote x) found refl (stored_filled o x c v found) (λ holds f. wrote_fit known heap places o x found none_spared holds f)
         (λ holds aside. (wrote_unnamed heap o x found o aside.0 c v nameless, aside.1)) (Names o) k refl b
-    begins_set Copy places k w = aside_set places k w
-    begins_set (Adjustment number) places k w = aside_set places k w
 
-    begun_set : (by : Birth) (places operands : List Value) (k : Control) → BegunTo known (Names o) by k heap places operands ms → BegunTo known (Names o) by k (slice_set heap o.0 (wrote x)) places operands ms
-    begun_set by places operands k (inl b) = inl (begins_set by places k b)
-    begun_set by places operands k (inr r) = inr (
+    begun_set : (places operands : List Value) (k : Control) → BegunTo known (Names o) k heap places operands ms → BegunTo known (Names o) k (slice_set heap o.0 (wrote x)) places operands ms
+    begun_set places operands k (inl b) = inl (begins_set places k b)
+    begun_set places operands k (inr r) = inr (
       r.0,
-      r.1,
       made_set known heap places ms o x (wrote x) found refl (stored_filled o x c v found) (λ holds f. wrote_fit known heap places o x found none_spared holds f)
-          (λ holds aside. (wrote_unnamed heap o x found o aside.0 c v nameless, aside.1)) (Names o) k refl r.2,
-      names_set places operands k r.3,
+          (λ holds aside. (wrote_unnamed heap o x found o aside.0 c v nameless, aside.1)) (Names o) k refl r.1,
+      names_set places operands k r.2,
     )
+
+    -- So does what is left of an adjustment: where the component is hidden, nothing changes in what is seen.
+    hidden_set : (owners : List ℕ) (places : List Value) (more : Rooms → Holds → Type 0) → Working known (blanked (hiding owners o) heap) places ms more
+        → Working known (blanked (hiding owners o) (slice_set heap o.0 (wrote x))) places ms more
+    hidden_set owners places more w = by (number_of (hiding owners o) c) refl
+      where
+        stored : store heap (Names o) c v ≡ slice_set heap o.0 (wrote x)
+        stored = store_is heap o x found c v
+
+        by : (number : Option ℕ) → number_of (hiding owners o) c ≡ number → Working known (blanked (hiding owners o) (slice_set heap o.0 (wrote x))) places ms more
+        by (Some i) is =
+            let same : blanked (hiding owners o) heap ≡ blanked (hiding owners o) (slice_set heap o.0 (wrote x)) =
+            sym (store_tracked (hiding owners o) heap x found c i v is) ∙ ap (λ (objects : List Object). blanked (hiding owners o) objects) stored in
+            subst (λ (objects : List Object). Working known objects places ms more) same w
+        by None is =
+            let at_o = blanked_here (hiding owners o) heap x found in
+            let y = blank_object (watched (hiding owners o)) x in
+            let same : slice_set (blanked (hiding owners o) heap) o.0 (wrote y) ≡ blanked (hiding owners o) (slice_set heap o.0 (wrote x)) =
+            sym (store_is (blanked (hiding owners o) heap) o y at_o c v)
+            ∙ (store_untracked (hiding owners o) heap x found c v is ∙ ap (λ (objects : List Object). blanked (hiding owners o) objects) stored) in
+            subst (λ (objects : List Object). Working known objects places ms more) same (works_set (blanked (hiding owners o) heap) o y at_o known ms w)
+
+    -- What is hidden names what is there still: what is written names nothing.
+    names_kept : (owners : List ℕ) → NameThere heap (values_at owners x.cell.values) → NameThere (slice_set heap o.0 (wrote x)) (values_at owners (wrote x).cell.values)
+    names_kept owners there =
+        names_still heap (slice_set heap o.0 (wrote x)) (values_at owners (wrote x).cell.values) (there_set heap o x found)
+        (names_replaced heap owners x.cell.values c v (λ p is. absurd (nameless p is)) there)
+
+    copy_set : (tasks : List Task) (places : List Value) (k : Control) → AdjustsTo known (Names o) tasks k heap places ms → AdjustsTo known (Names o) tasks k (slice_set heap o.0 (wrote x)) places ms
+    copy_set tasks places k to =
+        adjusts_set known heap places ms o x (wrote x) found refl refl names_kept (λ owners more w. hidden_set owners places more w) (Names o) tasks k refl to
 
     -- So does what is copied to a record that is assigned to.
     lies_set : (t : ℕ) (u : Value) → LiesIn known heap t u → LiesIn known (slice_set heap o.0 (wrote x)) t u
@@ -220,8 +245,7 @@ module _ (c : ℕ) (v : Value) (nameless : (p : Id) → v ≡ Names p → ⊥) w
 
     stores_set : (t : ℕ) (k : Control) (rooms : Rooms) (holds : Holds) → StoresBehind known heap t k rooms holds → StoresBehind known (slice_set heap o.0 (wrote x)) t k rooms holds
     stores_set t [] rooms holds r = absurd r
-    stores_set t (StoresRecord p first count ∷ k) rooms holds (inl r) =
-        inl (plain_set p first count r.0, type_set heap o x (wrote x) found refl p (λ access. RunsBehind known p access k rooms holds) r.1)
+    stores_set t (StoresRecord p first count ∷ k) rooms holds (inl r) = inl (plain_set p first count r.0, r.1)
     stores_set t (StoresRecord p first count ∷ k) rooms holds (inr r) = inr (adjusted_set p t first count k rooms holds r)
     stores_set t (f ∷ k) rooms holds r = absurd r
 
@@ -232,14 +256,16 @@ module _ (c : ℕ) (v : Value) (nameless : (p : Id) → v ≡ Names p → ⊥) w
     copies_set places operands (f ∷ k) r = absurd r
 
     -- Whatever is behind the treatment of the object.
-    pub treats_written : (treatment : Treatment) (places operands : List Value) (k : Control) → TreatsBy known (Names o) treatment k heap places operands ms → TreatsBy known (Names o) treatment k (slice_set heap o.0 (wrote x)) places operands ms
-    treats_written (begins by done) places operands k r = (
-      begun_set by places operands k r.0,
+    pub treats_written : (treatment : Treatment) (tasks : List Task) (places operands : List Value) (k : Control) → TreatsBy known (Names o) treatment tasks k heap places operands ms → TreatsBy known (Names o) treatment tasks k (slice_set heap o.0 (wrote x)) places operands ms
+    treats_written (begins Creation done) tasks places operands k r = (
+      begun_set places operands k r.0,
       undo_set known heap places ms o x (wrote x) found refl (stored_filled o x c v found)
           (λ holds f. gone_fit heap o x (wrote x) found f) (λ holds f. wrote_fit known heap places o x found none_spared holds f)
-          (λ holds aside. (wrote_unnamed heap o x found o aside.0 c v nameless, aside.1)) by k r.1,
+          (λ holds aside. (wrote_unnamed heap o x found o aside.0 c v nameless, aside.1)) k r.1,
     )
-    treats_written (ends (Leaving m item)) places operands k r = ends_set heap o x found known ms (Names o) places k refl r
-    treats_written (ends (Freeing number)) places operands k r = ends_set heap o x found known ms (Names o) places k refl r
-    treats_written (ends (Assigning number)) places operands k r = copies_set places operands k r
-    treats_written (ends (Undoing number)) places operands k r = ends_set heap o x found known ms (Names o) places k refl r
+    treats_written (begins Copy done) tasks places operands k r = copy_set tasks places k r
+    treats_written (begins (Adjustment number) done) tasks places operands k r = copy_set tasks places k r
+    treats_written (ends (Leaving m item)) tasks places operands k r = ends_set heap o x found known ms (Names o) places k refl r
+    treats_written (ends (Freeing number)) tasks places operands k r = ends_set heap o x found known ms (Names o) places k refl r
+    treats_written (ends (Assigning number)) tasks places operands k r = copies_set places operands k r
+    treats_written (ends (Undoing number)) tasks places operands k r = ends_set heap o x found known ms (Names o) places k refl r

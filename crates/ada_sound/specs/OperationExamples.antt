@@ -280,13 +280,15 @@ boxing_stmts =
     (a_stmt (frees 3 (example_path 0 []))
     (a_stmt (assigns (example_path 0 []) (allocates_default 3)) no_stmts))
 
--- The first holder, its cell, and the second holder.
+-- The first holder.
 abbrev pub first_box : Value
 first_box = Names (record { 0 = 0 })
 
+-- Its cell.
 abbrev pub boxed_cell : Value
 boxed_cell = Names (record { 0 = 1 })
 
+-- The second holder.
 abbrev pub second_box : Value
 second_box = Names (record { 0 = 2 })
 
@@ -535,10 +537,11 @@ allocates_pair = assigns (example_path 0 []) (allocates_default 4)
 abbrev pub filling_stmts : StmtsForm
 filling_stmts = a_stmt allocates_pair (a_stmt (frees 4 (example_path 0 [])) (a_stmt allocates_pair no_stmts))
 
--- The first pair, and the second one.
+-- The first pair.
 abbrev pub first_pair : Value
 first_pair = Names (record { 0 = 0 })
 
+-- The second one.
 abbrev pub second_pair : Value
 second_pair = Names (record { 0 = 3 })
 
@@ -775,6 +778,104 @@ copying_refused_events =
     ∷ Followed object_a
     ∷ Left 4
     ∷ Back object_a 3 0 None None (Leaving 0 1)
+    ∷ Left 0
+    ∷ []
+
+-- The same first three types and the same procedures; and type Pair is record Left, Right : Holder; end record; which has number 3. A : Pair and B : Pair have
+-- numbers 0 and 1 in the main procedure.
+
+-- The collection of Link; A : Pair; B : Pair;
+abbrev pub pairing_declarations : List DeclarationForm
+pairing_declarations = collects 1 ∷ declares_record 0 4 None ∷ declares_record 1 7 None ∷ []
+
+-- The record of type Pair that a variable is.
+abbrev pub pair_in : (x : ℕ) → RecordPathForm
+pair_in x = record { object = object_path x []; first = 0; part = 0; record_type = 3 }
+
+-- A.Left.Head := new Cell'(Value => 7); A.Right.Head := new Cell'(Value => 8); B := A;
+abbrev pub pairing_stmts : StmtsForm
+pairing_stmts =
+    a_stmt (assigns head_now (allocates 1 (item_of_value (integer (pos 7)) ∷ [])))
+    (a_stmt (assigns (object_path 0 (1 ∷ [])) (allocates 1 (item_of_value (integer (pos 8)) ∷ [])))
+    (a_stmt (assigns_record (pair_in 1) (item_of_record (pair_in 0) ∷ [])) no_stmts))
+
+-- Adjust of a part of B is called, as a master of its own: it follows B where Head is found as a target, and to the cell that A owns, which it reads.
+abbrev pub adjusts_part : (cell : ℕ) → List Event
+adjusts_part cell = replicate 2 (Followed object_b) ++ Followed (Names (record { 0 = cell })) ∷ []
+
+-- All parts have their values, for which nothing is called, and A is followed where each Head is found as a target, and where that is written. The assignment finds B
+-- and then A, and finalizes the values of B, Right before Left: each body of Finalize, a master of its own, follows B, and frees nothing, since Head is null. Then A
+-- is copied to B, where both Heads name the cells of A now.
+abbrev pub pairing_begins : List Event
+pairing_begins =
+    Born object_a 0 0 0 1 Creation
+    ∷ Born object_a 1 0 0 2 Creation
+    ∷ Born object_b 0 0 0 3 Creation
+    ∷ Born object_b 1 0 0 4 Creation
+    ∷ replicate 4 (Followed object_a)
+    ++ Followed object_b
+    ∷ Followed object_a
+    ∷ Finalized object_b 1 0 0 4 (Assigning 1)
+    ∷ Followed object_b
+    ∷ Left 2
+    ∷ Finalized object_b 0 0 0 3 (Assigning 1)
+    ∷ Followed object_b
+    ∷ Left 3
+    ∷ Followed object_a
+    ∷ Followed object_b
+    ∷ []
+
+-- Right is adjusted first: its Head names a cell of its own then, while that of Left still names the cell of A, which is there when Left is adjusted. At the leaving of
+-- the main procedure the parts of B are finalized, Right before Left, and free their cells, and the words of B go back. Then the parts of A are, whose cells are there
+-- still, and go, and so do the words of A. Nothing is left in the collection.
+abbrev pub pairing_events : List Event
+pairing_events =
+    pairing_begins
+    ++ adjusts_part 3
+    ++ Followed object_b
+    ∷ Left 4
+    ∷ Born object_b 1 1 0 5 (Adjustment 1)
+    ∷ adjusts_part 2
+    ++ Followed object_b
+    ∷ Left 5
+    ∷ Born object_b 0 1 0 6 (Adjustment 1)
+    ∷ Finalized object_b 1 1 0 5 (Leaving 0 2)
+    ∷ empties object_b 4 3 6
+    ++ Finalized object_b 0 1 0 6 (Leaving 0 2)
+    ∷ empties object_b 5 4 8
+    ++ Back object_b 7 0 None None (Leaving 0 2)
+    ∷ Finalized object_a 1 0 0 2 (Leaving 0 1)
+    ∷ empties object_a 3 2 10
+    ++ Finalized object_a 0 0 0 1 (Leaving 0 1)
+    ∷ empties object_a 2 1 12
+    ++ Back object_a 4 0 None None (Leaving 0 1)
+    ∷ Left 0
+    ∷ []
+
+-- Where the cell is refused that Adjust allocates for Left, the handler in its body takes Storage_Error: B is followed where that Head is found as a target, and where
+-- it becomes null. The Finalize of Left finds null and frees nothing, and all other cells go as before.
+abbrev pub pairing_refused_events : List Event
+pairing_refused_events =
+    pairing_begins
+    ++ adjusts_part 3
+    ++ Followed object_b
+    ∷ Left 4
+    ∷ Born object_b 1 1 0 5 (Adjustment 1)
+    ∷ adjusts_part 2
+    ++ replicate 2 (Followed object_b)
+    ++ Left 5
+    ∷ Born object_b 0 1 0 6 (Adjustment 1)
+    ∷ Finalized object_b 1 1 0 5 (Leaving 0 2)
+    ∷ empties object_b 4 3 6
+    ++ Finalized object_b 0 1 0 6 (Leaving 0 2)
+    ∷ Followed object_b
+    ∷ Left 8
+    ∷ Back object_b 7 0 None None (Leaving 0 2)
+    ∷ Finalized object_a 1 0 0 2 (Leaving 0 1)
+    ∷ empties object_a 3 2 9
+    ++ Finalized object_a 0 0 0 1 (Leaving 0 1)
+    ∷ empties object_a 2 1 11
+    ++ Back object_a 4 0 None None (Leaving 0 1)
     ∷ Left 0
     ∷ []
 

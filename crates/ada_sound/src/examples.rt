@@ -185,6 +185,11 @@ pub fn premises_are_met()
 /// of the main procedure, and frees its own cell, so that the words of each object go back once. Where the copy's cell is
 /// refused (11.1), Adjust handles that, the copy owns nothing, and the program finishes all the same.
 ///
+/// And one is accepted whose assignment adjusts two parts of a record, with the same Adjust (5.2, 7.6): while the first one that is
+/// picked gets a cell of its own, the component of the other one still names the cell of the source, which is there when that
+/// one is adjusted. So four cells go at the leaving of the main procedure, each once, before the words of their object; or
+/// three, where the last one is refused, and the part that it was for owns nothing.
+///
 /// And one is accepted that declares a record by its value, with the same Adjust (3.3.1, 7.6): the record lies in a block, and
 /// is adjusted where it is created. At the leaving of the block it is finalized, and frees its own cell, where that was
 /// granted; the cell of the first record is there until the main procedure is left.
@@ -252,6 +257,13 @@ pub fn operations_are_accepted()
         × (stmt_forms program ≡ operation_examples.duplicating_stmts)
         × IsChecked program × FinishesAfter operation_examples.duplicating_events program
         × FinishesAfter operation_examples.duplicating_refused_events program }
+    ensures pairs { (program : Program)
+        × (operations_of program.types.items 0 ≡ operation_examples.duplicating_operations)
+        × (body_forms program ≡ operation_examples.duplicating_bodies)
+        × (declaration_forms program ≡ operation_examples.pairing_declarations)
+        × (stmt_forms program ≡ operation_examples.pairing_stmts)
+        × IsChecked program × FinishesAfter operation_examples.pairing_events program
+        × FinishesAfter operation_examples.pairing_refused_events program }
     ensures copies { (program : Program)
         × (operations_of program.types.items 0 ≡ operation_examples.duplicating_operations)
         × (body_forms program ≡ operation_examples.duplicating_bodies)

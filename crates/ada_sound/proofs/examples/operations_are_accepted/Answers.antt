@@ -1,4 +1,4 @@
--- By ten programs and their runs.
+-- By eleven programs and their runs.
 use Rattle.ada_sound.proofs.ExampleOperations as operations
 use Rattle.ada_sound.proofs.ExampleTidying as tidying
 use Rattle.ada_sound.proofs.ExampleOverwriting as overwriting
@@ -8,6 +8,7 @@ use Rattle.ada_sound.proofs.ExampleAllocating as allocating
 use Rattle.ada_sound.proofs.ExampleUndoing as undoing
 use Rattle.ada_sound.proofs.ExampleFilling as filling
 use Rattle.ada_sound.proofs.ExampleDuplicating as duplicating
+use Rattle.ada_sound.proofs.ExamplePairing as pairing
 use Rattle.ada_sound.proofs.ExampleCopying as copying
 use Rattle.ada_sound.proofs.examples.operations_are_accepted.Goals as goal
 
@@ -102,6 +103,16 @@ returns c = record {
     duplicating.duplicating_accepted,
     duplicating.duplicates,
     duplicating.is_refused,
+  );
+  pairs = (
+    pairing.pairing,
+    pairing.pairing_overrides,
+    pairing.pairing_has,
+    pairing.pairing_declares,
+    pairing.pairing_does,
+    pairing.pairing_accepted,
+    pairing.pairs,
+    pairing.is_refused,
   );
   copies = (
     copying.copying,

@@ -1,0 +1,13 @@
+-- The law: what a step looks at and writes, and what it leaves.
+
+use Rattle.ada_beside.specs.Law.{BodiesStayWithinTheirRecord}
+use Rattle.ada_beside.proofs.Touched.{untouched, unwritten}
+use Rattle.ada_beside.proofs.Staying.{goes_on}
+
+-- The body of an operation touches nothing of the object that lies beside the record which is its formal parameter, and nothing ceases to exist.
+pub stays_within : BodiesStayWithinTheirRecord
+stays_within types bodies w reaches beside s apart p within confined = (
+  untouched w reaches beside apart s p within confined,
+  unwritten w reaches beside apart s p within confined,
+  goes_on types bodies w reaches s p within confined,
+)

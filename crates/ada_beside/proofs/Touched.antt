@@ -1,0 +1,192 @@
+-- What a step of a confined body looks at and writes: nothing of the object that lies beside the record.
+
+use Rattle.std.proofs.Common.{◌≡◌, ℕ, Bool, true, false, List, [], ◌∷◌, refl, ap, ◌∙◌, inl, inr}
+use Rattle.std.specs.Prelude.{◌==◌, ◌&&◌}
+use Rattle.std.specs.List.{slice_index_or}
+use Rattle.ada_program.specs.Form.{ExpressionForm, reads, is_null, ItemForm, item_of_path, item_of_record, RightForm, value_of, assigns, assigns_record, frees, gets, StmtsForm, no_stmts, a_stmt}
+use Rattle.ada_meaning.specs.declared.state.Mode.{Mode}
+use Rattle.ada_meaning.specs.declared.state.Mode.TheVariants.{Running, Raising, Exiting, Returning}
+use Rattle.ada_meaning.specs.declared.state.Value.{Value}
+use Rattle.ada_meaning.specs.declared.state.Value.TheVariants.{Null, Names, Scalar, Part}
+use Rattle.ada_meaning.specs.Frame.{Frame, is_return}
+use Rattle.ada_meaning.specs.Frame as frame
+use Rattle.ada_meaning.specs.Step.{places, operands, newest}
+use Rattle.ada_meaning.specs.Named.{State, named, whole, inside}
+use Rattle.ada_tracked.specs.Frames.{View}
+use Rattle.ada_tracked.specs.Law.{TakesNone}
+use Rattle.ada_tracked.specs.Seen.{IsOther, ArePlaces, IsWatched}
+use Rattle.ada_tracked.specs.Staying.{UnlessItEnds}
+use Rattle.ada_tracked.proofs.Lists.{other_first}
+use Rattle.ada_untouched.specs.Untouched.{hides, IsInSight, IsOpen, LeadsOn, LeadsToHolder, ExpressionIsOpen, ItemsAreOpen, RightIsOpen, StatementsAreOpen, FrameIsOpen, JumpIsOpen, FirstIsOpen, Untouched}
+use Rattle.ada_untouched.specs.Unwritten.{FrameWritesShown, FirstWritesShown, Unwritten}
+use Rattle.ada_beside.specs.Confined.{IsConfinedFrom, ExpressionIsConfined, ItemsAreConfined, RightIsConfined, StatementsAreConfined, StoresReached, FrameIsConfined, BodyIsConfined, OperandsAreConfined, IsConfined}
+use Rattle.ada_beside.specs.Law.{LieBeside, hidden_beside, no_ghosts, IsWithin}
+use Rattle.ada_beside.proofs.Operands.{holder_reached, receiver_reached}
+
+-- Any object may be looked for.
+in_sight : (v : Value) → IsInSight no_ghosts v
+in_sight Null = refl
+in_sight (Names o) = refl
+in_sight (Scalar v) = refl
+in_sight (Part o place) = refl
+
+-- A conjunction is false whose first part is.
+not_first : (a b : Bool) → a ≡ false → (a && b) ≡ false
+not_first a b e = ap (λ (c : Bool). c && b) e
+
+-- A conjunction is false whose second part is.
+not_second : (a b : Bool) → b ≡ false → (a && b) ≡ false
+not_second true b e = e
+not_second false b e = refl
+
+-- What holds unless the body ends holds where it does not end.
+pub unless_it_ends : (ends : Bool) (P : Type 0) → ends ≡ false → UnlessItEnds ends P → P
+unless_it_ends true P e h = absurd (cc)
+unless_it_ends false P e h = h
+
+module _ (w : View) (reaches beside : ℕ → Bool) (apart : LieBeside w reaches beside) where
+  -- No component of another object is hidden.
+  shown_other : (v : Value) (c : ℕ) → IsOther w.object v → hides (hidden_beside w beside) v c ≡ false
+  shown_other Null c other = refl
+  shown_other (Names o) c other = not_first (o.0 == w.object.0) (beside c) other
+  shown_other (Scalar v) c other = refl
+  shown_other (Part o place) c other = refl
+
+  -- No component is hidden that a body may store to.
+  shown : (v : Value) (c : ℕ) → StoresReached w reaches v c → hides (hidden_beside w beside) v c ≡ false
+  shown v c (inl other) = shown_other v c other
+  shown v c (inr reached) =
+      let d = reached.1.0 in
+      ap (λ (u : Value). hides (hidden_beside w beside) u c) reached.0
+      ∙ not_second (w.object.0 == w.object.0) (beside c) (ap beside reached.1.1 ∙ apart d reached.1.2)
+
+  module _ (s : State) (variables : ArePlaces w (places s)) where
+    -- A path leads on over a component that is not hidden.
+    path_open :
+        (x : ℕ) (cs : List ℕ) → IsConfinedFrom w.tracks.first reaches x cs → LeadsOn (hidden_beside w beside) no_ghosts cs (slice_index_or (places s) x Null)
+    path_open x [] from = tt
+    path_open x (c ∷ cs) from =
+        let v = slice_index_or (places s) x Null in
+        (in_sight (whole v), shown (whole v) (inside v c) (holder_reached w reaches (places s) x c cs variables from))
+
+    -- The way to the object of the last component of a path leads over one that is not hidden.
+    holder_open :
+        (x : ℕ) (cs : List ℕ) → IsConfinedFrom w.tracks.first reaches x cs
+        → LeadsToHolder (hidden_beside w beside) no_ghosts cs (slice_index_or (places s) x Null)
+    holder_open x [] from = tt
+    holder_open x (c ∷ []) from = tt
+    holder_open x (c ∷ d ∷ cs) from =
+        let v = slice_index_or (places s) x Null in
+        (in_sight (whole v), shown (whole v) (inside v c) (holder_reached w reaches (places s) x c (d ∷ cs) variables from))
+
+    -- An expression reads no hidden component.
+    expression_open : (e : ExpressionForm) → ExpressionIsConfined w.tracks.first reaches e → ExpressionIsOpen (hidden_beside w beside) no_ghosts s e
+    expression_open (reads path) confined = path_open path.root path.selectors confined
+    expression_open (is_null equal path) confined = path_open path.root path.selectors confined
+    expression_open e confined = tt
+
+    -- The first of some items reads no hidden component.
+    items_open : (items : List ItemForm) → ItemsAreConfined w.tracks.first reaches items → ItemsAreOpen (hidden_beside w beside) no_ghosts s items
+    items_open [] confined = tt
+    items_open (item_of_path path ∷ is) confined = path_open path.root path.selectors confined.0
+    items_open (item_of_record p ∷ is) confined = absurd confined.0
+    items_open (i ∷ is) confined = tt
+
+    -- What is assigned reads no hidden component.
+    right_open : (right : RightForm) → RightIsConfined w.tracks.first reaches right → RightIsOpen (hidden_beside w beside) no_ghosts s right
+    right_open (value_of path) confined = path_open path.root path.selectors confined
+    right_open right confined = tt
+
+    -- A statement looks at no hidden component as it begins.
+    statements_open : (fs : StmtsForm) → StatementsAreConfined w.tracks.first reaches fs → StatementsAreOpen (hidden_beside w beside) no_ghosts s fs
+    statements_open no_stmts confined = tt
+    statements_open (a_stmt (assigns target right) fs) confined = holder_open target.root target.selectors confined.0.0
+    statements_open (a_stmt (assigns_record target items) fs) confined = absurd confined.0
+    statements_open (a_stmt (frees access path) fs) confined = absurd confined.0
+    statements_open (a_stmt (gets target) fs) confined = holder_open target.root target.selectors confined.0
+    statements_open (a_stmt f fs) confined = tt
+
+    -- Components are followed from an operand that leads elsewhere.
+    followed_open : (cs : List ℕ) (v : Value) → IsOther w.object v → IsOpen (hidden_beside w beside) no_ghosts cs v
+    followed_open [] v other = tt
+    followed_open (c ∷ cs) v other = (in_sight v, shown_other v c other)
+
+    -- A frame looks at no hidden component.
+    frame_open :
+        (f : Frame Value) (k : List (Frame Value)) → FrameIsConfined w reaches f → OperandsAreConfined w reaches Running (f ∷ k) (operands s)
+        → TakesNone f s.masters → FrameIsOpen (hidden_beside w beside) no_ghosts s f
+    frame_open (frame.Does fs) k confined others none = statements_open fs confined
+    frame_open (frame.Leaves mode) k confined others none = none
+    frame_open (frame.Evaluates right) k confined others none = right_open right confined
+    frame_open (frame.Computes e) k confined others none = expression_open e confined
+    frame_open (frame.Follows cs) k confined others none = followed_open cs (newest named s) (other_first w.object (operands s) others)
+    frame_open (frame.Refers p) k confined others none = absurd confined
+    frame_open (frame.RefersIn place t) k confined others none = absurd confined
+    frame_open (frame.Opens path) k confined others none = absurd confined
+    frame_open (frame.OpensIn c) k confined others none = absurd confined
+    frame_open (frame.Fills items) k confined others none = items_open items confined
+    frame_open (frame.Copies c t) k confined others none = absurd confined
+    frame_open (frame.Targets c right) k confined others none = in_sight (newest named s)
+    frame_open (frame.StoresIn v c) k confined others none = in_sight v
+    frame_open (frame.TargetsRecord c t items) k confined others none = absurd confined
+    frame_open (frame.StoresRecord v c count) k confined others none = absurd confined
+    frame_open (frame.Receives c) k confined others none = in_sight (newest named s)
+    frame_open (frame.FreesIn access c) k confined others none = absurd confined
+    frame_open (frame.Treats v treatment tasks) k confined others none = absurd confined
+    frame_open (frame.Awaits v by done of part tasks) k confined others none = absurd confined
+    frame_open (frame.Ends v) k confined others none = absurd confined
+    frame_open (frame.GivesBack v cause pool) k confined others none = absurd confined
+    frame_open (frame.ClearsIn v c) k confined others none = absurd confined
+    frame_open f k confined others none = tt
+
+    -- A jump looks at no object.
+    jump_open : (f : Frame Value) → JumpIsOpen (hidden_beside w beside) no_ghosts s f
+    jump_open (frame.Awaits v by done of part tasks) = in_sight v
+    jump_open f = tt
+
+    -- The first of what is left to do looks at no hidden component, in any mode.
+    first_open :
+        (m : Mode) (k : List (Frame Value)) → BodyIsConfined w reaches k → OperandsAreConfined w reaches m k (operands s) → IsWithin k s.masters
+        → FirstIsOpen (hidden_beside w beside) no_ghosts s m k
+    first_open Running [] confined others within = tt
+    first_open Running (f ∷ k) confined others within =
+        frame_open f k (unless_it_ends (is_return f) (FrameIsConfined w reaches f × BodyIsConfined w reaches k) within.0 confined).0 others within.1
+    first_open (Raising e) [] confined others within = tt
+    first_open (Raising e) (f ∷ k) confined others within = jump_open f
+    first_open Exiting [] confined others within = tt
+    first_open Exiting (f ∷ k) confined others within = jump_open f
+    first_open Returning [] confined others within = tt
+    first_open Returning (f ∷ k) confined others within = jump_open f
+
+    -- A frame writes no hidden component.
+    frame_shown :
+        (f : Frame Value) (k : List (Frame Value)) → FrameIsConfined w reaches f → OperandsAreConfined w reaches Running (f ∷ k) (operands s)
+        → FrameWritesShown (hidden_beside w beside) s f
+    frame_shown (frame.StoresIn v c) k confined others = shown v c confined
+    frame_shown (frame.StoresRecord v c count) k confined others = absurd confined
+    frame_shown (frame.Receives c) k confined others = shown (newest named s) c (receiver_reached w reaches c k (operands s) others).0
+    frame_shown (frame.ClearsIn v c) k confined others = absurd confined
+    frame_shown f k confined others = tt
+
+    -- The first of what is left to do writes no hidden component, in any mode.
+    first_shown :
+        (m : Mode) (k : List (Frame Value)) → BodyIsConfined w reaches k → OperandsAreConfined w reaches m k (operands s) → IsWithin k s.masters
+        → FirstWritesShown (hidden_beside w beside) s m k
+    first_shown Running [] confined others within = tt
+    first_shown Running (f ∷ k) confined others within =
+        frame_shown f k (unless_it_ends (is_return f) (FrameIsConfined w reaches f × BodyIsConfined w reaches k) within.0 confined).0 others
+    first_shown (Raising e) [] confined others within = tt
+    first_shown (Raising e) (f ∷ k) confined others within = tt
+    first_shown Exiting [] confined others within = tt
+    first_shown Exiting (f ∷ k) confined others within = tt
+    first_shown Returning [] confined others within = tt
+    first_shown Returning (f ∷ k) confined others within = tt
+
+  -- The next step of a confined body looks at no hidden component.
+  pub untouched :
+      (s : State) → IsWatched w (places s) s.heap → IsWithin s.control s.masters → IsConfined w reaches s → Untouched (hidden_beside w beside) no_ghosts s
+  untouched s p within confined = first_open s p.variables s.mode s.control confined.control confined.operands within
+
+  -- The next step of a confined body writes no hidden component.
+  pub unwritten : (s : State) → IsWatched w (places s) s.heap → IsWithin s.control s.masters → IsConfined w reaches s → Unwritten (hidden_beside w beside) s
+  unwritten s p within confined = first_shown s p.variables s.mode s.control confined.control confined.operands within

@@ -1,0 +1,68 @@
+-- The law: the body of an operation touches nothing of the object that lies beside the record which is its formal parameter, and nothing ceases to exist.
+
+use Rattle.std.specs.Prelude.{◌≡◌, ℕ, ◌+◌, Bool, true, false, ◌==◌, ◌&&◌, List, [], ◌∷◌, Some}
+use Rattle.ada_parts.specs.Task.{Task}
+use Rattle.ada_program.specs.declared.program.TypeDefinition.{TypeDefinition}
+use Rattle.ada_program.specs.ProgramForm.{BodyForm}
+use Rattle.ada_meaning.specs.declared.state.Id.{Id}
+use Rattle.ada_meaning.specs.declared.state.Stage.TheVariants.{Existing}
+use Rattle.ada_meaning.specs.declared.state.Value.{Value}
+use Rattle.ada_meaning.specs.Frame.{Frame, Treatment, is_return}
+use Rattle.ada_meaning.specs.Frame as frame
+use Rattle.ada_meaning.specs.State.{Master}
+use Rattle.ada_meaning.specs.Step.{halts, moves, tells, asks, picks, places}
+use Rattle.ada_meaning.specs.Named.{Object, State, Next, object_at, next}
+use Rattle.ada_tracked.specs.Frames.{View}
+use Rattle.ada_tracked.specs.Law.{TakesNone}
+use Rattle.ada_tracked.specs.Seen.{IsWatched}
+use Rattle.ada_untouched.specs.Untouched.{Untouched}
+use Rattle.ada_untouched.specs.Unwritten.{Unwritten}
+use Rattle.ada_beside.specs.Confined.{IsConfined}
+
+-- These components of the object lie beside what the body may reach.
+abbrev pub LieBeside : View → (reaches beside : ℕ → Bool) → Type 0
+LieBeside w reaches beside = (d : ℕ) → reaches d ≡ true → beside (w.base + d) ≡ false
+
+-- They are hidden, and nothing else.
+abbrev pub hidden_beside : View → (beside : ℕ → Bool) → Id → (component : ℕ) → Bool
+hidden_beside w beside o c = (o.0 == w.object.0) && beside c
+
+-- No object is a ghost.
+abbrev pub no_ghosts : Id → Bool
+no_ghosts o = false
+
+-- Each object that exists does so afterwards.
+abbrev pub NoneCeases : (before after : List Object) → Type 0
+NoneCeases before after =
+    (o : Id) (x : Object) → object_at before o ≡ Some x → x.stage ≡ Existing → (y : Object) × (object_at after o ≡ Some y) × (y.stage ≡ Existing)
+
+-- Something is left before the body ends, and a master that is left has no object to take out.
+abbrev pub IsWithin : List (Frame Value) → List Master → Type 0
+IsWithin [] ms = Unit {0}
+IsWithin (f ∷ k) ms = (is_return f ≡ false) × TakesNone f ms
+
+-- The body is confined still, or it is so behind what is done to the controlled parts of an object (7.6), if that comes first.
+pub data StaysConfined (w : View) (reaches : ℕ → Bool) (s : State) : Type 0 where
+  at_once : IsConfined w reaches s → StaysConfined w reaches s
+  behind_treatment :
+      (v : Value) (treatment : Treatment) (tasks : List Task) (k : List (Frame Value)) → s.control ≡ frame.Treats v treatment tasks ∷ k → StaysConfined w reaches s
+
+-- So it is behind a step, and none has ceased to exist.
+pub record GoesOn (w : View) (reaches : ℕ → Bool) (before : List Object) (after : State) : Type 0 where
+  pub confined : StaysConfined w reaches after
+  pub none_ceases : NoneCeases before after.heap
+
+-- Whatever comes next, and whatever is answered.
+abbrev pub AllGoOn : View → (reaches : ℕ → Bool) → (before : List Object) → Next → Type 0
+AllGoOn w reaches before (halts h) = Unit {0}
+AllGoOn w reaches before (moves e s) = GoesOn w reaches before s
+AllGoOn w reaches before (tells request e s) = GoesOn w reaches before s
+AllGoOn w reaches before (asks request answers) = (granted : Bool) → GoesOn w reaches before (answers granted)
+AllGoOn w reaches before (picks count taking) = ⊥
+
+-- A step of such a body neither looks at what lies beside the record nor writes it, and leaves the body so.
+abbrev pub BodiesStayWithinTheirRecord : Type 0
+BodiesStayWithinTheirRecord =
+    (types : List TypeDefinition) (bodies : List BodyForm) (w : View) (reaches beside : ℕ → Bool) (s : State) → LieBeside w reaches beside
+    → IsWatched w (places s) s.heap → IsWithin s.control s.masters → IsConfined w reaches s
+    → Untouched (hidden_beside w beside) no_ghosts s × Unwritten (hidden_beside w beside) s × AllGoOn w reaches s.heap (next types bodies s)

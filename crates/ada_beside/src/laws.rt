@@ -1,0 +1,16 @@
+//! The laws of what lies beside a record. Each is a function that does nothing, and whose contract is the theorem.
+
+ghost use Rattle.ada_beside.specs.Example.{PremisesAreMet};
+ghost use Rattle.ada_beside.specs.Law.{BodiesStayWithinTheirRecord};
+
+/// While the body of an operation runs whose paths from its formal parameter begin with components of that record, and which frees
+/// nothing, a step neither looks at the components of the object that lie beside the record nor writes them; each object that
+/// exists does so behind it, and what is left of the body is such again.
+pub fn bodies_stay_within_their_record()
+    ensures { BodiesStayWithinTheirRecord }
+{}
+
+/// The premises are met: a body writes a component of its formal parameter, beside another one of the same object.
+pub fn premises_are_met()
+    ensures { PremisesAreMet }
+{}

@@ -1,0 +1,373 @@
+-- Each step while the body of an Adjust runs that tracks components of its formal parameter (7.6), where other parts of the copy are adjusted later: the components
+-- that these see to are put aside meanwhile. The body touches none of them, so the real state takes the step of the one in which they hold null.
+
+use Rattle.std.proofs.Common.{◌≡◌, ◌≢◌, ℕ, Bool, true, false, List, [], ◌∷◌, Option, Some, refl, sym, ap, ◌∙◌, ◌⊎◌, inl, inr, subst}
+use Rattle.std.specs.List.{Contains, slice_get}
+use Rattle.ada_deeds.specs.Implicit.{implicit_of}
+use Rattle.ada_beside.specs.Confined.{IsConfined}
+use Rattle.ada_beside.specs.Law.{AllGoOn, GoesOn, IsWithin, LieBeside, NoneCeases, StaysConfined, at_once, behind_treatment, hidden_beside, no_ghosts}
+use Rattle.ada_beside.proofs.Law.{stays_within}
+use Rattle.ada_finalized.proofs.Doings.{Of, doings}
+use Rattle.ada_finalized.proofs.Invariant as finalized
+use Rattle.ada_finalized.proofs.Runs.{last_holds}
+use Rattle.ada_finalized.proofs.Standing.{listed_stand}
+use Rattle.ada_finalized.specs.Law.{NothingBegins}
+use Rattle.ada_meaning.specs.declared.state.Id.{Id}
+use Rattle.ada_meaning.specs.declared.state.Mode.{Mode}
+use Rattle.ada_meaning.specs.declared.state.Mode.TheVariants.{Raising}
+use Rattle.ada_meaning.specs.declared.state.Stage.TheVariants.{Existing}
+use Rattle.ada_meaning.specs.declared.state.Value.{Value}
+use Rattle.ada_meaning.specs.declared.state.Value.TheVariants.{Names, Null}
+use Rattle.ada_meaning.specs.Event.{Quiet}
+use Rattle.ada_meaning.specs.Frame as frame
+use Rattle.ada_meaning.specs.Frame.{Leaves, Returns}
+use Rattle.ada_meaning.specs.Named.{Object, State, Next, next, object_at}
+use Rattle.ada_meaning.specs.Records.{component_in}
+use Rattle.ada_meaning.specs.Run.{Choice, Event, Leads, grants, settled}
+use Rattle.ada_meaning.specs.State.{Master}
+use Rattle.ada_meaning.specs.Step.{halts, moves, tells, asks, picks, places}
+use Rattle.ada_owners.specs.Keeping.{IsThere}
+use Rattle.ada_program.specs.declared.program.Exception.{Exception}
+use Rattle.ada_program.specs.declared.program.Program.{Program}
+use Rattle.ada_program.specs.declared.program.TypeDefinition.{TypeDefinition}
+use Rattle.ada_program.specs.declared.program.TypeNo.{TypeNo}
+use Rattle.ada_program.specs.declared.program.VariableKind.TheVariants as variable
+use Rattle.ada_program.specs.Freed.{FreesItsOwn}
+use Rattle.ada_program.specs.ProgramForm.{BodyForm, body_forms, program_form, seen_in}
+use Rattle.ada_program.specs.WellFormed.{IsWellFormed, kind_among, reached_components}
+use Rattle.ada_quiet.specs.Bare.{has_bare_objects}
+use Rattle.ada_quiet.specs.InUse.{may_track}
+use Rattle.ada_scopes.proofs.Components.{collect_two}
+use Rattle.ada_scopes.proofs.Runs.{Scoped}
+use Rattle.ada_sound.specs.Agreement.{running_procedure}
+use Rattle.ada_tracked.specs.Frames.{View, blank_object, shifted, values_at}
+use Rattle.ada_tracked.specs.Law.{InnermostHousesNone}
+use Rattle.ada_tracked.specs.Seen.{IsWatched}
+use Rattle.ada_tracked.specs.Staying.{BodyIsSimple}
+use Rattle.ada_typed.proofs.Control as typed
+use Rattle.ada_typed.proofs.Kept.{Behind, behind_call}
+use Rattle.ada_untouched.proofs.KeptByLaw.{hidden_stays}
+use Rattle.ada_untouched.proofs.Law.{steps_alike}
+use Rattle.ada_untouched.specs.Alike.{NextAlike, StatesAlike}
+use Rattle.ada_untouched.specs.Untouched.{Untouched}
+use Rattle.ada_untouched.specs.Unwritten.{Unwritten}
+use Rattle.ada_sound.proofs.Adjusting.{Adjusting, AdjustingCopy, LeavesAlone, is_one_of, put_aside}
+use Rattle.ada_sound.proofs.AdjustingEnds.{EndsCopy}
+use Rattle.ada_sound.proofs.AdjustingEnters.{filled_in_program}
+use Rattle.ada_sound.proofs.AdjustingGoes.{adjusting_goes, adjusting_returns, adjusting_stored, is_watched, none_comes_out}
+use Rattle.ada_sound.proofs.AdjustingSeen.{simple_begins}
+use Rattle.ada_sound.proofs.AdjustingSteps.{GoesAdjusting, InAdjusting, IsOrderly, houses_none}
+use Rattle.ada_sound.proofs.Blanked.{alters_unblanked, blanked_at, ends_unblanked, says_unblanked, stored_unblanked, unblanked}
+use Rattle.ada_sound.proofs.CollectsApartRuns.{apart_where_reached}
+use Rattle.ada_sound.proofs.CopiedOwners.{CopyLeft, NameThere, hiding, names_still, owners_left}
+use Rattle.ada_sound.proofs.Finalization.{parts_alive}
+use Rattle.ada_sound.proofs.FrugalControl.{is_return_first}
+use Rattle.ada_sound.proofs.InOrder.{in_order}
+use Rattle.ada_sound.proofs.Invariant.{Control, EndsWell}
+use Rattle.ada_sound.proofs.NoneHidden.{blanked_none}
+use Rattle.ada_sound.proofs.Operating.{InBody, StepsTo}
+use Rattle.ada_sound.proofs.PartsApart.{left_of_access}
+use Rattle.ada_sound.proofs.PutAside.{aside_here, hides_these, one_is_null, state_aside, state_is_aside, unwritten_aside, values_same}
+use Rattle.ada_sound.proofs.Returns.{CrossesTo, same_types}
+use Rattle.ada_sound.proofs.Starts.{IsReached}
+use Rattle.ada_sound.proofs.StoredStates.{IsStored}
+use Rattle.ada_sound.proofs.TypedAside.{typed_aside}
+
+-- What is treated behind the end of the running body is there.
+there_behind : (heap : List Object) (behind k : Control) → behind_call k ≡ Some (record { actuals = []; references = []; left = behind }) → Of (finalized.IsThere heap) (doings k) → Of (finalized.IsThere heap) (doings behind)
+there_behind heap behind [] ends there = absurd (cc ends)
+there_behind heap behind (frame.Treats v treatment tasks ∷ k) ends there = there_behind heap behind k ends there.1
+there_behind heap behind (frame.Awaits v by done of part tasks ∷ k) ends there = there_behind heap behind k ends there.1
+there_behind heap behind (frame.Ends v ∷ k) ends there = there_behind heap behind k ends there.1
+there_behind heap behind (Returns actuals references ∷ k) ends there = subst (λ (b : Behind). Of (finalized.IsThere heap) (doings b.left)) (some_same ends) there
+  where
+    some_same : {x y : Behind} → Some x ≡ Some y → x ≡ y
+    some_same e = cc e
+there_behind heap behind (g ∷ k) ends there = there_behind heap behind k ends there
+
+-- What is known of a state that a run reaches, of the one in which components of an object are put aside.
+module _ (program : Program) (well : IsWellFormed (program_form program)) (s : State) (reached : IsReached program s) (owners : List ℕ) (o : Id) (f : Adjusting program (put_aside owners o s)) where
+  -- The object exists whose Adjust runs.
+  pub adjusted_exists : f.x.stage ≡ Existing
+  adjusted_exists =
+      let all = (last_holds program reached.0 reached.1 s reached.2).fits.inv.there in
+      let behind = there_behind s.heap f.behind s.control f.ends all in
+      let now = subst (λ (k : Control). Of (finalized.IsThere s.heap) (doings k)) f.awaited.1 behind in
+      let (p, (is, (x, (at, stage)))) = now.0 in
+      let one : f.object.0 ≡ p = same_number f.object p is in
+      let there : object_at s.heap f.object ≡ Some x = subst (λ (i : ℕ). slice_get s.heap i ≡ Some x) (sym one) at in
+      let blank = blanked_at (hiding owners o) s.heap f.object x there in
+      let same : blank.object ≡ f.x = same_object (sym blank.found ∙ f.found) in
+      subst (λ (y : Object). y.stage ≡ Existing) same (blank.alike.stage ∙ stage)
+    where
+      same_id : {i j : Id} → Names i ≡ Names j → i ≡ j
+      same_id e = cc e
+
+      same_number : (i : Id) (p : ℕ) → Names i ≡ Names (record { 0 = p }) → i.0 ≡ p
+      same_number i p e = ap (λ (j : Id). j.0) (same_id e)
+
+      same_object : {x y : Object} → Some x ≡ Some y → x ≡ y
+      same_object e = cc e
+
+  -- In the real state, nothing begins of another object.
+  begins_nothing : (v : Value) → (v ≢ Names f.object) → NothingBegins v s.control
+  begins_nothing v ne =
+      let behind : NothingBegins v f.behind = subst (NothingBegins v) (sym f.awaited.1) ((λ same. ne (sym same)), f.waits.untreated v ne) in
+      simple_begins f.w.tracks.first v s.control f.behind f.simple f.ends behind
+
+  -- The object that is adjusted has controlled parts.
+  other_object : (p : Id) (x : Object) → object_at (put_aside owners o s).heap p ≡ Some x → has_bare_objects (program_form program).types x.cell.access ≡ true → Names p ≡ Names f.object → ⊥
+  other_object p x found of same =
+      let one : p ≡ f.object = cc same in
+      let x_is : x ≡ f.x = let here = f.found in let there = found in cc (one, here, there) in
+      let waits = f.waits.parted in
+      let parted : has_bare_objects (program_form program).types f.access ≡ false = rw (same_types f.procedure (program_form program)) at waits in
+      let bare : has_bare_objects (program_form program).types f.access ≡ true = rw (x_is, f.of_access) at of in
+      cc (parted, bare)
+
+  pub orderly_aside : Scoped (program_form program) s → IsOrderly program (put_aside owners o s)
+  orderly_aside nested = record {
+    stand = λ p y found listed access bare. (
+        let x = unblanked (hiding owners o) s.heap p y found in
+        rw (sym x.alike.parts)
+        (parts_alive program well s reached p x.object x.found
+        (listed_stand program reached.0 reached.1 s reached.2 p x.object x.found (x.alike.listed ∙ listed) (begins_nothing (Names p) (other_object p y found bare)))));
+    two = collect_two (program_form program) s nested;
+    ordered = in_order program well s nested (apart_where_reached program s reached) (program_form program).types refl s.masters refl;
+  }
+
+-- The end of the body is not next, and a master that is left houses none.
+within_now : (k : Control) (ms : List Master) → is_return_first k ≡ false → ((left : Mode) (j : Control) → k ≡ Leaves left ∷ j → InnermostHousesNone ms) → IsWithin k ms
+within_now [] ms inner houses = tt
+within_now (Returns actuals references ∷ k) ms inner houses = absurd (cc inner)
+within_now (Leaves left ∷ k) ms inner houses = (refl, houses left k refl)
+within_now (f ∷ k) ms inner houses = (refl, tt)
+
+-- So it is whatever comes next where that follows.
+steps_so : (P Q : Event → State → Type 0) → ((e : Event) (after : State) → P e after → Q e after) → (s : State) (n : Next) → StepsTo P s n → StepsTo Q s n
+steps_so P Q follows s (halts halt) goes = goes
+steps_so P Q follows s (moves e after) goes = follows e after goes
+steps_so P Q follows s (tells request e after) goes = follows e after goes
+steps_so P Q follows s (asks request answered) goes = λ granted. follows Quiet (answered granted) (goes granted)
+steps_so P Q follows s (picks n taken) goes = goes
+
+-- A simple body treats nothing.
+treats_none : (first : ℕ) (v : Value) (treatment : frame.Treatment) (tasks : List _) (k j : Control) → k ≡ frame.Treats v treatment tasks ∷ j → BodyIsSimple first k → ⊥
+treats_none first v treatment tasks k j is simple = let here : BodyIsSimple first (frame.Treats v treatment tasks ∷ j) = rw is at simple in here.0
+
+-- The body runs behind a step, for a copy of which other parts are adjusted later; and what that does to objects.
+abbrev pub InCopy : Program → List Object → Event → State → Type 0
+InCopy program before e after = InBody program (AdjustingCopy program) before e after
+
+module _ (program : Program) (s : State) (d : AdjustingCopy program s) where
+  abbrev tds : List TypeDefinition
+  tds = program.types.items
+
+  abbrev bodies : List BodyForm
+  bodies = body_forms program
+
+  abbrev f : Adjusting program (put_aside d.owners d.object s)
+  f = d.adjusting
+
+  abbrev aside : State → State
+  aside t = put_aside d.owners d.object t
+
+  -- The object is that in which the components lie that the body tracks.
+  view_object : f.w.object ≡ d.object
+  view_object = f.object_so ∙ d.same
+
+  -- Objects are stored as they are there.
+  pub copy_stored : IsStored s.heap s.masters
+  copy_stored = let there = adjusting_stored program (aside s) f in (there.0, stored_unblanked (hiding d.owners d.object) s.heap there.1)
+
+  -- What the body leaves of the components that are put aside.
+  abbrev Spares : State → Type 0
+  Spares after = ((y : Object) → object_at after.heap d.object ≡ Some y → NameThere after.heap (values_at d.owners y.cell.values)) × LeavesAlone f.w d.owners after
+
+  -- The body runs on, in the state where they are put aside and in the real one.
+  copied_so : (e : Event) (after : State) → InAdjusting program (aside s) f e (aside after) → Spares after → InCopy program s.heap e after
+  copied_so e after run spares =
+      let hides = hiding d.owners d.object in
+      let g = run.0.body in
+      let a = alters_unblanked hides s.heap after.heap e run.0.alters in
+      let y = a.kept d.object d.x d.found in
+      record {
+        body = record {
+          object = d.object;
+          owners = d.owners;
+          adjusting = g;
+          same = run.1.object ∙ d.same;
+          left = rw (run.1.access, run.1.record_type, run.1.tasks) d.left;
+          owned = rw (run.1.access, run.1.tasks) d.owned;
+          x = y.0;
+          found = y.1;
+          named = spares.0 y.0 y.1;
+          leaves_alone = subst (λ (w : View). LeavesAlone w d.owners after) (sym run.1.view) spares.1;
+        };
+        alters = a;
+        says = says_unblanked (implicit_of (program_form program)) (seen_in (running_procedure after) (program_form program)) hides s.heap e (aside after) after refl run.0.says;
+      }
+
+  -- Where none is put aside, the two states are the same.
+  module _ (none : d.owners ≡ []) where
+    nothing_aside : (t : State) → aside t ≡ t
+    nothing_aside t = rw none (ap (λ (heap : List Object). record t { heap = heap }) (blanked_none d.object t.heap))
+
+    none_on : GoesAdjusting program (aside s) f (next tds bodies (aside s)) → StepsTo (InCopy program s.heap) s (next tds bodies s)
+    none_on goes =
+        steps_so (InAdjusting program (aside s) f) (InCopy program s.heap)
+        (λ e after run. copied_so e after (subst (InAdjusting program (aside s) f e) (sym (nothing_aside after)) run) ((λ y at. rw none tt), inl none)) s (next tds bodies s)
+        (subst (λ (t : State). StepsTo (InAdjusting program (aside s) f) t (next tds bodies t)) (nothing_aside s) goes)
+
+  -- Where some are, the body touches none of them.
+  module _ (reaches : ℕ → Bool) (beside : LieBeside f.w reaches (is_one_of d.owners)) (confined : IsConfined f.w reaches s) (watched : IsWatched f.w (places s) s.heap) (inner : is_return_first s.control ≡ false) where
+    abbrev hidden : Id → (component : ℕ) → Bool
+    hidden = hidden_beside f.w (is_one_of d.owners)
+
+    stays : Untouched hidden no_ghosts s × Unwritten hidden s × AllGoOn f.w reaches s.heap (next tds bodies s)
+    stays =
+        stays_within tds bodies f.w reaches (is_one_of d.owners) s beside watched
+        (within_now s.control s.masters inner (λ left k at. houses_none program (aside s) f left k at)) confined
+
+    alike_next : NextAlike hidden no_ghosts (next tds bodies s) (next tds bodies (aside s))
+    alike_next =
+        steps_alike tds bodies hidden no_ghosts s (aside s) stays.0
+        (subst (λ (o : Id). StatesAlike hidden no_ghosts s (put_aside d.owners o s)) view_object (state_aside f.w d.owners s))
+
+    hides_one : (c : ℕ) → is_one_of d.owners c ≡ true → hidden d.object c ≡ true
+    hides_one c is = subst (λ (o : Id). hidden o c ≡ true) view_object (hides_these f.w d.owners c ∙ is)
+
+    -- They hold null behind the step of the other state, and what they held behind that of the real one.
+    null_there : (choice : Choice) (e : Event) (t : State) → Leads (next tds bodies (aside s)) choice e t
+        → (c : ℕ) (y : Object) (u : Value) → object_at t.heap d.object ≡ Some y → is_one_of d.owners c ≡ true → slice_get y.cell.values c ≡ Some u → u ≡ Null
+    null_there choice e t leads c y u at is holds =
+        let blank = blank_object (shifted 0 d.owners) d.x in
+        let there : object_at (aside s).heap d.object ≡ Some blank = aside_here d.owners d.object s.heap d.x d.found in
+        let kept = hidden_stays tds bodies hidden (aside s) t choice e leads (unwritten_aside hidden s (aside s).heap stays.1) d.object blank there c (hides_one c is) in
+        let now : slice_get y.cell.values c ≡ slice_get blank.cell.values c = subst (λ (found : Option Object). component_in found c ≡ slice_get blank.cell.values c) at kept in
+        one_is_null d.owners c d.x.cell.values u is (sym now ∙ holds)
+
+    held_there : (choice : Choice) (e : Event) (after : State) → Leads (next tds bodies s) choice e after
+        → (y : Object) → object_at after.heap d.object ≡ Some y → (c : ℕ) → is_one_of d.owners c ≡ true → slice_get y.cell.values c ≡ slice_get d.x.cell.values c
+    held_there choice e after leads y at c is =
+        subst (λ (found : Option Object). component_in found c ≡ slice_get d.x.cell.values c) at
+        (hidden_stays tds bodies hidden s after choice e leads stays.1 d.object d.x d.found c (hides_one c is))
+
+    -- What is there stays there.
+    there_still : (after : List Object) → NoneCeases s.heap after → (o : Id) → IsThere s.heap o → IsThere after o
+    there_still after none_ceases o (x, found, there) =
+        let y = none_ceases o x found ((copy_stored.1.sane o x found).there_exists there) in
+        (y.0, y.1, rw y.2 refl)
+
+    still_confined : (after : State) → BodyIsSimple f.w.tracks.first after.control → StaysConfined f.w reaches after → IsConfined f.w reaches after
+    still_confined after simple (at_once is) = is
+    still_confined after simple (behind_treatment v treatment tasks k is) = absurd (treats_none f.w.tracks.first v treatment tasks after.control k is simple)
+
+    -- So the real state goes on as the other one does.
+    both_on : (choice : Choice) (e : Event) (after t : State) → Leads (next tds bodies s) choice e after → Leads (next tds bodies (aside s)) choice e t
+        → StatesAlike hidden no_ghosts after t → GoesOn f.w reaches s.heap after → InAdjusting program (aside s) f e t → InCopy program s.heap e after
+    both_on choice e after t leads leads_too alike goes run =
+        let t_is : t ≡ aside after =
+        subst (λ (o : Id). t ≡ put_aside d.owners o after) view_object
+        (state_is_aside f.w d.owners after t alike (λ c y u at is holds. null_there choice e t leads_too c y u (subst (λ (o : Id). object_at t.heap o ≡ Some y) view_object at) is holds)) in
+        let run_there : InAdjusting program (aside s) f e (aside after) = subst (InAdjusting program (aside s) f e) t_is run in
+        let simple : BodyIsSimple f.w.tracks.first after.control = subst (λ (w : View). BodyIsSimple w.tracks.first after.control) run_there.1.view run_there.0.body.simple in
+        copied_so e after run_there (
+          (λ y at. rw (values_same d.owners y.cell.values d.x.cell.values (held_there choice e after leads y at))
+              (names_still s.heap after.heap (values_at d.owners d.x.cell.values) (there_still after.heap goes.none_ceases) d.named)),
+          inr (reaches, beside, still_confined after simple goes.confined),
+        )
+
+    next_on : (n m : Next) → next tds bodies s ≡ n → next tds bodies (aside s) ≡ m → NextAlike hidden no_ghosts n m → AllGoOn f.w reaches s.heap n
+        → GoesAdjusting program (aside s) f m → StepsTo (InCopy program s.heap) s n
+    next_on (halts halt) m n_is m_is alike on goes =
+        let ends : EndsWell halt (aside s).heap s.masters = subst (GoesAdjusting program (aside s) f) alike goes in
+        ends_unblanked (hiding d.owners d.object) halt s.heap s.masters ends
+    next_on (moves e after) m n_is m_is (t, is, alike) on goes =
+        both_on settled e after t (rw n_is (refl, refl)) (rw (m_is, is) (refl, refl)) alike on (subst (GoesAdjusting program (aside s) f) is goes)
+    next_on (tells request e after) m n_is m_is (t, is, alike) on goes =
+        both_on settled e after t (rw n_is (refl, refl)) (rw (m_is, is) (refl, refl)) alike on (subst (GoesAdjusting program (aside s) f) is goes)
+    next_on (asks request answered) m n_is m_is (answers, is, alike) on goes = λ granted.
+        (let all : GoesAdjusting program (aside s) f (asks request answers) = subst (GoesAdjusting program (aside s) f) is goes in
+        both_on (grants granted) Quiet (answered granted) (answers granted) (rw n_is (refl, refl)) (rw (m_is, is) (refl, refl)) (alike granted) (on granted) (all granted))
+    next_on (picks n taken) m n_is m_is alike on goes = absurd on
+
+    some_on : GoesAdjusting program (aside s) f (next tds bodies (aside s)) → StepsTo (InCopy program s.heap) s (next tds bodies s)
+    some_on goes = next_on (next tds bodies s) (next tds bodies (aside s)) refl refl alike_next stays.2 goes
+
+-- The body runs behind a step, or what waits for it goes on.
+abbrev pub WentOn : (program : Program) (s : State) → AdjustingCopy program s → Event → State → Type 0
+WentOn program s d e after = InCopy program s.heap e after ⊎ (CrossesTo program d.adjusting.suspensions s.heap e after × (after.control ≡ d.adjusting.behind))
+
+-- So it does whatever comes next, if the run does not end.
+abbrev pub GoesOrEnds : (program : Program) (s : State) → AdjustingCopy program s → Next → Type 0
+GoesOrEnds program s d n = StepsTo (WentOn program s d) s n
+
+-- Each step of the body, its end included.
+module _
+    (program : Program) (well : IsWellFormed (program_form program)) (may : may_track (program_form program) ≡ true) (frees : FreesItsOwn (program_form program))
+    (s : State) (reached : IsReached program s) (nested : Scoped (program_form program) s) (typing : typed.Typed (program_form program) s) (d : AdjustingCopy program s) where
+  abbrev g : Adjusting program (put_aside d.owners d.object s)
+  g = d.adjusting
+
+  exists : g.x.stage ≡ Existing
+  exists = adjusted_exists program well s reached d.owners d.object g
+
+  -- The object as it is in the real state.
+  real_found : object_at s.heap g.object ≡ Some d.x
+  real_found = subst (λ (o : Id). object_at s.heap o ≡ Some d.x) (sym d.same) d.found
+
+  real_like : (d.x.cell.access ≡ g.access) × (d.x.stage ≡ Existing)
+  real_like =
+      let blank = blanked_at (hiding d.owners d.object) s.heap g.object d.x real_found in
+      let same : blank.object ≡ g.x = let is = blank.found in let here = g.found in cc (is, here) in
+      let access : g.x.cell.access ≡ d.x.cell.access = subst (λ (y : Object). y.cell.access ≡ d.x.cell.access) same blank.alike.access in
+      let stage : g.x.stage ≡ d.x.stage = subst (λ (y : Object). y.stage ≡ d.x.stage) same blank.alike.stage in
+      (sym access ∙ g.of_access, sym stage ∙ exists)
+
+  -- Each component that is put aside is of an access type.
+  of_access : (c : ℕ) → Contains d.owners c → (a : TypeNo) × (kind_among (reached_components (program_form program).types d.x.cell.access) c ≡ Some (variable.Access a))
+  of_access c has =
+      let types = (program_form program).types in
+      let left = subst (λ (access : ℕ). CopyLeft types access g.record_type g.tasks) (sym real_like.0) d.left in
+      let same = d.owned ∙ ap (λ (access : ℕ). owners_left types access g.tasks) (sym real_like.0) in
+      left_of_access program well d.x.cell.access g.record_type g.tasks left c (subst (λ (owners : List ℕ). Contains owners c) same has)
+
+  typing_aside : typed.Typed (program_form program) (put_aside d.owners d.object s)
+  typing_aside =
+      typed_aside (program_form program) d.owners d.object s.heap d.x d.found of_access
+      (filled_in_program (program_form program) (running_procedure s) s typing.inside) s refl typing
+
+  watched : IsWatched g.w (places s) s.heap
+  watched = is_watched program well may (put_aside d.owners d.object s) g s.heap typing d.x real_found real_like.0 real_like.1
+
+  inner_on : is_return_first s.control ≡ false → StepsTo (InCopy program s.heap) s (next program.types.items (body_forms program) s)
+  inner_on inner =
+      let goes = adjusting_goes program well may frees (put_aside d.owners d.object s) (orderly_aside program well s reached d.owners d.object g nested) typing_aside g exists inner in
+      elim d.leaves_alone [ inl none ↦ none_on program s d none goes | inr (reaches, beside, confined) ↦ some_on program s d reaches beside confined watched inner goes ]
+
+  ends_copy : EndsCopy program (put_aside d.owners d.object s) g s.heap
+  ends_copy = record {
+    x = d.x;
+    found = real_found;
+    copied = d.left;
+    aside = rw (sym d.owned, d.same) refl;
+    named = rw (sym d.owned) d.named;
+  }
+
+  end_on : is_return_first s.control ≡ true → GoesOrEnds program s d (next program.types.items (body_forms program) s)
+  end_on first =
+      let (after, is, crosses, behind) = adjusting_returns program well may (put_aside d.owners d.object s) typing_aside g exists first s.heap ends_copy in
+      subst (GoesOrEnds program s d) (sym is) (inr (crosses, behind))
+
+  pub copy_goes : GoesOrEnds program s d (next program.types.items (body_forms program) s)
+  copy_goes = by (is_return_first s.control) refl
+    where
+      by : (b : Bool) → is_return_first s.control ≡ b → GoesOrEnds program s d (next program.types.items (body_forms program) s)
+      by false inner =
+          steps_so (InCopy program s.heap) (WentOn program s d) (λ e after run. inl run) s (next program.types.items (body_forms program) s) (inner_on inner)
+      by true first = end_on first
+
+-- No exception comes out of the body.
+pub none_leaves : (program : Program) (s : State) (d : AdjustingCopy program s) (e : Exception) → s.mode ≡ Raising e → is_return_first s.control ≡ true → ⊥
+none_leaves program s d e raises first = none_comes_out program (put_aside d.owners d.object s) d.adjusting e raises first
