@@ -31,6 +31,7 @@ use Rattle.std.proofs.lemmas.List.Elements.{All-nil}
 use Rattle.ada_scopes.proofs.Texts.{StatementNests, BodiesNest}
 use Rattle.ada_scopes.specs.Scopes.{is_departure}
 use Rattle.ada_scopes.proofs.Counts.{Scopes, scopes}
+use Rattle.ada_scopes.proofs.Treatments.{IsTreatment, TreatsFirst}
 use Rattle.ada_scopes.proofs.Control.{FrameNests, Nests, Nested, standing, beginning, parting}
 use Rattle.ada_anywhere.specs.Anywhere.{some_waits, has_master}
 use Rattle.ada_anywhere.proofs.Control.{InnermostOwnsNone, outside, StatementsAnywhere, BranchesAnywhere, HandlersAnywhere, FrameAnywhere, Anywhere, Here, part_anywhere, body_anywhere, treating_anywhere, owning_anywhere, behind_owning, master_owns_none}
@@ -201,60 +202,60 @@ module _ (types : List TypeForm) (callees : Callees) (bodies : List BodyForm) (n
       record_good definitions x t initial (at (frame.Elaborates ds fs hs ∷ s.control) s) (own, h)
 
   -- Each frame that is taken off.
-  frame_good : (definitions : List TypeDefinition) → OperationsHere callees definitions → (f : Frame Value) (s : State) → FrameAnywhere types callees (some_waits s.control) s.masters f → Anywhere types callees s.control (outside (has_master f) s.masters) → Good types callees (frame_next named definitions bodies f s)
-  frame_good definitions operations (frame.Elaborates ds fs hs) s own h = declarations_good definitions ds fs hs s own h
-  frame_good definitions operations (frame.Does fs) s own h = stmts_good definitions fs s own h
-  frame_good definitions operations (frame.Decides fs branches) s own h = decided_good fs branches (reads_boolean (newest named s)) (popped s) own h
-  frame_good definitions operations (frame.Repeats condition fs) s own h = repeats_good condition fs s own h
-  frame_good definitions operations (frame.Turns condition fs) s own h = turned_good condition fs (reads_boolean (newest named s)) (popped s) own h
-  frame_good definitions operations (frame.Ranges x fs) s own h = ranges_good x fs (reads_integer (newest named (popped s))) (reads_integer (newest named s)) (popped (popped s)) own h
-  frame_good definitions operations (frame.Counts x value last fs) s own h = counting_good (int_le value last) x value last fs s own h
-  frame_good definitions operations frame.Exits s own h = exited_good (reads_boolean (newest named s)) (popped s) h
-  frame_good definitions operations (frame.Handles hs) s own h = h
-  frame_good definitions operations frame.Closes s own h = (own, h)
-  frame_good definitions operations (frame.Leaves mode) s own h = leave_good types callees definitions mode s.masters s own h
-  frame_good definitions operations (frame.Calls procedure b actuals) s own h = (λ is. (own is, All-nil _), (tt, h))
-  frame_good definitions operations (frame.Returns actuals references) s own h = storing_nests references s.control s.masters h
-  frame_good definitions operations (frame.Evaluates right) s own h = right_good types callees definitions right s h
-  frame_good definitions operations (frame.Computes e) s own h = expression_good types callees e s h
-  frame_good definitions operations (frame.Follows cs) s own h = path_good types callees cs (newest named s) (popped s) h
-  frame_good definitions operations (frame.TestsNull equal) s own h = null_test_good types callees equal (reads_null (newest named s)) (popped s) h
-  frame_good definitions operations (frame.Refers p) s own h =
+  frame_good : (definitions : List TypeDefinition) (f : Frame Value) → (IsTreatment f → OperationsHere callees definitions) → (s : State) → FrameAnywhere types callees (some_waits s.control) s.masters f → Anywhere types callees s.control (outside (has_master f) s.masters) → Good types callees (frame_next named definitions bodies f s)
+  frame_good definitions (frame.Elaborates ds fs hs) operations s own h = declarations_good definitions ds fs hs s own h
+  frame_good definitions (frame.Does fs) operations s own h = stmts_good definitions fs s own h
+  frame_good definitions (frame.Decides fs branches) operations s own h = decided_good fs branches (reads_boolean (newest named s)) (popped s) own h
+  frame_good definitions (frame.Repeats condition fs) operations s own h = repeats_good condition fs s own h
+  frame_good definitions (frame.Turns condition fs) operations s own h = turned_good condition fs (reads_boolean (newest named s)) (popped s) own h
+  frame_good definitions (frame.Ranges x fs) operations s own h = ranges_good x fs (reads_integer (newest named (popped s))) (reads_integer (newest named s)) (popped (popped s)) own h
+  frame_good definitions (frame.Counts x value last fs) operations s own h = counting_good (int_le value last) x value last fs s own h
+  frame_good definitions frame.Exits operations s own h = exited_good (reads_boolean (newest named s)) (popped s) h
+  frame_good definitions (frame.Handles hs) operations s own h = h
+  frame_good definitions frame.Closes operations s own h = (own, h)
+  frame_good definitions (frame.Leaves mode) operations s own h = leave_good types callees definitions mode s.masters s own h
+  frame_good definitions (frame.Calls procedure b actuals) operations s own h = (λ is. (own is, All-nil _), (tt, h))
+  frame_good definitions (frame.Returns actuals references) operations s own h = storing_nests references s.control s.masters h
+  frame_good definitions (frame.Evaluates right) operations s own h = right_good types callees definitions right s h
+  frame_good definitions (frame.Computes e) operations s own h = expression_good types callees e s h
+  frame_good definitions (frame.Follows cs) operations s own h = path_good types callees cs (newest named s) (popped s) h
+  frame_good definitions (frame.TestsNull equal) operations s own h = null_test_good types callees equal (reads_null (newest named s)) (popped s) h
+  frame_good definitions (frame.Refers p) operations s own h =
       record_holder_good types callees p (λ place. frame.RefersIn place p.record_type) s (λ place. (tt, h)) h
-  frame_good definitions operations (frame.RefersIn place t) s own h =
+  frame_good definitions (frame.RefersIn place t) operations s own h =
       refers_good types callees (newest named s) place (width_of definitions t) (look s.heap (newest named s)) (popped s) h
-  frame_good definitions operations (frame.Opens path) s own h = open_good types callees path.selectors path.root s h
-  frame_good definitions operations (frame.OpensIn c) s own h = opens_good types callees (newest named s) c (look s.heap (newest named s)) (popped s) h
-  frame_good definitions operations (frame.Continues links) s own h = links_good types callees links s h
-  frame_good definitions operations (frame.Applies operator) s own h = outcome_good types callees (binary_given operator (newest named (popped s)) (newest named s)) (popped (popped s)) h
-  frame_good definitions operations (frame.AppliesAlone operator) s own h = outcome_good types callees (unary_given operator (newest named s)) (popped s) h
-  frame_good definitions operations (frame.Fills items) s own h = items_good types callees items s h
-  frame_good definitions operations (frame.Copies first t) s own h = copies_good types callees (newest named s) first (width_of definitions t) (look s.heap (newest named s)) (popped s) h
-  frame_good definitions operations (frame.Creates access count) s own h = new_good types callees definitions access count (words_of definitions access) (home_of access s.masters) s h
-  frame_good definitions operations (frame.Stores x) s own h = h
-  frame_good definitions operations (frame.Declares x) s own h = owning_anywhere types callees (record { number = height s.masters; owned = declared x }) s.control s.masters refl h
-  frame_good definitions operations (frame.Treats v treatment tasks) s own h = treats_good types callees bodies nesting definitions operations v treatment tasks (task_next tasks) s h
-  frame_good definitions operations (frame.Awaits v by done of part tasks) s own h = awaited_good types callees bodies nesting v by done of part tasks (look s.heap v) s h
-  frame_good definitions operations frame.Confines s own h = h
-  frame_good definitions operations (frame.Resumes mode) s own h = h
-  frame_good definitions operations frame.Writes s own h = line_good (reads_integer (newest named s)) (popped s) h
-  frame_good definitions operations (frame.Ends v) s own h = end_good types callees v (look s.heap v) s h
-  frame_good definitions operations (frame.GivesBack v cause pool) s own h = back_good types callees v cause pool (lent s.heap v) s h
-  frame_good definitions operations (frame.Clears x) s own h = h
-  frame_good definitions operations (frame.Targets c right) s own h = target_good (newest named s) c right (look s.heap (newest named s)) (popped s) h
-  frame_good definitions operations (frame.StoresIn o c) s own h = store_good o c (newest named s) (look s.heap o) (popped s) h
-  frame_good definitions operations (frame.TargetsRecord first t items) s own h =
+  frame_good definitions (frame.Opens path) operations s own h = open_good types callees path.selectors path.root s h
+  frame_good definitions (frame.OpensIn c) operations s own h = opens_good types callees (newest named s) c (look s.heap (newest named s)) (popped s) h
+  frame_good definitions (frame.Continues links) operations s own h = links_good types callees links s h
+  frame_good definitions (frame.Applies operator) operations s own h = outcome_good types callees (binary_given operator (newest named (popped s)) (newest named s)) (popped (popped s)) h
+  frame_good definitions (frame.AppliesAlone operator) operations s own h = outcome_good types callees (unary_given operator (newest named s)) (popped s) h
+  frame_good definitions (frame.Fills items) operations s own h = items_good types callees items s h
+  frame_good definitions (frame.Copies first t) operations s own h = copies_good types callees (newest named s) first (width_of definitions t) (look s.heap (newest named s)) (popped s) h
+  frame_good definitions (frame.Creates access count) operations s own h = new_good types callees definitions access count (words_of definitions access) (home_of access s.masters) s h
+  frame_good definitions (frame.Stores x) operations s own h = h
+  frame_good definitions (frame.Declares x) operations s own h = owning_anywhere types callees (record { number = height s.masters; owned = declared x }) s.control s.masters refl h
+  frame_good definitions (frame.Treats v treatment tasks) operations s own h = treats_good types callees bodies nesting definitions (operations tt) v treatment tasks (task_next tasks) s h
+  frame_good definitions (frame.Awaits v by done of part tasks) operations s own h = awaited_good types callees bodies nesting v by done of part tasks (look s.heap v) s h
+  frame_good definitions frame.Confines operations s own h = h
+  frame_good definitions (frame.Resumes mode) operations s own h = h
+  frame_good definitions frame.Writes operations s own h = line_good (reads_integer (newest named s)) (popped s) h
+  frame_good definitions (frame.Ends v) operations s own h = end_good types callees v (look s.heap v) s h
+  frame_good definitions (frame.GivesBack v cause pool) operations s own h = back_good types callees v cause pool (lent s.heap v) s h
+  frame_good definitions (frame.Clears x) operations s own h = h
+  frame_good definitions (frame.Targets c right) operations s own h = target_good (newest named s) c right (look s.heap (newest named s)) (popped s) h
+  frame_good definitions (frame.StoresIn o c) operations s own h = store_good o c (newest named s) (look s.heap o) (popped s) h
+  frame_good definitions (frame.TargetsRecord first t items) operations s own h =
       record_target_good types callees (newest named s) first (width_of definitions t) items (look s.heap (newest named s)) (popped s) h
-  frame_good definitions operations (frame.StoresRecord o first count) s own h = store_record_good types callees o first count (look s.heap o) s h
-  frame_good definitions operations (frame.Assigns t) s own h =
+  frame_good definitions (frame.StoresRecord o first count) operations s own h = store_record_good types callees o first count (look s.heap o) s h
+  frame_good definitions (frame.Assigns t) operations s own h =
       let target = newest named (popped s) in
       let source = newest named s in
       assigns_good types callees definitions t target source (same target source) (popped (popped s)) h
-  frame_good definitions operations (frame.DeclaresRecord x t) s own h =
+  frame_good definitions (frame.DeclaresRecord x t) operations s own h =
       made_good definitions x t Copy (newest_ones named (words_of definitions t) s) (without_newest named (words_of definitions t) s) h
-  frame_good definitions operations (frame.Receives c) s own h = receive_good (newest named s) c (look s.heap (newest named s)) (popped s) h
-  frame_good definitions operations (frame.FreesIn access c) s own h = free_in_good types callees definitions access (newest named s) c (look s.heap (newest named s)) (popped s) h
-  frame_good definitions operations (frame.ClearsIn o c) s own h = store_good o c Null (look s.heap o) s h
+  frame_good definitions (frame.Receives c) operations s own h = receive_good (newest named s) c (look s.heap (newest named s)) (popped s) h
+  frame_good definitions (frame.FreesIn access c) operations s own h = free_in_good types callees definitions access (newest named s) c (look s.heap (newest named s)) (popped s) h
+  frame_good definitions (frame.ClearsIn o c) operations s own h = store_good o c Null (look s.heap o) s h
 
   -- A jump: what it passes, and where it lands.
   abbrev LandsHere : (waiting : Bool) → Landing Value → Type 0
@@ -384,18 +385,18 @@ module _ (types : List TypeForm) (callees : Callees) (bodies : List BodyForm) (n
   stays_in calling s jumps (beginning b) = absurd (subst Jumps b.runs jumps)
   stays_in calling s jumps (parting ss w runs goes) = absurd (subst Jumps runs jumps)
 
-  module _ (definitions : List TypeDefinition) (operations : OperationsHere callees definitions) (calling : Bool) where
-    running_good : (k : List (Frame Value)) (s : State) → Anywhere types callees k s.masters → Good types callees (running_next named definitions bodies k s)
-    running_good [] s h = tt
-    running_good (f ∷ k) s h = frame_good definitions operations f (at k s) h.0 h.1
+  module _ (definitions : List TypeDefinition) (calling : Bool) where
+    running_good : (k : List (Frame Value)) → (TreatsFirst k → OperationsHere callees definitions) → (s : State) → Anywhere types callees k s.masters → Good types callees (running_next named definitions bodies k s)
+    running_good [] operations s h = tt
+    running_good (f ∷ k) operations s h = frame_good definitions f operations (at k s) h.0 h.1
 
-    mode_good : (mode : Mode) (s : State) → s.mode ≡ mode → Nested types callees calling s → Here types callees s → Good types callees (mode_next named definitions bodies mode s)
-    mode_good Running s is nested h = running_good s.control s h
-    mode_good (Raising e) s is nested h = jump_good (Raising e) s.control s (stays_in calling s (subst Jumps (sym is) tt) nested) h
-    mode_good Exiting s is nested h = jump_good Exiting s.control s (stays_in calling s (subst Jumps (sym is) tt) nested) h
-    mode_good Returning s is nested h = jump_good Returning s.control s (stays_in calling s (subst Jumps (sym is) tt) nested) h
+    mode_good : (mode : Mode) (s : State) → (TreatsFirst s.control → OperationsHere callees definitions) → s.mode ≡ mode → Nested types callees calling s → Here types callees s → Good types callees (mode_next named definitions bodies mode s)
+    mode_good Running s operations is nested h = running_good s.control operations s h
+    mode_good (Raising e) s operations is nested h = jump_good (Raising e) s.control s (stays_in calling s (subst Jumps (sym is) tt) nested) h
+    mode_good Exiting s operations is nested h = jump_good Exiting s.control s (stays_in calling s (subst Jumps (sym is) tt) nested) h
+    mode_good Returning s operations is nested h = jump_good Returning s.control s (stays_in calling s (subst Jumps (sym is) tt) nested) h
 
-    -- A step of a state that nests keeps that.
-    pub next_good : (s : State) → Nested types callees calling s → Here types callees s → Good types callees (next definitions bodies s)
+    -- A step of a state that nests keeps that, if operations nest where a treatment is what is done next.
+    pub next_good : (s : State) → (TreatsFirst s.control → OperationsHere callees definitions) → Nested types callees calling s → Here types callees s → Good types callees (next definitions bodies s)
     unfolding next
-    next_good s nested h = mode_good s.mode s refl nested h
+    next_good s operations nested h = mode_good s.mode s operations refl nested h

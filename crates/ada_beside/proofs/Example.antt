@@ -107,7 +107,7 @@ unfolding next
 writes_its_record = record {
   apart = apart;
   watched = watched;
-  within = (refl, tt);
+  within = (refl, tt, tt);
   confined = record { control = (inr (refl, (0, refl, refl)), (tt, tt)); operands = (refl, tt) };
   steps = (Followed (Names treated), refl);
   writes = (0, λ same. absurd (cc));

@@ -38,7 +38,7 @@ use Rattle.ada_tracked.proofs.Heaps.{created_other}
 use Rattle.ada_tracked.proofs.Lists.{other_first, other_older, other_drop, other_in_front, other_got}
 use Rattle.ada_tracked.proofs.Paths.{variable, whole_other}
 use Rattle.ada_beside.specs.Confined.{IsConfinedFrom, ExpressionIsConfined, LinksAreConfined, ConditionIsConfined, ItemsAreConfined, RightIsConfined, DeclarationsAreConfined, StatementIsConfined, StatementsAreConfined, BranchesAreConfined, HandlersAreConfined, StoresReached, FrameIsConfined, BodyIsConfined, OperandsAreConfined, IsConfined}
-use Rattle.ada_beside.specs.Law.{NoneCeases, IsWithin, at_once, behind_treatment, GoesOn, AllGoOn}
+use Rattle.ada_beside.specs.Law.{NoneCeases, TreatsNone, IsWithin, GoesOn, AllGoOn}
 use Rattle.ada_beside.proofs.Operands.{set_so, set_other, unary_other, binary_other, confined_others, holder_reached, target_reached, receiver_reached}
 use Rattle.ada_beside.proofs.Ceasing.{none_changes, stored_ceases_none, created_ceases_none}
 use Rattle.ada_beside.proofs.Touched.{unless_it_ends}
@@ -55,7 +55,7 @@ module _ (types : List TypeDefinition) (bodies : List BodyForm) (w : View) (reac
   -- A body goes on in a state in which what is left to do is confined, and no operand leads to the object.
   stays : (s : State) → BodyIsConfined w reaches s.control → AreOther w.object (operands s) → GoesOn w reaches s.heap s
   stays s h g = record {
-    confined = at_once (record { control = h; operands = confined_others w reaches s.mode s.control (operands s) g });
+    confined = record { control = h; operands = confined_others w reaches s.mode s.control (operands s) g };
     none_ceases = none_changes s.heap;
   }
 
@@ -138,7 +138,7 @@ module _ (types : List TypeDefinition) (bodies : List BodyForm) (w : View) (reac
       let v = held named s x in
       let n = inside v c in
       record {
-        confined = at_once (record {
+        confined = record {
           control = each n;
           operands =
               subst (λ (m : Mode). OperandsAreConfined w reaches m (frame_of n ∷ s.control) (operands (computed (whole v) (at (frame_of n ∷ s.control) s))))
@@ -146,7 +146,7 @@ module _ (types : List TypeDefinition) (bodies : List BodyForm) (w : View) (reac
               (set_so (λ vs. OperandsAreConfined w reaches Running (frame_of n ∷ s.control) vs) (whole v ∷ operands s) s.activations
               (confined_others w reaches Running (frame_of n ∷ s.control) [] tt)
               (waits n (whole v) (holder_reached w reaches (places s) x c [] p.variables from)));
-        });
+        };
         none_ceases = none_changes s.heap;
       }
   holder_goes c (d ∷ cs) x frame_of s runs from p each waits g =
@@ -230,13 +230,13 @@ module _ (types : List TypeDefinition) (bodies : List BodyForm) (w : View) (reac
       (set_other w.object (in_front vs (operands s)) s.activations (other_in_front w.object vs (operands s) (initials_other (reached_of types access)) g))
   right_goes (computes e) s confined p h g = stays (at (frame.Computes e ∷ s.control) s) (confined, h) g
 
-  -- A body goes on behind the treatment of an object, or at once, if nothing is to be done.
+  -- A body goes on behind the treatment of another object, or at once, if nothing is to be done.
   treated_goes :
-      (v : Value) (treatment : Treatment) (tasks : List Task) (before : List Object) (s : State) → NoneCeases before s.heap → BodyIsConfined w reaches s.control
-      → AreOther w.object (operands s) → GoesOn w reaches before (at (treating v treatment tasks s.control) s)
-  treated_goes v treatment [] before s none h g = record { confined = (stays s h g).confined; none_ceases = none }
-  treated_goes v treatment (task ∷ tasks) before s none h g =
-      record { confined = behind_treatment v treatment (task ∷ tasks) s.control refl; none_ceases = none }
+      (v : Value) (treatment : Treatment) (tasks : List Task) (before : List Object) (s : State) → IsOther w.object v → NoneCeases before s.heap
+      → BodyIsConfined w reaches s.control → AreOther w.object (operands s) → GoesOn w reaches before (at (treating v treatment tasks s.control) s)
+  treated_goes v treatment [] before s other none h g = record { confined = (stays s h g).confined; none_ceases = none }
+  treated_goes v treatment (task ∷ tasks) before s other none h g =
+      record { confined = (stays (at (treating v treatment (task ∷ tasks) s.control) s) (other, h) g).confined; none_ceases = none }
 
   -- A body goes on as the request for the words of an object is granted or refused.
   answered_goes :
@@ -246,10 +246,10 @@ module _ (types : List TypeDefinition) (bodies : List BodyForm) (w : View) (reac
       let v = created s.heap words in
       let vs = drop count (operands s) in
       let cell = new_cell named types access count home s in
+      let other = created_other w s.heap p.object p.at_object words in
       treated_goes v (begins Creation []) (all_tasks types access PartsFirst) s.heap
       (record (set_operands (v ∷ vs) s) { allocated = counted s.allocated; heap = create s.heap words cell })
-      (created_ceases_none s.heap words cell) h
-      (set_other w.object (v ∷ vs) s.activations (created_other w s.heap p.object p.at_object words, other_drop w.object count (operands s) g))
+      other (created_ceases_none s.heap words cell) h (set_other w.object (v ∷ vs) s.activations (other, other_drop w.object count (operands s) g))
   answered_goes access count words home s p h g false = jumps (Raising StorageError) s h
 
   -- A body goes on as the words of an object are asked for.
@@ -453,68 +453,68 @@ module _ (types : List TypeDefinition) (bodies : List BodyForm) (w : View) (reac
 
   -- A body goes on by what a frame does.
   frame_goes :
-      (f : Frame Value) (s : State) → s.mode ≡ Running → FrameIsConfined w reaches f → TakesNone f s.masters → IsWatched w (places s) s.heap
+      (f : Frame Value) (s : State) → s.mode ≡ Running → FrameIsConfined w reaches f → TreatsNone f → TakesNone f s.masters → IsWatched w (places s) s.heap
       → BodyIsConfined w reaches s.control → OperandsAreConfined w reaches Running (f ∷ s.control) (operands s)
       → AllGoOn w reaches s.heap (frame_next named types bodies f s)
-  frame_goes (frame.Elaborates ds fs hs) s runs confined none p h g = declarations_go ds fs hs s confined.0 confined.1 confined.2 h g
-  frame_goes (frame.Does fs) s runs confined none p h g = stmts_go fs s runs confined p h g
-  frame_goes (frame.Decides fs branches) s runs confined none p h g =
+  frame_goes (frame.Elaborates ds fs hs) s runs confined untreated none p h g = declarations_go ds fs hs s confined.0 confined.1 confined.2 h g
+  frame_goes (frame.Does fs) s runs confined untreated none p h g = stmts_go fs s runs confined p h g
+  frame_goes (frame.Decides fs branches) s runs confined untreated none p h g =
       decided_goes fs branches (reads_boolean (newest named s)) (popped s) confined.0 confined.1 h (popped_other s g)
-  frame_goes (frame.Repeats condition fs) s runs confined none p h g = repeats_go condition fs s confined.0 confined.1 h g
-  frame_goes (frame.Turns condition fs) s runs confined none p h g =
+  frame_goes (frame.Repeats condition fs) s runs confined untreated none p h g = repeats_go condition fs s confined.0 confined.1 h g
+  frame_goes (frame.Turns condition fs) s runs confined untreated none p h g =
       turned_goes condition fs (reads_boolean (newest named s)) (popped s) confined.0 confined.1 h (popped_other s g)
-  frame_goes (frame.Ranges x fs) s runs confined none p h g =
+  frame_goes (frame.Ranges x fs) s runs confined untreated none p h g =
       ranges_go x fs (reads_integer (newest named (popped s))) (reads_integer (newest named s)) (popped (popped s)) confined.0 confined.1 h
       (popped_other (popped s) (popped_other s g))
-  frame_goes (frame.Counts x value last fs) s runs confined none p h g = counting_goes (int_le value last) x value last fs s confined.0 confined.1 h g
-  frame_goes frame.Exits s runs confined none p h g = exited_goes (reads_boolean (newest named s)) (popped s) h (popped_other s g)
-  frame_goes (frame.Handles hs) s runs confined none p h g = stays s h g
-  frame_goes frame.Closes s runs confined none p h g = stays (at (frame.Leaves Running ∷ s.control) s) (tt, h) g
-  frame_goes (frame.Leaves mode) s runs confined none p h g = leave_goes mode s.masters s none h g
-  frame_goes (frame.Calls procedure b actuals) s runs confined none p h g = absurd confined
-  frame_goes (frame.Returns actuals references) s runs confined none p h g = absurd confined
-  frame_goes (frame.Evaluates right) s runs confined none p h g = right_goes right s confined p h g
-  frame_goes (frame.Computes e) s runs confined none p h g = expression_goes e s confined p h g
-  frame_goes (frame.Follows cs) s runs confined none p h g = path_goes cs (newest named s) (popped s) p.components (newest_other s g) h (popped_other s g)
-  frame_goes (frame.TestsNull equal) s runs confined none p h g = null_test_goes equal (reads_null (newest named s)) (popped s) h (popped_other s g)
-  frame_goes (frame.Refers q) s runs confined none p h g = absurd confined
-  frame_goes (frame.RefersIn place record_type) s runs confined none p h g = absurd confined
-  frame_goes (frame.Opens path) s runs confined none p h g = absurd confined
-  frame_goes (frame.OpensIn c) s runs confined none p h g = absurd confined
-  frame_goes (frame.Continues links) s runs confined none p h g = links_go links s confined h g
-  frame_goes (frame.Applies operator) s runs confined none p h g =
+  frame_goes (frame.Counts x value last fs) s runs confined untreated none p h g = counting_goes (int_le value last) x value last fs s confined.0 confined.1 h g
+  frame_goes frame.Exits s runs confined untreated none p h g = exited_goes (reads_boolean (newest named s)) (popped s) h (popped_other s g)
+  frame_goes (frame.Handles hs) s runs confined untreated none p h g = stays s h g
+  frame_goes frame.Closes s runs confined untreated none p h g = stays (at (frame.Leaves Running ∷ s.control) s) (tt, h) g
+  frame_goes (frame.Leaves mode) s runs confined untreated none p h g = leave_goes mode s.masters s none h g
+  frame_goes (frame.Calls procedure b actuals) s runs confined untreated none p h g = absurd confined
+  frame_goes (frame.Returns actuals references) s runs confined untreated none p h g = absurd confined
+  frame_goes (frame.Evaluates right) s runs confined untreated none p h g = right_goes right s confined p h g
+  frame_goes (frame.Computes e) s runs confined untreated none p h g = expression_goes e s confined p h g
+  frame_goes (frame.Follows cs) s runs confined untreated none p h g = path_goes cs (newest named s) (popped s) p.components (newest_other s g) h (popped_other s g)
+  frame_goes (frame.TestsNull equal) s runs confined untreated none p h g = null_test_goes equal (reads_null (newest named s)) (popped s) h (popped_other s g)
+  frame_goes (frame.Refers q) s runs confined untreated none p h g = absurd confined
+  frame_goes (frame.RefersIn place record_type) s runs confined untreated none p h g = absurd confined
+  frame_goes (frame.Opens path) s runs confined untreated none p h g = absurd confined
+  frame_goes (frame.OpensIn c) s runs confined untreated none p h g = absurd confined
+  frame_goes (frame.Continues links) s runs confined untreated none p h g = links_go links s confined h g
+  frame_goes (frame.Applies operator) s runs confined untreated none p h g =
       outcome_goes (binary_given operator (newest named (popped s)) (newest named s)) (popped (popped s))
       (binary_other w.object operator (newest named (popped s)) (newest named s)) h (popped_other (popped s) (popped_other s g))
-  frame_goes (frame.AppliesAlone operator) s runs confined none p h g =
+  frame_goes (frame.AppliesAlone operator) s runs confined untreated none p h g =
       outcome_goes (unary_given operator (newest named s)) (popped s) (unary_other w.object operator (newest named s)) h (popped_other s g)
-  frame_goes (frame.Fills items) s runs confined none p h g = items_go items s confined p h g
-  frame_goes (frame.Copies c record_type) s runs confined none p h g = absurd confined
-  frame_goes (frame.Creates access count) s runs confined none p h g = new_goes access count (words_of types access) (home_of access s.masters) s p h g
-  frame_goes (frame.Stores x) s runs confined none p h g = put_goes x (newest named s) (popped s) h (popped_other s g)
-  frame_goes (frame.Targets c right) s runs confined none p h g =
+  frame_goes (frame.Fills items) s runs confined untreated none p h g = items_go items s confined p h g
+  frame_goes (frame.Copies c record_type) s runs confined untreated none p h g = absurd confined
+  frame_goes (frame.Creates access count) s runs confined untreated none p h g = new_goes access count (words_of types access) (home_of access s.masters) s p h g
+  frame_goes (frame.Stores x) s runs confined untreated none p h g = put_goes x (newest named s) (popped s) h (popped_other s g)
+  frame_goes (frame.Targets c right) s runs confined untreated none p h g =
       let reached = target_reached w reaches c right s.control (operands s) g in
       target_goes (newest named s) c right (look s.heap (newest named s)) (popped s) reached.0 confined h
       (set_other w.object (older (operands s)) s.activations reached.1)
-  frame_goes (frame.StoresIn o c) s runs confined none p h g = store_goes o c (newest named s) (look s.heap o) (popped s) h (popped_other s g)
-  frame_goes (frame.TargetsRecord c record_type items) s runs confined none p h g = absurd confined
-  frame_goes (frame.StoresRecord o c count) s runs confined none p h g = absurd confined
-  frame_goes (frame.Assigns record_type) s runs confined none p h g = absurd confined
-  frame_goes (frame.Receives c) s runs confined none p h g =
+  frame_goes (frame.StoresIn o c) s runs confined untreated none p h g = store_goes o c (newest named s) (look s.heap o) (popped s) h (popped_other s g)
+  frame_goes (frame.TargetsRecord c record_type items) s runs confined untreated none p h g = absurd confined
+  frame_goes (frame.StoresRecord o c count) s runs confined untreated none p h g = absurd confined
+  frame_goes (frame.Assigns record_type) s runs confined untreated none p h g = absurd confined
+  frame_goes (frame.Receives c) s runs confined untreated none p h g =
       let reached = receiver_reached w reaches c s.control (operands s) g in
       receive_goes (newest named s) c (look s.heap (newest named s)) (popped s) h (set_other w.object (older (operands s)) s.activations reached.1)
-  frame_goes (frame.FreesIn access c) s runs confined none p h g = absurd confined
-  frame_goes (frame.Declares x) s runs confined none p h g =
+  frame_goes (frame.FreesIn access c) s runs confined untreated none p h g = absurd confined
+  frame_goes (frame.Declares x) s runs confined untreated none p h g =
       stays (owned (declared x) (put x (newest named s) (popped s))) h (put_other x (newest named s) (popped s) (popped_other s g))
-  frame_goes (frame.DeclaresRecord x record_type) s runs confined none p h g = absurd confined
-  frame_goes (frame.Treats v treatment tasks) s runs confined none p h g = absurd confined
-  frame_goes (frame.Awaits v by done of part tasks) s runs confined none p h g = absurd confined
-  frame_goes frame.Confines s runs confined none p h g = absurd confined
-  frame_goes (frame.Resumes mode) s runs confined none p h g = absurd confined
-  frame_goes frame.Writes s runs confined none p h g = line_goes (reads_integer (newest named s)) (popped s) h (popped_other s g)
-  frame_goes (frame.Ends v) s runs confined none p h g = absurd confined
-  frame_goes (frame.GivesBack v cause pool) s runs confined none p h g = absurd confined
-  frame_goes (frame.Clears x) s runs confined none p h g = absurd confined
-  frame_goes (frame.ClearsIn o c) s runs confined none p h g = absurd confined
+  frame_goes (frame.DeclaresRecord x record_type) s runs confined untreated none p h g = absurd confined
+  frame_goes (frame.Treats v treatment tasks) s runs confined untreated none p h g = absurd untreated
+  frame_goes (frame.Awaits v by done of part tasks) s runs confined untreated none p h g = absurd confined
+  frame_goes frame.Confines s runs confined untreated none p h g = absurd confined
+  frame_goes (frame.Resumes mode) s runs confined untreated none p h g = absurd confined
+  frame_goes frame.Writes s runs confined untreated none p h g = line_goes (reads_integer (newest named s)) (popped s) h (popped_other s g)
+  frame_goes (frame.Ends v) s runs confined untreated none p h g = absurd confined
+  frame_goes (frame.GivesBack v cause pool) s runs confined untreated none p h g = absurd confined
+  frame_goes (frame.Clears x) s runs confined untreated none p h g = absurd confined
+  frame_goes (frame.ClearsIn o c) s runs confined untreated none p h g = absurd confined
 
   -- A jump lands in confined statements, if it lands in any, and comes out of no operation.
   abbrev LandsConfined : Landing Value → Type 0
@@ -583,7 +583,7 @@ module _ (types : List TypeDefinition) (bodies : List BodyForm) (w : View) (reac
   step_goes Running [] s p within h g = tt
   step_goes Running (f ∷ k) s p within h g =
       let c = unless_it_ends (is_return f) (FrameIsConfined w reaches f × BodyIsConfined w reaches k) within.0 h in
-      frame_goes f (record s { mode = Running; control = k }) refl c.0 within.1 p c.1 g
+      frame_goes f (record s { mode = Running; control = k }) refl c.0 within.1 within.2 p c.1 g
   step_goes (Raising e) [] s p within h g = tt
   step_goes (Raising e) (f ∷ k) s p within h g =
       let c = unless_it_ends (is_return f) (FrameIsConfined w reaches f × BodyIsConfined w reaches k) within.0 h in

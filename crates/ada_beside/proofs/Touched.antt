@@ -20,11 +20,11 @@ use Rattle.ada_tracked.proofs.Lists.{other_first}
 use Rattle.ada_untouched.specs.Untouched.{hides, IsInSight, IsOpen, LeadsOn, LeadsToHolder, ExpressionIsOpen, ItemsAreOpen, RightIsOpen, StatementsAreOpen, FrameIsOpen, JumpIsOpen, FirstIsOpen, Untouched}
 use Rattle.ada_untouched.specs.Unwritten.{FrameWritesShown, FirstWritesShown, Unwritten}
 use Rattle.ada_beside.specs.Confined.{IsConfinedFrom, ExpressionIsConfined, ItemsAreConfined, RightIsConfined, StatementsAreConfined, StoresReached, FrameIsConfined, BodyIsConfined, OperandsAreConfined, IsConfined}
-use Rattle.ada_beside.specs.Law.{LieBeside, hidden_beside, no_ghosts, IsWithin}
+use Rattle.ada_beside.specs.Law.{LieBeside, hidden_beside, no_ghosts, TreatsNone, IsWithin}
 use Rattle.ada_beside.proofs.Operands.{holder_reached, receiver_reached}
 
 -- Any object may be looked for.
-in_sight : (v : Value) → IsInSight no_ghosts v
+pub in_sight : (v : Value) → IsInSight no_ghosts v
 in_sight Null = refl
 in_sight (Names o) = refl
 in_sight (Scalar v) = refl
@@ -114,30 +114,30 @@ module _ (w : View) (reaches beside : ℕ → Bool) (apart : LieBeside w reaches
     -- A frame looks at no hidden component.
     frame_open :
         (f : Frame Value) (k : List (Frame Value)) → FrameIsConfined w reaches f → OperandsAreConfined w reaches Running (f ∷ k) (operands s)
-        → TakesNone f s.masters → FrameIsOpen (hidden_beside w beside) no_ghosts s f
-    frame_open (frame.Does fs) k confined others none = statements_open fs confined
-    frame_open (frame.Leaves mode) k confined others none = none
-    frame_open (frame.Evaluates right) k confined others none = right_open right confined
-    frame_open (frame.Computes e) k confined others none = expression_open e confined
-    frame_open (frame.Follows cs) k confined others none = followed_open cs (newest named s) (other_first w.object (operands s) others)
-    frame_open (frame.Refers p) k confined others none = absurd confined
-    frame_open (frame.RefersIn place t) k confined others none = absurd confined
-    frame_open (frame.Opens path) k confined others none = absurd confined
-    frame_open (frame.OpensIn c) k confined others none = absurd confined
-    frame_open (frame.Fills items) k confined others none = items_open items confined
-    frame_open (frame.Copies c t) k confined others none = absurd confined
-    frame_open (frame.Targets c right) k confined others none = in_sight (newest named s)
-    frame_open (frame.StoresIn v c) k confined others none = in_sight v
-    frame_open (frame.TargetsRecord c t items) k confined others none = absurd confined
-    frame_open (frame.StoresRecord v c count) k confined others none = absurd confined
-    frame_open (frame.Receives c) k confined others none = in_sight (newest named s)
-    frame_open (frame.FreesIn access c) k confined others none = absurd confined
-    frame_open (frame.Treats v treatment tasks) k confined others none = absurd confined
-    frame_open (frame.Awaits v by done of part tasks) k confined others none = absurd confined
-    frame_open (frame.Ends v) k confined others none = absurd confined
-    frame_open (frame.GivesBack v cause pool) k confined others none = absurd confined
-    frame_open (frame.ClearsIn v c) k confined others none = absurd confined
-    frame_open f k confined others none = tt
+        → TreatsNone f → TakesNone f s.masters → FrameIsOpen (hidden_beside w beside) no_ghosts s f
+    frame_open (frame.Does fs) k confined others untreated none = statements_open fs confined
+    frame_open (frame.Leaves mode) k confined others untreated none = none
+    frame_open (frame.Evaluates right) k confined others untreated none = right_open right confined
+    frame_open (frame.Computes e) k confined others untreated none = expression_open e confined
+    frame_open (frame.Follows cs) k confined others untreated none = followed_open cs (newest named s) (other_first w.object (operands s) others)
+    frame_open (frame.Refers p) k confined others untreated none = absurd confined
+    frame_open (frame.RefersIn place t) k confined others untreated none = absurd confined
+    frame_open (frame.Opens path) k confined others untreated none = absurd confined
+    frame_open (frame.OpensIn c) k confined others untreated none = absurd confined
+    frame_open (frame.Fills items) k confined others untreated none = items_open items confined
+    frame_open (frame.Copies c t) k confined others untreated none = absurd confined
+    frame_open (frame.Targets c right) k confined others untreated none = in_sight (newest named s)
+    frame_open (frame.StoresIn v c) k confined others untreated none = in_sight v
+    frame_open (frame.TargetsRecord c t items) k confined others untreated none = absurd confined
+    frame_open (frame.StoresRecord v c count) k confined others untreated none = absurd confined
+    frame_open (frame.Receives c) k confined others untreated none = in_sight (newest named s)
+    frame_open (frame.FreesIn access c) k confined others untreated none = absurd confined
+    frame_open (frame.Treats v treatment tasks) k confined others untreated none = absurd untreated
+    frame_open (frame.Awaits v by done of part tasks) k confined others untreated none = absurd confined
+    frame_open (frame.Ends v) k confined others untreated none = absurd confined
+    frame_open (frame.GivesBack v cause pool) k confined others untreated none = absurd confined
+    frame_open (frame.ClearsIn v c) k confined others untreated none = absurd confined
+    frame_open f k confined others untreated none = tt
 
     -- A jump looks at no object.
     jump_open : (f : Frame Value) → JumpIsOpen (hidden_beside w beside) no_ghosts s f
@@ -150,7 +150,7 @@ module _ (w : View) (reaches beside : ℕ → Bool) (apart : LieBeside w reaches
         → FirstIsOpen (hidden_beside w beside) no_ghosts s m k
     first_open Running [] confined others within = tt
     first_open Running (f ∷ k) confined others within =
-        frame_open f k (unless_it_ends (is_return f) (FrameIsConfined w reaches f × BodyIsConfined w reaches k) within.0 confined).0 others within.1
+        frame_open f k (unless_it_ends (is_return f) (FrameIsConfined w reaches f × BodyIsConfined w reaches k) within.0 confined).0 others within.1 within.2
     first_open (Raising e) [] confined others within = tt
     first_open (Raising e) (f ∷ k) confined others within = jump_open f
     first_open Exiting [] confined others within = tt

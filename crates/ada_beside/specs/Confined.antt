@@ -122,7 +122,8 @@ IsReached w reaches c = (d : ℕ) × (c ≡ w.base + d) × (reaches d ≡ true)
 abbrev pub StoresReached : View → (reaches : ℕ → Bool) → Value → (component : ℕ) → Type 0
 StoresReached w reaches v c = IsOther w.object v ⊎ ((v ≡ Names w.object) × IsReached w reaches c)
 
--- What is left to do is of such forms, and neither the end of a call nor anything of an operation on a controlled part (7.6). No object ceases to exist.
+-- What is left to do is of such forms, and neither the end of a call nor anything of an operation that has begun on a controlled part (7.6). Where controlled
+-- parts are yet to be treated, they are those of another object. No object ceases to exist.
 abbrev pub FrameIsConfined : View → (reaches : ℕ → Bool) → Frame Value → Type 0
 FrameIsConfined w reaches (frame.Elaborates ds fs hs) =
     DeclarationsAreConfined w.tracks.first reaches ds × StatementsAreConfined w.tracks.first reaches fs × HandlersAreConfined w.tracks.first reaches hs
@@ -162,7 +163,7 @@ FrameIsConfined w reaches (frame.Receives c) = Unit {0}
 FrameIsConfined w reaches (frame.FreesIn access c) = ⊥
 FrameIsConfined w reaches (frame.Declares x) = IsVariable w.tracks.first x
 FrameIsConfined w reaches (frame.DeclaresRecord x t) = ⊥
-FrameIsConfined w reaches (frame.Treats v treatment tasks) = ⊥
+FrameIsConfined w reaches (frame.Treats v treatment tasks) = IsOther w.object v
 FrameIsConfined w reaches (frame.Awaits v by done of part tasks) = ⊥
 FrameIsConfined w reaches frame.Confines = ⊥
 FrameIsConfined w reaches (frame.Resumes mode) = ⊥

@@ -1,13 +1,12 @@
 -- The law: the body of an operation touches nothing of the object that lies beside the record which is its formal parameter, and nothing ceases to exist.
 
 use Rattle.std.specs.Prelude.{◌≡◌, ℕ, ◌+◌, Bool, true, false, ◌==◌, ◌&&◌, List, [], ◌∷◌, Some}
-use Rattle.ada_parts.specs.Task.{Task}
 use Rattle.ada_program.specs.declared.program.TypeDefinition.{TypeDefinition}
 use Rattle.ada_program.specs.ProgramForm.{BodyForm}
 use Rattle.ada_meaning.specs.declared.state.Id.{Id}
 use Rattle.ada_meaning.specs.declared.state.Stage.TheVariants.{Existing}
 use Rattle.ada_meaning.specs.declared.state.Value.{Value}
-use Rattle.ada_meaning.specs.Frame.{Frame, Treatment, is_return}
+use Rattle.ada_meaning.specs.Frame.{Frame, is_return}
 use Rattle.ada_meaning.specs.Frame as frame
 use Rattle.ada_meaning.specs.State.{Master}
 use Rattle.ada_meaning.specs.Step.{halts, moves, tells, asks, picks, places}
@@ -36,20 +35,19 @@ abbrev pub NoneCeases : (before after : List Object) → Type 0
 NoneCeases before after =
     (o : Id) (x : Object) → object_at before o ≡ Some x → x.stage ≡ Existing → (y : Object) × (object_at after o ≡ Some y) × (y.stage ≡ Existing)
 
--- Something is left before the body ends, and a master that is left has no object to take out.
+-- A frame does nothing to controlled parts (7.6): where one does, its step is none of the body itself.
+abbrev pub TreatsNone : Frame Value → Type 0
+TreatsNone (frame.Treats v treatment tasks) = ⊥
+TreatsNone f = Unit {0}
+
+-- Something is left before the body ends, no controlled parts are to be treated first, and a master that is left has no object to take out.
 abbrev pub IsWithin : List (Frame Value) → List Master → Type 0
 IsWithin [] ms = Unit {0}
-IsWithin (f ∷ k) ms = (is_return f ≡ false) × TakesNone f ms
+IsWithin (f ∷ k) ms = (is_return f ≡ false) × TreatsNone f × TakesNone f ms
 
--- The body is confined still, or it is so behind what is done to the controlled parts of an object (7.6), if that comes first.
-pub data StaysConfined (w : View) (reaches : ℕ → Bool) (s : State) : Type 0 where
-  at_once : IsConfined w reaches s → StaysConfined w reaches s
-  behind_treatment :
-      (v : Value) (treatment : Treatment) (tasks : List Task) (k : List (Frame Value)) → s.control ≡ frame.Treats v treatment tasks ∷ k → StaysConfined w reaches s
-
--- So it is behind a step, and none has ceased to exist.
+-- Behind a step the body is confined still, and none has ceased to exist.
 pub record GoesOn (w : View) (reaches : ℕ → Bool) (before : List Object) (after : State) : Type 0 where
-  pub confined : StaysConfined w reaches after
+  pub confined : IsConfined w reaches after
   pub none_ceases : NoneCeases before after.heap
 
 -- Whatever comes next, and whatever is answered.

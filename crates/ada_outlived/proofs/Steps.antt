@@ -31,6 +31,7 @@ use Rattle.ada_meaning.specs.Named.{State, next, named, same, look, lent, reads_
 use Rattle.ada_program.specs.Controlled.{operations_of}
 use Rattle.ada_scopes.specs.Scopes.{AllNestAnywhere}
 use Rattle.ada_scopes.proofs.Texts.{RecordsNest, StatementNests, StatementsNest, BranchesNest, HandlersNest, BodiesNest}
+use Rattle.ada_scopes.proofs.Treatments.{IsTreatment, TreatsFirst}
 use Rattle.ada_outlived.proofs.Records.{NeedNow, CanOwn, owns_declared, owns_pool, owns_record, owns_collection}
 use Rattle.ada_outlived.proofs.Control.{inside, Anywhere, FrameFree, Free, Keeps, Good, PartReady, FrameReady, free_treating, free_storing, inside_storing, part_free}
 use Rattle.ada_outlived.proofs.Evaluations.{path_good, holder_good, record_holder_good, refers_good, open_good, opens_good, expression_good, null_test_good, links_good, outcome_good, items_good, copies_good, record_target_good, store_record_good, record_assign_good, assigns_good, new_good, right_good, free_good, free_in_good, end_good, back_good}
@@ -197,67 +198,67 @@ module _ (types : List TypeForm) (callees : Callees) (bodies : List BodyForm) (n
       record_good definitions x t initial (at (frame.Elaborates ds fs hs ∷ s.control) s) ready (λ within around. (nest within around).2.1) (h.0, (later, h.1))
 
   -- Each frame that is taken off.
-  frame_good : (definitions : List TypeDefinition) → ((of : ℕ) → AllNestAnywhere callees (operations_of definitions of)) → (f : Frame Value) (s : State) → FrameReady types s.masters f → FrameFree types callees (inside s.control) f → Keeps types callees s → Good types callees (frame_next named definitions bodies f s)
-  frame_good definitions operations (frame.Elaborates ds fs hs) s ready nest h = elaborated_good definitions ds fs hs s ready nest h
-  frame_good definitions operations (frame.Does fs) s ready nest h = stmts_good definitions fs s nest h
-  frame_good definitions operations (frame.Decides fs branches) s ready nest h = decided_good fs branches (reads_boolean (newest named s)) (popped s) nest h
-  frame_good definitions operations (frame.Repeats condition fs) s ready nest h = repeats_good condition fs s nest h
-  frame_good definitions operations (frame.Turns condition fs) s ready nest h = turned_good condition fs (reads_boolean (newest named s)) (popped s) nest h
-  frame_good definitions operations (frame.Ranges x fs) s ready nest h = ranges_good x fs (reads_integer (newest named (popped s))) (reads_integer (newest named s)) (popped (popped s)) nest h
-  frame_good definitions operations (frame.Counts x value last fs) s ready nest h = counting_good (int_le value last) x value last fs s nest h
-  frame_good definitions operations frame.Exits s ready nest h = exited_good (reads_boolean (newest named s)) (popped s) h
-  frame_good definitions operations (frame.Handles hs) s ready nest h = h
-  frame_good definitions operations frame.Closes s ready nest h = (h.0, (tt, h.1))
-  frame_good definitions operations (frame.Leaves mode) s ready nest h = leave_good types callees definitions mode s.masters s ready h
-  frame_good definitions operations (frame.Calls procedure b actuals) s ready nest h = ((tt, h.0), ((λ within. body_free types callees b (nest within)), (tt, h.1)))
-  frame_good definitions operations (frame.Returns actuals references) s ready nest h = (h.0, free_storing types callees references s.control h.1)
-  frame_good definitions operations (frame.Evaluates right) s ready nest h = right_good types callees definitions right s h
-  frame_good definitions operations (frame.Computes e) s ready nest h = expression_good types callees e s h
-  frame_good definitions operations (frame.Follows cs) s ready nest h = path_good types callees cs (newest named s) (popped s) h
-  frame_good definitions operations (frame.TestsNull equal) s ready nest h = null_test_good types callees equal (reads_null (newest named s)) (popped s) h
-  frame_good definitions operations (frame.Refers p) s ready nest h =
+  frame_good : (definitions : List TypeDefinition) (f : Frame Value) → (IsTreatment f → (of : ℕ) → AllNestAnywhere callees (operations_of definitions of)) → (s : State) → FrameReady types s.masters f → FrameFree types callees (inside s.control) f → Keeps types callees s → Good types callees (frame_next named definitions bodies f s)
+  frame_good definitions (frame.Elaborates ds fs hs) operations s ready nest h = elaborated_good definitions ds fs hs s ready nest h
+  frame_good definitions (frame.Does fs) operations s ready nest h = stmts_good definitions fs s nest h
+  frame_good definitions (frame.Decides fs branches) operations s ready nest h = decided_good fs branches (reads_boolean (newest named s)) (popped s) nest h
+  frame_good definitions (frame.Repeats condition fs) operations s ready nest h = repeats_good condition fs s nest h
+  frame_good definitions (frame.Turns condition fs) operations s ready nest h = turned_good condition fs (reads_boolean (newest named s)) (popped s) nest h
+  frame_good definitions (frame.Ranges x fs) operations s ready nest h = ranges_good x fs (reads_integer (newest named (popped s))) (reads_integer (newest named s)) (popped (popped s)) nest h
+  frame_good definitions (frame.Counts x value last fs) operations s ready nest h = counting_good (int_le value last) x value last fs s nest h
+  frame_good definitions frame.Exits operations s ready nest h = exited_good (reads_boolean (newest named s)) (popped s) h
+  frame_good definitions (frame.Handles hs) operations s ready nest h = h
+  frame_good definitions frame.Closes operations s ready nest h = (h.0, (tt, h.1))
+  frame_good definitions (frame.Leaves mode) operations s ready nest h = leave_good types callees definitions mode s.masters s ready h
+  frame_good definitions (frame.Calls procedure b actuals) operations s ready nest h = ((tt, h.0), ((λ within. body_free types callees b (nest within)), (tt, h.1)))
+  frame_good definitions (frame.Returns actuals references) operations s ready nest h = (h.0, free_storing types callees references s.control h.1)
+  frame_good definitions (frame.Evaluates right) operations s ready nest h = right_good types callees definitions right s h
+  frame_good definitions (frame.Computes e) operations s ready nest h = expression_good types callees e s h
+  frame_good definitions (frame.Follows cs) operations s ready nest h = path_good types callees cs (newest named s) (popped s) h
+  frame_good definitions (frame.TestsNull equal) operations s ready nest h = null_test_good types callees equal (reads_null (newest named s)) (popped s) h
+  frame_good definitions (frame.Refers p) operations s ready nest h =
       record_holder_good types callees p (λ place. frame.RefersIn place p.record_type) s (λ place. (tt, h.1)) h
-  frame_good definitions operations (frame.RefersIn place t) s ready nest h =
+  frame_good definitions (frame.RefersIn place t) operations s ready nest h =
       refers_good types callees (newest named s) place (width_of definitions t) (look s.heap (newest named s)) (popped s) h
-  frame_good definitions operations (frame.Opens path) s ready nest h = open_good types callees path.selectors path.root s h
-  frame_good definitions operations (frame.OpensIn c) s ready nest h = opens_good types callees (newest named s) c (look s.heap (newest named s)) (popped s) h
-  frame_good definitions operations (frame.Continues links) s ready nest h = links_good types callees links s h
-  frame_good definitions operations (frame.Applies operator) s ready nest h = outcome_good types callees (binary_given operator (newest named (popped s)) (newest named s)) (popped (popped s)) h
-  frame_good definitions operations (frame.AppliesAlone operator) s ready nest h = outcome_good types callees (unary_given operator (newest named s)) (popped s) h
-  frame_good definitions operations (frame.Fills items) s ready nest h = items_good types callees items s h
-  frame_good definitions operations (frame.Copies first t) s ready nest h = copies_good types callees (newest named s) first (width_of definitions t) (look s.heap (newest named s)) (popped s) h
-  frame_good definitions operations (frame.Creates access count) s ready nest h = new_good types callees definitions access count (words_of definitions access) (home_of access s.masters) s h
-  frame_good definitions operations (frame.Stores x) s ready nest h = h
-  frame_good definitions operations (frame.Declares x) s ready nest h =
+  frame_good definitions (frame.Opens path) operations s ready nest h = open_good types callees path.selectors path.root s h
+  frame_good definitions (frame.OpensIn c) operations s ready nest h = opens_good types callees (newest named s) c (look s.heap (newest named s)) (popped s) h
+  frame_good definitions (frame.Continues links) operations s ready nest h = links_good types callees links s h
+  frame_good definitions (frame.Applies operator) operations s ready nest h = outcome_good types callees (binary_given operator (newest named (popped s)) (newest named s)) (popped (popped s)) h
+  frame_good definitions (frame.AppliesAlone operator) operations s ready nest h = outcome_good types callees (unary_given operator (newest named s)) (popped s) h
+  frame_good definitions (frame.Fills items) operations s ready nest h = items_good types callees items s h
+  frame_good definitions (frame.Copies first t) operations s ready nest h = copies_good types callees (newest named s) first (width_of definitions t) (look s.heap (newest named s)) (popped s) h
+  frame_good definitions (frame.Creates access count) operations s ready nest h = new_good types callees definitions access count (words_of definitions access) (home_of access s.masters) s h
+  frame_good definitions (frame.Stores x) operations s ready nest h = h
+  frame_good definitions (frame.Declares x) operations s ready nest h =
       (owns_declared types (height s.masters) x s.masters h.0, h.1)
-  frame_good definitions operations (frame.Treats v treatment tasks) s ready nest h =
-      treats_good types callees bodies nesting definitions operations v treatment tasks (task_next tasks) s h
-  frame_good definitions operations (frame.Awaits v by done of part tasks) s ready nest h =
+  frame_good definitions (frame.Treats v treatment tasks) operations s ready nest h =
+      treats_good types callees bodies nesting definitions (operations tt) v treatment tasks (task_next tasks) s h
+  frame_good definitions (frame.Awaits v by done of part tasks) operations s ready nest h =
       awaited_good types callees bodies nesting v by done of part tasks (look s.heap v) s h
-  frame_good definitions operations frame.Confines s ready nest h = h
-  frame_good definitions operations (frame.Resumes mode) s ready nest h = h
-  frame_good definitions operations frame.Writes s ready nest h = line_good (reads_integer (newest named s)) (popped s) h
-  frame_good definitions operations (frame.Ends v) s ready nest h = end_good types callees v (look s.heap v) s h
-  frame_good definitions operations (frame.GivesBack v cause pool) s ready nest h = back_good types callees v cause pool (lent s.heap v) s h
-  frame_good definitions operations (frame.Clears x) s ready nest h = h
-  frame_good definitions operations (frame.Targets c right) s ready nest h = target_good (newest named s) c right (look s.heap (newest named s)) (popped s) h
-  frame_good definitions operations (frame.StoresIn o c) s ready nest h = store_good o c (newest named s) (look s.heap o) (popped s) h
-  frame_good definitions operations (frame.TargetsRecord first t items) s ready nest h =
+  frame_good definitions frame.Confines operations s ready nest h = h
+  frame_good definitions (frame.Resumes mode) operations s ready nest h = h
+  frame_good definitions frame.Writes operations s ready nest h = line_good (reads_integer (newest named s)) (popped s) h
+  frame_good definitions (frame.Ends v) operations s ready nest h = end_good types callees v (look s.heap v) s h
+  frame_good definitions (frame.GivesBack v cause pool) operations s ready nest h = back_good types callees v cause pool (lent s.heap v) s h
+  frame_good definitions (frame.Clears x) operations s ready nest h = h
+  frame_good definitions (frame.Targets c right) operations s ready nest h = target_good (newest named s) c right (look s.heap (newest named s)) (popped s) h
+  frame_good definitions (frame.StoresIn o c) operations s ready nest h = store_good o c (newest named s) (look s.heap o) (popped s) h
+  frame_good definitions (frame.TargetsRecord first t items) operations s ready nest h =
       record_target_good types callees (newest named s) first (width_of definitions t) items (look s.heap (newest named s)) (popped s) h
-  frame_good definitions operations (frame.StoresRecord o first count) s ready nest h = store_record_good types callees o first count (look s.heap o) s h
-  frame_good definitions operations (frame.Assigns t) s ready nest h =
+  frame_good definitions (frame.StoresRecord o first count) operations s ready nest h = store_record_good types callees o first count (look s.heap o) s h
+  frame_good definitions (frame.Assigns t) operations s ready nest h =
       let target = newest named (popped s) in
       let source = newest named s in
       assigns_good types callees definitions t target source (same target source) (popped (popped s)) h
-  frame_good definitions operations (frame.DeclaresRecord x t) s ready nest h =
+  frame_good definitions (frame.DeclaresRecord x t) operations s ready nest h =
       made_good definitions x t Copy (newest_ones named (words_of definitions t) s) (without_newest named (words_of definitions t) s) ready h
-  frame_good definitions operations (frame.Receives c) s ready nest h = receive_good (newest named s) c (look s.heap (newest named s)) (popped s) h
-  frame_good definitions operations (frame.FreesIn access c) s ready nest h = free_in_good types callees definitions access (newest named s) c (look s.heap (newest named s)) (popped s) h
-  frame_good definitions operations (frame.ClearsIn o c) s ready nest h = store_good o c Null (look s.heap o) s h
+  frame_good definitions (frame.Receives c) operations s ready nest h = receive_good (newest named s) c (look s.heap (newest named s)) (popped s) h
+  frame_good definitions (frame.FreesIn access c) operations s ready nest h = free_in_good types callees definitions access (newest named s) c (look s.heap (newest named s)) (popped s) h
+  frame_good definitions (frame.ClearsIn o c) operations s ready nest h = store_good o c Null (look s.heap o) s h
 
-  running_good : (definitions : List TypeDefinition) → ((of : ℕ) → AllNestAnywhere callees (operations_of definitions of)) → (k : List (Frame Value)) (s : State) → ((f : Frame Value) (rest : List (Frame Value)) → k ≡ f ∷ rest → FrameReady types s.masters f) → NeedNow types s.masters → Free types callees k → Good types callees (running_next named definitions bodies k s)
-  running_good definitions operations [] s ready w n = tt
-  running_good definitions operations (f ∷ k) s ready w n = frame_good definitions operations f (at k s) (ready f k refl) n.0 (w, n.1)
+  running_good : (definitions : List TypeDefinition) (k : List (Frame Value)) → (TreatsFirst k → (of : ℕ) → AllNestAnywhere callees (operations_of definitions of)) → (s : State) → ((f : Frame Value) (rest : List (Frame Value)) → k ≡ f ∷ rest → FrameReady types s.masters f) → NeedNow types s.masters → Free types callees k → Good types callees (running_next named definitions bodies k s)
+  running_good definitions [] operations s ready w n = tt
+  running_good definitions (f ∷ k) operations s ready w n = frame_good definitions f operations (at k s) (ready f k refl) n.0 (w, n.1)
 
   -- A jump: what it passes, and where it lands.
   abbrev LandsHere : Bool → Landing Value → Type 0
@@ -348,12 +349,12 @@ module _ (types : List TypeForm) (callees : Callees) (bodies : List BodyForm) (n
   abbrev pub IsReady : State → Type 0
   IsReady s = (f : Frame Value) (rest : List (Frame Value)) → s.mode ≡ Running → s.control ≡ f ∷ rest → FrameReady types s.masters f
 
-  mode_good : (definitions : List TypeDefinition) → ((of : ℕ) → AllNestAnywhere callees (operations_of definitions of)) → (mode : Mode) (s : State) → s.mode ≡ mode → IsReady s → Keeps types callees s → Good types callees (mode_next named definitions bodies mode s)
-  mode_good definitions operations Running s is ready h = running_good definitions operations s.control s (λ f rest top. ready f rest is top) h.0 h.1
-  mode_good definitions operations (Raising e) s is ready h = jump_good (Raising e) s.control s h.0 h.1
-  mode_good definitions operations Exiting s is ready h = jump_good Exiting s.control s h.0 h.1
-  mode_good definitions operations Returning s is ready h = jump_good Returning s.control s h.0 h.1
+  mode_good : (definitions : List TypeDefinition) (mode : Mode) (s : State) → (TreatsFirst s.control → (of : ℕ) → AllNestAnywhere callees (operations_of definitions of)) → s.mode ≡ mode → IsReady s → Keeps types callees s → Good types callees (mode_next named definitions bodies mode s)
+  mode_good definitions Running s operations is ready h = running_good definitions s.control operations s (λ f rest top. ready f rest is top) h.0 h.1
+  mode_good definitions (Raising e) s operations is ready h = jump_good (Raising e) s.control s h.0 h.1
+  mode_good definitions Exiting s operations is ready h = jump_good Exiting s.control s h.0 h.1
+  mode_good definitions Returning s operations is ready h = jump_good Returning s.control s h.0 h.1
 
-  pub next_good : (definitions : List TypeDefinition) → ((of : ℕ) → AllNestAnywhere callees (operations_of definitions of)) → (s : State) → IsReady s → Keeps types callees s → Good types callees (next definitions bodies s)
+  pub next_good : (definitions : List TypeDefinition) (s : State) → (TreatsFirst s.control → (of : ℕ) → AllNestAnywhere callees (operations_of definitions of)) → IsReady s → Keeps types callees s → Good types callees (next definitions bodies s)
   unfolding next
-  next_good definitions operations s ready h = mode_good definitions operations s.mode s refl ready h
+  next_good definitions s operations ready h = mode_good definitions s.mode s operations refl ready h

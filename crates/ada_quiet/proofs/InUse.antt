@@ -11,7 +11,7 @@ use Rattle.ada_program.specs.WellFormed.{finalization_in}
 use Rattle.ada_quiet.specs.Quiet.{is_plain_body, is_plain_procedure, is_quiet_procedure, is_plain_operation, is_quiet_operation, has_quiet_operations, has_access, operation_body, adjust_body, adjusts_access, operations_are_quiet}
 use Rattle.ada_quiet.specs.Frugal.{is_frugal_operation, is_silent_operation}
 use Rattle.ada_quiet.specs.Simple.{is_simple_operation}
-use Rattle.ada_quiet.specs.InUse.{adjusts_alone, may_be_frugal, may_track, uses_initialize, uses_adjust, uses_finalize, uses_operations, operations_are_in_use}
+use Rattle.ada_quiet.specs.InUse.{adjusts_alone, adjusts_nothing, uses_called_adjust, may_be_frugal, may_track, uses_initialize, uses_adjust, uses_finalize, uses_operations, operations_are_idle, operations_may_be_called, operations_are_in_use}
 
 -- Of two tests that both hold the first one holds, and so does the second one.
 pub first_of_both : (a b : Bool) → (a && b) ≡ true → a ≡ true
@@ -41,6 +41,10 @@ either_first : (a b : Bool) → a ≡ true → (a || b) ≡ true
 either_first true b h = refl
 either_first false b h = absurd (cc h)
 
+either_second : (a b : Bool) → b ≡ true → (a || b) ≡ true
+either_second true b h = refl
+either_second false b h = h
+
 pub uses_plain_initialize : (p : ProgramForm) (o : Option ProcedureNo) → is_plain_operation p o ≡ true → uses_initialize p o ≡ true
 uses_plain_initialize p o h = either_first (is_plain_operation p o) (may_be_frugal p && is_frugal_operation p o) h
 
@@ -58,8 +62,9 @@ other_chosen false one other is h = h
 pub uses_quiet_adjust : (p : ProgramForm) (owns : Bool) (o : Option ProcedureNo) → is_quiet_operation p o ≡ true → (owns && is_some (operation_body p o)) ≡ false →
     uses_adjust p owns o ≡ true
 uses_quiet_adjust p owns o h none =
-    other_chosen (owns && is_some (operation_body p o)) (may_track p && is_simple_operation p (adjusts_alone p) o && is_silent_operation p o) (is_quiet_operation p o)
-    none h
+    either_second (adjusts_nothing p && is_frugal_operation p o) (uses_called_adjust p owns o)
+    (other_chosen (owns && is_some (operation_body p o)) (may_track p && is_simple_operation p (adjusts_alone p) o && is_silent_operation p o) (is_quiet_operation p o)
+    none h)
 
 -- Both of two tests may be replaced by what follows from them.
 pub others : (a b c d : Bool) → (a ≡ true → c ≡ true) → (b ≡ true → d ≡ true) → (a && b) ≡ true → (c && d) ≡ true
@@ -91,4 +96,4 @@ used_in p (t ∷ ts) h =
 
 -- Where all operations are quiet, all are in use.
 pub quiet_in_use : (p : ProgramForm) → operations_are_quiet p ≡ true → operations_are_in_use p ≡ true
-quiet_in_use p h = used_in p p.types h
+quiet_in_use p h = either_second (operations_are_idle p) (operations_may_be_called p) (used_in p p.types h)

@@ -11,4 +11,4 @@ pub mod QuietSimple
 -- procedures that are frugal have frugal bodies
 pub mod FrugalAt
 -- collections that are created in order, found in one pass
-pub mod Behind
+pub mod Collecting

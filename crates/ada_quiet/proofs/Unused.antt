@@ -12,10 +12,10 @@ use Rattle.ada_program.specs.declared.program.Operations.{Operations}
 use Rattle.ada_program.specs.declared.program.ProcedureNo.{ProcedureNo}
 use Rattle.ada_program.specs.ProgramForm.{TypeForm, BodyForm, ProgramForm}
 use Rattle.ada_program.specs.WellFormed.{finalization_in, finalization_of}
-use Rattle.ada_quiet.specs.First.{initializes_in_use, adjusts_in_use, finalizes_in_use, IsUnused, HasUnused, stands_before, IsFirst, first_of, start_unless, unused_in}
+use Rattle.ada_quiet.specs.First.{initializes_in_use, adjusts_in_use, finalizes_in_use, IsUnused, BeginsUnused, HasUnused, stands_before, IsFirst, first_of, start_unless, unused_in}
 use Rattle.ada_quiet.specs.Frugal.{is_frugal_operation, own_effects, is_silent_procedure}
 use Rattle.ada_quiet.specs.Simple.{is_simple_procedure}
-use Rattle.ada_quiet.specs.InUse.{adjusts_alone, may_be_frugal, may_track, uses_initialize, uses_adjust, uses_finalize, uses_operations, operations_are_in_use}
+use Rattle.ada_quiet.specs.InUse.{adjusts_alone, adjusts_nothing, may_be_frugal, may_track, uses_initialize, uses_adjust, uses_finalize, uses_operations, operations_are_idle, operations_may_be_called, operations_are_in_use}
 use Rattle.ada_quiet.specs.Quiet.{is_quiet_body, is_plain_procedure, is_quiet_procedure, is_quiet_operation, has_quiet_operations, has_access, operation_body, adjust_body, operations_are_quiet}
 use Rattle.ada_quiet.proofs.Firsts.{IsOrder, either_first, same_first, AnyBelow, any_none, any_more}
 
@@ -83,19 +83,20 @@ begun_as : (p : ProgramForm) (o : Option ProcedureNo) (procedure : ProcedureNo) 
 begun_as p o procedure b is at = ap (uses_initialize p) is ∙ ap (begun_procedure p procedure) at
 
 -- An Adjust is in use as its body is.
-abbrev adjusted_procedure : ProgramForm → (owns : Bool) → Option BodyForm → Bool
-adjusted_procedure p owns o =
-    if owns && is_some o
+abbrev adjusted_procedure : ProgramForm → (owns : Bool) → (procedure : ProcedureNo) → Option BodyForm → Bool
+adjusted_procedure p owns procedure o =
+    (adjusts_nothing p && is_frugal_operation p (Some procedure))
+    || (if owns && is_some o
     then may_track p && is_simple_procedure p.types (adjusts_alone p) o && is_silent_procedure (own_effects p) o
-    else is_quiet_procedure p.types o
+    else is_quiet_procedure p.types o)
 
-adjusted_body : (p : ProgramForm) (owns : Bool) (b : BodyForm) → adjusted_procedure p owns (Some b) ≡ adjusts_in_use p owns b
-adjusted_body p true b = refl
-adjusted_body p false b = refl
+adjusted_body : (p : ProgramForm) (owns : Bool) (procedure : ProcedureNo) (b : BodyForm) → adjusted_procedure p owns procedure (Some b) ≡ adjusts_in_use p owns procedure b
+adjusted_body p true procedure b = refl
+adjusted_body p false procedure b = refl
 
 adjusted_as : (p : ProgramForm) (owns : Bool) (o : Option ProcedureNo) (procedure : ProcedureNo) (b : BodyForm) → o ≡ Some procedure →
-    slice_get p.bodies procedure.0 ≡ Some b → uses_adjust p owns o ≡ adjusts_in_use p owns b
-adjusted_as p owns o procedure b is at = ap (uses_adjust p owns) is ∙ ap (adjusted_procedure p owns) at ∙ adjusted_body p owns b
+    slice_get p.bodies procedure.0 ≡ Some b → uses_adjust p owns o ≡ adjusts_in_use p owns procedure b
+adjusted_as p owns o procedure b is at = ap (uses_adjust p owns) is ∙ ap (adjusted_procedure p owns procedure) at ∙ adjusted_body p owns procedure b
 
 -- A Finalize is in use as its body is.
 abbrev used_procedure : ProgramForm → (procedure : ProcedureNo) → Option BodyForm → Bool
@@ -120,12 +121,12 @@ abbrev UnusedIn : ProgramForm → (owns : Bool) → Option Finalization → Spot
 UnusedIn p owns o spot = (f : Finalization) × (o ≡ Some f) × UnusedOf p owns f spot
 
 type_first : (p : ProgramForm) (owns : Bool) (o : Option Finalization) →
-    IsFirst (UnusedIn p owns o) (unused_in p (may_be_frugal p) (may_track p) (adjusts_alone p) owns o)
+    IsFirst (UnusedIn p owns o) (unused_in p (may_be_frugal p) (adjusts_nothing p) (may_track p) (adjusts_alone p) owns o)
 type_first p owns None = λ spot h. absurd (cc h.1)
 type_first p owns (Some f) =
     same_first stands_before (UnusedOf p owns f) (UnusedIn p owns (Some f)) (λ s h. (f, refl, h))
     (λ s h. subst (λ (g : Finalization). UnusedOf p owns g s) (sym (some_same h.1)) h.2)
-    (unused_in p (may_be_frugal p) (may_track p) (adjusts_alone p) owns (Some f))
+    (unused_in p (may_be_frugal p) (adjusts_nothing p) (may_track p) (adjusts_alone p) owns (Some f))
     (either_first stands_before text_order initialize (λ s. adjust s ⊎ finalize s)
     (start_unless begins (operation_body p f.operations.initialize))
     (first_of (start_unless adjusts (operation_body p f.operations.adjust)) (start_unless ends (operation_body p f.operations.finalize)))
@@ -166,7 +167,7 @@ pub below_none : (p : ProgramForm) → IsFirst (Below p 0) None
 below_none p = any_none stands_before (UnusedAt p)
 
 pub below_more : (p : ProgramForm) (count : ℕ) (a b : Option Spot) → IsFirst (Below p count) a →
-    b ≡ unused_in p (may_be_frugal p) (may_track p) (adjusts_alone p) (has_access (slice_get p.types count)) (finalization_of p.types count) →
+    b ≡ unused_in p (may_be_frugal p) (adjusts_nothing p) (may_track p) (adjusts_alone p) (has_access (slice_get p.types count)) (finalization_of p.types count) →
     IsFirst (Below p (count + 1)) (first_of a b)
 below_more p count a b f is =
     any_more stands_before text_order (UnusedAt p) count a b f
@@ -179,7 +180,7 @@ within types t f is = elim (cases_lt t (length types)) [
 ]
 
 split : (p : ProgramForm) (t : ℕ) (f : Finalization) (owns : Bool) (s : Spot) → finalization_of p.types t ≡ Some f → has_access (slice_get p.types t) ≡ owns →
-    UnusedOf p owns f s → HasUnused p s
+    UnusedOf p owns f s → BeginsUnused p s
 split p t f owns s at has (inl h) =
     let (b, found, begins) = h.1 in
     let (procedure, is, there) = overriding_there p f.operations.initialize b found in
@@ -212,9 +213,9 @@ join p procedure b s there begins (inr (inl (owns, (t, f, at, is, has), loud))) 
 join p procedure b s there begins (inr (inr ((t, f, at, is), loud))) =
     (t, within p.types t f at, (f, at, inr (inr (used_as p f.operations.finalize procedure b is there ∙ loud, (b, body_there p f.operations.finalize procedure b is there, begins)))))
 
-pub below_all : (p : ProgramForm) (a : Option Spot) → IsFirst (Below p (length p.types)) a → IsFirst (HasUnused p) a
+pub below_all : (p : ProgramForm) (a : Option Spot) → IsFirst (Below p (length p.types)) a → IsFirst (BeginsUnused p) a
 below_all p a f =
-    same_first stands_before (Below p (length p.types)) (HasUnused p) (λ s h. split p h.0 h.2.0 (has_access (slice_get p.types h.0)) s h.2.1 refl h.2.2)
+    same_first stands_before (Below p (length p.types)) (BeginsUnused p) (λ s h. split p h.0 h.2.0 (has_access (slice_get p.types h.0)) s h.2.1 refl h.2.2)
     (λ s h. join p h.0 h.1 s h.2 h.4 h.3) a f
 
 -- Where all are in use there is none, and else there is one.
@@ -261,7 +262,7 @@ quiet_found p all t f at =
 abbrev is_used_type : ProgramForm → Option TypeForm → Bool
 is_used_type p o = uses_operations p (has_access o) (finalization_in o)
 
-used_found : (p : ProgramForm) → operations_are_in_use p ≡ true → (t : ℕ) (f : Finalization) → finalization_of p.types t ≡ Some f →
+used_found : (p : ProgramForm) → operations_may_be_called p ≡ true → (t : ℕ) (f : Finalization) → finalization_of p.types t ≡ Some f →
     uses_operations p (has_access (slice_get p.types t)) (Some f) ≡ true
 used_found p all t f at =
     ap (uses_operations p (has_access (slice_get p.types t))) (sym at) ∙ found_type p (is_used_type p) t f at (slice_get p.types t) refl all
@@ -304,7 +305,7 @@ none_begins p owns f used s = go
     go (inr (inl h)) = absurd (cc (sym first.1 ∙ h.0))
     go (inr (inr h)) = absurd (cc (sym two.1 ∙ h.0))
 
-none_below : (p : ProgramForm) → operations_are_in_use p ≡ true → (s : Spot) → ¬ (Below p (length p.types) s)
+none_below : (p : ProgramForm) → operations_may_be_called p ≡ true → (s : Spot) → ¬ (Below p (length p.types) s)
 none_below p all s h =
     let (f, at, one) = h.2 in
     none_begins p (has_access (slice_get p.types h.0)) f (used_found p all h.0 f at) s one
@@ -318,14 +319,18 @@ loud_begun : (p : ProgramForm) (o : Option ProcedureNo) → uses_initialize p o 
 loud_begun p None h = absurd (cc h)
 loud_begun p (Some procedure) h = body_of p (slice_get p.bodies procedure.0) (begun_procedure p procedure) refl h
 
-none_adjusted : (p : ProgramForm) (owns : Bool) → adjusted_procedure p owns None ≡ true
-none_adjusted p true = refl
-none_adjusted p false = refl
+last_true : (a b : Bool) → b ≡ true → (a || b) ≡ true
+last_true true b h = refl
+last_true false b h = h
+
+none_adjusted : (p : ProgramForm) (owns : Bool) (procedure : ProcedureNo) → adjusted_procedure p owns procedure None ≡ true
+none_adjusted p true procedure = last_true (adjusts_nothing p && is_frugal_operation p (Some procedure)) true refl
+none_adjusted p false procedure = last_true (adjusts_nothing p && is_frugal_operation p (Some procedure)) true refl
 
 loud_adjusted : (p : ProgramForm) (owns : Bool) (o : Option ProcedureNo) → uses_adjust p owns o ≡ false → (b : BodyForm) × (operation_body p o ≡ Some b)
-loud_adjusted p true None h = absurd (cc h)
-loud_adjusted p false None h = absurd (cc h)
-loud_adjusted p owns (Some procedure) h = body_of p (slice_get p.bodies procedure.0) (adjusted_procedure p owns) (none_adjusted p owns) h
+loud_adjusted p true None h = absurd (cc (last_true (adjusts_nothing p && true) true refl, h))
+loud_adjusted p false None h = absurd (cc (last_true (adjusts_nothing p && true) true refl, h))
+loud_adjusted p owns (Some procedure) h = body_of p (slice_get p.bodies procedure.0) (adjusted_procedure p owns procedure) (none_adjusted p owns procedure) h
 
 loud_used : (p : ProgramForm) (o : Option ProcedureNo) → uses_finalize p o ≡ false → (b : BodyForm) × (operation_body p o ≡ Some b)
 loud_used p None h = absurd (cc h)
@@ -343,18 +348,37 @@ unused_type p owns (Some f) h = go (uses_initialize p f.operations.initialize) (
     go true true false _ _ is h = let (b, at) = loud_used p f.operations.finalize is in (b.start_spot, (f, refl, inr (inr (is, (b, at, refl)))))
     go true true true _ _ _ h = absurd (cc h)
 
-some_unused : (p : ProgramForm) → operations_are_in_use p ≡ false → (s : Spot) × HasUnused p s
+some_unused : (p : ProgramForm) → operations_may_be_called p ≡ false → (s : Spot) × BeginsUnused p s
 some_unused p h =
     let (t, d, at, wrong) = not_all (λ (d : TypeForm). uses_operations p (has_access (Some d)) (finalization_in (Some d))) p.types h in
     let (s, own) = unused_type p (has_access (Some d)) (finalization_in (Some d)) wrong in
     (s, split p t own.0 (has_access (Some d)) s (ap finalization_in at ∙ own.1) (ap has_access at) own.2)
 
-pub none_exactly : (p : ProgramForm) (a : Option Spot) → IsFirst (HasUnused p) a → (a ≡ None) ↔ (operations_are_in_use p ≡ true)
-none_exactly p None f = (λ _. go (operations_are_in_use p) refl, λ _. refl)
+pub none_exactly : (p : ProgramForm) (a : Option Spot) → IsFirst (BeginsUnused p) a → (a ≡ None) ↔ (operations_may_be_called p ≡ true)
+none_exactly p None f = (λ _. go (operations_may_be_called p) refl, λ _. refl)
   where
-    go : (b : Bool) → operations_are_in_use p ≡ b → operations_are_in_use p ≡ true
+    go : (b : Bool) → operations_may_be_called p ≡ b → operations_may_be_called p ≡ true
     go true is = is
     go false is = let (s, h) = some_unused p is in absurd (f s h)
 none_exactly p (Some s) f = (λ is. absurd (cc is), λ all. absurd (none_below p all s (join p f.0.0 f.0.1 s f.0.2 f.0.4 f.0.3)))
 
 pub ruleset first_steps = (below_none, below_more, below_all, none_exactly)
+
+-- Where operations are idle, there is none; else it is the first one that would not be in use.
+pub idle_first : (p : ProgramForm) → operations_are_idle p ≡ true → IsFirst (HasUnused p) None
+idle_first p idle s h = absurd (cc (sym idle ∙ h.0))
+
+pub called_first : (p : ProgramForm) (a : Option Spot) → operations_are_idle p ≡ false → IsFirst (BeginsUnused p) a → IsFirst (HasUnused p) a
+called_first p a called f = same_first stands_before (BeginsUnused p) (HasUnused p) (λ s h. (called, h)) (λ s h. h.1) a f
+
+second : (a b : Bool) → a ≡ false → (a || b) ≡ b
+second true b is = absurd (cc is)
+second false b is = refl
+
+pub called_used : (p : ProgramForm) (a : Option Spot) → operations_are_idle p ≡ false → ((a ≡ None) ↔ (operations_may_be_called p ≡ true))
+    → (a ≡ None) ↔ (operations_are_in_use p ≡ true)
+called_used p a called same =
+    let is = second (operations_are_idle p) (operations_may_be_called p) called in
+    (λ none. is ∙ same.0 none, λ all. same.1 (sym is ∙ all))
+
+pub ruleset idle_steps = (idle_first, called_first, called_used)

@@ -1,13 +1,13 @@
--- Access types whose objects have no controlled parts, and collections of other access types: where they are created beside those of components' types.
+-- Access types whose objects have no controlled parts, and collections of other access types: behind which ones the collections of components' types are created.
 
-use Rattle.std.specs.Prelude.{ℕ, Bool, true, false, not, ◌&&◌, ◌||◌, ◌==◌, List, [], ◌∷◌, Option, Some, None, is_some}
+use Rattle.std.specs.Prelude.{ℕ, Bool, true, false, not, ◌&&◌, ◌==◌, if◌then◌else◌, List, [], ◌∷◌, ◌++◌, Option, Some, None, is_some}
 use Rattle.std.specs.List.{list_all, list_any, slice_get}
 use Rattle.ada_program.specs.declared.program.ComponentKind.{ComponentKind}
 use Rattle.ada_program.specs.declared.program.ComponentKind.TheVariants as component
 use Rattle.ada_program.specs.Form.{RightForm, nothing, value_of, allocates, allocates_default, computes, StmtForm, skips, assigns, assigns_record, frees, gets, writes, writes_text, chooses, repeats, counts, exits, calls, returns, raises, encloses, StmtsForm, no_stmts, a_stmt, BranchesForm, otherwise, a_branch, HandlersForm, no_handlers, a_handler}
 use Rattle.ada_program.specs.Nested.{collected}
 use Rattle.ada_program.specs.ProgramForm.{TypeForm, record_of, access_to, object_of, BodyForm, ProgramForm, main_body}
-use Rattle.ada_program.specs.WellFormed.{finalization_of}
+use Rattle.ada_program.specs.WellFormed.{designated_type, finalization_of}
 
 -- A type is an access type that designates a record type without controlled parts (3.10, 7.6).
 abbrev pub is_bare_access : List TypeForm → Option TypeForm → Bool
@@ -47,60 +47,79 @@ is_component_of t (component.Boolean initial) = false
 is_component_of t (component.Access access) = access.0 == t
 
 -- So is one of those of a type, if it is a record type.
-abbrev pub has_component_of : (access : ℕ) → TypeForm → Bool
-has_component_of t (record_of name parts components finalization) = list_any (is_component_of t) components
-has_component_of t (access_to name designated pool) = false
-has_component_of t (object_of record_type) = false
+abbrev pub has_component_of : (access : ℕ) → Option TypeForm → Bool
+has_component_of t None = false
+has_component_of t (Some (record_of name parts components finalization)) = list_any (is_component_of t) components
+has_component_of t (Some (access_to name designated pool)) = false
+has_component_of t (Some (object_of record_type)) = false
 
--- So is one of those of some type.
-abbrev pub is_component_type : List TypeForm → (access : ℕ) → Bool
-is_component_type types t = list_any (has_component_of t) types
+-- So is one of those of the record type of a number, if there is one.
+abbrev pub record_has_component_of : List TypeForm → (access : ℕ) → (record_type : Option ℕ) → Bool
+record_has_component_of types t None = false
+record_has_component_of types t (Some r) = has_component_of t (slice_get types r)
 
--- Of collections that are created one after the other (7.6.1), none is of a component's type that is created behind one whose objects have controlled parts: so,
--- where their master is left, those objects are finalized while each component still names what is there.
-abbrev pub collect_in_order : List TypeForm → List ℕ → Bool
-collect_in_order types [] = true
-collect_in_order types (t ∷ ts) = (has_bare_objects types t || list_all (λ u. not (is_component_type types u)) ts) && collect_in_order types ts
+-- The objects of an access type have a component of another one: so has the record type that it designates (3.10).
+abbrev pub holds_component : List TypeForm → (access : ℕ) → (holder : ℕ) → Bool
+holds_component types t v = record_has_component_of types t (designated_type types v)
 
-module _ (types : List TypeForm) where
-  abbrev mutual
-    -- So it is with those of each block in a statement (5.6).
-    pub stmt_in_order : StmtForm → Bool
-    stmt_in_order skips = true
-    stmt_in_order (assigns target right) = true
-    stmt_in_order (assigns_record target items) = true
-    stmt_in_order (frees access path) = true
-    stmt_in_order (gets target) = true
-    stmt_in_order (writes e) = true
-    stmt_in_order (writes_text text) = true
-    stmt_in_order (chooses branches) = branches_in_order branches
-    stmt_in_order (repeats condition fs spot) = stmts_in_order fs
-    stmt_in_order (counts x low high fs spot) = stmts_in_order fs
-    stmt_in_order (exits condition spot) = true
-    stmt_in_order (calls procedure actuals) = true
-    stmt_in_order (returns spot) = true
-    stmt_in_order (raises e) = true
-    stmt_in_order (encloses ds fs hs) = collect_in_order types (collected ds) && stmts_in_order fs && handlers_in_order hs
+-- A collection is created (7.6.1) behind others, the newest one first. From the newest one on whose objects have controlled parts, no objects have a component of
+-- its access type: so, where their master is left, these are finalized while each component still names what is there.
+abbrev pub is_apart_from : List TypeForm → (access : ℕ) → (older : List ℕ) → Bool
+is_apart_from types t [] = true
+is_apart_from types t (v ∷ vs) = if has_bare_objects types v then is_apart_from types t vs else list_all (λ w. not (holds_component types t w)) (v ∷ vs)
 
-    -- So it is with statements.
-    pub stmts_in_order : StmtsForm → Bool
-    stmts_in_order no_stmts = true
-    stmts_in_order (a_stmt f fs) = stmt_in_order f && stmts_in_order fs
+-- So it is with collections that are created one after the other, behind others.
+abbrev pub collect_in_order : List TypeForm → (older : List ℕ) → List ℕ → Bool
+collect_in_order types older [] = true
+collect_in_order types older (t ∷ ts) = is_apart_from types t older && collect_in_order types (t ∷ older) ts
 
-    -- So it is with branches (5.3).
-    pub branches_in_order : BranchesForm → Bool
-    branches_in_order (otherwise fs) = stmts_in_order fs
-    branches_in_order (a_branch e fs branches) = stmts_in_order fs && branches_in_order branches
+abbrev mutual
+  -- The access types whose collections a statement creates, by the blocks in it (5.6), in the order of the text.
+  pub stmt_collections : StmtForm → List ℕ
+  stmt_collections skips = []
+  stmt_collections (assigns target right) = []
+  stmt_collections (assigns_record target items) = []
+  stmt_collections (frees access path) = []
+  stmt_collections (gets target) = []
+  stmt_collections (writes e) = []
+  stmt_collections (writes_text text) = []
+  stmt_collections (chooses branches) = branches_collections branches
+  stmt_collections (repeats condition fs spot) = stmts_collections fs
+  stmt_collections (counts x low high fs spot) = stmts_collections fs
+  stmt_collections (exits condition spot) = []
+  stmt_collections (calls procedure actuals) = []
+  stmt_collections (returns spot) = []
+  stmt_collections (raises e) = []
+  stmt_collections (encloses ds fs hs) = collected ds ++ (stmts_collections fs ++ handlers_collections hs)
 
-    -- So it is with handlers (11.2).
-    pub handlers_in_order : HandlersForm → Bool
-    handlers_in_order no_handlers = true
-    handlers_in_order (a_handler choices fs hs) = stmts_in_order fs && handlers_in_order hs
+  -- Those of statements.
+  pub stmts_collections : StmtsForm → List ℕ
+  stmts_collections no_stmts = []
+  stmts_collections (a_stmt f fs) = stmt_collections f ++ stmts_collections fs
 
--- So it is with those of a body.
-abbrev pub body_in_order : List TypeForm → BodyForm → Bool
-body_in_order types b = collect_in_order types (collected b.declarations) && stmts_in_order types b.statements && handlers_in_order types b.handlers
+  -- Those of branches (5.3).
+  pub branches_collections : BranchesForm → List ℕ
+  branches_collections (otherwise fs) = stmts_collections fs
+  branches_collections (a_branch e fs branches) = stmts_collections fs ++ branches_collections branches
 
--- So it is with those of a program.
+  -- Those of handlers (11.2).
+  pub handlers_collections : HandlersForm → List ℕ
+  handlers_collections no_handlers = []
+  handlers_collections (a_handler choices fs hs) = stmts_collections fs ++ handlers_collections hs
+
+-- Those of a body.
+abbrev pub body_collections : BodyForm → List ℕ
+body_collections b = collected b.declarations ++ (stmts_collections b.statements ++ handlers_collections b.handlers)
+
+-- Those of bodies, one after the other.
+abbrev pub bodies_collections : List BodyForm → List ℕ
+bodies_collections [] = []
+bodies_collections (b ∷ bs) = body_collections b ++ bodies_collections bs
+
+-- Those of a program, the main procedure first.
+abbrev pub text_collections : ProgramForm → List ℕ
+text_collections p = body_collections (main_body p) ++ bodies_collections p.bodies
+
+-- They are created in order.
 abbrev pub collections_in_order : ProgramForm → Bool
-collections_in_order p = body_in_order p.types (main_body p) && list_all (body_in_order p.types) p.bodies
+collections_in_order p = collect_in_order p.types [] (text_collections p)

@@ -1,6 +1,6 @@
--- The first body in the text that overrides an operation of a controlled type and is not in use: Initialize is neither plain nor frugal, where it may be, Adjust is
--- not quiet, or, of a type with a component of an access type, not simple and silent, or may not track, or frees objects where a record has two controlled parts, or
--- Finalize is neither quiet nor, where it may be, frugal and silent.
+-- The first body in the text that overrides an operation of a controlled type and is not in use, in a program whose operations are not idle: Initialize is neither
+-- plain nor frugal, where it may be, Adjust is not quiet, or, of a type with a component of an access type, not simple and silent, or may not track, or frees objects
+-- where a record has two controlled parts, or Finalize is neither quiet nor, where it may be, frugal and silent.
 
 use Rattle.std.specs.Prelude.{◌≡◌, ◌⊎◌, ℕ, Bool, false, ◌&&◌, ◌||◌, ◌==◌, nat_lt, if◌then◌else◌, Option, Some, None, is_some}
 use Rattle.std.specs.List.{slice_get}
@@ -13,7 +13,7 @@ use Rattle.ada_program.specs.WellFormed.{finalization_of}
 use Rattle.ada_quiet.specs.Quiet.{is_plain_body, is_quiet_body, is_plain_operation, is_quiet_operation, has_access, operation_body}
 use Rattle.ada_quiet.specs.Frugal.{is_frugal_operation, own_effects, is_silent_body, is_silent_operation}
 use Rattle.ada_quiet.specs.Simple.{is_simple_body, is_simple_operation}
-use Rattle.ada_quiet.specs.InUse.{adjusts_alone, may_be_frugal, may_track}
+use Rattle.ada_quiet.specs.InUse.{adjusts_alone, adjusts_nothing, may_be_frugal, may_track, operations_are_idle}
 
 -- A procedure overrides Initialize of some type (7.6).
 abbrev pub Initializes : ProgramForm → (procedure : ProcedureNo) → Type 0
@@ -32,11 +32,12 @@ Finalizes p procedure = (t : ℕ) × (f : Finalization) × (finalization_of p.ty
 abbrev pub initializes_in_use : ProgramForm → (procedure : ProcedureNo) → BodyForm → Bool
 initializes_in_use p procedure b = is_plain_body p.types b || (may_be_frugal p && is_frugal_operation p (Some procedure))
 
--- A body adjusts in use: it is simple and silent, where it may track, if the type declares such a component, and frees objects only where each record has one
--- controlled part at most; and else it is quiet.
-abbrev pub adjusts_in_use : ProgramForm → (owns : Bool) → BodyForm → Bool
-adjusts_in_use p owns b =
-    if owns then may_track p && is_simple_body p.types (adjusts_alone p) b && is_silent_body (own_effects p) b else is_quiet_body p.types b
+-- A body adjusts in use: it is frugal, where no Adjust is called; or it is simple and silent, where it may track, if the type declares such a component, and frees
+-- objects only where each record has one controlled part at most; and else it is quiet.
+abbrev pub adjusts_in_use : ProgramForm → (owns : Bool) → (procedure : ProcedureNo) → BodyForm → Bool
+adjusts_in_use p owns procedure b =
+    (adjusts_nothing p && is_frugal_operation p (Some procedure))
+    || (if owns then may_track p && is_simple_body p.types (adjusts_alone p) b && is_silent_body (own_effects p) b else is_quiet_body p.types b)
 
 -- A body finalizes in use: it is quiet, or frugal and silent, where it may be.
 abbrev pub finalizes_in_use : ProgramForm → (procedure : ProcedureNo) → BodyForm → Bool
@@ -47,11 +48,15 @@ finalizes_in_use p procedure b = is_quiet_body p.types b || (may_be_frugal p && 
 -- and is neither quiet nor, where it may be, frugal and silent.
 abbrev pub IsUnused : ProgramForm → (procedure : ProcedureNo) → BodyForm → Type 0
 IsUnused p procedure b = (Initializes p procedure × (initializes_in_use p procedure b ≡ false))
-    ⊎ (((owns : Bool) × Adjusts p owns procedure × (adjusts_in_use p owns b ≡ false)) ⊎ (Finalizes p procedure × (finalizes_in_use p procedure b ≡ false)))
+    ⊎ (((owns : Bool) × Adjusts p owns procedure × (adjusts_in_use p owns procedure b ≡ false)) ⊎ (Finalizes p procedure × (finalizes_in_use p procedure b ≡ false)))
 
 -- Such a body begins here.
+abbrev pub BeginsUnused : ProgramForm → (spot : Spot) → Type 0
+BeginsUnused p spot = (procedure : ProcedureNo) × (b : BodyForm) × (slice_get p.bodies procedure.0 ≡ Some b) × IsUnused p procedure b × (b.start_spot ≡ spot)
+
+-- It does so in a program whose operations are not idle.
 abbrev pub HasUnused : ProgramForm → (spot : Spot) → Type 0
-HasUnused p spot = (procedure : ProcedureNo) × (b : BodyForm) × (slice_get p.bodies procedure.0 ≡ Some b) × IsUnused p procedure b × (b.start_spot ≡ spot)
+HasUnused p spot = (operations_are_idle p ≡ false) × BeginsUnused p spot
 
 -- A place stands before another one in the text: by line, then by column.
 abbrev pub stands_before : Spot → Spot → Bool
@@ -82,22 +87,23 @@ start_unless fits o = if fits then None else option_map (λ b. b.start_spot) o
 abbrev pub initializes : ProgramForm → (frugal : Bool) → Option ProcedureNo → Bool
 initializes p frugal initialize = is_plain_operation p initialize || (frugal && is_frugal_operation p initialize)
 
--- What overrides Adjust of a type, which declares such a component or does not, is simple and silent, where it may track or not, and where the copy of a record
--- adjusts one part alone or not, or quiet.
-abbrev pub adjusts : ProgramForm → (tracks alone owns : Bool) → Option ProcedureNo → Bool
-adjusts p tracks alone owns adjust =
-    if owns && is_some (operation_body p adjust)
+-- What overrides Adjust of a type, which declares such a component or does not, is frugal, where none is called or one may be; or simple and silent, where it may
+-- track or not, and where the copy of a record adjusts one part alone or not, or quiet.
+abbrev pub adjusts : ProgramForm → (nothing tracks alone owns : Bool) → Option ProcedureNo → Bool
+adjusts p nothing tracks alone owns adjust =
+    (nothing && is_frugal_operation p adjust)
+    || (if owns && is_some (operation_body p adjust)
     then tracks && is_simple_operation p alone adjust && is_silent_operation p adjust
-    else is_quiet_operation p adjust
+    else is_quiet_operation p adjust)
 
 -- What overrides Finalize is quiet, or frugal and silent, where it may be or not.
 abbrev pub finalizes : ProgramForm → (frugal : Bool) → Option ProcedureNo → Bool
 finalizes p frugal finalize = is_quiet_operation p finalize || (frugal && is_frugal_operation p finalize && is_silent_operation p finalize)
 
--- The first one of those that override the operations of a type and are not in use, where an Initialize and a Finalize may be frugal or not, an Adjust may track or
--- not, the copy of a record adjusts one part alone or not, and the type declares such a component or does not.
-abbrev pub unused_in : ProgramForm → (frugal tracks alone owns : Bool) → Option Finalization → Option Spot
-unused_in p frugal tracks alone owns None = None
-unused_in p frugal tracks alone owns (Some f) = first_of (start_unless (initializes p frugal f.operations.initialize) (operation_body p f.operations.initialize))
-    (first_of (start_unless (adjusts p tracks alone owns f.operations.adjust) (operation_body p f.operations.adjust))
+-- The first one of those that override the operations of a type and are not in use, where an Initialize and a Finalize may be frugal or not, no Adjust is called or
+-- one may be, an Adjust may track or not, the copy of a record adjusts one part alone or not, and the type declares such a component or does not.
+abbrev pub unused_in : ProgramForm → (frugal nothing tracks alone owns : Bool) → Option Finalization → Option Spot
+unused_in p frugal nothing tracks alone owns None = None
+unused_in p frugal nothing tracks alone owns (Some f) = first_of (start_unless (initializes p frugal f.operations.initialize) (operation_body p f.operations.initialize))
+    (first_of (start_unless (adjusts p nothing tracks alone owns f.operations.adjust) (operation_body p f.operations.adjust))
     (start_unless (finalizes p frugal f.operations.finalize) (operation_body p f.operations.finalize)))

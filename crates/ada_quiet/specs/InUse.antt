@@ -13,6 +13,7 @@ use Rattle.ada_quiet.specs.Bare.{has_bare_components, collections_in_order}
 use Rattle.ada_quiet.specs.Frugal.{is_frugal_operation, is_silent_operation}
 use Rattle.ada_quiet.specs.Simple.{is_simple_operation}
 use Rattle.ada_quiet.specs.Apart.{operations_stand_apart}
+use Rattle.ada_quiet.specs.Idle.{makes_parts, copies_parts}
 
 -- A type designates no record type with controlled parts (3.10, 7.6), if it is an access type.
 abbrev pub designates_no_parts : List TypeForm → TypeForm → Bool
@@ -25,7 +26,8 @@ abbrev pub allocates_no_parts : ProgramForm → Bool
 allocates_no_parts p = list_all (designates_no_parts p.types) p.types
 
 -- Objects with controlled parts may be allocated beside operations that touch storage, where no component names one, so that one is never freed by way of
--- another, and their collections are created behind those of components' types, so that they go first where a master is left (7.6.1).
+-- another, and collections are created in order: no such object, and none that goes later, has a component that names what goes before it where a master is left
+-- (7.6.1).
 abbrev pub may_allocate_parts : ProgramForm → Bool
 may_allocate_parts p = list_all (has_bare_components p.types) p.types && collections_in_order p
 
@@ -84,14 +86,26 @@ uses_finalize p finalize = is_quiet_operation p finalize || (may_be_frugal p && 
 abbrev pub uses_initialize : ProgramForm → Option ProcedureNo → Bool
 uses_initialize p initialize = is_plain_operation p initialize || (may_be_frugal p && is_frugal_operation p initialize)
 
--- Adjust is simple and silent, where it may track, if a body overrides it of a type that declares a component of an access type directly (3.10, 7.6): behind it
--- that component of a copy holds a value of its own, or null. It frees nothing where a record has two controlled parts: what the one that is adjusted later still
--- shares with the source of the copy stays. Of another type it is quiet.
-abbrev pub uses_adjust : ProgramForm → (owns : Bool) → Option ProcedureNo → Bool
-uses_adjust p owns adjust =
+-- Operations stand in order: they stand apart, so that no body calls an Adjust that tracks, and the components of each record stand in order.
+abbrev pub operations_stand_in_order : ProgramForm → Bool
+operations_stand_in_order p = operations_stand_apart p && list_all (is_copied_in_order p.types) p.types
+
+-- No Adjust is called in a program that copies no record with controlled parts (7.6).
+abbrev pub adjusts_nothing : ProgramForm → Bool
+adjusts_nothing p = not (copies_parts p) && operations_stand_in_order p
+
+-- Where one may be called, Adjust is simple and silent, where it may track, if a body overrides it of a type that declares a component of an access type directly
+-- (3.10, 7.6): behind it that component of a copy holds a value of its own, or null. It frees nothing where a record has two controlled parts: what the one that is
+-- adjusted later still shares with the source of the copy stays. Of another type it is quiet.
+abbrev pub uses_called_adjust : ProgramForm → (owns : Bool) → Option ProcedureNo → Bool
+uses_called_adjust p owns adjust =
     if owns && is_some (operation_body p adjust)
     then may_track p && is_simple_operation p (adjusts_alone p) adjust && is_silent_operation p adjust
     else is_quiet_operation p adjust
+
+-- So Adjust is in use; and a frugal one is, where none is called.
+abbrev pub uses_adjust : ProgramForm → (owns : Bool) → Option ProcedureNo → Bool
+uses_adjust p owns adjust = (adjusts_nothing p && is_frugal_operation p adjust) || uses_called_adjust p owns adjust
 
 -- The operations of a type, which declares such a component or does not, are in use (7.6, 7.6.1).
 abbrev pub uses_operations : ProgramForm → (owns : Bool) → Option Finalization → Bool
@@ -99,6 +113,15 @@ uses_operations p owns None = true
 uses_operations p owns (Some f) =
     uses_initialize p f.operations.initialize && uses_adjust p owns f.operations.adjust && uses_finalize p f.operations.finalize
 
--- All that overrides an operation of a controlled type is in use.
+-- Operations are idle in a program that creates no object with controlled parts and assigns no record with some: none is called where one is created, assigned to,
+-- freed or left, whatever its body does.
+abbrev pub operations_are_idle : ProgramForm → Bool
+operations_are_idle p = not (makes_parts p) && operations_stand_in_order p
+
+-- All that overrides an operation of a controlled type may be called.
+abbrev pub operations_may_be_called : ProgramForm → Bool
+operations_may_be_called p = list_all (λ t. uses_operations p (has_access (Some t)) (finalization_in (Some t))) p.types
+
+-- All that overrides an operation of a controlled type is in use: it may be called, or none is.
 abbrev pub operations_are_in_use : ProgramForm → Bool
-operations_are_in_use p = list_all (λ t. uses_operations p (has_access (Some t)) (finalization_in (Some t))) p.types
+operations_are_in_use p = operations_are_idle p || operations_may_be_called p

@@ -1,11 +1,13 @@
--- What is known of all bodies of a program, as the code holds it, and which procedures or types are marked.
+-- What is known of all bodies of a program, as the code holds it, and which procedures or types are marked, those of components among them.
 
-use Rattle.std.specs.Prelude.{◌≡◌, ℕ, Bool, false, List}
+use Rattle.std.specs.Prelude.{◌≡◌, ℕ, Bool, true, false, List, Some}
 use Rattle.std.specs.List.{slice_index_or}
 use Rattle.ada_effects.specs.Found.{effects_in}
 use Rattle.ada_program.specs.declared.program.TypeDefinition.{TypeDefinition}
 use Rattle.ada_program.specs.Kept.{types_in}
-use Rattle.ada_program.specs.ProgramForm.{ProgramForm}
+use Rattle.ada_program.specs.ProgramForm.{TypeForm, ProgramForm}
+use Rattle.ada_quiet.specs.Bare.{record_has_component_of}
+use Rattle.ada_quiet.specs.declared.components.Held.{Held}
 use Rattle.ada_quiet.specs.declared.known.Known.{Known}
 use Rattle.ada_quiet.specs.Frugal.{Thrift, frugal_procedures, own_effects}
 
@@ -20,3 +22,8 @@ thrift_in types frugal = record { types = types_in types; procedures = frugal }
 -- The procedure or the type of a number is marked. None behind the last mark is.
 abbrev pub is_marked : (marks : List Bool) → (number : ℕ) → Bool
 is_marked marks number = slice_index_or marks number false
+
+-- Of each record type that is marked, the types of the components are, those that are access types.
+abbrev pub AreHeld : List TypeForm → Held → Type 0
+AreHeld types held =
+    (n r : ℕ) → is_marked held.records.items r ≡ true → record_has_component_of types n (Some r) ≡ true → is_marked held.accesses.items n ≡ true

@@ -10,6 +10,8 @@ pub mod Frugal
 pub mod Simple
 -- procedures that override an Adjust which tracks stand apart
 pub mod Apart
+-- programs that call no operation
+pub mod Idle
 -- what is in use
 pub mod InUse
 -- what is known of all bodies, as the code holds it

@@ -1,8 +1,7 @@
-//! Where collections are created whose objects have controlled parts (7.6.1): in each declarative part behind those of the types of
-//! components.
+//! Collections whose objects have controlled parts (7.6.1): neither these objects nor those of an older collection have a component of
+//! an access type whose collection is created later in the text.
 
-ghost use Rattle.std.specs.Prelude.{◌≡◌, ◌&&◌, map, IfOk};
-ghost use Rattle.std.specs.List.{list_all};
+ghost use Rattle.std.specs.Prelude.{◌≡◌, ◌++◌, [], map, IfOk, OnOk};
 ghost use Rattle.ada_program.specs.Form.{StmtsForm, branches_form, declaration_form, handlers_form, stmt_form, stmts_form};
 ghost use Rattle.ada_program.specs.Kept.{types_in};
 ghost use Rattle.ada_program.specs.Nested.{collected};
@@ -10,33 +9,30 @@ ghost use Rattle.ada_program.specs.ProgramForm.{body_form, main_body, program_fo
 ghost use Rattle.ada_quiet.specs.Bare as rules;
 
 use crate::bare::has_bare_objects;
-use crate::components::ComponentTypes;
-use ada_program::program::{Branch, Declaration, Handler, Procedure};
-use ada_program::{Program, Stmt};
+use crate::components::{Held, hold_all};
+use crate::marks::has_mark;
+use ada_program::program::{Branch, Declaration, Handler, Procedure, TypeDefinition};
+use ada_program::{Program, Stmt, TypeNo};
 use std::alloc::{AllocError, Global};
 
-/// Whether of the collections that declarations create none is that of a component's type which is created behind one whose objects
-/// have controlled parts (7.6.1). Linear in the declarations.
-fn collect_in_order(components: &ComponentTypes<'_>, declarations: &[Declaration]) -> bool
-    ensures { result ≡ rules.collect_in_order (types_in components.now.types.now) (collected (map declaration_form declarations.now)) }
+/// The access types of the collections that declarations create come behind others, by their numbers, in the order of the text. Linear
+/// in the declarations.
+fn push_declared(accesses: &mut Vec<usize>, declarations: &[Declaration]) -> Result<(), AllocError>
+    ensures { OnOk result (accesses.new.items ≡ accesses.old.items ++ collected (map declaration_form declarations.now)) }
 {
-    let mut holds_parts = false;
     'declarations: for declaration in declarations {
         if let Declaration::Collection(access) = declaration {
-            if holds_parts && components.contains(*access) {
-                return false;
-            }
-            holds_parts = holds_parts || !has_bare_objects(components.types, *access);
+            accesses.push(access.0)?;
         }
     }
-    true
+    Ok(())
 }
 
-/// Whether that is so with those of each block in a statement (5.6).
+/// So do those of each block in a statement (5.6).
 #[cycle(statements)]
 #[tactic(auto, using(std::proofs::lemmas::Grind::common_steps, ada_program::specs::Form::statement_rules))]
-fn stmt_in_order(components: &ComponentTypes<'_>, statement: &Stmt) -> bool
-    ensures { result ≡ rules.stmt_in_order (types_in components.now.types.now) (stmt_form statement.now) }
+fn push_statement(accesses: &mut Vec<usize>, statement: &Stmt) -> Result<(), AllocError>
+    ensures { OnOk result (accesses.new.items ≡ accesses.old.items ++ rules.stmt_collections (stmt_form statement.now)) }
 {
     match statement {
         Stmt::Null
@@ -49,110 +45,153 @@ fn stmt_in_order(components: &ComponentTypes<'_>, statement: &Stmt) -> bool
         | Stmt::Exit { .. }
         | Stmt::Call { .. }
         | Stmt::Return(_)
-        | Stmt::Raise(_) => true,
+        | Stmt::Raise(_) => Ok(()),
         Stmt::If {
             branches,
             otherwise,
-        } => branches_in_order(components, branches) && stmts_in_order(components, otherwise),
+        } => {
+            push_branches(accesses, branches)?;
+            push_statements(accesses, otherwise)
+        }
         Stmt::Loop {
             condition: _,
             statements,
             end: _,
-        } => stmts_in_order(components, statements),
+        } => push_statements(accesses, statements),
         Stmt::For {
             parameter: _,
             first: _,
             last: _,
             statements,
             end: _,
-        } => stmts_in_order(components, statements),
+        } => push_statements(accesses, statements),
         Stmt::Block {
             declarations,
             statements,
             handlers,
-        } => collect_in_order(components, declarations)
-            && stmts_in_order(components, statements)
-            && handlers_in_order(components, handlers),
+        } => {
+            push_declared(accesses, declarations)?;
+            push_statements(accesses, statements)?;
+            push_handlers(accesses, handlers)
+        }
     }
 }
 
-/// Whether that is so with statements.
+/// So do those of statements.
 #[cycle(statements)]
-fn stmts_in_order(components: &ComponentTypes<'_>, statements: &[Stmt]) -> bool
-    ensures { result ≡ rules.stmts_in_order (types_in components.now.types.now) (stmts_form statements.now) }
+fn push_statements(accesses: &mut Vec<usize>, statements: &[Stmt]) -> Result<(), AllocError>
+    ensures { OnOk result (accesses.new.items ≡ accesses.old.items ++ rules.stmts_collections (stmts_form statements.now)) }
 {
     'statements: for statement in statements {
-        if !stmt_in_order(components, statement) {
-            return false;
-        }
+        push_statement(accesses, statement)?;
     }
-    true
+    Ok(())
 }
 
-/// Whether that is so with branches (5.3).
+/// So do those of branches (5.3), before those of what is done otherwise.
 #[cycle(statements)]
-fn branches_in_order(components: &ComponentTypes<'_>, branches: &[Branch]) -> bool
-    ensures { (others : StmtsForm) → rules.branches_in_order (types_in components.now.types.now) (branches_form branches.now others)
-        ≡ (result && rules.stmts_in_order (types_in components.now.types.now) others) }
+fn push_branches(accesses: &mut Vec<usize>, branches: &[Branch]) -> Result<(), AllocError>
+    ensures { OnOk result ((others : StmtsForm) → accesses.new.items ++ rules.stmts_collections others
+        ≡ accesses.old.items ++ rules.branches_collections (branches_form branches.now others)) }
 {
     'branches: for branch in branches {
-        if !stmts_in_order(components, &branch.statements) {
-            return false;
-        }
+        push_statements(accesses, &branch.statements)?;
     }
-    true
+    Ok(())
 }
 
-/// Whether that is so with handlers (11.2).
+/// So do those of handlers (11.2).
 #[cycle(statements)]
-fn handlers_in_order(components: &ComponentTypes<'_>, handlers: &[Handler]) -> bool
-    ensures { result ≡ rules.handlers_in_order (types_in components.now.types.now) (handlers_form handlers.now) }
+fn push_handlers(accesses: &mut Vec<usize>, handlers: &[Handler]) -> Result<(), AllocError>
+    ensures { OnOk result (accesses.new.items ≡ accesses.old.items ++ rules.handlers_collections (handlers_form handlers.now)) }
 {
     'handlers: for handler in handlers {
-        if !stmts_in_order(components, &handler.statements) {
-            return false;
-        }
+        push_statements(accesses, &handler.statements)?;
     }
-    true
+    Ok(())
 }
 
-/// Whether that is so with a body. Linear in the body.
-fn body_in_order(components: &ComponentTypes<'_>, procedure: &Procedure) -> bool
-    ensures { result ≡ rules.body_in_order (types_in components.now.types.now) (body_form procedure.now) }
+/// So do those of a body. Linear in the body.
+fn push_body(accesses: &mut Vec<usize>, procedure: &Procedure) -> Result<(), AllocError>
+    ensures { OnOk result (accesses.new.items ≡ accesses.old.items ++ rules.body_collections (body_form procedure.now)) }
 {
-    collect_in_order(components, &procedure.declarations)
-        && stmts_in_order(components, &procedure.statements)
-        && handlers_in_order(components, &procedure.handlers)
+    push_declared(accesses, &procedure.declarations)?;
+    push_statements(accesses, &procedure.statements)?;
+    push_handlers(accesses, &procedure.handlers)
 }
 
-/// Whether that is so with the bodies of these procedures. Linear in the bodies.
-fn bodies_in_order(components: &ComponentTypes<'_>, procedures: &[Procedure]) -> bool
-    ensures { result ≡ list_all (rules.body_in_order (types_in components.now.types.now)) (map body_form procedures.now) }
+/// So do those of the bodies of these procedures. Linear in the bodies.
+fn push_bodies(accesses: &mut Vec<usize>, procedures: &[Procedure]) -> Result<(), AllocError>
+    ensures { OnOk result (accesses.new.items ≡ accesses.old.items ++ rules.bodies_collections (map body_form procedures.now)) }
 {
     'procedures: for procedure in procedures {
-        if !body_in_order(components, procedure) {
-            return false;
+        push_body(accesses, procedure)?;
+    }
+    Ok(())
+}
+
+/// So do those of the main procedure's body. Linear in the body.
+fn push_main(accesses: &mut Vec<usize>, program: &Program) -> Result<(), AllocError>
+    ensures { OnOk result (accesses.new.items ≡ accesses.old.items ++ rules.body_collections (main_body (program_form program.now))) }
+{
+    push_declared(accesses, &program.declarations)?;
+    push_statements(accesses, &program.statements)?;
+    push_handlers(accesses, &program.handlers)
+}
+
+/// The access types of all collections that declarations of a program create, by their numbers: those of the main procedure, then those
+/// of the other ones, in the order of the text. Linear in all bodies.
+///
+/// # Errors
+/// `AllocError` where memory was refused.
+fn text_collections(alloc: Global, program: &Program) -> Result<Vec<usize>, AllocError>
+    ensures { IfOk result (λ accesses. accesses.items ≡ rules.text_collections (program_form program.now)) }
+{
+    let mut accesses = Vec::new(alloc);
+    push_main(&mut accesses, program)?;
+    push_bodies(&mut accesses, &program.procedures)?;
+    Ok(accesses)
+}
+
+/// Whether collections of these access types are created in order, one after the other (7.6.1): behind one whose objects have controlled
+/// parts none is created of an access type of which these objects, or those of an older collection, have a component. Linear in the
+/// types, their components, and the collections.
+///
+/// # Errors
+/// `AllocError` where memory was refused.
+fn collect_in_order(
+    alloc: Global,
+    types: &[TypeDefinition],
+    accesses: &[usize],
+) -> Result<bool, AllocError>
+    ensures { IfOk result (λ answer. answer ≡ rules.collect_in_order (types_in types.now) [] accesses.now) }
+{
+    // The types of the components of objects, from the newest collection on whose objects have controlled parts.
+    let mut held = Held {
+        accesses: Vec::new(alloc),
+        records: Vec::new(alloc),
+    };
+    // How many collections these are, that one and the older ones.
+    let mut marked = 0;
+    'collections: for (index, access) in accesses.iter().enumerate() {
+        if has_mark(&held.accesses, *access) {
+            return Ok(false);
+        }
+        if !has_bare_objects(types, TypeNo(*access)) {
+            hold_all(&mut held, types, &accesses[marked..=index])?;
+            marked = index + 1;
         }
     }
-    true
+    Ok(true)
 }
 
-/// Whether that is so with the main procedure's body. Linear in the body.
-fn main_in_order(components: &ComponentTypes<'_>, program: &Program) -> bool
-    ensures { result ≡ rules.body_in_order (types_in components.now.types.now) (main_body (program_form program.now)) }
-{
-    collect_in_order(components, &program.declarations)
-        && stmts_in_order(components, &program.statements)
-        && handlers_in_order(components, &program.handlers)
-}
-
-/// Whether that is so with all bodies of a program. Linear in the types, their components, and all bodies.
+/// Whether all collections of a program are. Linear in the types, their components, and all bodies.
 ///
 /// # Errors
 /// `AllocError` where memory was refused.
 pub(crate) fn collections_in_order(alloc: Global, program: &Program) -> Result<bool, AllocError>
     ensures { IfOk result (λ answer. answer ≡ rules.collections_in_order (program_form program.now)) }
 {
-    let components = ComponentTypes::of(alloc, &program.types)?;
-    Ok(main_in_order(&components, program) && bodies_in_order(&components, &program.procedures))
+    let accesses = text_collections(alloc, program)?;
+    collect_in_order(alloc, &program.types, &accesses)
 }

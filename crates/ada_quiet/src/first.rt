@@ -1,4 +1,5 @@
-//! The first body in the text that overrides an operation of a controlled type and is not in use: Initialize is neither plain nor
+//! The first body in the text that overrides an operation of a controlled type and is not in use, in a program that may call some:
+//! Initialize is neither plain nor
 //! frugal, where it may be, Adjust is not quiet, or, of a type with a component of an access type, not simple and silent, or may not
 //! track, or frees objects where a record of the program has two controlled parts, or Finalize is neither quiet nor, where it may be,
 //! frugal and silent.
@@ -6,12 +7,13 @@
 ghost use Rattle.std.specs.Prelude.{◌≡◌, ◌↔◌, None, true, IfOk};
 ghost use Rattle.ada_program.specs.ProgramForm.{program_form};
 ghost use Rattle.ada_quiet.specs.First as rules;
-ghost use Rattle.ada_quiet.specs.First.{IsFirstUnused};
+ghost use Rattle.ada_quiet.specs.First.{BeginsUnused, IsFirst, IsFirstUnused};
 ghost use Rattle.ada_quiet.specs.InUse as in_use;
-ghost use Rattle.ada_quiet.specs.InUse.{operations_are_in_use};
+ghost use Rattle.ada_quiet.specs.InUse.{operations_are_in_use, operations_may_be_called};
 ghost use Rattle.ada_quiet.specs.Known.{IsKnown};
 ghost use Rattle.ada_quiet.specs.Quiet as quiet;
 
+use crate::idle::{adjusts_nothing, are_idle};
 use crate::known::{Known, frugal_procedures, known_calls};
 use crate::operations::has_access;
 use crate::tracking::{adjusts_alone, may_track};
@@ -61,6 +63,8 @@ fn start_unless(program: &Program, fits: bool, operation: Option<ProcedureNo>) -
 struct Allowed {
     /// Whether an Initialize and a Finalize may be frugal.
     frugal: bool,
+    /// Whether no Adjust is called, and one may be frugal.
+    nothing: bool,
     /// Whether an Adjust may track.
     tracks: bool,
     /// Whether the copy of a record adjusts one controlled part alone.
@@ -73,14 +77,17 @@ struct Allowed {
 /// `AllocError` where memory was refused.
 fn allowed_in(alloc: Global, program: &Program) -> Result<Allowed, AllocError>
     ensures frugal { IfOk result (λ allowed. allowed.frugal ≡ in_use.may_be_frugal (program_form program.now)) }
+    ensures nothing { IfOk result (λ allowed. allowed.nothing ≡ in_use.adjusts_nothing (program_form program.now)) }
     ensures tracks { IfOk result (λ allowed. allowed.tracks ≡ in_use.may_track (program_form program.now)) }
     ensures alone { IfOk result (λ allowed. allowed.alone ≡ in_use.adjusts_alone (program_form program.now)) }
 {
     let frugal = may_be_frugal(alloc, program)?;
+    let nothing = adjusts_nothing(alloc, program)?;
     let tracks = may_track(program, frugal);
     let alone = adjusts_alone(program);
     Ok(Allowed {
         frugal,
+        nothing,
         tracks,
         alone,
     })
@@ -98,7 +105,7 @@ fn unused_in(
 ) -> Result<Option<Spot>, AllocError>
     requires { IsKnown (program_form program.now) known }
     ensures { IfOk result (λ first. first
-        ≡ rules.unused_in (program_form program.now) may.frugal may.tracks may.alone owns finalization) }
+        ≡ rules.unused_in (program_form program.now) may.frugal may.nothing may.tracks may.alone owns finalization) }
 {
     let Some(finalization) = finalization else {
         return Ok(None);
@@ -109,6 +116,7 @@ fn unused_in(
         alloc,
         program,
         known,
+        may.nothing,
         may.tracks,
         may.alone,
         owns,
@@ -121,19 +129,15 @@ fn unused_in(
     Ok(first_of(initialize, first_of(adjust, finalize)))
 }
 
-/// Where the first body in the text begins that overrides an operation of a controlled type (7.6) and is not in use: one that
-/// overrides Initialize and is not plain, since it touches storage or calls, nor frugal in a program in which operations may be; one
-/// that overrides Adjust and is not quiet, since it is not plain or lets an exception out, or, of a type with a component of an access
-/// type, declared in it directly, is not simple and silent, stands in a program in which an Adjust may not track, or frees objects in
-/// one in which a record has two controlled parts; or one that overrides Finalize and is neither quiet nor, where operations may be
-/// frugal, frugal and silent. Linear in the types, their components, and all bodies; a call costs the size of what is known of it.
+/// Where the first body in the text begins that overrides an operation and would not be in use, if it were called. Linear in the types,
+/// their components, and all bodies; a call costs the size of what is known of it.
 ///
 /// # Errors
 /// `AllocError` where memory for what is known of procedures was refused.
 #[tactic(auto, using(std::proofs::lemmas::Grind::common_steps, crate::proofs::Unused::first_steps))]
-pub fn first_unused(alloc: Global, program: &Program) -> Result<Option<Spot>, AllocError>
-    ensures first { IfOk result (IsFirstUnused (program_form program.now)) }
-    ensures used { IfOk result (λ first. (first ≡ None) ↔ (operations_are_in_use (program_form program.now) ≡ true)) }
+fn first_uncallable(alloc: Global, program: &Program) -> Result<Option<Spot>, AllocError>
+    ensures first { IfOk result (IsFirst (BeginsUnused (program_form program.now))) }
+    ensures called { IfOk result (λ first. (first ≡ None) ↔ (operations_may_be_called (program_form program.now) ≡ true)) }
 {
     let procedures = frugal_procedures(alloc, program)?;
     let implicit = Implicit::nothing(alloc);
@@ -160,4 +164,25 @@ pub fn first_unused(alloc: Global, program: &Program) -> Result<Option<Spot>, Al
         first = first_of(first, found);
     }
     Ok(first)
+}
+
+/// Where the first body in the text begins that overrides an operation of a controlled type (7.6) and is not in use, in a program
+/// whose operations are not idle: one that overrides Initialize and is not plain, since it touches storage or calls, nor frugal in a
+/// program in which operations may be; one that overrides Adjust and is not quiet, since it is not plain or lets an exception out, or,
+/// of a type with a component of an access type, declared in it directly, is not simple and silent, stands in a program in which an
+/// Adjust may not track, or frees objects in one in which a record has two controlled parts; or one that overrides Finalize and is
+/// neither quiet nor, where operations may be frugal, frugal and silent. Linear in the types, their components, and all bodies; a call
+/// costs the size of what is known of it.
+///
+/// # Errors
+/// `AllocError` where memory for what is known of procedures was refused.
+#[tactic(auto, using(std::proofs::lemmas::Grind::common_steps, crate::proofs::Unused::idle_steps))]
+pub fn first_unused(alloc: Global, program: &Program) -> Result<Option<Spot>, AllocError>
+    ensures first { IfOk result (IsFirstUnused (program_form program.now)) }
+    ensures used { IfOk result (λ first. (first ≡ None) ↔ (operations_are_in_use (program_form program.now) ≡ true)) }
+{
+    if are_idle(alloc, program)? {
+        return Ok(None);
+    }
+    first_uncallable(alloc, program)
 }

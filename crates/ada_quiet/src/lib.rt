@@ -5,18 +5,24 @@
 //! out of a frugal Initialize; a Finalize is to be silent too: none comes out. What procedures may raise, and which are frugal, is
 //! found once for all, in the order in which they call each other.
 //!
-//! `first_unused` finds the first body in the text that overrides an operation and is not in use: Initialize is to be plain or, where
-//! it may be, frugal, Finalize is to be quiet or, where it may be, frugal and silent, and Adjust is to be quiet; but of a type with a
-//! component of an access type, declared in it directly, Adjust is to be simple and silent, where it may track that component: a
-//! quiet one would leave it as it is. A simple body allocates objects without controlled parts, and frees some where it may, moves and
-//! follows, calls nothing, copies no record, and declares variables alone, none of which is of an access type whose objects have
-//! controlled parts.
+//! Where nothing in the text of a program creates an object with controlled parts (3.3.1, 4.8), or assigns a record with some (5.2), no
+//! operation is called: operations are idle, and each is in use, whatever its body does. Where nothing in it copies such a record, no
+//! Adjust is called, and one is in use whose body is frugal. Bodies count that nothing calls, too; and operations are to stand apart, and
+//! the components of records in order, as below.
+//!
+//! In other programs `first_unused` finds the first body in the text that overrides an operation and is not in use: Initialize is to be
+//! plain or, where it may be, frugal, Finalize is to be quiet or, where it may be, frugal and silent, and Adjust is to be quiet; but of a
+//! type with a component of an access type, declared in it directly, Adjust is to be simple and silent, where it may track that component:
+//! a quiet one would leave it as it is. A simple body allocates objects without controlled parts, and frees some where it may, moves and
+//! follows, calls nothing, copies no record, and declares variables alone, none of which is of an access type whose objects have controlled
+//! parts.
 //!
 //! An Initialize and a Finalize may be frugal in a program in which no access type designates a record type with controlled parts, so
 //! that these lie in declared objects alone. They may be frugal, too, in one whose access types designate such record types, if no
-//! component is of such an access type: then an object with controlled parts is never freed by way of another one; and if in each
-//! declarative part the collections of such access types are created behind those of the types of components (7.6.1): then, where the
-//! master is left, their objects are finalized while each component still names what is there.
+//! component is of such an access type: then an object with controlled parts is never freed by way of another one; and if, where the
+//! objects of a collection have controlled parts, neither they nor the objects of an older collection have a component of an access
+//! type whose collection is created later in the text (7.6.1): then, where a master is left and newer collections go before older ones,
+//! objects are finalized while each component still names what is there.
 //!
 //! In all these programs operations are to stand apart. No procedure that overrides an Adjust of a type with a component of an access
 //! type, declared in it directly, is called or overrides another operation: so it runs nowhere else. And no allocator gives values to
@@ -45,6 +51,7 @@ mod collections;
 mod components;
 mod first;
 mod frugal;
+mod idle;
 mod known;
 pub mod laws;
 mod marks;

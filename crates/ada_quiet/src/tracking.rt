@@ -100,7 +100,7 @@ fn is_copied_in_order(types: &[TypeDefinition], definition: &TypeDefinition) -> 
 }
 
 /// Whether that is so with each of these types.
-fn are_copied_in_order(types: &[TypeDefinition]) -> bool
+pub(crate) fn are_copied_in_order(types: &[TypeDefinition]) -> bool
     ensures { result ≡ list_all (rules.is_copied_in_order (types_in types.now)) (types_in types.now) }
 {
     'types: for definition in types {

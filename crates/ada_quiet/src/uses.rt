@@ -46,8 +46,8 @@ fn allocates_no_parts(program: &Program) -> bool
 }
 
 /// Whether objects with controlled parts may be allocated beside operations that touch storage: no component is of an access type that
-/// designates such objects, and their collections are created behind those of components' types in each declarative part. Linear in
-/// the types, their components, and all bodies.
+/// designates such objects, and collections are created in order: neither such objects nor those of an older collection have a
+/// component of an access type whose collection is created later. Linear in the types, their components, and all bodies.
 ///
 /// # Errors
 /// `AllocError` where memory was refused.
@@ -84,9 +84,9 @@ pub(crate) fn uses_initialize(
     is_plain_operation(program, operation) || frugal && is_frugal_operation(known, operation)
 }
 
-/// Whether what overrides Adjust is simple and silent, where it may track, if it is a body, and its type has a component of an access
-/// type, declared in it directly; of another type, whether it is quiet. What tracks may free objects where the copy of a record adjusts
-/// one controlled part alone, and there only.
+/// Whether what overrides Adjust is frugal, where no Adjust is called; else whether it is simple and silent, where it may track, if it is
+/// a body, and its type has a component of an access type, declared in it directly; of another type, whether it is quiet. What tracks may
+/// free objects where the copy of a record adjusts one controlled part alone, and there only.
 ///
 /// # Errors
 /// `AllocError` where memory for the exceptions that it raises was refused.
@@ -94,14 +94,18 @@ pub(crate) fn uses_adjust(
     alloc: Global,
     program: &Program,
     known: Known<'_>,
+    nothing: bool,
     tracks: bool,
     alone: bool,
     owns: bool,
     operation: Option<ProcedureNo>,
 ) -> Result<bool, AllocError>
     requires { IsKnown (program_form program.now) known }
-    ensures { IfOk result (λ answer. answer ≡ first.adjusts (program_form program.now) tracks alone owns operation) }
+    ensures { IfOk result (λ answer. answer ≡ first.adjusts (program_form program.now) nothing tracks alone owns operation) }
 {
+    if nothing && is_frugal_operation(known, operation) {
+        return Ok(true);
+    }
     if !(owns && is_overridden(program, operation)) {
         return is_quiet_operation(alloc, program, operation);
     }

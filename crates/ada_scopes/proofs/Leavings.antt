@@ -27,7 +27,7 @@ use Rattle.ada_scopes.proofs.Counts.{Scopes, scopes, older_shorter, scopes_older
 use Rattle.ada_scopes.proofs.Homes.{IsEmpty}
 use Rattle.ada_scopes.proofs.Texts.{BodiesNest}
 use Rattle.ada_scopes.proofs.Control.{Nests, Goes, Whole, Nested, standing, parting, whole_shorter, whole_left, goes_treating}
-use Rattle.ada_scopes.proofs.Treatments.{OperationsHere, treating_good}
+use Rattle.ada_scopes.proofs.Treatments.{OperationsHere, TreatsFirst, treating_good}
 use Rattle.ada_scopes.proofs.Evaluations.{Good, Parts, keeps_parted, keeps_finished, keeps_returned, whole_on}
 
 module _ (types : List TypeForm) (callees : Callees) (calling : Bool) (ss : Scopes) where
@@ -95,12 +95,12 @@ module _ (types : List TypeForm) (callees : Callees) (calling : Bool) (ss : Scop
   backing_good v cause pool on_other s h = tt
   backing_good v cause pool (finds cell) s h = giving_good (same_pool pool cell.home.pool) v cause cell s h
 
-  pub parts_good : (bodies : List BodyForm) → BodiesNest types callees bodies → (definitions : List TypeDefinition) → OperationsHere callees calling definitions → (k : List (Frame Value)) (s : State) → s.mode ≡ Running → Whole types ss s.masters s.heap → Goes types callees calling ss (scopes s.masters) k → Good types callees calling (running_next named definitions bodies k s)
-  parts_good bodies nesting definitions operations [] s runs p goes = absurd goes
-  parts_good bodies nesting definitions operations (frame.Leaves mode ∷ k) s runs p goes = leave_good definitions mode s.masters (at k s) refl p runs goes
-  parts_good bodies nesting definitions operations (frame.Treats v (frame.begins by done) tasks ∷ k) s runs p goes = absurd goes
-  parts_good bodies nesting definitions operations (frame.Treats v (frame.ends cause) tasks ∷ k) s runs p goes =
-      treating_good types callees calling ss bodies nesting definitions operations v cause tasks (task_next tasks) (at k s) (p, runs, goes)
-  parts_good bodies nesting definitions operations (frame.Ends v ∷ k) s runs p goes = ending_good v (look s.heap v) (at k s) (p, runs, goes)
-  parts_good bodies nesting definitions operations (frame.GivesBack v cause pool ∷ k) s runs p goes = backing_good v cause pool (lent s.heap v) (at k s) (p, runs, goes)
-  parts_good bodies nesting definitions operations (f ∷ k) s runs p goes = absurd goes
+  pub parts_good : (bodies : List BodyForm) → BodiesNest types callees bodies → (definitions : List TypeDefinition) (k : List (Frame Value)) → (TreatsFirst k → OperationsHere callees calling definitions) → (s : State) → s.mode ≡ Running → Whole types ss s.masters s.heap → Goes types callees calling ss (scopes s.masters) k → Good types callees calling (running_next named definitions bodies k s)
+  parts_good bodies nesting definitions [] operations s runs p goes = absurd goes
+  parts_good bodies nesting definitions (frame.Leaves mode ∷ k) operations s runs p goes = leave_good definitions mode s.masters (at k s) refl p runs goes
+  parts_good bodies nesting definitions (frame.Treats v (frame.begins by done) tasks ∷ k) operations s runs p goes = absurd goes
+  parts_good bodies nesting definitions (frame.Treats v (frame.ends cause) tasks ∷ k) operations s runs p goes =
+      treating_good types callees calling ss bodies nesting definitions (operations tt) v cause tasks (task_next tasks) (at k s) (p, runs, goes)
+  parts_good bodies nesting definitions (frame.Ends v ∷ k) operations s runs p goes = ending_good v (look s.heap v) (at k s) (p, runs, goes)
+  parts_good bodies nesting definitions (frame.GivesBack v cause pool ∷ k) operations s runs p goes = backing_good v cause pool (lent s.heap v) (at k s) (p, runs, goes)
+  parts_good bodies nesting definitions (f ∷ k) operations s runs p goes = absurd goes

@@ -17,6 +17,7 @@ use Rattle.ada_scopes.proofs.Texts.{BodiesNest}
 use Rattle.ada_scopes.proofs.Bodies.{ProgramNests, program_nests}
 use Rattle.ada_scopes.proofs.Control.{Whole, Growing, Nested, beginning, grows}
 use Rattle.ada_scopes.proofs.Evaluations.{Good}
+use Rattle.ada_scopes.proofs.Treatments.{TreatsFirst}
 use Rattle.ada_scopes.proofs.Steps.{next_good}
 
 -- Whether operations are called.
@@ -30,11 +31,9 @@ not_false false is = absurd (cc is)
 none_called : (program : Program) (of : ℕ) → calls_in (program_form program) ≡ false → operations_of program.types.items of ≡ no_operations
 none_called program of none = nothing_overridden program (not_false (overrides_none (program_form program)) none) of
 
--- What each state of a run keeps: what its procedures create nests wherever the text calls them, operations nest wherever they are called, and what is left
--- to do nests.
+-- What each state of a run keeps: what its procedures create nests wherever the text calls them, and what is left to do nests.
 pub record Scoped (p : ProgramForm) (s : State) : Type 0 where
   pub bodies : BodiesNest p.types (callees_of p) p.bodies
-  pub operations : OperationsNest p
   pub nested : Nested p.types (callees_of p) (calls_in p) s
 
 append_nil : (us : List ℕ) → us ++ [] ≡ us
@@ -67,10 +66,10 @@ main_begins program input nest =
       nests = refl;
     })
 
-pub first_nested : (program : Program) → IsWellFormed (program_form program) → CollectionsNest (program_form program) → OperationsNest (program_form program) → (input : List ℤ) → Scoped (program_form program) (first_state program input)
-first_nested program well nest operations input =
+pub first_nested : (program : Program) → IsWellFormed (program_form program) → CollectionsNest (program_form program) → (input : List ℤ) → Scoped (program_form program) (first_state program input)
+first_nested program well nest input =
     let text = program_nests (program_form program) well nest in
-    record { bodies = text.bodies; operations = operations; nested = main_begins program input text }
+    record { bodies = text.bodies; nested = main_begins program input text }
 
 led : (types : List TypeForm) (callees : Callees) (calling : Bool) (coming : Next) (choice : Choice) (e : Event) (after : State) → Good types callees calling coming → Leads coming choice e after → Nested types callees calling after
 led types callees calling (halts halt) choice e after g l = absurd l
@@ -87,23 +86,22 @@ led types callees calling (asks request answers) (takes i) e after g l = absurd 
 led types callees calling (picks n taking) settled e after g l = absurd l
 led types callees calling (picks n taking) (grants granted) e after g l = absurd l
 
--- A step keeps that.
-pub step_nested : (program : Program) (s after : State) (choice : Choice) (e : Event) → Scoped (program_form program) s → Step program s choice e after → Scoped (program_form program) after
-step_nested program s after choice e scoped step =
+-- A step keeps that, if operations nest where a treatment is what is done next: no other step calls one.
+pub step_nested : (program : Program) (s after : State) (choice : Choice) (e : Event) → (TreatsFirst s.control → OperationsNest (program_form program)) → Scoped (program_form program) s → Step program s choice e after → Scoped (program_form program) after
+step_nested program s after choice e operations scoped step =
     let p = program_form program in
     let types = program.types.items in
     record {
       bodies = scoped.bodies;
-      operations = scoped.operations;
       nested = led p.types (callees_of p) (calls_in p) (next types p.bodies s) choice e after
-          (next_good p.types (callees_of p) (calls_in p) p.bodies scoped.bodies types (λ of. (operations_here (callees_of p) types of scoped.operations, none_called program of)) s scoped.nested) step;
+          (next_good p.types (callees_of p) (calls_in p) p.bodies scoped.bodies types s (λ first of. (operations_here (callees_of p) types of (operations first), none_called program of)) scoped.nested) step;
     }
 
-run_nested : (program : Program) (s last : State) (events : List Event) → Scoped (program_form program) s → Run program s events last → Scoped (program_form program) last
-run_nested program s last events scoped here = scoped
-run_nested program s last (e ∷ events) scoped (there choice mid step rest) =
-    run_nested program mid last events (step_nested program s mid choice e scoped step) rest
+run_nested : (program : Program) (s last : State) (events : List Event) → OperationsNest (program_form program) → Scoped (program_form program) s → Run program s events last → Scoped (program_form program) last
+run_nested program s last events operations scoped here = scoped
+run_nested program s last (e ∷ events) operations scoped (there choice mid step rest) =
+    run_nested program mid last events operations (step_nested program s mid choice e (λ first. operations) scoped step) rest
 
 pub state_nested : (program : Program) → IsWellFormed (program_form program) → CollectionsNest (program_form program) → OperationsNest (program_form program) → (input : List ℤ) (events : List Event) (last : State) → Run program (first_state program input) events last → Scoped (program_form program) last
 state_nested program well nest operations input events last run =
-    run_nested program (first_state program input) last events (first_nested program well nest operations input) run
+    run_nested program (first_state program input) last events operations (first_nested program well nest input) run

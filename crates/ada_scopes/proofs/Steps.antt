@@ -33,7 +33,7 @@ use Rattle.ada_scopes.proofs.Counts.{one, times, opened, Scopes, scopes, all_of}
 use Rattle.ada_scopes.proofs.Texts.{StatementNests, StatementsNest, BranchesNest, HandlersNest, BodyNests, BodiesNest}
 use Rattle.ada_scopes.proofs.Control.{Alike, Where, OwnsAll, RecordHere, FrameNests, behind, is_confine, Either, Nests, Goes, Whole, Growing, Begins, Nested, standing, beginning, parting, whole_declared, nests_declared, whole_recorded, nests_recorded, nests_treating, grows, grown}
 use Rattle.ada_scopes.proofs.Evaluations.{Good, Stands, keeps_filled, keeps_parted, whole_on, path_good, holder_good, record_holder_good, refers_good, open_good, opens_good, expression_good, null_test_good, links_good, outcome_good, items_good, copies_good, record_target_good, store_record_good, record_assign_good, assigns_good, new_good, right_good, free_good, free_in_good, end_good, back_good}
-use Rattle.ada_scopes.proofs.Treatments.{OperationsHere, awaited_good, either_good, treats_good}
+use Rattle.ada_scopes.proofs.Treatments.{OperationsHere, IsTreatment, TreatsFirst, awaited_good, either_good, treats_good}
 use Rattle.ada_scopes.proofs.Leavings.{parts_good}
 
 module _ (types : List TypeForm) (callees : Callees) (calling : Bool) (bodies : List BodyForm) (nesting : BodiesNest types callees bodies) (ss : Scopes) where
@@ -237,67 +237,67 @@ module _ (types : List TypeForm) (callees : Callees) (calling : Bool) (bodies : 
       (w, ((nest.0, (nest.1.0, nest.1.1, (nest.1.2.0, nest.1.2.1, open_there.2)), nest.2), n))
 
   -- Each frame that is taken off.
-  frame_good : (definitions : List TypeDefinition) → OperationsHere callees calling definitions → (f : Frame Value) (s : State) → s.mode ≡ Running → Whole types ss s.masters s.heap → FrameNests types callees calling ss (scopes s.masters) f → Behind f (scopes s.masters) s.control → Good types callees calling (frame_next named definitions bodies f s)
-  frame_good definitions operations (frame.Elaborates ds fs hs) s runs w nest n = elaborated_good definitions ds fs hs s w nest n
-  frame_good definitions operations (frame.Does fs) s runs w nest n = stmts_good definitions fs s runs nest (w, n)
-  frame_good definitions operations (frame.Decides fs branches) s runs w nest n = decided_good fs branches (reads_boolean (newest named s)) (popped s) nest (w, n)
-  frame_good definitions operations (frame.Repeats condition fs) s runs w nest n = repeats_good condition fs s nest (w, n)
-  frame_good definitions operations (frame.Turns condition fs) s runs w nest n = turned_good condition fs (reads_boolean (newest named s)) (popped s) nest (w, n)
-  frame_good definitions operations (frame.Ranges x fs) s runs w nest n = ranges_good x fs (reads_integer (newest named (popped s))) (reads_integer (newest named s)) (popped (popped s)) nest (w, n)
-  frame_good definitions operations (frame.Counts x value last fs) s runs w nest n = counting_good (int_le value last) x value last fs s nest (w, n)
-  frame_good definitions operations frame.Exits s runs w nest n = exited_good (reads_boolean (newest named s)) (popped s) (w, n)
-  frame_good definitions operations (frame.Handles hs) s runs w nest n = standing ss w n
-  frame_good definitions operations frame.Closes s runs w nest n = parting ss w runs n
-  frame_good definitions operations (frame.Leaves mode) s runs w nest n = absurd nest
-  frame_good definitions operations (frame.Calls procedure b actuals) s runs w nest n = body_begins procedure b actuals (newest_ones named (operand_count actuals) s) s runs nest (w, n)
-  frame_good definitions operations (frame.Returns actuals references) s runs w nest n = standing ss w (storing_nests references (scopes s.masters) s.control n)
-  frame_good definitions operations (frame.Evaluates right) s runs w nest n = right_good types callees calling ss definitions right s (w, n)
-  frame_good definitions operations (frame.Computes e) s runs w nest n = expression_good types callees calling ss e s (w, n)
-  frame_good definitions operations (frame.Follows cs) s runs w nest n = path_good types callees calling ss cs (newest named s) (popped s) (w, n)
-  frame_good definitions operations (frame.TestsNull equal) s runs w nest n = null_test_good types callees calling ss equal (reads_null (newest named s)) (popped s) (w, n)
-  frame_good definitions operations (frame.Refers p) s runs w nest n =
+  frame_good : (definitions : List TypeDefinition) (f : Frame Value) → (IsTreatment f → OperationsHere callees calling definitions) → (s : State) → s.mode ≡ Running → Whole types ss s.masters s.heap → FrameNests types callees calling ss (scopes s.masters) f → Behind f (scopes s.masters) s.control → Good types callees calling (frame_next named definitions bodies f s)
+  frame_good definitions (frame.Elaborates ds fs hs) operations s runs w nest n = elaborated_good definitions ds fs hs s w nest n
+  frame_good definitions (frame.Does fs) operations s runs w nest n = stmts_good definitions fs s runs nest (w, n)
+  frame_good definitions (frame.Decides fs branches) operations s runs w nest n = decided_good fs branches (reads_boolean (newest named s)) (popped s) nest (w, n)
+  frame_good definitions (frame.Repeats condition fs) operations s runs w nest n = repeats_good condition fs s nest (w, n)
+  frame_good definitions (frame.Turns condition fs) operations s runs w nest n = turned_good condition fs (reads_boolean (newest named s)) (popped s) nest (w, n)
+  frame_good definitions (frame.Ranges x fs) operations s runs w nest n = ranges_good x fs (reads_integer (newest named (popped s))) (reads_integer (newest named s)) (popped (popped s)) nest (w, n)
+  frame_good definitions (frame.Counts x value last fs) operations s runs w nest n = counting_good (int_le value last) x value last fs s nest (w, n)
+  frame_good definitions frame.Exits operations s runs w nest n = exited_good (reads_boolean (newest named s)) (popped s) (w, n)
+  frame_good definitions (frame.Handles hs) operations s runs w nest n = standing ss w n
+  frame_good definitions frame.Closes operations s runs w nest n = parting ss w runs n
+  frame_good definitions (frame.Leaves mode) operations s runs w nest n = absurd nest
+  frame_good definitions (frame.Calls procedure b actuals) operations s runs w nest n = body_begins procedure b actuals (newest_ones named (operand_count actuals) s) s runs nest (w, n)
+  frame_good definitions (frame.Returns actuals references) operations s runs w nest n = standing ss w (storing_nests references (scopes s.masters) s.control n)
+  frame_good definitions (frame.Evaluates right) operations s runs w nest n = right_good types callees calling ss definitions right s (w, n)
+  frame_good definitions (frame.Computes e) operations s runs w nest n = expression_good types callees calling ss e s (w, n)
+  frame_good definitions (frame.Follows cs) operations s runs w nest n = path_good types callees calling ss cs (newest named s) (popped s) (w, n)
+  frame_good definitions (frame.TestsNull equal) operations s runs w nest n = null_test_good types callees calling ss equal (reads_null (newest named s)) (popped s) (w, n)
+  frame_good definitions (frame.Refers p) operations s runs w nest n =
       record_holder_good types callees calling ss p (λ place. frame.RefersIn place p.record_type) s (λ place. (tt, n)) (w, n)
-  frame_good definitions operations (frame.RefersIn place t) s runs w nest n =
+  frame_good definitions (frame.RefersIn place t) operations s runs w nest n =
       refers_good types callees calling ss (newest named s) place (width_of definitions t) (look s.heap (newest named s)) (popped s) (w, n)
-  frame_good definitions operations (frame.Opens path) s runs w nest n = open_good types callees calling ss path.selectors path.root s (w, n)
-  frame_good definitions operations (frame.OpensIn c) s runs w nest n = opens_good types callees calling ss (newest named s) c (look s.heap (newest named s)) (popped s) (w, n)
-  frame_good definitions operations (frame.Continues links) s runs w nest n = links_good types callees calling ss links s (w, n)
-  frame_good definitions operations (frame.Applies operator) s runs w nest n = outcome_good types callees calling ss (binary_given operator (newest named (popped s)) (newest named s)) (popped (popped s)) (w, n)
-  frame_good definitions operations (frame.AppliesAlone operator) s runs w nest n = outcome_good types callees calling ss (unary_given operator (newest named s)) (popped s) (w, n)
-  frame_good definitions operations (frame.Fills items) s runs w nest n = items_good types callees calling ss items s (w, n)
-  frame_good definitions operations (frame.Copies first t) s runs w nest n = copies_good types callees calling ss (newest named s) first (width_of definitions t) (look s.heap (newest named s)) (popped s) (w, n)
-  frame_good definitions operations (frame.Creates access count) s runs w nest n = new_good types callees calling ss definitions access count (words_of definitions access) (home_of access s.masters) s refl (w, n)
-  frame_good definitions operations (frame.Stores x) s runs w nest n = standing ss w n
-  frame_good definitions operations (frame.Declares x) s runs w nest n =
+  frame_good definitions (frame.Opens path) operations s runs w nest n = open_good types callees calling ss path.selectors path.root s (w, n)
+  frame_good definitions (frame.OpensIn c) operations s runs w nest n = opens_good types callees calling ss (newest named s) c (look s.heap (newest named s)) (popped s) (w, n)
+  frame_good definitions (frame.Continues links) operations s runs w nest n = links_good types callees calling ss links s (w, n)
+  frame_good definitions (frame.Applies operator) operations s runs w nest n = outcome_good types callees calling ss (binary_given operator (newest named (popped s)) (newest named s)) (popped (popped s)) (w, n)
+  frame_good definitions (frame.AppliesAlone operator) operations s runs w nest n = outcome_good types callees calling ss (unary_given operator (newest named s)) (popped s) (w, n)
+  frame_good definitions (frame.Fills items) operations s runs w nest n = items_good types callees calling ss items s (w, n)
+  frame_good definitions (frame.Copies first t) operations s runs w nest n = copies_good types callees calling ss (newest named s) first (width_of definitions t) (look s.heap (newest named s)) (popped s) (w, n)
+  frame_good definitions (frame.Creates access count) operations s runs w nest n = new_good types callees calling ss definitions access count (words_of definitions access) (home_of access s.masters) s refl (w, n)
+  frame_good definitions (frame.Stores x) operations s runs w nest n = standing ss w n
+  frame_good definitions (frame.Declares x) operations s runs w nest n =
       standing ss (whole_declared types ss (height s.masters) x s.masters s.heap w) (nests_declared types callees calling ss (height s.masters) x s.masters s.control n)
-  frame_good definitions operations (frame.Treats v treatment tasks) s runs w nest n =
-      treats_good types callees calling ss bodies nesting definitions operations v treatment tasks (task_next tasks) s runs (w, n)
-  frame_good definitions operations (frame.Awaits v by done of part tasks) s runs w nest n =
+  frame_good definitions (frame.Treats v treatment tasks) operations s runs w nest n =
+      treats_good types callees calling ss bodies nesting definitions (operations tt) v treatment tasks (task_next tasks) s runs (w, n)
+  frame_good definitions (frame.Awaits v by done of part tasks) operations s runs w nest n =
       awaited_good types callees calling ss bodies nesting v by done of part tasks (look s.heap v) s (w, n)
-  frame_good definitions operations frame.Confines s runs w nest n = either_good types callees calling ss bodies nesting s w runs n
-  frame_good definitions operations (frame.Resumes mode) s runs w nest n = standing ss w n
-  frame_good definitions operations frame.Writes s runs w nest n = line_good (reads_integer (newest named s)) (popped s) (w, n)
-  frame_good definitions operations (frame.Ends v) s runs w nest n = end_good types callees calling ss v (look s.heap v) s (w, n)
-  frame_good definitions operations (frame.GivesBack v cause pool) s runs w nest n = back_good types callees calling ss v cause pool (lent s.heap v) s (w, n)
-  frame_good definitions operations (frame.Clears x) s runs w nest n = standing ss w n
-  frame_good definitions operations (frame.Targets c right) s runs w nest n = target_good (newest named s) c right (look s.heap (newest named s)) (popped s) (w, n)
-  frame_good definitions operations (frame.StoresIn o c) s runs w nest n = store_good o c (newest named s) (look s.heap o) (popped s) (w, n)
-  frame_good definitions operations (frame.TargetsRecord first t items) s runs w nest n =
+  frame_good definitions frame.Confines operations s runs w nest n = either_good types callees calling ss bodies nesting s w runs n
+  frame_good definitions (frame.Resumes mode) operations s runs w nest n = standing ss w n
+  frame_good definitions frame.Writes operations s runs w nest n = line_good (reads_integer (newest named s)) (popped s) (w, n)
+  frame_good definitions (frame.Ends v) operations s runs w nest n = end_good types callees calling ss v (look s.heap v) s (w, n)
+  frame_good definitions (frame.GivesBack v cause pool) operations s runs w nest n = back_good types callees calling ss v cause pool (lent s.heap v) s (w, n)
+  frame_good definitions (frame.Clears x) operations s runs w nest n = standing ss w n
+  frame_good definitions (frame.Targets c right) operations s runs w nest n = target_good (newest named s) c right (look s.heap (newest named s)) (popped s) (w, n)
+  frame_good definitions (frame.StoresIn o c) operations s runs w nest n = store_good o c (newest named s) (look s.heap o) (popped s) (w, n)
+  frame_good definitions (frame.TargetsRecord first t items) operations s runs w nest n =
       record_target_good types callees calling ss (newest named s) first (width_of definitions t) items (look s.heap (newest named s)) (popped s) (w, n)
-  frame_good definitions operations (frame.StoresRecord o first count) s runs w nest n = store_record_good types callees calling ss o first count (look s.heap o) s (w, n)
-  frame_good definitions operations (frame.Assigns t) s runs w nest n =
+  frame_good definitions (frame.StoresRecord o first count) operations s runs w nest n = store_record_good types callees calling ss o first count (look s.heap o) s (w, n)
+  frame_good definitions (frame.Assigns t) operations s runs w nest n =
       let target = newest named (popped s) in
       let source = newest named s in
       assigns_good types callees calling ss definitions t target source (same target source) (popped (popped s)) (w, n)
-  frame_good definitions operations (frame.DeclaresRecord x t) s runs w nest n =
+  frame_good definitions (frame.DeclaresRecord x t) operations s runs w nest n =
       made_good definitions x t Copy (newest_ones named (words_of definitions t) s) (without_newest named (words_of definitions t) s) nest.0 nest.1 (w, n)
-  frame_good definitions operations (frame.Receives c) s runs w nest n = receive_good (newest named s) c (look s.heap (newest named s)) (popped s) (w, n)
-  frame_good definitions operations (frame.FreesIn access c) s runs w nest n = free_in_good types callees calling ss definitions access (newest named s) c (look s.heap (newest named s)) (popped s) (w, n)
-  frame_good definitions operations (frame.ClearsIn o c) s runs w nest n = store_good o c Null (look s.heap o) s (w, n)
+  frame_good definitions (frame.Receives c) operations s runs w nest n = receive_good (newest named s) c (look s.heap (newest named s)) (popped s) (w, n)
+  frame_good definitions (frame.FreesIn access c) operations s runs w nest n = free_in_good types callees calling ss definitions access (newest named s) c (look s.heap (newest named s)) (popped s) (w, n)
+  frame_good definitions (frame.ClearsIn o c) operations s runs w nest n = store_good o c Null (look s.heap o) s (w, n)
 
-  stands_good : (definitions : List TypeDefinition) → OperationsHere callees calling definitions → (k : List (Frame Value)) (s : State) → s.mode ≡ Running → Whole types ss s.masters s.heap → Nests types callees calling ss (scopes s.masters) k → Good types callees calling (running_next named definitions bodies k s)
-  stands_good definitions operations [] s runs w n = tt
-  stands_good definitions operations (f ∷ k) s runs w n = frame_good definitions operations f (at k s) runs w n.0 n.1
+  stands_good : (definitions : List TypeDefinition) (k : List (Frame Value)) → (TreatsFirst k → OperationsHere callees calling definitions) → (s : State) → s.mode ≡ Running → Whole types ss s.masters s.heap → Nests types callees calling ss (scopes s.masters) k → Good types callees calling (running_next named definitions bodies k s)
+  stands_good definitions [] operations s runs w n = tt
+  stands_good definitions (f ∷ k) operations s runs w n = frame_good definitions f operations (at k s) runs w n.0 n.1
 
   -- A jump: what it passes, and where it lands.
   abbrev LandsHere : List ℕ → Landing Value → Type 0
@@ -400,11 +400,11 @@ module _ (types : List TypeForm) (callees : Callees) (calling : Bool) (bodies : 
   jump_good mode [] s jumps w n = tt
   jump_good mode (f ∷ k) s jumps w n = unwound_good f mode (at k s) jumps (lands (scopes s.masters) mode f n.0) w n.1
 
-  standing_good : (definitions : List TypeDefinition) → OperationsHere callees calling definitions → (mode : Mode) (s : State) → s.mode ≡ mode → Stands types callees calling ss s → Good types callees calling (mode_next named definitions bodies mode s)
-  standing_good definitions operations Running s is h = stands_good definitions operations s.control s is h.0 h.1
-  standing_good definitions operations (Raising e) s is h = jump_good (Raising e) s.control s tt h.0 h.1
-  standing_good definitions operations Exiting s is h = jump_good Exiting s.control s tt h.0 h.1
-  standing_good definitions operations Returning s is h = jump_good Returning s.control s tt h.0 h.1
+  standing_good : (definitions : List TypeDefinition) (mode : Mode) (s : State) → (TreatsFirst s.control → OperationsHere callees calling definitions) → s.mode ≡ mode → Stands types callees calling ss s → Good types callees calling (mode_next named definitions bodies mode s)
+  standing_good definitions Running s operations is h = stands_good definitions s.control operations s is h.0 h.1
+  standing_good definitions (Raising e) s operations is h = jump_good (Raising e) s.control s tt h.0 h.1
+  standing_good definitions Exiting s operations is h = jump_good Exiting s.control s tt h.0 h.1
+  standing_good definitions Returning s operations is h = jump_good Returning s.control s tt h.0 h.1
 
 module _ (types : List TypeForm) (callees : Callees) (calling : Bool) (bodies : List BodyForm) (nesting : BodiesNest types callees bodies) where
   -- A part begins: its collections are created before its first variable.
@@ -514,12 +514,12 @@ module _ (types : List TypeForm) (callees : Callees) (calling : Bool) (bodies : 
   beginning_good : (definitions : List TypeDefinition) (s : State) (b : Begins types callees calling s) → Good types callees calling (running_next named definitions bodies (frame.Elaborates b.ds b.fs b.hs ∷ b.k) s)
   beginning_good definitions s b = begins_good definitions b.ds b.fs b.hs b.ss b.m b.rest b.there (at b.k s) b.masters b.runs b.growing b.statements b.handlers b.nests
 
-  -- A state that nests.
-  pub next_good : (definitions : List TypeDefinition) → OperationsHere callees calling definitions → (s : State) → Nested types callees calling s → Good types callees calling (next definitions bodies s)
+  -- A state that nests. Operations need to nest only where a treatment is what is done next.
+  pub next_good : (definitions : List TypeDefinition) (s : State) → (TreatsFirst s.control → OperationsHere callees calling definitions) → Nested types callees calling s → Good types callees calling (next definitions bodies s)
   unfolding next
-  next_good definitions operations s (standing ss w n) = standing_good types callees calling bodies nesting ss definitions operations s.mode s refl (w, n)
-  next_good definitions operations s (beginning b) =
+  next_good definitions s operations (standing ss w n) = standing_good types callees calling bodies nesting ss definitions s.mode s operations refl (w, n)
+  next_good definitions s operations (beginning b) =
       subst (λ (mode : Mode). Good types callees calling (mode_next named definitions bodies mode s)) (sym b.runs)
       (subst (λ (k : List (Frame Value)). Good types callees calling (running_next named definitions bodies k s)) (sym b.control) (beginning_good definitions s b))
-  next_good definitions operations s (parting ss p runs goes) =
-      subst (λ (mode : Mode). Good types callees calling (mode_next named definitions bodies mode s)) (sym runs) (parts_good types callees calling ss bodies nesting definitions operations s.control s runs p goes)
+  next_good definitions s operations (parting ss p runs goes) =
+      subst (λ (mode : Mode). Good types callees calling (mode_next named definitions bodies mode s)) (sym runs) (parts_good types callees calling ss bodies nesting definitions s.control operations s runs p goes)

@@ -2,7 +2,7 @@
 
 use Rattle.std.proofs.Common.{◌≡◌, ℕ, zero, suc, ◌+◌, ◌≤◌, ◌==◌, ◌&&◌, cond, not, count_by, Bool, true, false, List, [], ◌∷◌, ◌++◌, map, Some, arith, refl, sym, ap, ◌∙◌, subst}
 use Rattle.std.specs.Prelude.{is_some}
-use Rattle.std.proofs.lemmas.Bool.{eqb-true}
+use Rattle.std.proofs.lemmas.Bool.{eqb-true, not-true}
 use Rattle.std.proofs.lemmas.List.Sums.{sum_by-cons}
 use Rattle.std.specs.List.{slice_get, list_all}
 use Rattle.ada_program.specs.declared.program.ScalarType.TheVariants.{Integer, Boolean}
@@ -163,10 +163,6 @@ collected_access types (collects access ∷ ds) t fits le =
     (collected_access types ds t (and_right (is_access types access) (list_all (collection_fits types) ds) fits)) le
 
 -- What a part's check says.
-not_true : (b : Bool) → not b ≡ true → b ≡ false
-not_true true is = absurd (cc)
-not_true false is = refl
-
 once_by : (types : List TypeForm) (ds : List DeclarationForm) (t : ℕ) (b : Bool) → is_one_of (collected ds) t ≡ b → list_all (collection_fits types) ds ≡ true → Once types (map creation ds) → times t (collected ds) ≤ 1
 once_by types ds t true is fits once =
     let made = once t (collected_access types ds t fits (times_of (collected ds) t is)) in
@@ -197,7 +193,7 @@ pub part_holds : (types : List TypeForm) (variables : List VariableForm) (around
 part_holds types variables around ds right first fits initials once both_nest = record {
   first = first;
   once = λ t. once_by types ds t (is_one_of (collected ds) t) refl fits once;
-  away = λ t le. times_none around t (not_true (is_one_of around t) (and_left (not (is_one_of around t)) (are_open (collected ds ++ around) (reached_components types t)) (all_times (collection_nests types around (collected ds ++ around)) (collected ds) nests t le)));
+  away = λ t le. times_none around t (not-true (is_one_of around t) (and_left (not (is_one_of around t)) (are_open (collected ds ++ around) (reached_components types t)) (all_times (collection_nests types around (collected ds ++ around)) (collected ds) nests t le)));
   needs = λ t le. and_right (not (is_one_of around t)) (are_open (collected ds ++ around) (reached_components types t)) (all_times (collection_nests types around (collected ds ++ around)) (collected ds) nests t le);
   accesses = λ t le. collected_access types ds t fits le;
   records = records_hold types variables (collected ds ++ around) ds right initials

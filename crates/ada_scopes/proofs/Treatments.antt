@@ -43,6 +43,16 @@ abbrev pub OperationsHere : Callees → (calling : Bool) → List TypeDefinition
 OperationsHere callees calling definitions =
     (of : ℕ) → AllNestAnywhere callees (operations_of definitions of) × (calling ≡ false → operations_of definitions of ≡ no_operations)
 
+-- A frame of this kind treats an object: no other frame calls an operation.
+abbrev pub IsTreatment : Frame Value → Type 0
+IsTreatment (frame.Treats v treatment tasks) = Unit {0}
+IsTreatment f = ⊥
+
+-- What is left to do begins with a treatment.
+abbrev pub TreatsFirst : List (Frame Value) → Type 0
+TreatsFirst [] = ⊥
+TreatsFirst (f ∷ k) = IsTreatment f
+
 -- So it is of what is called, if anything is.
 abbrev Operates : Callees → (calling : Bool) → Option ℕ → Type 0
 Operates callees calling None = Unit {0}

@@ -1,29 +1,32 @@
 -- Operations that are in use create nothing with controlled parts in their declarations (7.6): a frugal one or a simple one may allocate there, but nothing that has
--- some.
+-- some; and where operations are idle, nothing in the program creates any.
 
-use Rattle.std.proofs.Common.{◌≡◌, ℕ, Bool, true, false, ◌&&◌, ◌||◌, if◌then◌else◌, List, [], ◌∷◌, map, Option, Some, None, refl, sym, ap, ◌∙◌}
+use Rattle.std.proofs.Common.{◌≡◌, ℕ, Bool, true, false, ◌&&◌, ◌||◌, not, if◌then◌else◌, List, [], ◌∷◌, map, Option, Some, None, refl, sym, ap, ◌∙◌}
 use Rattle.std.specs.Prelude.{find, drop, is_some}
-use Rattle.std.specs.List.{list_all, slice_get, slice_index_or}
+use Rattle.std.specs.List.{list_all, list_any, slice_get, slice_index_or}
+use Rattle.std.proofs.lemmas.Bool.{not-true, or_parts}
 use Rattle.ada_program.specs.declared.program.Finalization.{Finalization}
 use Rattle.ada_program.specs.declared.program.Operations.{Operations}
 use Rattle.ada_program.specs.declared.program.ProcedureNo.{ProcedureNo}
 use Rattle.ada_program.specs.declared.program.Program.{Program}
 use Rattle.ada_program.specs.declared.program.TypeDefinition.{TypeDefinition}
 use Rattle.ada_program.specs.declared.program.TypeDefinition.TheVariants as definition
-use Rattle.ada_program.specs.Controlled.{number_by, number_reached, is_number, operations_in, operations_by}
+use Rattle.ada_program.specs.Controlled.{number_by, number_in, number_reached, is_number, operations_in, operations_by, operations_of}
 use Rattle.ada_program.specs.Form.{RightForm, nothing, value_of, allocates, allocates_default, computes, DeclarationForm, creates_pool, collects, declares, declares_record}
-use Rattle.ada_program.specs.ProgramForm.{TypeForm, type_form, VariableForm, BodyForm, body_forms, ProgramForm, program_form}
-use Rattle.ada_program.specs.WellFormed.{finalization_in, variable_kind, IsWellFormed}
+use Rattle.ada_program.specs.ProgramForm.{TypeForm, type_form, VariableForm, BodyForm, body_forms, ProgramForm, main_body, program_form}
+use Rattle.ada_program.specs.WellFormed.{finalization_in, finalization_of, named_in, variable_kind, IsWellFormed}
 use Rattle.ada_meaning.specs.Pace.{right_creates, declaration_creates, declarations_create, body_creates, operation_creates, OperationsDeclareNoParts}
 use Rattle.ada_quiet.specs.Quiet.{is_elementary, holds_elementary, is_quiet_right, is_quiet_declaration, are_quiet_declarations, are_quiet, are_quiet_handlers, is_plain_body, is_plain_procedure, is_plain_operation, is_quiet_operation, has_access, operation_body}
 use Rattle.ada_quiet.specs.Bare.{has_bare_objects, allocates_bare}
-use Rattle.ada_quiet.specs.InUse.{adjusts_alone, may_be_frugal, may_track, uses_initialize, uses_adjust, uses_finalize, uses_operations, operations_are_in_use}
+use Rattle.ada_quiet.specs.Idle.{has_parts, holds_parts, right_makes_parts, declaration_makes_parts, declarations_make_parts, stmts_make_parts, handlers_make_parts, body_makes_parts, makes_parts}
+use Rattle.ada_quiet.specs.InUse.{adjusts_alone, may_be_frugal, may_track, uses_initialize, uses_adjust, uses_finalize, uses_operations, operations_are_idle, operations_may_be_called, operations_are_in_use, adjusts_nothing, operations_stand_in_order, uses_called_adjust}
 use Rattle.ada_quiet.specs.Frugal.{Thrift, is_frugal_declaration, are_frugal_declarations, are_frugal, are_frugal_handlers, is_frugal_body, frugal_procedures, is_frugal_operation, is_silent_operation}
 use Rattle.ada_quiet.specs.Simple.{is_simple_procedure, is_simple_operation}
 use Rattle.ada_quiet.proofs.InUse.{plain_operation}
 use Rattle.ada_quiet.proofs.FrugalAt.{frugal_at}
-use Rattle.ada_typed.proofs.Parts.{known_number}
+use Rattle.ada_typed.proofs.Parts.{known_number, shown_number}
 use Rattle.ada_sound.proofs.FrugalFrees.{bare_number}
+use Rattle.ada_sound.proofs.OnlyRows.{none_passes}
 use Rattle.ada_sound.proofs.SimpleBodies.{simple_frugal, simple_with}
 
 -- Both tests are passed where their conjunction is.
@@ -84,6 +87,15 @@ operation_either : (p : ProgramForm) (types : List TypeDefinition) (o : Option P
     → operation_creates types p.bodies o ≡ false
 operation_either p types o true frugal tested other used = tested refl
 operation_either p types o false frugal tested other used = other used
+
+-- What has no controlled parts has no number among the types that have some.
+unnumbered : (found : Option Finalization) → is_some found ≡ false → is_some (number_in found) ≡ false
+unnumbered None none = refl
+unnumbered (Some f) none = absurd (cc none)
+
+unnumbered_type : (types : List TypeForm) (record_type : Option ℕ) → has_parts types record_type ≡ false → is_some (shown_number types record_type) ≡ false
+unnumbered_type types None none = refl
+unnumbered_type types (Some r) none = unnumbered (finalization_of types r) none
 
 -- None of these operations declares an object with controlled parts.
 abbrev DeclareNone : List TypeDefinition → List BodyForm → Operations → Type 0
@@ -173,7 +185,9 @@ module _ (program : Program) (well : IsWellFormed (program_form program)) where
 
   -- So it is with an Adjust that is in use: it is simple, where it may track, or quiet.
   adjust_used : (owns : Bool) (o : Option ProcedureNo) → uses_adjust p owns o ≡ true → operation_creates tds p.bodies o ≡ false
-  adjust_used owns o used = by (owns && is_some (operation_body p o)) used
+  adjust_used owns o used =
+      operation_either p tds o (adjusts_nothing p && is_frugal_operation p o) (uses_called_adjust p owns o)
+      (λ nothing. operation_frugal o (right_of (adjusts_nothing p) (is_frugal_operation p o) nothing)) (λ called. by (owns && is_some (operation_body p o)) called) used
     where
       by : (tracks : Bool)
           → (if tracks then may_track p && is_simple_operation p (adjusts_alone p) o && is_silent_operation p o else is_quiet_operation p o) ≡ true
@@ -200,6 +214,58 @@ module _ (program : Program) (well : IsWellFormed (program_form program)) where
   none_by (definition.Access name designated pool) used = (refl, refl, refl)
   none_by (definition.Object record_type) used = (refl, refl, refl)
 
+  -- What is known by a type without controlled parts creates none.
+  holds_none : (access : ℕ) → holds_parts p.types access ≡ false → is_some (number_reached tds access) ≡ false
+  holds_none access none =
+      ap (λ (o : Option ℕ). is_some o) (sym (known_number tds p.types access refl)) ∙ unnumbered_type p.types (named_in (slice_get p.types access)) none
+
+  right_idle : (right : RightForm) → right_makes_parts p.types false right ≡ false → right_creates tds right ≡ false
+  right_idle nothing none = refl
+  right_idle (value_of path) none = refl
+  right_idle (allocates access items) none = holds_none access none
+  right_idle (allocates_default access) none = holds_none access none
+  right_idle (computes e) none = refl
+
+  declaration_idle : (d : DeclarationForm) → declaration_makes_parts p.types false d ≡ false → declaration_creates tds d ≡ false
+  declaration_idle (creates_pool pool) none = refl
+  declaration_idle (collects access) none = refl
+  declaration_idle (declares x right) none = right_idle right none
+  declaration_idle (declares_record x object None) none = holds_none object none
+  declaration_idle (declares_record x object (Some items)) none = holds_none object none
+
+  declarations_idle : (ds : List DeclarationForm) → declarations_make_parts p.types false ds ≡ false → declarations_create tds ds ≡ false
+  declarations_idle [] none = refl
+  declarations_idle (d ∷ ds) none =
+      let both = or_parts (declaration_makes_parts p.types false d) (declarations_make_parts p.types false ds) none in
+      rw (declaration_idle d both.0) (declarations_idle ds both.1)
+
+  body_idle : (b : BodyForm) → body_makes_parts p.types false b ≡ false → declarations_create tds b.declarations ≡ false
+  body_idle b none =
+      let declarations = declarations_make_parts p.types false b.declarations in
+      let statements = stmts_make_parts p.types false b.statements in
+      let handlers = handlers_make_parts p.types false b.handlers in
+      declarations_idle b.declarations (or_parts declarations statements (or_parts (declarations || statements) handlers none).0).0
+
+  -- The body of an operation is one of the program's.
+  procedure_idle : (n : ℕ) (found : Option BodyForm) → list_any (body_makes_parts p.types false) p.bodies ≡ false → slice_get p.bodies n ≡ found → body_creates tds found ≡ false
+  procedure_idle n None none at = refl
+  procedure_idle n (Some b) none at = body_idle b (none_passes (body_makes_parts p.types false) p.bodies n b none at)
+
+  operation_idle : (o : Option ProcedureNo) → list_any (body_makes_parts p.types false) p.bodies ≡ false → operation_creates tds p.bodies o ≡ false
+  operation_idle None none = refl
+  operation_idle (Some procedure) none = procedure_idle procedure.0 (slice_get p.bodies procedure.0) none refl
+
+  -- So no operation of a program whose operations are idle creates any.
+  idle_none : operations_are_idle p ≡ true → OperationsDeclareNoParts tds p.bodies
+  idle_none idle n =
+      let makes = makes_parts p in
+      let own = body_makes_parts p.types false (main_body p) in
+      let bodies = list_any (body_makes_parts p.types false) p.bodies in
+      let never = not-true makes (left_of (not makes) (operations_stand_in_order p) idle) in
+      let none = (or_parts own bodies never).1 in
+      let o = operations_of tds n in
+      (operation_idle o.initialize none, operation_idle o.adjust none, operation_idle o.finalize none)
+
 none_found : (program : Program) → IsWellFormed (program_form program) → (test : TypeDefinition → Bool) (ts : List TypeDefinition)
     → list_all (is_used_type (program_form program)) (map type_form ts) ≡ true → DeclareNone program.types.items (program_form program).bodies (operations_by (find test ts))
 none_found program well test [] used = (refl, refl, refl)
@@ -213,4 +279,11 @@ none_found program well test (t ∷ ts) used =
 -- Where the operations of a well-formed program are in use, none creates controlled parts in its declarations.
 pub used_declare_none : (program : Program) → IsWellFormed (program_form program) → operations_are_in_use (program_form program) ≡ true
     → OperationsDeclareNoParts program.types.items (body_forms program)
-used_declare_none program well used n = none_found program well (λ t. is_number n (number_by (Some t))) program.types.items used
+used_declare_none program well used = by (operations_are_idle whole) refl used
+  where
+    whole : ProgramForm
+    whole = program_form program
+
+    by : (idle : Bool) → operations_are_idle whole ≡ idle → (idle || operations_may_be_called whole) ≡ true → OperationsDeclareNoParts program.types.items (body_forms program)
+    by true idle used' = idle_none program well idle
+    by false idle used' = λ n. none_found program well (λ t. is_number n (number_by (Some t))) program.types.items used'

@@ -5,7 +5,7 @@ use Rattle.std.proofs.Common.{◌≡◌, ◌≢◌, ℕ, Bool, true, false, List
 use Rattle.std.specs.List.{Contains, slice_get}
 use Rattle.ada_deeds.specs.Implicit.{implicit_of}
 use Rattle.ada_beside.specs.Confined.{IsConfined}
-use Rattle.ada_beside.specs.Law.{AllGoOn, GoesOn, IsWithin, LieBeside, NoneCeases, StaysConfined, at_once, behind_treatment, hidden_beside, no_ghosts}
+use Rattle.ada_beside.specs.Law.{AllGoOn, GoesOn, IsWithin, LieBeside, NoneCeases, hidden_beside, no_ghosts}
 use Rattle.ada_beside.proofs.Law.{stays_within}
 use Rattle.ada_finalized.proofs.Doings.{Of, doings}
 use Rattle.ada_finalized.proofs.Invariant as finalized
@@ -136,12 +136,15 @@ module _ (program : Program) (well : IsWellFormed (program_form program)) (s : S
     ordered = in_order program well s nested (apart_where_reached program s reached) (program_form program).types refl s.masters refl;
   }
 
--- The end of the body is not next, and a master that is left houses none.
-within_now : (k : Control) (ms : List Master) → is_return_first k ≡ false → ((left : Mode) (j : Control) → k ≡ Leaves left ∷ j → InnermostHousesNone ms) → IsWithin k ms
-within_now [] ms inner houses = tt
-within_now (Returns actuals references ∷ k) ms inner houses = absurd (cc inner)
-within_now (Leaves left ∷ k) ms inner houses = (refl, houses left k refl)
-within_now (f ∷ k) ms inner houses = (refl, tt)
+-- The end of the body is not next, a simple body treats nothing, and a master that is left houses none.
+within_now :
+    (first : ℕ) (k : Control) (ms : List Master) → is_return_first k ≡ false → BodyIsSimple first k
+    → ((left : Mode) (j : Control) → k ≡ Leaves left ∷ j → InnermostHousesNone ms) → IsWithin k ms
+within_now first [] ms inner simple houses = tt
+within_now first (Returns actuals references ∷ k) ms inner simple houses = absurd (cc inner)
+within_now first (frame.Treats v treatment tasks ∷ k) ms inner simple houses = absurd simple.0
+within_now first (Leaves left ∷ k) ms inner simple houses = (refl, tt, houses left k refl)
+within_now first (f ∷ k) ms inner simple houses = (refl, tt, tt)
 
 -- So it is whatever comes next where that follows.
 steps_so : (P Q : Event → State → Type 0) → ((e : Event) (after : State) → P e after → Q e after) → (s : State) (n : Next) → StepsTo P s n → StepsTo Q s n
@@ -150,10 +153,6 @@ steps_so P Q follows s (moves e after) goes = follows e after goes
 steps_so P Q follows s (tells request e after) goes = follows e after goes
 steps_so P Q follows s (asks request answered) goes = λ granted. follows Quiet (answered granted) (goes granted)
 steps_so P Q follows s (picks n taken) goes = goes
-
--- A simple body treats nothing.
-treats_none : (first : ℕ) (v : Value) (treatment : frame.Treatment) (tasks : List _) (k j : Control) → k ≡ frame.Treats v treatment tasks ∷ j → BodyIsSimple first k → ⊥
-treats_none first v treatment tasks k j is simple = let here : BodyIsSimple first (frame.Treats v treatment tasks ∷ j) = rw is at simple in here.0
 
 -- The body runs behind a step, for a copy of which other parts are adjusted later; and what that does to objects.
 abbrev pub InCopy : Program → List Object → Event → State → Type 0
@@ -227,7 +226,7 @@ module _ (program : Program) (s : State) (d : AdjustingCopy program s) where
     stays : Untouched hidden no_ghosts s × Unwritten hidden s × AllGoOn f.w reaches s.heap (next tds bodies s)
     stays =
         stays_within tds bodies f.w reaches (is_one_of d.owners) s beside watched
-        (within_now s.control s.masters inner (λ left k at. houses_none program (aside s) f left k at)) confined
+        (within_now f.w.tracks.first s.control s.masters inner f.simple (λ left k at. houses_none program (aside s) f left k at)) confined
 
     alike_next : NextAlike hidden no_ghosts (next tds bodies s) (next tds bodies (aside s))
     alike_next =
@@ -259,10 +258,6 @@ module _ (program : Program) (s : State) (d : AdjustingCopy program s) where
         let y = none_ceases o x found ((copy_stored.1.sane o x found).there_exists there) in
         (y.0, y.1, rw y.2 refl)
 
-    still_confined : (after : State) → BodyIsSimple f.w.tracks.first after.control → StaysConfined f.w reaches after → IsConfined f.w reaches after
-    still_confined after simple (at_once is) = is
-    still_confined after simple (behind_treatment v treatment tasks k is) = absurd (treats_none f.w.tracks.first v treatment tasks after.control k is simple)
-
     -- So the real state goes on as the other one does.
     both_on : (choice : Choice) (e : Event) (after t : State) → Leads (next tds bodies s) choice e after → Leads (next tds bodies (aside s)) choice e t
         → StatesAlike hidden no_ghosts after t → GoesOn f.w reaches s.heap after → InAdjusting program (aside s) f e t → InCopy program s.heap e after
@@ -271,11 +266,10 @@ module _ (program : Program) (s : State) (d : AdjustingCopy program s) where
         subst (λ (o : Id). t ≡ put_aside d.owners o after) view_object
         (state_is_aside f.w d.owners after t alike (λ c y u at is holds. null_there choice e t leads_too c y u (subst (λ (o : Id). object_at t.heap o ≡ Some y) view_object at) is holds)) in
         let run_there : InAdjusting program (aside s) f e (aside after) = subst (InAdjusting program (aside s) f e) t_is run in
-        let simple : BodyIsSimple f.w.tracks.first after.control = subst (λ (w : View). BodyIsSimple w.tracks.first after.control) run_there.1.view run_there.0.body.simple in
         copied_so e after run_there (
           (λ y at. rw (values_same d.owners y.cell.values d.x.cell.values (held_there choice e after leads y at))
               (names_still s.heap after.heap (values_at d.owners d.x.cell.values) (there_still after.heap goes.none_ceases) d.named)),
-          inr (reaches, beside, still_confined after simple goes.confined),
+          inr (reaches, beside, goes.confined),
         )
 
     next_on : (n m : Next) → next tds bodies s ≡ n → next tds bodies (aside s) ≡ m → NextAlike hidden no_ghosts n m → AllGoOn f.w reaches s.heap n

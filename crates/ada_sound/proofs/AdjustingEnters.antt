@@ -42,6 +42,7 @@ use Rattle.ada_program.specs.declared.program.VariableKind.TheVariants as variab
 use Rattle.ada_program.specs.declared.program.VariableKind.{VariableKind}
 use Rattle.ada_quiet.specs.Bare.{has_bare_objects}
 use Rattle.ada_quiet.specs.InUse.{may_track, count_found}
+use Rattle.ada_sound.proofs.Adjusting.{is_one_of}
 use Rattle.ada_sound.proofs.AdjustingBegins.{AllName, Copied}
 use Rattle.ada_sound.proofs.BareObjects.{holder_is_not_bare}
 use Rattle.ada_sound.proofs.Blanked.{blanked_at}
@@ -55,13 +56,15 @@ use Rattle.ada_sound.proofs.OnlyParts.{IsControlled}
 use Rattle.ada_sound.proofs.OnlyPlaces.{shown_as_controlled}
 use Rattle.ada_sound.proofs.OnlyRows.{AreCopiedInOrder}
 use Rattle.ada_sound.proofs.PartsApart.{PartWithin, beside, called_sees, called_there, left_of_access, owner_below, shifted_cases, type_numbered}
+use Rattle.ada_sound.proofs.PutAside.{not_numbered}
 use Rattle.ada_sound.proofs.Returns.{same_types}
+use Rattle.ada_sound.proofs.Trackers.{order_too}
 use Rattle.ada_sound.proofs.TracksWell.{copied_in_order}
 use Rattle.ada_sound.proofs.Treatments.{BeginsAdjust}
 use Rattle.ada_sound.proofs.TypedAside.{filled_aside}
 use Rattle.ada_tracked.proofs.Heaps.{blanked_here}
 use Rattle.ada_tracked.proofs.Lists.{apart_is, untracked_values}
-use Rattle.ada_tracked.specs.Frames.{View, blank_object, blanked, shifted, values_at, watched, blank_values, number_at}
+use Rattle.ada_tracked.specs.Frames.{View, blank_object, blanked, shifted, values_at, watched, blank_values}
 use Rattle.ada_typed.proofs.Calls.{same_filled}
 use Rattle.ada_typed.proofs.Control as typed
 use Rattle.ada_typed.proofs.Evaluations.{cell_at, own_access}
@@ -143,18 +146,18 @@ there_aside w heap q there =
     let alike = blanked_at w heap q there.0 there.1 in
     (alike.object, alike.found, ap is_there alike.alike.stage ∙ there.2)
 
--- A component that is none of these has no number among them.
-none_numbered : (bs : List ℕ) (n c : ℕ) → (Contains bs c → ⊥) → number_at bs n c ≡ None
-none_numbered [] n c none = refl
-none_numbered (b ∷ bs) n c none =
-    let apart : (c == b) ≡ false = apart_is c b (λ e. none (subst (λ (d : ℕ). Contains (b ∷ bs) d) (sym e) (head_in b bs))) in
-    rw apart (none_numbered bs (n + 1) c (λ has. none (tail_in b c bs has)))
+-- A component that a list has not is none of it.
+pub not_one : (owners : List ℕ) (c : ℕ) → (Contains owners c → ⊥) → is_one_of owners c ≡ false
+not_one [] c none = refl
+not_one (d ∷ owners) c none =
+    let apart : (d == c) ≡ false = apart_is d c (λ e. none (subst (λ (b : ℕ). Contains (d ∷ owners) b) e (head_in d owners))) in
+    rw apart (not_one owners c (λ has. none (tail_in d c owners has)))
 
 -- Components hold what they hold where others hold null.
 values_beside : (bs cs : List ℕ) (vs : List Value) → ((c : ℕ) → Contains bs c → Contains cs c → ⊥) → values_at bs (blank_values cs vs) ≡ values_at bs vs
 values_beside bs [] vs none = refl
 values_beside bs (c ∷ cs) vs none =
-    untracked_values bs 0 c Null (blank_values cs vs) (none_numbered bs 0 c (λ has. none c has (head_in c cs)))
+    untracked_values bs 0 c Null (blank_values cs vs) (not_numbered bs 0 c (not_one bs c (λ has. none c has (head_in c cs))))
     ∙ values_beside bs cs vs (λ d has later. none d has (tail_in c d cs later))
 
 module _ (program : Program) (well : IsWellFormed (program_form program)) where
@@ -321,7 +324,7 @@ module _ (program : Program) (well : IsWellFormed (program_form program)) where
       same = same_types a.procedure p
 
       abbrev rows : AreCopiedInOrder p.types
-      rows = copied_in_order p well may
+      rows = copied_in_order p well (order_too p may)
 
       -- What stands for the object: the body's variables for its tracked components.
       abbrev pub copy_view : View

@@ -53,7 +53,7 @@ use Rattle.ada_sound.proofs.OnlyParts.{passed_at}
 use Rattle.ada_sound.proofs.Returns.{CrossesTo, same_types}
 use Rattle.ada_sound.proofs.TracksApart.{AreInARow, tracks_apart}
 use Rattle.ada_sound.proofs.TracksWell.{copied_in_order, tracked_well}
-use Rattle.ada_sound.proofs.Trackers.{calls_stand_apart, stand_apart}
+use Rattle.ada_sound.proofs.Trackers.{calls_stand_apart, order_too, stand_apart}
 use Rattle.ada_sound.proofs.BareObjects.{components_are_bare}
 use Rattle.ada_sound.proofs.FrugalBodies.{calling_none}
 use Rattle.ada_sound.proofs.WatchedBy.{hold_bare, watched_by}
@@ -98,14 +98,14 @@ is_judged program well may frees number b tracks there components orderly =
           (judged_stays p well number b there tracks components program.types.items refl t crossing ending typing);
       owns = judged_owns p frees number b tracks there components orderly;
       keeps = λ gs.
-          judged_keeps program number tracks gs (subst CopiesWell (sym (same_types (Some number) p)) (tracked_well program well may))
+          judged_keeps program number tracks gs (subst CopiesWell (sym (same_types (Some number) p)) (tracked_well program well (order_too p may)))
           (judged_owns p frees number b tracks there components orderly);
     }
 
 -- Where components may be tracked, the elementary components of each record type stand one behind another.
 pub in_a_row : (p : ProgramForm) → IsWellFormed p → may_track p ≡ true → AreInARow p.types
 in_a_row p well may r name ps components finalization at =
-    let ordered = passed_at (is_copied_in_order p.types) p.types r (record_of name ps components finalization) (copied_in_order p well may).copied_in_order at in
+    let ordered = passed_at (is_copied_in_order p.types) p.types r (record_of name ps components finalization) (copied_in_order p well (order_too p may)).copied_in_order at in
     (and_parts (stand_in_a_row p.types 0 ps (length components)) (adjusts_itself ps finalization) ordered).0
 
 -- The object in which the components lie, in a typed heap.

@@ -2,8 +2,8 @@
 
 use Rattle.std.proofs.Common.{◌≡◌, ◌≢◌, ℕ, true, false, List, [], ◌∷◌, length, drop, refl, sym, ap, subst, ◌∙◌, Bool, ◌+◌, ◌<◌, ◌≤◌, inl, inr, arith}
 use Rattle.std.proofs.lemmas.Bool.{eqb-true, ltb-true}
-use Rattle.std.specs.List.{Contains, slice_get}
-use Rattle.std.specs.Prelude.{Option, Some, ◌==◌, None}
+use Rattle.std.specs.List.{slice_get}
+use Rattle.std.specs.Prelude.{Option, Some, None}
 use Rattle.ada_beside.specs.Law.{LieBeside}
 use Rattle.ada_deeds.specs.Implicit.{implicit_of}
 use Rattle.ada_finalized.specs.Law.{NothingBegins}
@@ -38,7 +38,7 @@ use Rattle.ada_quiet.specs.Simple.{is_simple_body}
 use Rattle.ada_sound.proofs.AdjustedParts.{adjusted_frees}
 use Rattle.ada_sound.proofs.Adjusting.{IsOfCopy, copied, assigned, AdjustingCopy, LeavesAlone, is_one_of}
 use Rattle.ada_sound.proofs.AdjustingBegins.{Copied, adjusting_begins, begins_as_judged, AdjustsIn}
-use Rattle.ada_sound.proofs.AdjustingEnters.{copied_type, copied_where_called, copy_among, copy_tracks, copy_view, called_left, copy_beside, copy_declares, copy_found, copy_heap, copy_left, copy_names_left, copy_object, copy_of_access, copy_owners, copy_record, formal_components}
+use Rattle.ada_sound.proofs.AdjustingEnters.{copied_type, copied_where_called, copy_among, copy_tracks, copy_view, called_left, copy_beside, copy_declares, copy_found, copy_heap, copy_left, copy_names_left, copy_object, copy_of_access, copy_owners, copy_record, formal_components, not_one}
 use Rattle.ada_sound.proofs.AdjustingGoes.{in_a_row}
 use Rattle.ada_sound.proofs.Alters.{Alters, alters_set}
 use Rattle.ada_sound.proofs.BareObjects.{components_are_bare, frugal_frees_bare}
@@ -46,7 +46,6 @@ use Rattle.ada_sound.proofs.Callers.{Suspension, Stands, callers_of, known_in}
 use Rattle.ada_sound.proofs.CallsApart.{CallApart}
 use Rattle.ada_sound.proofs.ConfinedBodies.{confined_body, reaches_record}
 use Rattle.ada_sound.proofs.CopiedOwners.{BeginsCopy, CopyLeft, hiding, owners_left}
-use Rattle.ada_sound.proofs.CopyParts.{head_in, tail_in}
 use Rattle.ada_sound.proofs.Fits.{IsWithin}
 use Rattle.ada_sound.proofs.FrugalBodies.{calling_none}
 use Rattle.ada_sound.proofs.Invariant.{Control, CoveredIn, under_in}
@@ -74,7 +73,6 @@ use Rattle.ada_sound.proofs.Treatments.{BeginsAdjust}
 use Rattle.ada_sound.proofs.TypedAside.{typed_aside}
 use Rattle.ada_sound.proofs.WatchedBy.{given_count, hold_bare, some_variable, watched_by}
 use Rattle.ada_tracked.proofs.Heaps.{blanked_here}
-use Rattle.ada_tracked.proofs.Lists.{apart_is}
 use Rattle.ada_tracked.specs.Frames.{View, blank_object, watched, blanked}
 use Rattle.ada_tracked.specs.Seen.{IsWatched, seen_state}
 use Rattle.ada_typed.proofs.Bodies.{seen_as, seen_fits, tables_in}
@@ -94,13 +92,6 @@ of_copy (Adjustment number) copies = assigned number
 one_most : (o : Option Finalization) → has_one_part o ≡ true → count_said o ≤ 1
 one_most None one = omega arith
 one_most (Some f) one = let count = eqb-true f.parts 1 one in omega (arith, count)
-
--- A component that a list has not is none of it.
-not_one : (owners : List ℕ) (c : ℕ) → (Contains owners c → ⊥) → is_one_of owners c ≡ false
-not_one [] c none = refl
-not_one (d ∷ owners) c none =
-    let apart : (d == c) ≡ false = apart_is d c (λ e. none (subst (λ (b : ℕ). Contains (d ∷ owners) b) e (head_in d owners))) in
-    rw apart (not_one owners c (λ has. none (tail_in d c owners has)))
 
 -- What is left of the adjustment of a record is left of that of the same record.
 same_left :

@@ -65,6 +65,7 @@ use Rattle.ada_sound.proofs.Steps as inside
 use Rattle.ada_sound.proofs.Stored.{IsUnder, Stored}
 use Rattle.ada_sound.proofs.StoredStates.{ready_stored}
 use Rattle.ada_sound.proofs.BareObjects.{components_untouched}
+use Rattle.ada_sound.proofs.Trackers.{tracks_apart}
 use Rattle.ada_sound.proofs.TracksWell.{tracked_bare}
 
 -- The body runs for the same copy in two states.
@@ -194,7 +195,7 @@ module _
   bare_there : AllocatesBare known.program.types known.touches f.t.control
   bare_there =
       subst (λ (types : List TypeForm). AllocatesBare types known.touches f.t.control) (sym types_are)
-      (tracked_bare program well f.tracking (components_untouched program well) f.t (λ stand. f.apart))
+      (tracked_bare program well (tracks_apart (program_form program) f.tracking) (components_untouched program well) f.t (λ stand. f.apart))
 
   places_on : AllSamePlaces s (next tds bodies s)
   places_on = places_stay tds bodies f.w.tracks.first s (within f.w.tracks.first s.control f.simple inner)

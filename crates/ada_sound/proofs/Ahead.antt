@@ -1,13 +1,14 @@
--- What goes first where a master is left (7.6.1): its objects, and, where objects with controlled parts may be allocated beside operations that touch storage, the
--- collections of those. So no component names what has gone, until they are finalized.
+-- What an operation that touches storage may be called for where a master is left (7.6.1): its objects, and, where objects with controlled parts may be allocated
+-- beside such operations, the collections of those. No component names then what has gone before.
 
-use Rattle.std.proofs.Common.{◌≡◌, ℕ, Bool, true, false, not, ◌&&◌, ◌||◌, List, [], ◌∷◌}
+use Rattle.std.proofs.Common.{◌≡◌, ℕ, Bool, true, false, not, ◌&&◌, List, [], ◌∷◌}
 use Rattle.ada_program.specs.ProgramForm.{TypeForm, ProgramForm}
 use Rattle.ada_meaning.specs.State.{Owned, declared, collection, record_object, storage_pool, Item, Master}
-use Rattle.ada_quiet.specs.Bare.{has_bare_objects, is_component_type}
+use Rattle.ada_quiet.specs.Bare.{has_bare_objects, holds_component}
 use Rattle.ada_quiet.specs.InUse.{may_allocate_parts}
 
--- An item is an object's, or, where such collections go first, that of an access type whose objects have controlled parts.
+-- For the objects of an item such an operation may be called: it is a declared object, or, where objects with controlled parts may be allocated, the collection of
+-- an access type whose objects have some.
 abbrev pub goes_first : (parts : Bool) → List TypeForm → Owned → Bool
 goes_first parts types (declared x) = true
 goes_first parts types (record_object t) = true
@@ -18,17 +19,35 @@ goes_first parts types (storage_pool declaration number) = false
 abbrev pub ahead_in : ProgramForm → Owned → Bool
 ahead_in p owned = goes_first (may_allocate_parts p) p.types owned
 
--- The collection of an access type is created behind this item: no component is of that type, or the item is no collection of objects with controlled parts.
-abbrev pub IsApartFrom : List TypeForm → (access : ℕ) → Owned → Type 0
-IsApartFrom types t (declared x) = Unit {0}
-IsApartFrom types t (record_object u) = Unit {0}
-IsApartFrom types t (collection access pool) = (has_bare_objects types access || not (is_component_type types t)) ≡ true
-IsApartFrom types t (storage_pool declaration number) = Unit {0}
+-- The objects of an item, if it is a collection, have no component of an access type.
+abbrev pub HoldsNone : List TypeForm → (access : ℕ) → Owned → Type 0
+HoldsNone types t (declared x) = Unit {0}
+HoldsNone types t (collection v pool) = holds_component types t v ≡ false
+HoldsNone types t (record_object u) = Unit {0}
+HoldsNone types t (storage_pool declaration number) = Unit {0}
 
 -- So it is with each of these items.
+abbrev pub AllHoldNone : List TypeForm → (access : ℕ) → List Item → Type 0
+AllHoldNone types t [] = Unit {0}
+AllHoldNone types t (i ∷ is) = HoldsNone types t i.owned × AllHoldNone types t is
+
+-- An item is a collection of objects with controlled parts.
+abbrev pub houses_parts : List TypeForm → Owned → Bool
+houses_parts types (declared x) = false
+houses_parts types (collection v pool) = not (has_bare_objects types v)
+houses_parts types (record_object u) = false
+houses_parts types (storage_pool declaration number) = false
+
+-- At such an item one thing holds, and at another one something else.
+abbrev pub AtParts : (parts : Bool) → (here later : Type 0) → Type 0
+AtParts true here later = here
+AtParts false here later = later
+
+-- The collection of an access type is created behind these items, the newest one first: from the first one on that is a collection of objects with controlled
+-- parts, none has objects with a component of that type.
 abbrev pub IsApart : List TypeForm → (access : ℕ) → List Item → Type 0
 IsApart types t [] = Unit {0}
-IsApart types t (i ∷ is) = IsApartFrom types t i.owned × IsApart types t is
+IsApart types t (i ∷ is) = AtParts (houses_parts types i.owned) (HoldsNone types t i.owned × AllHoldNone types t is) (IsApart types t is)
 
 -- An item is no collection, or it is one that is created apart from older ones.
 abbrev pub GoesApart : List TypeForm → Owned → (older : List Item) → Type 0

@@ -73,6 +73,11 @@ module _ (program : Program) (well : IsWellFormed (program_form program)) where
   parts_allocated : may_allocate_parts p ≡ true → list_all (has_bare_components p.types) p.types ≡ true
   parts_allocated may = (apart (list_all (has_bare_components p.types) p.types) (collections_in_order p) may).0
 
+  -- So what a component is to name there is of a type whose objects are bare.
+  pub named_are_bare : may_allocate_parts p ≡ true → (holder c access : ℕ) → access_of (kind_among (reached_components p.types holder) c) ≡ Some access
+      → has_bare_objects p.types access ≡ true
+  named_are_bare may holder c access is = reached_bare p.types (parts_allocated may) (named_in (slice_get p.types holder)) c access is
+
   -- Where operations may be frugal, none is allocated, or each may be.
   parts_where : may_be_frugal p ≡ true → (allocates_no_parts p ≡ true) ⊎ (may_allocate_parts p ≡ true)
   parts_where may =
@@ -84,7 +89,7 @@ module _ (program : Program) (well : IsWellFormed (program_form program)) where
     where
       by : (allocates_no_parts p ≡ true) ⊎ (may_allocate_parts p ≡ true) → has_bare_objects p.types access ≡ true
       by (inl none) = bare_access p.types none access (accepted_access p.types well.types_fit holder c access is)
-      by (inr parts) = reached_bare p.types (parts_allocated parts) (named_in (slice_get p.types holder)) c access is
+      by (inr parts) = named_are_bare parts holder c access is
 
   -- So none is to name an object for which an operation is called that touches storage.
   pub components_untouched : ComponentsUntouched p.types (touches_in p)

@@ -30,7 +30,7 @@ use Rattle.ada_meaning.specs.Step.{halts, moves, all_tasks, record_tasks, treati
 use Rattle.ada_meaning.specs.Named.{State, Next, named, whole, base, part_base, inside, look, returned, on_object, reads_boolean}
 use Rattle.ada_meaning.specs.Run.{Event}
 use Rattle.ada_quiet.specs.Apart.{is_bare_right, declare_apart, all_call_apart, branches_call_apart, handlers_call_apart, body_calls_apart}
-use Rattle.ada_sound.proofs.Coming.{AllNext}
+use Rattle.ada_idle.proofs.Coming.{AllNext}
 
 module _ (forms : List TypeForm) (tracks : ℕ → Bool) where
   -- Statements that a frame holds call no procedure that tracks; a call is of none, and neither are those of its body. What is evaluated

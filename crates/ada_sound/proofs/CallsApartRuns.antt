@@ -13,7 +13,7 @@ use Rattle.ada_meaning.specs.Run.{Event, Choice, Step, Run, here, there, first_s
 use Rattle.ada_quiet.specs.Apart.{is_bare_right, body_calls_apart}
 use Rattle.ada_sound.proofs.CallsApart.{CallApart, elaborates_apart}
 use Rattle.ada_sound.proofs.CallsApartSteps.{calls_stay_apart}
-use Rattle.ada_sound.proofs.Coming.{led_next}
+use Rattle.ada_idle.proofs.Coming.{led_next}
 
 module _ (forms : List TypeForm) (tracks : ℕ → Bool) where
   -- A call that is next is of no procedure that tracks.

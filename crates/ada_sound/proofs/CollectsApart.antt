@@ -1,9 +1,10 @@
--- The collections of each master are created in order (7.6.1): none of a component's type behind one whose objects have controlled parts. So they are in what
--- is left to do: in each declarative part, and behind the items that its master has already. Paths, values and Free keep that.
+-- The collections of each master are created in order (7.6.1): none of an access type of which the objects of an older one have a component, from the newest one
+-- on whose objects have controlled parts. So they are in what is left to do: in each declarative part, and behind the items that its master has already. Paths,
+-- values and Free keep that.
 
-use Rattle.std.proofs.Common.{◌≡◌, ℕ, Bool, true, false, not, ◌&&◌, ◌||◌, if◌then◌else◌, List, [], ◌∷◌, length, Option, Some, None, Result, Ok, Err, refl, sym, subst, ◌⊎◌, inl, inr}
+use Rattle.std.proofs.Common.{◌≡◌, ℕ, Bool, true, false, not, ◌&&◌, if◌then◌else◌, List, [], ◌∷◌, length, Option, Some, None, Result, Ok, Err, refl, sym, subst, ◌⊎◌, inl, inr}
 use Rattle.std.specs.List.{list_all, slice_get}
-use Rattle.std.proofs.lemmas.Bool.{and_parts}
+use Rattle.std.proofs.lemmas.Bool.{and_parts, not-true}
 use Rattle.ada_program.specs.declared.program.TypeDefinition.{TypeDefinition}
 use Rattle.ada_program.specs.Form.{RecordPathForm, ExpressionForm, integer, boolean, reads, is_null, applied_to, chained, LinksForm, no_more_links, a_link, ItemForm, null_item, item_of_path, item_of_value, item_of_record, RightForm, nothing, value_of, allocates, allocates_default, computes, StmtsForm, HandlersForm, DeclarationForm}
 use Rattle.ada_program.specs.Nested.{collected}
@@ -31,10 +32,11 @@ use Rattle.ada_meaning.specs.Heap.{Cell, Found, on_null, on_gone, on_other, find
 use Rattle.ada_meaning.specs.Step.{halts, moves, all_tasks, record_tasks, older, owning, treating, copy_next, record_assign_next, assigns_next, at, held, newest, reading, component_next, follow_next, path_next, before_last, last_of, selected, named_next, holder_next, place_in, record_holder_next, referred_next, refers_next, open_next, opened_next, opens_next, expression_next, null_test_next, is_decided, link_next, links_next, outcome_next, item_next, items_next, copied_next, copies_next, newest_ones, without_newest, record_in, record_target_next, record_stored_next, store_record_next, answered, new_next, right_next, free_next, end_next, same_pool, told_back, given_back, back_next, freeing, freeing_next, freed_next, free_component_next, free_in_next}
 use Rattle.ada_meaning.specs.Named.{State, Next, named, whole, base, part_base, inside, look, returned, on_object, reads_boolean}
 use Rattle.ada_meaning.specs.Run.{Event}
-use Rattle.ada_quiet.specs.Bare.{has_bare_objects, is_component_type, collect_in_order, stmts_in_order, branches_in_order, handlers_in_order, body_in_order}
+use Rattle.ada_quiet.specs.Bare.{has_bare_objects, holds_component, is_apart_from, collect_in_order}
 use Rattle.ada_scopes.proofs.Control.{is_confine, Either}
-use Rattle.ada_sound.proofs.Ahead.{IsApartFrom, IsApart, GoesApart, ItemsApart, MastersApart}
-use Rattle.ada_sound.proofs.Coming.{AllNext, all_next}
+use Rattle.ada_sound.proofs.Ahead.{HoldsNone, AllHoldNone, houses_parts, AtParts, IsApart, GoesApart, ItemsApart, MastersApart}
+use Rattle.ada_sound.proofs.PartsInOrder.{part_in_order, stmts_in_order, branches_in_order, handlers_in_order, body_in_order, alone_in_order}
+use Rattle.ada_idle.proofs.Coming.{AllNext, all_next}
 
 -- The items of the innermost master.
 abbrev pub first_items : List Master → List Item
@@ -46,17 +48,24 @@ abbrev pub past : (master : Bool) → List Master → List Master
 past true ms = older ms
 past false ms = ms
 
-module _ (forms : List TypeForm) where
-  -- Each of these collections may be created behind these items.
-  abbrev pub ComeApart : (coming : List ℕ) → List Item → Type 0
-  ComeApart [] is = Unit {0}
-  ComeApart (t ∷ ts) is = IsApart forms t is × ComeApart ts is
+-- The access type of an item, if it is a collection, in front of others.
+abbrev pub housed_with : Owned → (older : List ℕ) → List ℕ
+housed_with (declared x) ts = ts
+housed_with (collection access pool) ts = access ∷ ts
+housed_with (record_object u) ts = ts
+housed_with (storage_pool declaration number) ts = ts
 
+-- The access types of the collections among items, the newest one first.
+abbrev pub housed_by : List Item → List ℕ
+housed_by [] = []
+housed_by (i ∷ is) = housed_with i.owned (housed_by is)
+
+module _ (forms : List TypeForm) where
   -- The declarative parts in what a frame holds are in order. One that is under way comes behind what its master has.
   abbrev pub FrameInOrder : List Master → Frame Value → Type 0
   FrameInOrder ms (frame.Elaborates ds fs hs) =
-      ((collect_in_order forms (collected ds) ≡ true) × ((stmts_in_order forms fs ≡ true) × (handlers_in_order forms hs ≡ true)))
-      × (ItemsApart forms (first_items ms) × ComeApart (collected ds) (first_items ms))
+      ((collect_in_order forms (housed_by (first_items ms)) (collected ds) ≡ true) × ((stmts_in_order forms fs ≡ true) × (handlers_in_order forms hs ≡ true)))
+      × ItemsApart forms (first_items ms)
   FrameInOrder ms (frame.Does fs) = stmts_in_order forms fs ≡ true
   FrameInOrder ms (frame.Decides fs branches) = (stmts_in_order forms fs ≡ true) × (branches_in_order forms branches ≡ true)
   FrameInOrder ms (frame.Repeats condition fs) = stmts_in_order forms fs ≡ true
@@ -120,7 +129,7 @@ module _ (forms : List TypeForm) where
   mutual
     pub masters_of : (k : List (Frame Value)) (ms : List Master) → Orderly forms k ms → MastersApart forms ms
     masters_of [] ms h = h
-    masters_of (frame.Elaborates ds fs hs ∷ k) ms h = with_first ms h.0.1.0 (masters_of k (older ms) h.1)
+    masters_of (frame.Elaborates ds fs hs ∷ k) ms h = with_first ms h.0.1 (masters_of k (older ms) h.1)
     masters_of (frame.Closes ∷ k) ms h = with_first ms h.0 (masters_of k (older ms) h.1)
     masters_of (frame.Leaves mode ∷ k) ms h = absurd h.0
     masters_of (frame.Confines ∷ k) ms (own, inl h) = masters_of k ms h
@@ -135,26 +144,21 @@ module _ (forms : List TypeForm) where
     masters_going (frame.GivesBack v cause pool ∷ k) ms h = masters_going k ms h
     masters_going (f ∷ k) ms h = absurd h
 
-  -- Behind no item each collection may be created.
-  come_first : (coming : List ℕ) → ComeApart forms coming []
-  come_first [] = tt
-  come_first (t ∷ ts) = (tt, come_first ts)
-
   -- A master that is entered has no item yet: so it is with a body, or a block, whose declarations are next (3.11).
   pub elaborates_orderly : (number : ℕ) (ms : List Master) (ds : List DeclarationForm) (fs : StmtsForm) (hs : HandlersForm)
-      → collect_in_order forms (collected ds) && stmts_in_order forms fs && handlers_in_order forms hs ≡ true
+      → part_in_order forms ds && stmts_in_order forms fs && handlers_in_order forms hs ≡ true
       → FrameInOrder forms (record { number = number; items = [] } ∷ ms) (frame.Elaborates ds fs hs)
   elaborates_orderly number ms ds fs hs own =
-      let outer = and_parts (collect_in_order forms (collected ds) && stmts_in_order forms fs) (handlers_in_order forms hs) own in
-      let inner = and_parts (collect_in_order forms (collected ds)) (stmts_in_order forms fs) outer.0 in
-      ((inner.0, (inner.1, outer.1)), (tt, come_first (collected ds)))
+      let outer = and_parts (part_in_order forms ds && stmts_in_order forms fs) (handlers_in_order forms hs) own in
+      let inner = and_parts (part_in_order forms ds) (stmts_in_order forms fs) outer.0 in
+      ((inner.0, (inner.1, outer.1)), tt)
 
-  -- The innermost master owns one more item (7.6.1), which is no collection: any collection may be created behind it, and it may be created anywhere.
-  from_other : (t : ℕ) (owned : Owned) → IsOther forms owned → IsApartFrom forms t owned
-  from_other t (declared x) other = tt
-  from_other t (collection access pool) other = absurd other
-  from_other t (record_object u) other = tt
-  from_other t (storage_pool declaration number) other = tt
+  -- The innermost master owns one more item (7.6.1), which is no collection: the collections of that master are as before, and it may be created anywhere.
+  other_housed : (owned : Owned) (ts : List ℕ) → IsOther forms owned → housed_with owned ts ≡ ts
+  other_housed (declared x) ts other = refl
+  other_housed (collection access pool) ts other = absurd other
+  other_housed (record_object u) ts other = refl
+  other_housed (storage_pool declaration number) ts other = refl
 
   other_goes : (owned : Owned) (is : List Item) → IsOther forms owned → GoesApart forms owned is
   other_goes (declared x) is other = tt
@@ -166,34 +170,56 @@ module _ (forms : List TypeForm) where
   older_owning item [] = refl
   older_owning item (m ∷ ms) = refl
 
-  -- A collection is created behind the items of the innermost master, of which those are apart that come then.
-  or_and : (b c d : Bool) → b || (c && d) ≡ true → (b || c ≡ true) × (b || d ≡ true)
-  or_and true c d h = (refl, refl)
-  or_and false c d h = and_parts c d h
+  -- The objects of none of these access types have a component of another one.
+  abbrev NoneHolds : (access : ℕ) → List ℕ → Type 0
+  NoneHolds t vs = list_all (λ w. not (holds_component forms t w)) vs ≡ true
 
-  come_behind : (access : ℕ) (pool : Option ℕ) (number : ℕ) (coming : List ℕ) (is : List Item)
-      → has_bare_objects forms access || list_all (λ u. not (is_component_type forms u)) coming ≡ true → ComeApart forms coming is
-      → ComeApart forms coming (record { number = number; owned = collection access pool } ∷ is)
-  come_behind access pool number [] is first come = tt
-  come_behind access pool number (t ∷ ts) is first come =
-      let both = or_and (has_bare_objects forms access) (not (is_component_type forms t)) (list_all (λ u. not (is_component_type forms u)) ts) first in
-      ((both.0, come.0), come_behind access pool number ts is both.1 come.1)
-
-  pub collects_orderly : (access : ℕ) (pool : Option ℕ) (number : ℕ) (coming : List ℕ) (ms : List Master)
-      → collect_in_order forms (access ∷ coming) ≡ true → ItemsApart forms (first_items ms) × ComeApart forms (access ∷ coming) (first_items ms)
-      → (collect_in_order forms coming ≡ true)
-      × (ItemsApart forms (first_items (owning (record { number = number; owned = collection access pool }) ms))
-      × ComeApart forms coming (first_items (owning (record { number = number; owned = collection access pool }) ms)))
-  collects_orderly access pool number coming ms own h = (both.1, by ms h)
+  -- So it is with the objects of items, if it is so with the collections among these.
+  all_hold_none : (t : ℕ) (is : List Item) → NoneHolds t (housed_by is) → AllHoldNone forms t is
+  all_hold_none t [] none = tt
+  all_hold_none t (i ∷ is) none = by i.owned (all_hold_none t is) none
     where
-      both : (has_bare_objects forms access || list_all (λ u. not (is_component_type forms u)) coming ≡ true) × (collect_in_order forms coming ≡ true)
-      both = and_parts (has_bare_objects forms access || list_all (λ u. not (is_component_type forms u)) coming) (collect_in_order forms coming) own
+      by : (owned : Owned) → (NoneHolds t (housed_by is) → AllHoldNone forms t is) → NoneHolds t (housed_with owned (housed_by is))
+          → HoldsNone forms t owned × AllHoldNone forms t is
+      by (declared x) later none' = (tt, later none')
+      by (collection v pool) later none' =
+          let both = and_parts (not (holds_component forms t v)) (list_all (λ w. not (holds_component forms t w)) (housed_by is)) none' in
+          (not-true (holds_component forms t v) both.0, later both.1)
+      by (record_object u) later none' = (tt, later none')
+      by (storage_pool declaration number) later none' = (tt, later none')
 
-      by : (ms' : List Master) → ItemsApart forms (first_items ms') × ComeApart forms (access ∷ coming) (first_items ms')
-          → ItemsApart forms (first_items (owning (record { number = number; owned = collection access pool }) ms'))
-          × ComeApart forms coming (first_items (owning (record { number = number; owned = collection access pool }) ms'))
-      by [] h' = (tt, h'.1.1)
-      by (m ∷ ms') h' = ((h'.1.0, h'.0), come_behind access pool number coming m.items both.0 h'.1.1)
+  -- So a collection is created apart from items where it is apart from the collections among these.
+  housed_apart : (t : ℕ) (is : List Item) → is_apart_from forms t (housed_by is) ≡ true → IsApart forms t is
+  housed_apart t [] apart = tt
+  housed_apart t (i ∷ is) apart = by i.owned (housed_apart t is) apart
+    where
+      by_parts : (v : ℕ) (bare : Bool) → (is_apart_from forms t (housed_by is) ≡ true → IsApart forms t is)
+          → (if bare then is_apart_from forms t (housed_by is) else list_all (λ w. not (holds_component forms t w)) (v ∷ housed_by is)) ≡ true
+          → AtParts (not bare) ((holds_component forms t v ≡ false) × AllHoldNone forms t is) (IsApart forms t is)
+      by_parts v true later apart' = later apart'
+      by_parts v false later apart' =
+          let both = and_parts (not (holds_component forms t v)) (list_all (λ w. not (holds_component forms t w)) (housed_by is)) apart' in
+          (not-true (holds_component forms t v) both.0, all_hold_none t is both.1)
+
+      by : (owned : Owned) → (is_apart_from forms t (housed_by is) ≡ true → IsApart forms t is)
+          → is_apart_from forms t (housed_with owned (housed_by is)) ≡ true
+          → AtParts (houses_parts forms owned) (HoldsNone forms t owned × AllHoldNone forms t is) (IsApart forms t is)
+      by (declared x) later apart' = later apart'
+      by (collection v pool) later apart' = by_parts v (has_bare_objects forms v) later apart'
+      by (record_object u) later apart' = later apart'
+      by (storage_pool declaration number) later apart' = later apart'
+
+  -- A collection is created apart from the items of the innermost master, and then it is one of these: behind it come the others, in order.
+  pub collects_orderly : (access : ℕ) (pool : Option ℕ) (number : ℕ) (coming : List ℕ) (ms : List Master)
+      → collect_in_order forms (housed_by (first_items ms)) (access ∷ coming) ≡ true → ItemsApart forms (first_items ms)
+      → (collect_in_order forms (housed_by (first_items (owning (record { number = number; owned = collection access pool }) ms))) coming ≡ true)
+      × ItemsApart forms (first_items (owning (record { number = number; owned = collection access pool }) ms))
+  collects_orderly access pool number coming [] own h =
+      let both = and_parts (is_apart_from forms access []) (collect_in_order forms (access ∷ []) coming) own in
+      (alone_in_order forms coming (access ∷ []) both.1, tt)
+  collects_orderly access pool number coming (m ∷ ms) own h =
+      let both = and_parts (is_apart_from forms access (housed_by m.items)) (collect_in_order forms (access ∷ housed_by m.items) coming) own in
+      (both.1, (housed_apart access m.items both.0, h))
 
   -- What is left behind the declarations goes on without that.
   pub past_owning : (item : Item) (k : List (Frame Value)) (ms : List Master) → Orderly forms k (older ms)
@@ -202,17 +228,17 @@ module _ (forms : List TypeForm) where
 
   -- One that is no collection comes in front of them.
   module _ (item : Item) (other : IsOther forms item.owned) where
-    come_other : (coming : List ℕ) (is : List Item) → ComeApart forms coming is → ComeApart forms coming (item ∷ is)
-    come_other [] is come = tt
-    come_other (t ∷ ts) is come = ((from_other t item.owned other, come.0), come_other ts is come.1)
-
     other_apart : (ms : List Master) → ItemsApart forms (first_items ms) → ItemsApart forms (first_items (owning item ms))
     other_apart [] h = h
     other_apart (m ∷ ms) h = (other_goes item.owned m.items other, h)
 
-    other_comes : (coming : List ℕ) (ms : List Master) → ComeApart forms coming (first_items ms) → ComeApart forms coming (first_items (owning item ms))
-    other_comes coming [] come = come
-    other_comes coming (m ∷ ms) come = come_other coming m.items come
+    housed_as_before : (ms : List Master) → housed_by (first_items (owning item ms)) ≡ housed_by (first_items ms)
+    housed_as_before [] = refl
+    housed_as_before (m ∷ ms) = other_housed item.owned (housed_by m.items) other
+
+    other_comes : (coming : List ℕ) (ms : List Master) → collect_in_order forms (housed_by (first_items ms)) coming ≡ true
+        → collect_in_order forms (housed_by (first_items (owning item ms))) coming ≡ true
+    other_comes coming ms ordered = rw (housed_as_before ms) ordered
 
     other_masters : (ms : List Master) → MastersApart forms ms → MastersApart forms (owning item ms)
     other_masters [] h = h
@@ -229,7 +255,7 @@ module _ (forms : List TypeForm) where
     pub orderly_owning : (k : List (Frame Value)) (ms : List Master) → Orderly forms k ms → Orderly forms k (owning item ms)
     orderly_owning [] ms h = other_masters ms h
     orderly_owning (frame.Elaborates ds fs hs ∷ k) ms h =
-        ((h.0.0, (other_apart ms h.0.1.0, other_comes (collected ds) ms h.0.1.1)), past_owning item k ms h.1)
+        (((other_comes (collected ds) ms h.0.0.0, h.0.0.1), other_apart ms h.0.1), past_owning item k ms h.1)
     orderly_owning (frame.Closes ∷ k) ms h = (other_apart ms h.0, past_owning item k ms h.1)
     orderly_owning (frame.Leaves mode ∷ k) ms h = absurd h.0
     orderly_owning (frame.Confines ∷ k) ms (own, inl h) = (own, inl (orderly_owning k ms h))

@@ -8,12 +8,13 @@ use Rattle.ada_program.specs.Form.{stmt_forms, handler_forms, declaration_forms}
 use Rattle.ada_program.specs.ProgramForm.{TypeForm, main_body, body_forms, program_form}
 use Rattle.ada_meaning.specs.Named.{State, next}
 use Rattle.ada_meaning.specs.Run.{Event, Choice, Step, Run, here, there, first_state}
-use Rattle.ada_quiet.specs.Bare.{body_in_order, collections_in_order, has_bare_components}
+use Rattle.ada_quiet.specs.Bare.{collections_in_order, has_bare_components}
 use Rattle.ada_quiet.specs.InUse.{may_allocate_parts}
 use Rattle.ada_sound.proofs.Ahead.{MastersApart}
 use Rattle.ada_sound.proofs.CollectsApart.{Good, masters_of, masters_going, elaborates_orderly}
 use Rattle.ada_sound.proofs.CollectsApartSteps.{next_good}
-use Rattle.ada_sound.proofs.Coming.{led_next}
+use Rattle.ada_sound.proofs.PartsInOrder.{body_in_order, parts_in_order}
+use Rattle.ada_idle.proofs.Coming.{led_next}
 use Rattle.ada_sound.proofs.Starts.{IsReached}
 
 module _ (forms : List TypeForm) where
@@ -44,7 +45,7 @@ pub masters_apart : (program : Program) → collections_in_order (program_form p
     → Run program (first_state program input) events last → MastersApart (program_form program).types last.masters
 masters_apart program ordered input events last run =
     let forms = (program_form program).types in
-    let both = and_parts (body_in_order forms (main_body (program_form program))) (list_all (body_in_order forms) (program_form program).bodies) ordered in
+    let both = parts_in_order (program_form program) ordered in
     good_apart forms last (run_good forms program both.1 (first_state program input) last events (first_good forms program both.0 input) run)
 
 -- And so it is in a state that a run comes to, where objects with controlled parts may be allocated beside operations that touch storage.

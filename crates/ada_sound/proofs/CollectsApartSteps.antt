@@ -28,8 +28,8 @@ use Rattle.ada_meaning.specs.Heap.{Cell, Found, on_null, on_gone, on_other, find
 use Rattle.ada_meaning.specs.Step.{moves, older, owning, has_parts, all_tasks, at, popped, held, newest, newest_ones, without_newest, initial_values, made, record_next, storing, assign_next, target_next, stored_next, store_next, frees_next, branches_next, decided_next, turn_next, repeats_next, turned_next, count_turn_next, ranges_next, gets_next, received_next, receive_next, exit_next, exited_next, computing, call_next, stmt_next, stmts_next, line_next, declarations_next, frame_next, left_by, unwound, undo_next, broken_next, broken_off, landed, running_next, jump_next, mode_next}
 use Rattle.ada_meaning.specs.Named.{State, next, named, same, look, lent, reads_boolean, reads_null, reads_integer, unary_given, binary_given}
 use Rattle.ada_meaning.specs.State.{declared, collection, record_object, storage_pool, Master, height, home_of, pool_for, pools_in}
-use Rattle.ada_quiet.specs.Bare.{stmt_in_order, stmts_in_order, branches_in_order, handlers_in_order, body_in_order}
 use Rattle.ada_sound.proofs.CollectsApart.{past, FrameInOrder, Orderly, Stands, Good, AllOrderly, AllGood, all_good, collects_orderly, past_owning, orderly_owning, elaborates_orderly, treating_orderly, path_orderly, holder_orderly, record_holder_orderly, expression_orderly, null_test_orderly, links_orderly, outcome_orderly, items_orderly, copies_orderly, record_target_orderly, store_record_orderly, record_assign_orderly, assigns_orderly, new_orderly, refers_orderly, open_orderly, opens_orderly, right_orderly, free_orderly, free_in_orderly, end_orderly, back_orderly}
+use Rattle.ada_sound.proofs.PartsInOrder.{stmt_in_order, stmts_in_order, branches_in_order, handlers_in_order, body_in_order}
 use Rattle.ada_sound.proofs.CollectsApartTreatments.{body_at, back_good, awaited_orderly, treats_orderly, treats_good, going_good}
 
 module _ (forms : List TypeForm) (bodies : List BodyForm) (each : list_all (body_in_order forms) bodies ≡ true) where
@@ -207,7 +207,7 @@ module _ (forms : List TypeForm) (bodies : List BodyForm) (each : list_all (body
   declarations_orderly : (types : List TypeDefinition) (ds : List DeclarationForm) (fs : StmtsForm) (hs : HandlersForm) (s : State)
       → FrameInOrder forms s.masters (frame.Elaborates ds fs hs) → Orderly forms s.control (older s.masters)
       → AllOrderly forms (declarations_next named types ds fs hs s)
-  declarations_orderly types [] fs hs s own h = (own.0.1.0, (own.0.1.1, (own.1.0, h)))
+  declarations_orderly types [] fs hs s own h = (own.0.1.0, (own.0.1.1, (own.1, h)))
   declarations_orderly types (creates_pool p ∷ ds) fs hs s own h =
       orderly_owning forms (record { number = height s.masters; owned = storage_pool p (pools_in s.masters + 1) }) tt
       (frame.Elaborates ds fs hs ∷ s.control) s.masters (own, h)
@@ -390,7 +390,7 @@ module _ (forms : List TypeForm) (bodies : List BodyForm) (each : list_all (body
   -- A master that it comes to is left first.
   jump_good : (mode : Mode) → IsJump mode → (k : List (Frame Value)) (s : State) → Orderly forms k s.masters → AllGood forms (jump_next named mode k s)
   jump_good mode jumps [] s h = tt
-  jump_good mode jumps (frame.Elaborates ds fs hs ∷ k) s h = inl (refl, (h.0.1.0, h.1))
+  jump_good mode jumps (frame.Elaborates ds fs hs ∷ k) s h = inl (refl, (h.0.1, h.1))
   jump_good mode jumps (frame.Closes ∷ k) s h = inl (refl, h)
   jump_good mode jumps (frame.Leaves left ∷ k) s h = absurd h.0
   jump_good mode jumps (frame.Confines ∷ k) s h = confined_good mode jumps (at k s)

@@ -28,9 +28,9 @@ use Rattle.ada_meaning.specs.Named.{State, named, look, lent, on_object, returne
 use Rattle.ada_meaning.specs.Run.{Event}
 use Rattle.ada_meaning.specs.State.{Owned, declared, collection, record_object, storage_pool, Item, Master}
 use Rattle.ada_meaning.specs.Step.{older, shorter, picked_task, all_tasks, halts, picks, direction_of, beginning as begun_by, at, treating, treated_on, operation_next, part_reference, born_next, begun_next, awaited_next, ended_next, finalized_next, performed_next, treats_next, same_pool, end_next, told_back, given_back, back_next, taken_out, members_next, item_leave_next, master_leave_next, leave_next, running_next}
-use Rattle.ada_quiet.specs.Bare.{body_in_order}
 use Rattle.ada_sound.proofs.Ahead.{ItemsApart}
 use Rattle.ada_sound.proofs.CollectsApart.{first_items, Orderly, Going, Stands, Good, AllOrderly, AllGood, all_good, elaborates_orderly, treating_orderly}
+use Rattle.ada_sound.proofs.PartsInOrder.{body_in_order}
 
 -- The declarative parts of each body are in order.
 pub body_at : (forms : List TypeForm) (bodies : List BodyForm) (procedure : ℕ) (b : BodyForm) → list_all (body_in_order forms) bodies ≡ true

@@ -3,7 +3,7 @@
 use Rattle.std.proofs.Common.{◌≡◌, ℕ, ◌==◌, Bool, true, false, not, ◌&&◌, ◌||◌, List, [], ◌∷◌, ◌++◌, length, map, drop, refl, sym, ap, ◌∙◌, arith, inl, inr}
 use Rattle.std.specs.Prelude.{Option, Some, None}
 use Rattle.std.specs.List.{list_all, list_any}
-use Rattle.std.proofs.lemmas.Bool.{eqb-true}
+use Rattle.std.proofs.lemmas.Bool.{eqb-true, not-true}
 use Rattle.ada_text.specs.declared.spot.Spot.{Spot}
 use Rattle.ada_program.specs.declared.program.ComponentKind.{ComponentKind}
 use Rattle.ada_program.specs.declared.program.ComponentKind.TheVariants as component
@@ -276,10 +276,6 @@ copied_whole types variables t of items numbered fits = by (finalization_of type
 pub may_copy : (types : List TypeForm) (variables : List VariableForm) (t : ℕ) (items : List ItemForm) → fits_record types variables t items ≡ true → (f : Finalization) → finalization_of types t ≡ Some f → f.limited ≡ false
 may_copy types variables t items fits f is = by (finalization_of types t) is (fits_whole types variables t items fits)
   where
-    no_not : (b : Bool) → not b ≡ true → b ≡ false
-    no_not true e = absurd (cc e)
-    no_not false e = refl
-
     by : (found : Option Finalization) → found ≡ Some f → copies_whole t found items ≡ true → f.limited ≡ false
     by None at copies = absurd (cc at)
-    by (Some g) at copies = let same : g ≡ f = cc at in rw (← same) (no_not g.limited (both (not g.limited) (is_copy t items) copies).0)
+    by (Some g) at copies = let same : g ≡ f = cc at in rw (← same) (not-true g.limited (both (not g.limited) (is_copy t items) copies).0)

@@ -26,8 +26,8 @@ use Rattle.ada_typed.proofs.Parts.{firsts_known, shown_number, shown_shapes}
 use Rattle.ada_typed.proofs.Walking.{walks_to}
 use Rattle.ada_sound.proofs.CopiedOwners.{IsHidden, Covered, IsDeclaredWithin, AreDeclaredWithin, AreCovered, declared_owners, owners_numbered, part_owners, owners_left}
 use Rattle.ada_sound.proofs.OnlyParts.{IsControlled}
-use Rattle.ada_sound.proofs.CopyParts.{tail_in}
-use Rattle.ada_sound.proofs.Placed.{flat_in, first_placed, number_known, numbered_as, part_lies_in, shown_table}
+use Rattle.ada_sound.proofs.CopyParts.{shapes_table, tail_in}
+use Rattle.ada_sound.proofs.Placed.{flat_in, first_placed, number_known, numbered_as, part_lies_in}
 
 -- What is among some components has a number there.
 found_in : (ns : List ℕ) (c n k : ℕ) → k < length ns → slice_index_or ns k c ≡ c → (i : ℕ) × (number_at ns n c ≡ Some i)
@@ -116,7 +116,7 @@ module _ (program : Program) (well : IsWellFormed (program_form program)) where
       let firsts = firsts_known types access in
       let below = number_known types well.types_fit t of is in
       let left =
-      Contains-permutation (parts_at shapes of number) (parts_left shapes tasks) q (left_opened shapes PartsFirst of number (shown_table program well) below)
+      Contains-permutation (parts_at shapes of number) (parts_left shapes tasks) q (left_opened shapes PartsFirst of number (shapes_table program well) below)
       (part_lies_in program well access t of first number d k r c is walks inside) in
       let there = walks_to types (object_named types (Some access)) (Some t) (Some r) first number d k walks inside in
       let begins = first_placed program well access r (first + d) (number + k) c there in

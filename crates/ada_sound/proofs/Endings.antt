@@ -325,8 +325,8 @@ module _ (known : Known) where
         let there : is_there x.stage ≡ true = rw exists refl in
         let type = newest_is x.cell.home.item x.cell.access x.cell.home.pool item (items ++ items_of ms) member.home w.stored.counted (sane.housed (exists_out o x member.found exists w.stored)) in
         let none = none_owned item items x.cell.access x.cell.home.pool w.rooms w.holds type w.roomed w.rest in
-        let unnamed = taken_unnamed known.ahead known.program.types known.program.variables (outers known) s.heap a.places w.holds number item items ms none.0 w.fit none.1 held low o x member.found there member.home none.2 x.cell.home.pool type order in
-        let unreferred = taken_unreferred known.ahead known.program.types known.program.variables (outers known) s.heap a.places w.holds number item items ms none.0 w.fit none.1 held low o x member.found there member.home none.2 x.cell.home.pool type order in
+        let unnamed = taken_unnamed known.ahead known.program.types known.program.variables (outers known) s.heap a.places w.holds number item items ms none.0 w.fit (outers known).under w.stored none.1 held low o x member.found there member.home none.2 x.cell.home.pool type order in
+        let unreferred = taken_unreferred known.ahead known.program.types known.program.variables (outers known) s.heap a.places w.holds number item items ms none.0 w.fit (outers known).under w.stored none.1 held low o x member.found there member.home none.2 x.cell.home.pool type order in
         let under : Ending known o (GivesBack (Names o) (Leaving number item.number) pool ∷ Leaves mode ∷ k) (slice_set s.heap o.0 (parted x)) a.places (record { number = number; items = item ∷ items } ∷ ms) = record {
           object = parted x;
           found = set_here s.heap o.0 x (parted x) member.found;

@@ -1,6 +1,6 @@
 -- What is relied on in a run: variables of the running activation by their holds, and components, which own what they hold.
 
-use Rattle.std.proofs.Common.{not, ◌≡◌, ◌≢◌, ℕ, zero, suc, ◌+◌, Bool, true, false, List, [], ◌∷◌, ◌++◌, map, refl, sym, ap, ◌∙◌, ◌⊎◌, inl, inr, ◌&&◌}
+use Rattle.std.proofs.Common.{◌≡◌, ◌≢◌, ℕ, zero, suc, ◌+◌, Bool, true, false, List, [], ◌∷◌, ◌++◌, map, refl, sym, ap, ◌∙◌, ◌⊎◌, inl, inr}
 use Rattle.std.specs.Prelude.{Option, Some, None, ◌==◌, ◌||◌, if◌then◌else◌}
 use Rattle.std.specs.List.{slice_get, slice_set, slice_index_or}
 use Rattle.std.proofs.lemmas.Bool.{eqb-true}
@@ -124,14 +124,19 @@ lies_among (Some x) items = is_number_of items x.cell.home.item
 abbrev pub going : List Object → List Item → Id → Bool
 going heap items o = lies_among (object_at heap o) items
 
--- Is one of these items among those that go first?
-abbrev pub first_left : (ahead : Owned → Bool) → List Item → Bool
-first_left ahead [] = false
-first_left ahead (i ∷ is) = ahead i.owned || first_left ahead is
+-- The newest items of a master, in front of the first one for whose objects an operation may be called that touches storage.
+abbrev pub in_front : (ahead : Owned → Bool) → List Item → List Item
+in_front ahead [] = []
+in_front ahead (i ∷ is) = if ahead i.owned then [] else i ∷ in_front ahead is
 
--- While these items of a master are left, some go first, as its objects do: then nothing relies on the components of what lies in its collections.
+-- The items of a master from that one on.
+abbrev pub from_ahead : (ahead : Owned → Bool) → List Item → List Item
+from_ahead ahead [] = []
+from_ahead ahead (i ∷ is) = if ahead i.owned then i ∷ is else from_ahead ahead is
+
+-- Where a master is left, nothing relies on the components of what lies in the collections in front of that one: all of it is gone before such an operation is called.
 abbrev pub sparing : (ahead : Owned → Bool) → List Object → List Item → Id → Bool
-sparing ahead heap items o = not (first_left ahead items) && going heap items o
+sparing ahead heap items o = going heap (in_front ahead items) o
 
 -- What a place is relied on for.
 abbrev pub hold_in : Outsiders → (spared : Id → Bool) → Holds → Place → Hold
@@ -836,25 +841,29 @@ shorter_stays item items (Some x) c k none e =
     let there = is_present (is_there x.stage) (slice_index_or x.cell.values c Null) k e in
     first_only (item.number == x.cell.home.item) (is_number_of items x.cell.home.item) (λ is. none x refl there (sym (eqb-true item.number x.cell.home.item is)))
 
-lies_nowhere : (t : Option Object) → false ≡ lies_among t []
+-- No object lies among no items.
+pub lies_nowhere : (t : Option Object) → false ≡ lies_among t []
 lies_nowhere None = refl
 lies_nowhere (Some x) = refl
 
 -- While a master is left, homes stay as they are; an item goes whose collection is empty; and where none is left, all is relied on again.
 sparing_stays : (ahead : Owned → Bool) (heap : List Object) (items : List Item) (o : Id) (x y : Object) → object_at heap o ≡ Some x → y.cell.home ≡ x.cell.home → (k : Id) → sparing ahead (slice_set heap o.0 y) items k ≡ sparing ahead heap items k
-sparing_stays ahead heap items o x y found same k = ap (λ b. not (first_left ahead items) && b) (going_stays heap items o x y found same k)
+sparing_stays ahead heap items o x y found same k = going_stays heap (in_front ahead items) o x y found same k
 
 pub sparing_set : (ahead : Owned → Bool) (outer : Outsiders) → {types : List TypeForm} {variables : List VariableForm} {places : List Value} {holds : Holds} (heap : List Object) (items : List Item) (o : Id) (x y : Object) → object_at heap o ≡ Some x → y.cell.home ≡ x.cell.home → Fit types variables outer (sparing ahead heap items) (slice_set heap o.0 y) places holds → Fit types variables outer (sparing ahead (slice_set heap o.0 y) items) (slice_set heap o.0 y) places holds
 sparing_set ahead outer heap items o x y found same f =
     respare (sparing ahead heap items) (sparing ahead (slice_set heap o.0 y) items) (λ k c n e. sparing_stays ahead heap items o x y found same k) f
 
 pub sparing_shorter : (ahead : Owned → Bool) → {types : List TypeForm} {variables : List VariableForm} {outer : Outsiders} {heap : List Object} {places : List Value} {holds : Holds} (item : Item) (items : List Item) → ((o : Id) (x : Object) → object_at heap o ≡ Some x → is_there x.stage ≡ true → x.cell.home.item ≡ item.number → ⊥) → Fit types variables outer (sparing ahead heap (item ∷ items)) heap places holds → Fit types variables outer (sparing ahead heap items) heap places holds
-sparing_shorter ahead {types} {variables} {outer} {heap} {places} {holds} item items none f = by (ahead item.owned) (first_left ahead items) refl refl
+sparing_shorter ahead {types} {variables} {outer} {heap} {places} {holds} item items none f = by (ahead item.owned) refl
   where
-    by : (here later : Bool) → ahead item.owned ≡ here → first_left ahead items ≡ later → Fit types variables outer (sparing ahead heap items) heap places holds
-    by true later here rest = spare_fit (sparing ahead heap items) (respare (sparing ahead heap (item ∷ items)) none_spared (λ o c k e. rw here refl) f)
-    by false true here rest = respare (sparing ahead heap (item ∷ items)) (sparing ahead heap items) (λ o c k e. rw (here, rest) refl) f
-    by false false here rest = respare (sparing ahead heap (item ∷ items)) (sparing ahead heap items) (λ o c k e. rw (here, rest) (shorter_stays item items (object_at heap o) c k (none o) e)) f
+    by : (here : Bool) → ahead item.owned ≡ here → Fit types variables outer (sparing ahead heap items) heap places holds
+    by true here =
+        spare_fit (sparing ahead heap items)
+        (respare (sparing ahead heap (item ∷ items)) none_spared (λ o c k e. rw here (lies_nowhere (object_at heap o))) f)
+    by false here =
+        respare (sparing ahead heap (item ∷ items)) (sparing ahead heap items)
+        (λ o c k e. rw here (shorter_stays item (in_front ahead items) (object_at heap o) c k (none o) e)) f
 
 pub sparing_left : (ahead : Owned → Bool) → {types : List TypeForm} {variables : List VariableForm} {outer : Outsiders} {heap : List Object} {places : List Value} {holds : Holds} → Fit types variables outer (sparing ahead heap []) heap places holds → Fit types variables outer none_spared heap places holds
 sparing_left ahead {outer = outer} {heap = heap} f = respare (sparing ahead heap []) none_spared (λ o c k e. lies_nowhere (object_at heap o)) f

@@ -30,7 +30,7 @@ use Rattle.ada_meaning.specs.Step.{halts, moves, tells, asks, picks, same_pool, 
 use Rattle.ada_meaning.specs.Named.{State, Next, named, whole, inside, look, lent, standing, returned, on_object, reads_integer, reads_boolean, reads_null, unary_given, binary_given, next}
 use Rattle.ada_tracked.specs.Simple.{IsVariable, IsFrom, StatementIsSimple, StatementsAreSimple, FrameIsSimple}
 use Rattle.ada_tracked.specs.Staying.{IsWithinBody}
-use Rattle.ada_sound.proofs.Coming.{AllNext}
+use Rattle.ada_idle.proofs.Coming.{AllNext}
 
 -- The running activation has as many variables as before, and the first of them holds what it held.
 pub record SamePlaces (s after : State) : Type 0 where

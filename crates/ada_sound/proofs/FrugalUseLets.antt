@@ -2,11 +2,11 @@
 -- which such a part lies, and of a Finalize nothing.
 
 use Rattle.std.proofs.Common.{◌≡◌, ℕ, zero, suc, Bool, true, false, ◌&&◌, ◌||◌, List, [], ◌∷◌, ◌++◌, map, take, refl, sym, ap, ◌∙◌}
-use Rattle.std.proofs.lemmas.Bool.{or_left}
+use Rattle.std.proofs.lemmas.Bool.{not-true, or_left}
 use Rattle.std.proofs.lemmas.Option.{slice_get-map}
 use Rattle.std.specs.List.{filter, list_all, list_any, slice_get, slice_index_or}
 use Rattle.std.specs.Option.{option_map}
-use Rattle.std.specs.Prelude.{Option, Some, None, is_some, not}
+use Rattle.std.specs.Prelude.{Option, Some, None, is_some}
 use Rattle.ada_deeds.proofs.Known.{raises_are_done}
 use Rattle.ada_deeds.proofs.Parted.{does_parted}
 use Rattle.ada_deeds.proofs.Starting.{created_out}
@@ -51,10 +51,6 @@ none_among : (test among : Exception → Bool) (xs : List Exception) → ((e : E
 none_among test among [] none = refl
 none_among test among (x ∷ xs) none = rw (none x) (none_among test among xs none)
 
-no_no : (b : Bool) → not b ≡ true → b ≡ false
-no_no true e = absurd (cc e)
-no_no false e = refl
-
 -- A frugal body calls nothing implicitly (4.8, 7.6), since what it allocates has no controlled parts: what is known of implicit calls changes nothing of what it raises.
 module _ (p : ProgramForm) (types_fit : list_all (type_fits p.types) p.types ≡ true) where
   -- Nothing is done for a record without controlled parts.
@@ -72,7 +68,7 @@ module _ (p : ProgramForm) (types_fit : list_all (type_fits p.types) p.types ≡
   pub bare_does_nothing : (d : Deed) (operation : Operation) (access : ℕ) (o : Option TypeForm) → is_bare_access p.types o ≡ true → parts_do (does_by p d) operation (record_in access o) ≡ false
   bare_does_nothing d operation access None is = absurd (cc is)
   bare_does_nothing d operation access (Some (record_of name parts components finalization)) is = absurd (cc is)
-  bare_does_nothing d operation access (Some (access_to name designated pool)) is = does_nothing d operation designated (no_no (is_some (finalization_of p.types designated)) is)
+  bare_does_nothing d operation access (Some (access_to name designated pool)) is = does_nothing d operation designated (not-true (is_some (finalization_of p.types designated)) is)
   bare_does_nothing d operation access (Some (object_of record_type)) is = absurd (cc is)
 
   -- So its creation does nothing, whatever is asked for.

@@ -3,7 +3,7 @@
 use Rattle.std.proofs.Common.{◌≡◌, ◌≢◌, ℕ, zero, suc, ◌<◌, Bool, true, false, ◌&&◌, ◌||◌, List, [], ◌∷◌, ◌++◌, length, refl, sym, ap, ◌∙◌, ◌⊎◌, inl, inr, arith}
 use Rattle.std.specs.Prelude.{Option, Some, None, not, if◌then◌else◌}
 use Rattle.std.specs.List.{slice_get, slice_set}
-use Rattle.std.proofs.lemmas.Bool.{or_left, or_cases, and_parts, eqb-true}
+use Rattle.std.proofs.lemmas.Bool.{or_left, or_cases, and_parts, eqb-true, false_from_ne_true}
 use Rattle.ada_text.specs.declared.spot.Spot.{Spot}
 use Rattle.ada_program.specs.declared.program.FormalMode.{FormalMode}
 use Rattle.ada_program.specs.declared.program.FormalMode.TheVariants.{In, InOut}
@@ -331,10 +331,6 @@ declared_records_are_their_own types variables implicit x object initial holds a
 
 -- A component is freed where its way is safe.
 
-not_true : (b : Bool) → (b ≡ true → ⊥) → b ≡ false
-not_true true never = absurd (never refl)
-not_true false never = refl
-
 freed_one : (may : ℕ → Bool) (access : Option ℕ) → is_freed may access ≡ true → (t : ℕ) × (may t ≡ true) × (access ≡ Some t)
 freed_one may None is = absurd (cc is)
 freed_one may (Some t) is = (t, is, refl)
@@ -445,7 +441,7 @@ safe_frees_are_let_through types variables around cleared access u c cs path hol
     unbroken : freed_behind (way_reached types variables implicit path held (Some u)) held path.spot ≡ None
     unbroken =
         safe_none (way_reached types variables implicit path held (Some u)) held path.spot
-        (not_true (way_reached types variables implicit path held (Some u))
+        (false_from_ne_true (way_reached types variables implicit path held (Some u))
         (either_no (passes_own types variables path (Some u) || passes_reached types variables implicit path (Some u)) (formal_reached types variables implicit path held (Some u))
         (either_no (passes_own types variables path (Some u)) (passes_reached types variables implicit path (Some u)) no_own no_reached) no_formal))
         there

@@ -83,8 +83,8 @@ Roomed below ms [] = ms ≡ below
 Roomed below [] (gone ∷ rooms) = ⊥
 Roomed below (m ∷ ms) (gone ∷ rooms) = ItemsAmong m.items gone.types × Roomed below ms rooms
 
--- A caller, whose activation is suspended: what is known of implicit calls; the program as its body sees it, which items go first where a master is left, for objects of which types an
--- operation may be called that touches storage, and what is known where flow comes to a place in it; the actual parameters of its call, their values, what refers to the components that get something back, the objects to which all that refers leads, those that are under
+-- A caller, whose activation is suspended: what is known of implicit calls; the program as its body sees it, for the objects of which items an operation may be called that touches
+-- storage where a master is left, for objects of which types one may be called, and what is known where flow comes to a place in it; the actual parameters of its call, their values, what refers to the components that get something back, the objects to which all that refers leads, those that are under
 -- way, as a treatment finalizes them, and what the procedure keeps of the parameters; what is left to do once the call has come to its end, the masters that are entered then, and their rooms; what its variables hold, and what is
 -- known of them behind the call, as if nothing were handed over.
 pub record Caller : Type 1 where
@@ -109,8 +109,8 @@ pub record Caller : Type 1 where
 abbrev pub waiting_holds : Caller → Holds
 waiting_holds w = left_unkept [] w.actuals w.before
 
--- What is known of implicit calls, the program as the running body sees it, which items go first where a master is left (7.6.1), for objects of which types an operation may be called
--- that touches storage (7.6), what is known where flow comes to a place in it, and its callers, the nearest one first; and which of its variables stand for components that the body tracks (7.6).
+-- What is known of implicit calls, the program as the running body sees it, for the objects of which items an operation may be called that touches storage where a master is left (7.6.1),
+-- for objects of which types one may be called (7.6), what is known where flow comes to a place in it, and its callers, the nearest one first; and which of its variables stand for components that the body tracks (7.6).
 pub record Known : Type 1 where
   pub implicit : Implicit
   pub program : ProgramForm
@@ -1064,7 +1064,8 @@ abbrev pub innermost : List Master → List Item
 innermost [] = []
 innermost (m ∷ ms) = m.items
 
--- The same while the innermost master is being left: once its objects are gone, nothing relies on the components of what lies in its collections.
+-- The same while the innermost master is being left: nothing relies on the components of what lies in its collections in front of the first item for whose objects
+-- an operation may be called that touches storage.
 pub record Parting (known : Known) (heap : List Object) (places : List Value) (masters : List Master) (more : Rooms → Holds → Type 0) : Type 0 where
   pub rooms : Rooms
   pub holds : Holds

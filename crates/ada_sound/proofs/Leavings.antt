@@ -1,9 +1,8 @@
 -- Behind a block its collections are gone: what is known of variables, and that a member that is taken has no owner.
 
-use Rattle.ada_sound.proofs.Items.{Houses}
-use Rattle.std.proofs.Common.{◌≡◌, ◌≢◌, ℕ, zero, suc, Bool, true, false, ◌||◌, not, List, [], ◌∷◌, ◌++◌, refl, sym, ap, ◌∙◌, ◌⊎◌, inl, inr}
-use Rattle.std.proofs.lemmas.Bool.{eq-eqb}
-use Rattle.std.specs.Prelude.{Option, Some, None, if◌then◌else◌}
+use Rattle.std.proofs.Common.{◌≡◌, ◌≢◌, ℕ, zero, suc, Bool, true, false, ◌||◌, not, List, [], ◌∷◌, ◌++◌, refl, sym, ap, ◌∙◌, ◌⊎◌, inl, inr, arith}
+use Rattle.std.proofs.lemmas.Bool.{eq-eqb, eqb-true}
+use Rattle.std.specs.Prelude.{Option, Some, None, ◌==◌, if◌then◌else◌}
 use Rattle.std.specs.List.{slice_get, slice_set, slice_index_or}
 use Rattle.ada_program.specs.ProgramForm.{TypeForm, VariableForm}
 use Rattle.ada_program.specs.WellFormed.{kind_among, access_of, is_this, reached_components}
@@ -15,12 +14,14 @@ use Rattle.ada_meaning.specs.declared.state.Value.{Value}
 use Rattle.ada_meaning.specs.declared.state.Value.TheVariants.{Null, Names}
 use Rattle.ada_meaning.specs.State.{Item, Master, Owned}
 use Rattle.ada_meaning.specs.Named.{Object, object_at}
-use Rattle.ada_scopes.specs.Scopes.{is_innermost}
+use Rattle.ada_meaning.specs.Law.{items_of}
+use Rattle.ada_scopes.specs.Scopes.{is_innermost, is_number_of}
 use Rattle.ada_owners.specs.Places.{is_there, Place, variable, component, elsewhere, component_in, value_at, access_at}
 use Rattle.ada_owners.specs.Reliance.{component_kind, IsOf, Says, Owns, Borrows, component_hold}
 use Rattle.ada_owners.proofs.Ends.{IsUnnamed}
-use Rattle.ada_sound.proofs.Fits.{IsReferred, IsUnreferred, Outsiders, Fit, IsRelied, outer_hold, hold_in, stacked, outer_value, outer_value_at, place_at, first_left, sparing, kinds_of, lies_among, hand_is_unnamed}
-use Rattle.ada_sound.proofs.Stored.{IsUnder}
+use Rattle.ada_sound.proofs.Fits.{IsReferred, IsUnreferred, Outsiders, Fit, IsRelied, outer_hold, hold_in, stacked, outer_value, outer_value_at, place_at, in_front, from_ahead, sparing, kinds_of, lies_among, hand_is_unnamed}
+use Rattle.ada_sound.proofs.Items.{Counted, HasItem, Houses, item_below}
+use Rattle.ada_sound.proofs.Stored.{IsUnder, Stored, exists_out}
 use Rattle.ada_sound.proofs.Orderings.{AsGood, as_good, good_here, good_lost, good_losing, good_to_lost}
 use Rattle.ada_sound.proofs.Raising.{both}
 use Rattle.ada_sound.proofs.Values.{read_other, same_or_not, lost_here}
@@ -237,10 +238,17 @@ pub component_borrows : (b : Bool) → Borrows (component_hold b) → ⊥
 component_borrows true b = b
 component_borrows false b = b
 
--- The newest item goes: one whose objects no component names, as that of an object, or, once none is left of those that go first, a collection.
+-- No objects whose home is one of these items have a component of an access type.
+abbrev pub HoldNone : List TypeForm → (access : ℕ) → List Item → Type 0
+HoldNone types t [] = Unit {0}
+HoldNone types t (i ∷ is) =
+    ((v : ℕ) (pool : Option ℕ) → Houses i.owned v pool → (c : ℕ) → access_of (kind_among (reached_components types v) c) ≡ Some t → ⊥) × HoldNone types t is
+
+-- The newest item goes: one whose objects no component names, as those of an object; or a collection for whose objects no operation is called that touches storage,
+-- and whose objects no component names of what such an operation may be called for later.
 abbrev pub GoesInOrder : (ahead : Owned → Bool) → List TypeForm → Item → List Item → Type 0
 GoesInOrder ahead types item items =
-    (first_left ahead (item ∷ items) ≡ false)
+    ((ahead item.owned ≡ false) × ((access : ℕ) (pool : Option ℕ) → Houses item.owned access pool → HoldNone types access (from_ahead ahead items)))
     ⊎ ((access : ℕ) (pool : Option ℕ) → Houses item.owned access pool
     → (holder c : ℕ) → access_of (kind_among (reached_components types holder) c) ≡ Some access → ⊥)
 
@@ -257,9 +265,51 @@ NamedBelow outer heap ms =
     → is_innermost ms object.cell.home.item ≡ true → ⊥)
     × ((o : Id) (object : Object) → IsUnder outer.under o → object_at heap o ≡ Some object → is_innermost ms object.cell.home.item ≡ true → ⊥)
 
+-- An item of this number among these is the home of what has its home there, as numbers fall.
+has_among : (n access : ℕ) (pool : Option ℕ) (is js : List Item) → Counted (is ++ js) → HasItem n access pool (is ++ js)
+    → is_number_of is n ≡ true → HasItem n access pool is
+has_among n access pool [] js counted has here = absurd (cc here)
+has_among n access pool (i ∷ is) js counted (inl e) here = inl e
+has_among n access pool (i ∷ is) js counted (inr has) here = by (i.number == n) refl (has_among n access pool is js counted.1 has) here
+  where
+    by : (b : Bool) → (i.number == n) ≡ b → (is_number_of is n ≡ true → HasItem n access pool is) → b || is_number_of is n ≡ true
+        → HasItem n access pool (i ∷ is)
+    by true same later here' =
+        let number : i.number ≡ n = eqb-true i.number n same in
+        let less = item_below n access pool (is ++ js) counted.1 has in
+        let count = counted.0 in
+        absurd (omega (arith, less, count, number))
+    by false other later here' = inr (later here')
+
+-- So it is among those from the first one on that is ahead, if it is not in front of that one.
+has_behind : (ahead : Owned → Bool) (n access : ℕ) (pool : Option ℕ) (is js : List Item) → Counted (is ++ js) → HasItem n access pool (is ++ js)
+    → is_number_of is n ≡ true → is_number_of (in_front ahead is) n ≡ false → HasItem n access pool (from_ahead ahead is)
+has_behind ahead n access pool [] js counted has here behind = absurd (cc here)
+has_behind ahead n access pool (i ∷ is) js counted has here behind = by (ahead i.owned) refl (has_behind ahead n access pool is js counted.1)
+  where
+    on : (HasItem n access pool (is ++ js) → is_number_of is n ≡ true → is_number_of (in_front ahead is) n ≡ false → HasItem n access pool (from_ahead ahead is))
+        → HasItem n access pool (i ∷ (is ++ js)) → (b : Bool) → (i.number == n) ≡ b → b || is_number_of is n ≡ true
+        → b || is_number_of (in_front ahead is) n ≡ false → HasItem n access pool (from_ahead ahead is)
+    on later has' true same here' behind' = absurd (cc behind')
+    on later (inl e) false other here' behind' = let same = eq-eqb i.number n e.0 in absurd (cc (same, other))
+    on later (inr has') false other here' behind' = later has' here' behind'
+
+    by : (b : Bool) → ahead i.owned ≡ b
+        → (HasItem n access pool (is ++ js) → is_number_of is n ≡ true → is_number_of (in_front ahead is) n ≡ false → HasItem n access pool (from_ahead ahead is))
+        → HasItem n access pool (from_ahead ahead (i ∷ is))
+    by true first later = rw first (has_among n access pool (i ∷ is) js counted has here)
+    by false none later = rw none (on later has (i.number == n) refl here (rw none at behind))
+
+-- What has its home there has no component of that access type.
+none_held : (types : List TypeForm) (t n v : ℕ) (pool : Option ℕ) (is : List Item) → HoldNone types t is → HasItem n v pool is
+    → (c : ℕ) → access_of (kind_among (reached_components types v) c) ≡ Some t → ⊥
+none_held types t n v pool [] none has c is' = has
+none_held types t n v pool (i ∷ is) none (inl e) c is' = none.0 v pool e.1 c is'
+none_held types t n v pool (i ∷ is) none (inr has) c is' = none_held types t n v pool is none.1 has c is'
+
 -- A member of the newest collection of the innermost master, of a type of which no variable is relied on to name an object, is in hand where nothing relies on the
--- components of that master's objects.
-module _ (ahead : Owned → Bool) (types : List TypeForm) (variables : List VariableForm) (outer : Outsiders) (heap : List Object) (places : List Value) (holds : Holds) (number : ℕ) (item : Item) (items : List Item) (ms : List Master) (gone : List ℕ) (fit : Fit types variables outer (sparing ahead heap (item ∷ items)) heap places holds) (none : NamesNone variables gone holds) (held : HeldIn heap (record { number = number; items = item ∷ items } ∷ ms)) (below : NamedBelow outer heap (record { number = number; items = item ∷ items } ∷ ms)) (o : Id) (x : Object) (found : object_at heap o ≡ Some x) (there : is_there x.stage ≡ true) (home : x.cell.home.item ≡ item.number) (among : is_among gone (Some x.cell.access) ≡ true) (pool : Option ℕ) (houses : Houses item.owned x.cell.access pool) (order : GoesInOrder ahead types item items) where
+-- components of that master's objects in front of those that an operation may be called for which touches storage.
+module _ (ahead : Owned → Bool) (types : List TypeForm) (variables : List VariableForm) (outer : Outsiders) (heap : List Object) (places : List Value) (holds : Holds) (number : ℕ) (item : Item) (items : List Item) (ms : List Master) (gone : List ℕ) (fit : Fit types variables outer (sparing ahead heap (item ∷ items)) heap places holds) (under : List Id) (stored : Stored under heap (record { number = number; items = item ∷ items } ∷ ms)) (none : NamesNone variables gone holds) (held : HeldIn heap (record { number = number; items = item ∷ items } ∷ ms)) (below : NamedBelow outer heap (record { number = number; items = item ∷ items } ∷ ms)) (o : Id) (x : Object) (found : object_at heap o ≡ Some x) (there : is_there x.stage ≡ true) (home : x.cell.home.item ≡ item.number) (among : is_among gone (Some x.cell.access) ≡ true) (pool : Option ℕ) (houses : Houses item.owned x.cell.access pool) (order : GoesInOrder ahead types item items) where
   access_here : access_at heap o ≡ Some x.cell.access
   access_here = rw (found, there) refl
 
@@ -270,26 +320,66 @@ module _ (ahead : Owned → Bool) (types : List TypeForm) (variables : List Vari
       let here = access_here in
       absurd (cc (among, apart, is, of, here))
 
-  -- An object that names it lies in the same master, and so it does not count.
-  no_holder : (p : Id) (c : ℕ) (t : Option Object) → object_at heap p ≡ t → Owns (component_hold (lies_among t (item ∷ items))) → component_in t c ≡ Names o → ⊥
-  no_holder p c None at own names = cc names
-  no_holder p c (Some holder) at own names =
-      let it = there_names (is_there holder.stage) (slice_index_or holder.cell.values c Null) o names in
-      let inside = held holder x (p, o, c, (at, it.0), (found, there), get_named holder.cell.values c o it.1) (rw (eq-eqb item.number x.cell.home.item (sym home)) refl) in
-      rw inside at own
-
-  -- Or no component is of its type.
-  no_kind : (c : ℕ) (holder access : Option ℕ) → ((t u d : ℕ) → access_of (kind_among (reached_components types u) d) ≡ Some t → t ≡ x.cell.access → ⊥) → component_kind (kinds_of types variables outer) holder c ≡ access → IsOf (access_at heap) access o → ⊥
+  -- A component that names it is not of another type.
+  no_kind : (c : ℕ) (holder access : Option ℕ) → ((u : ℕ) → holder ≡ Some u → access_of (kind_among (reached_components types u) c) ≡ Some x.cell.access → ⊥)
+      → component_kind (kinds_of types variables outer) holder c ≡ access → IsOf (access_at heap) access o → ⊥
   no_kind c None None none is of = of
   no_kind c None (Some t) none is of = cc is
   no_kind c (Some u) None none is of = of
-  no_kind c (Some u) (Some t) none is of = let here = access_here in none t u c is (cc (here, of))
+  no_kind c (Some u) (Some t) none is of =
+      let here = access_here in
+      let same : t ≡ x.cell.access = cc (here, of) in
+      none u refl (rw same at is)
+
+  -- What owns it is relied on to name it.
+  of_kind : (p : Id) (c : ℕ) → Owns (hold_in outer (sparing ahead heap (item ∷ items)) holds (component p c)) → component_in (object_at heap p) c ≡ Names o
+      → IsOf (access_at heap) (component_kind (kinds_of types variables outer) (access_at heap p) c) o
+  of_kind p c own names =
+      let h = component_hold (sparing ahead heap (item ∷ items) p) in
+      says_of heap h (component_kind (kinds_of types variables outer) (access_at heap p) c) o (owns_relied h own) (fit.owners.fit.relied (component p c) o names)
+
+  -- An object that names it lies in the same master: so it does not count, or it has no component of that type.
+  no_holder : (not_ahead : ahead item.owned ≡ false) → HoldNone types x.cell.access (from_ahead ahead items) → (p : Id) (c : ℕ) (t : Option Object) → object_at heap p ≡ t
+      → Owns (component_hold (lies_among t (item ∷ in_front ahead items))) → component_in t c ≡ Names o
+      → IsOf (access_at heap) (component_kind (kinds_of types variables outer) (access_at heap p) c) o → ⊥
+  no_holder not_ahead others p c None at own names of = cc names
+  no_holder not_ahead others p c (Some holder) at own names of =
+      by (is_number_of (item ∷ in_front ahead items) holder.cell.home.item) refl own
+    where
+      it : (is_there holder.stage ≡ true) × (slice_index_or holder.cell.values c Null ≡ Names o)
+      it = there_names (is_there holder.stage) (slice_index_or holder.cell.values c Null) o names
+
+      inside : is_number_of (item ∷ items) holder.cell.home.item ≡ true
+      inside = held holder x (p, o, c, (at, it.0), (found, there), get_named holder.cell.values c o it.1) (rw (eq-eqb item.number x.cell.home.item (sym home)) refl)
+
+      houses_it : HasItem holder.cell.home.item holder.cell.access holder.cell.home.pool ((item ∷ items) ++ items_of ms)
+      houses_it =
+          let sane = stored.sane p holder at in
+          sane.housed (exists_out p holder at (sane.there_exists it.0) stored)
+
+      behind : is_number_of (item ∷ in_front ahead items) holder.cell.home.item ≡ false
+          → HasItem holder.cell.home.item holder.cell.access holder.cell.home.pool (from_ahead ahead (item ∷ items))
+      behind away =
+          has_behind ahead holder.cell.home.item holder.cell.access holder.cell.home.pool (item ∷ items) (items_of ms) stored.counted houses_it inside
+          (rw not_ahead away)
+
+      access_is : (u : ℕ) → access_at heap p ≡ Some u → holder.cell.access ≡ u
+      access_is u is = let own_access : access_at heap p ≡ Some holder.cell.access = rw (at, it.0) refl in cc (own_access, is)
+
+      by : (b : Bool) → is_number_of (item ∷ in_front ahead items) holder.cell.home.item ≡ b → Owns (component_hold b) → ⊥
+      by true near own' = own'
+      by false away own' =
+          no_kind c (access_at heap p) (component_kind (kinds_of types variables outer) (access_at heap p) c)
+          (λ u is named. none_held types x.cell.access holder.cell.home.item holder.cell.access holder.cell.home.pool (from_ahead ahead items) others
+          (rw not_ahead at (behind away)) c (rw (access_is u is) named))
+          refl of
 
   no_component : (p : Id) (c : ℕ) → GoesInOrder ahead types item items → Owns (hold_in outer (sparing ahead heap (item ∷ items)) holds (component p c)) → component_in (object_at heap p) c ≡ Names o → ⊥
-  no_component p c (inl left) own names = no_holder p c (object_at heap p) refl (rw left at own) names
+  no_component p c (inl (not_ahead, others)) own names =
+      no_holder not_ahead (others x.cell.access pool houses) p c (object_at heap p) refl (rw not_ahead at own) names (of_kind p c own names)
   no_component p c (inr none) own names =
-      let of = says_of heap (component_hold (sparing ahead heap (item ∷ items) p)) (component_kind (kinds_of types variables outer) (access_at heap p) c) o (owns_relied (component_hold (sparing ahead heap (item ∷ items) p)) own) (fit.owners.fit.relied (component p c) o names) in
-      no_kind c (access_at heap p) (component_kind (kinds_of types variables outer) (access_at heap p) c) (λ t u d is same. none x.cell.access pool houses u d (rw same at is)) refl of
+      no_kind c (access_at heap p) (component_kind (kinds_of types variables outer) (access_at heap p) c)
+      (λ u is named. none x.cell.access pool houses u c named) refl (of_kind p c own names)
 
   no_name : (y : ℕ) → IsRelied (hold_at holds y) → place_at places y ≡ Names o → ⊥
   no_name y is names =

@@ -1,4 +1,4 @@
--- what goes first where a master is left
+-- for whose objects an operation may be called that touches storage, where a master is left
 pub mod Ahead
 -- what is relied on in a run
 pub mod Fits
@@ -263,6 +263,8 @@ pub mod Starts
 pub mod Steps
 -- what holds of each state that may come next
 pub mod Coming
+-- so are those of each declarative part
+pub mod PartsInOrder
 -- collections are created in order
 pub mod CollectsApart
 -- while objects are treated, and masters are left
@@ -271,7 +273,7 @@ pub mod CollectsApartTreatments
 pub mod CollectsApartSteps
 -- in whole runs: the items of each master are apart
 pub mod CollectsApartRuns
--- objects go first, then collections
+-- what goes where a master is left: no component names it of what an operation that touches storage may be called for later
 pub mod InOrder
 -- of which records a treatment speaks
 pub mod Operated

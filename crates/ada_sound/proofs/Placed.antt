@@ -22,14 +22,13 @@ use Rattle.ada_program.specs.WellFormed.{IsWellFormed, finalization_in, has_numb
 use Rattle.ada_program.proofs.Shapes.{same_number}
 use Rattle.ada_meaning.specs.Step.{parts_for}
 use Rattle.ada_meaning.proofs.Places.{numbers_are_alone, records_begin_themselves}
-use Rattle.ada_meaning.proofs.Treatments.{are_table}
 use Rattle.ada_flow.specs.Tracking.{access_numbers}
 use Rattle.ada_typed.specs.Holding.{WalksTo}
 use Rattle.ada_typed.proofs.Inner.{LiesAt, lies_at}
 use Rattle.ada_typed.proofs.Lying.{Lies, placed, inner, IsOperable}
 use Rattle.ada_typed.proofs.Parts.{firsts_known, known_firsts, record_counted, shapes_shown, shows_parent, shown_number, shown_parts, shown_shapes}
 use Rattle.ada_typed.proofs.Walking.{walks_to}
-use Rattle.ada_sound.proofs.CopyParts.{tail_in}
+use Rattle.ada_sound.proofs.CopyParts.{shapes_table, tail_in}
 use Rattle.ada_sound.proofs.CopiedOwners.{declared_owners, owners_numbered}
 use Rattle.ada_sound.proofs.OnlyParts.{IsControlled, in_order as parts_stand, parent_at, controlled_counts, walked_counts}
 use Rattle.ada_sound.proofs.OnlyPlaces.{alone_said, behind_parent, controlled_as_shown, found_one, lies_within_object, parents_first, shown_as_controlled, shown_length}
@@ -162,10 +161,6 @@ module _ (program : Program) (well : IsWellFormed (program_form program)) where
   abbrev forms : List TypeForm
   forms = (program_form program).types
 
-  -- The types of the program are a table.
-  pub shown_table : IsTable (shown_shapes forms)
-  shown_table = subst IsTable (sym (shapes_shown types forms refl)) (are_table types)
-
   -- A controlled record that lies in objects begins where the part begins that has its number.
   pub first_placed :
       (access u base n : ℕ) → IsControlled forms u → WalksTo forms (object_named forms (Some access)) (Some u) base n
@@ -242,7 +237,7 @@ module _ (program : Program) (well : IsWellFormed (program_form program)) where
 
       operable : IsOperable forms access found.0.of found.0.number
       operable =
-          parts_operable forms (suc of) access of number found.0 shown_table (omega arith) (number_known forms well.types_fit t of is)
+          parts_operable forms (suc of) access of number found.0 (shapes_table program well) (omega arith) (number_known forms well.types_fit t of is)
           (placed t of first number is walks) found.1
 
       own : WalksTo forms (object_named forms (Some access)) (Some u) (first + d) found.0.number

@@ -3,7 +3,6 @@
 use Rattle.std.proofs.Common.{◌≡◌, ◌≢◌, ℕ, zero, suc, ◌+◌, ◌==◌, ◌||◌, Bool, true, false, List, [], ◌∷◌, length, Option, Some, None, refl, sym, ap, ◌∙◌, ◌⊎◌, inl, inr, subst}
 use Rattle.std.specs.Prelude.{is_some}
 use Rattle.std.specs.List.{slice_get, slice_index_or}
-use Rattle.std.proofs.lemmas.Bool.{eqb-true}
 use Rattle.ada_parts.proofs.Facts.{eq_self}
 use Rattle.ada_meaning.specs.declared.state.Id.{Id}
 use Rattle.ada_meaning.specs.declared.state.Mode.{Mode}
@@ -16,7 +15,7 @@ use Rattle.ada_meaning.specs.Heap.{Cell}
 use Rattle.ada_meaning.specs.Named.{Object, State, object_at, changed}
 use Rattle.ada_beside.specs.Law.{hidden_beside, no_ghosts}
 use Rattle.ada_tracked.specs.Frames.{View, shifted, number_at, blank_values, blank_object, blanked, values_at}
-use Rattle.ada_tracked.proofs.Lists.{set_length, untracked_read}
+use Rattle.ada_tracked.proofs.Lists.{apart_is, is_apart, set_length, untracked_read}
 use Rattle.ada_untouched.specs.Alike.{ValuesAlike, ObjectsAlike, FoundAlike, HeapsAlike, StatesAlike}
 use Rattle.ada_untouched.specs.Unwritten.{FrameWritesShown, FirstWritesShown, Unwritten}
 use Rattle.ada_untouched.proofs.Heaps.{both_there}
@@ -36,20 +35,12 @@ same_lists {X = X} (x ∷ xs) (y ∷ ys) each =
     let first : x ≡ y = let is = each 0 in cc is in
     subst (λ (z : X). x ∷ xs ≡ z ∷ ys) first (ap (λ (zs : List X). x ∷ zs) (same_lists xs ys (λ i. each (suc i))))
 
--- Other numbers do not pass for the same.
-apart_false : (b c : ℕ) → (c ≡ b → ⊥) → (b == c) ≡ false
-apart_false b c ne = by (b == c) refl
-  where
-    by : (same : Bool) → (b == c) ≡ same → (b == c) ≡ false
-    by false is = is
-    by true is = absurd (ne (sym (eqb-true b c is)))
-
 -- A component that is none of these is not numbered among them.
-not_numbered : (bs : List ℕ) (n c : ℕ) → is_one_of bs c ≡ false → number_at bs n c ≡ None
+pub not_numbered : (bs : List ℕ) (n c : ℕ) → is_one_of bs c ≡ false → number_at bs n c ≡ None
 not_numbered [] n c none = refl
 not_numbered (b ∷ bs) n c none =
     let two = or_false (b == c) (is_one_of bs c) none in
-    rw (apart_false c b (λ same. absurd (let here = eq_self b in let other = two.0 in cc (same, here, other)))) (not_numbered bs (n + 1) c two.1)
+    rw (apart_is c b (λ same. is_apart b c two.0 (sym same))) (not_numbered bs (n + 1) c two.1)
 
 -- One of them holds null where they are hidden.
 blank_is_null : (bs : List ℕ) (c : ℕ) (vs : List Value) (v : Value) → is_one_of bs c ≡ true → slice_get (blank_values bs vs) c ≡ Some v → v ≡ Null
@@ -58,7 +49,7 @@ blank_is_null (b ∷ bs) c vs v is at = by (set_get (blank_values bs vs) b c Nul
   where
     by : ((c ≡ b) × (v ≡ Null)) ⊎ ((c ≢ b) × (slice_get (blank_values bs vs) c ≡ Some v)) → (is_one_of bs c ≡ true → slice_get (blank_values bs vs) c ≡ Some v → v ≡ Null) → v ≡ Null
     by (inl h) later = h.1
-    by (inr h) later = later (or_true (b == c) (is_one_of bs c) is (apart_false b c h.0)) h.1
+    by (inr h) later = later (or_true (b == c) (is_one_of bs c) is (apart_is b c (λ same. h.0 (sym same)))) h.1
 
 -- So one of them holds null in the object in which they are hidden; and others hold what they held.
 pub one_is_null : (bs : List ℕ) (c : ℕ) (vs : List Value) (v : Value) → is_one_of bs c ≡ true → slice_get (blank_values (shifted 0 bs) vs) c ≡ Some v → v ≡ Null
@@ -122,7 +113,7 @@ aside_count bs o h = by (object_at h o)
 
 -- Nothing is hidden of objects of other names, and these components are of the object.
 hides_none : (w : View) (bs : List ℕ) (o : Id) → (o.0 ≢ w.object.0) → (c : ℕ) → hidden_beside w (is_one_of bs) o c ≡ false
-hides_none w bs o ne c = rw (apart_false o.0 w.object.0 (λ same. ne (sym same))) refl
+hides_none w bs o ne c = rw (apart_is o.0 w.object.0 ne) refl
 
 pub hides_these : (w : View) (bs : List ℕ) (c : ℕ) → hidden_beside w (is_one_of bs) w.object c ≡ is_one_of bs c
 hides_these w bs c = rw (eq_self w.object.0) refl

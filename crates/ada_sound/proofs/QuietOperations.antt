@@ -2,10 +2,10 @@
 -- Finalize lets no exception out either.
 
 use Rattle.std.proofs.Common.{◌≡◌, ℕ, zero, suc, ◌+◌, Bool, true, false, ◌&&◌, ◌||◌, if◌then◌else◌, List, [], ◌∷◌, ◌++◌, length, map, refl, sym, ap, ◌∙◌, arith, length-append, ◌⊎◌, inl, inr}
-use Rattle.std.specs.Prelude.{Option, Some, None, not, find, is_some}
+use Rattle.std.specs.Prelude.{Option, Some, None, find, is_some}
 use Rattle.std.specs.List.{list_all, slice_get, slice_index_or}
 use Rattle.std.specs.Option.{option_map}
-use Rattle.std.proofs.lemmas.Bool.{eq-eqb, eqb-true}
+use Rattle.std.proofs.lemmas.Bool.{eq-eqb, eqb-true, not-true, or_cases}
 use Rattle.std.proofs.lemmas.Option.{slice_get-map}
 use Rattle.ada_program.specs.declared.program.Finalization.{Finalization}
 use Rattle.ada_program.specs.declared.program.Operations.{Operations}
@@ -25,7 +25,8 @@ use Rattle.ada_scopes.specs.Scopes.{NestsAnywhere, AllNestAnywhere, OperationsNe
 use Rattle.ada_quiet.specs.Apart.{is_this_one, is_adjust_of}
 use Rattle.ada_quiet.specs.Quiet.{is_quiet_stmt, are_quiet, are_quiet_branches, are_quiet_handlers, are_quiet_declarations, is_plain_body, is_plain_procedure, is_quiet_procedure, is_plain_operation, is_quiet_operation, has_access, operation_body}
 use Rattle.ada_quiet.specs.Frugal.{is_frugal_body, frugal_procedures, thrift_of, is_frugal_operation, own_effects, is_silent_procedure, is_silent_operation}
-use Rattle.ada_quiet.specs.InUse.{may_be_frugal, uses_initialize, uses_finalize, uses_operations, operations_are_in_use, adjusts_alone, may_track, uses_adjust}
+use Rattle.ada_quiet.specs.InUse.{may_be_frugal, uses_initialize, uses_finalize, uses_operations, operations_may_be_called, adjusts_alone, adjusts_nothing, may_track, uses_adjust, uses_called_adjust}
+use Rattle.ada_quiet.specs.Idle.{copies_parts}
 use Rattle.ada_quiet.specs.Simple.{is_simple_body, is_simple_procedure, is_simple_operation}
 use Rattle.ada_quiet.proofs.FrugalAt.{frugal_at}
 use Rattle.ada_quiet.proofs.InUse.{plain_procedure, plain_operation}
@@ -115,11 +116,6 @@ body_is types callees b around plain =
       handlers_are types b.variables callees (collected b.declarations ++ around) b.handlers four.1,
     ) refl
 
--- A quiet body raises nothing.
-pub no_no : (b : Bool) → not b ≡ true → b ≡ false
-no_no true e = absurd (cc e)
-no_no false e = refl
-
 -- What overrides an operation is the procedure of its number.
 pub this_one : (o : Option ProcedureNo) (number : ℕ) → procedure_number o ≡ Some number → is_this_one number o ≡ true
 this_one None number is = absurd (cc is)
@@ -146,7 +142,7 @@ module _ (p : ProgramForm) where
   -- quiet, or frugal and silent.
   record AreUsed (Owns : Type 0) (o : Operations) (number : ℕ) : Type 0 where
     initializes : procedure_number o.initialize ≡ Some number → IsPlain number ⊎ IsFrugal number
-    adjusts : procedure_number o.adjust ≡ Some number → IsQuiet number ⊎ (IsSimple number × IsSilent number × Owns)
+    adjusts : copies_parts p ≡ true → procedure_number o.adjust ≡ Some number → IsQuiet number ⊎ (IsSimple number × IsSilent number × Owns)
     finalizes : procedure_number o.finalize ≡ Some number → IsQuiet number ⊎ (IsFrugal number × IsSilent number)
 
   plain_one : (o : Option ProcedureNo) (number : ℕ) → is_plain_operation p o ≡ true → procedure_number o ≡ Some number → IsPlain number
@@ -181,7 +177,11 @@ module _ (p : ProgramForm) where
   simple_one None number simple is = absurd (cc is)
   simple_one (Some procedure) number simple is = let same : procedure.0 ≡ number = cc is in rw same at simple
 
-  pub adjust_one : (owns : Bool) (o : Option ProcedureNo) (number : ℕ) → uses_adjust p owns o ≡ true → procedure_number o ≡ Some number → IsQuiet number ⊎ (IsSimple number × IsSilent number × (owns ≡ true))
+  -- Where records with controlled parts are copied, an Adjust is in use as one that may be called.
+  pub called_adjust : (owns : Bool) (o : Option ProcedureNo) → copies_parts p ≡ true → uses_adjust p owns o ≡ true → uses_called_adjust p owns o ≡ true
+  called_adjust owns o copies uses = rw copies at uses
+
+  pub adjust_one : (owns : Bool) (o : Option ProcedureNo) (number : ℕ) → uses_called_adjust p owns o ≡ true → procedure_number o ≡ Some number → IsQuiet number ⊎ (IsSimple number × IsSilent number × (owns ≡ true))
   adjust_one owns o number uses is = by (owns && is_some (operation_body p o)) refl uses
     where
       by : (tracks : Bool) → (owns && is_some (operation_body p o)) ≡ tracks
@@ -201,13 +201,13 @@ module _ (p : ProgramForm) where
       by false plain uses' = let both = apart (may_be_frugal p) (is_frugal_operation p o) uses' in inr (both.0, frugal_one o number both.1 is)
 
   three_used : (Owns : Type 0) (owns : Bool) (f : Option Finalization) (number : ℕ) → (owns ≡ true → is_adjust_of number f ≡ true → Owns) → uses_operations p owns f ≡ true → AreUsed Owns (operations_in f) number
-  three_used Owns owns None number own uses = record { initializes = λ is. absurd (cc is); adjusts = λ is. absurd (cc is); finalizes = λ is. absurd (cc is) }
+  three_used Owns owns None number own uses = record { initializes = λ is. absurd (cc is); adjusts = λ copies is. absurd (cc is); finalizes = λ is. absurd (cc is) }
   three_used Owns owns (Some f) number own uses =
       let three = apart _ _ uses in
       let two = apart _ _ three.0 in
       record {
         initializes = λ is. initialize_one f.operations.initialize number two.0 is;
-        adjusts = λ is. by is (adjust_one owns f.operations.adjust number two.1 is);
+        adjusts = λ copies is. by is (adjust_one owns f.operations.adjust number (called_adjust owns f.operations.adjust copies two.1) is);
         finalizes = λ is. finalize_one f.operations.finalize number three.1 is;
       }
     where
@@ -308,11 +308,15 @@ module _ (p : ProgramForm) where
 
   adjust_nests : (t : ℕ) (owns : Bool) (o : Option ProcedureNo) → overrides_rightly p.types (callable_in p) t o ≡ true → uses_adjust p owns o ≡ true → NestsAnywhere (callees_of p) o
   adjust_nests t owns None right uses = tt
-  adjust_nests t owns (Some procedure) right uses = by (adjust_one owns (Some procedure) procedure.0 uses refl)
+  adjust_nests t owns (Some procedure) right uses = either (or_cases (adjusts_nothing p && is_frugal_operation p (Some procedure)) (uses_called_adjust p owns (Some procedure)) uses)
     where
       by : IsQuiet procedure.0 ⊎ (IsSimple procedure.0 × IsSilent procedure.0 × (owns ≡ true)) → NestsAnywhere (callees_of p) (Some procedure)
       by (inl quiet) = plain_nests t (Some procedure) right (plain_operation p (Some procedure) quiet)
       by (inr both) = let b = there_one t (Some procedure) procedure.0 right refl in nests_there procedure.0 b.0 b.1 (λ callees around. simple_nests p.types callees b.0 around (simple_with p.types (adjusts_alone p) b.0 (rw (b.1) at both.0.1)))
+
+      either : ((adjusts_nothing p && is_frugal_operation p (Some procedure)) ≡ true) ⊎ (uses_called_adjust p owns (Some procedure) ≡ true) → NestsAnywhere (callees_of p) (Some procedure)
+      either (inl nothing) = frugal_nests p procedure.0 (apart (adjusts_nothing p) (is_frugal_operation p (Some procedure)) nothing).1
+      either (inr called) = by (adjust_one owns (Some procedure) procedure.0 called refl)
 
   nests_three : (t : ℕ) (owns : Bool) (f : Option Finalization) → has_operations p.types (callable_in p) t f ≡ true → uses_operations p owns f ≡ true → AllNestAnywhere (callees_of p) (operations_in f)
   nests_three t owns None right uses = (tt, tt, tt)
@@ -328,7 +332,7 @@ module _ (p : ProgramForm) where
   nests_at (t ∷ ts) n zero right uses = nests_three n (has_access (Some t)) (finalization_in (Some t)) (apart _ _ right).0 (apart _ _ uses).0
   nests_at (t ∷ ts) n (suc i) right uses = nests_at ts (1 + n) i (apart _ _ right).1 (apart _ _ uses).1
 
-  pub operations_nest : IsWellFormed p → operations_are_in_use p ≡ true → OperationsNest p
+  pub operations_nest : IsWellFormed p → operations_may_be_called p ≡ true → OperationsNest p
   operations_nest well uses t = nests_at p.types 0 t well.operations_fit uses
 
 -- The body of a procedure lets no exception out, unless it initializes a new object (7.6).
@@ -388,7 +392,7 @@ numbered_so n (definition.Access name designated pool) is = absurd (cc is)
 numbered_so n (definition.Object record_type) is = absurd (cc is)
 
 -- What overrides an operation, by the number of the type among the controlled ones.
-module _ (program : Program) (uses : operations_are_in_use (program_form program) ≡ true) (well : IsWellFormed (program_form program)) (of number : ℕ) (b : BodyForm) (there : slice_get (body_forms program) number ≡ Some b) where
+module _ (program : Program) (uses : operations_may_be_called (program_form program) ≡ true) (well : IsWellFormed (program_form program)) (of number : ℕ) (b : BodyForm) (there : slice_get (body_forms program) number ≡ Some b) where
   abbrev whole : ProgramForm
   whole = program_form program
 
@@ -416,10 +420,10 @@ module _ (program : Program) (uses : operations_are_in_use (program_form program
       (rw seen at (no_exit_handlers own.types own.variables own.texts own.exceptions _ own.handlers fits.handlers_fit))
 
   quiet_body : IsQuiet whole number → PlainBody whole.types b × (body_raises no_calls b (λ e. true) ≡ false)
-  quiet_body quiet = (plain_body (plain_procedure whole.types (slice_get whole.bodies number) quiet), no_no (body_raises no_calls b (λ e. true)) (apart _ _ (rw there at quiet)).1)
+  quiet_body quiet = (plain_body (plain_procedure whole.types (slice_get whole.bodies number) quiet), not-true (body_raises no_calls b (λ e. true)) (apart _ _ (rw there at quiet)).1)
 
   silent_body : IsSilent whole number → body_raises (own_effects whole) b (λ e. true) ≡ false
-  silent_body silent = no_no (body_raises (own_effects whole) b (λ e. true)) (rw there at silent)
+  silent_body silent = not-true (body_raises (own_effects whole) b (λ e. true)) (rw there at silent)
 
   finalizes_as : (cause : Cause) → IsQuiet whole number ⊎ (IsFrugal whole number × IsSilent whole number) → IsUsedAs whole of number (ends cause) b
   finalizes_as cause (inl quiet) = inl (quiet_body quiet)
@@ -434,8 +438,8 @@ module _ (program : Program) (uses : operations_are_in_use (program_form program
   adjusts_as treatment copies lets (inl quiet) = let q = quiet_body quiet in inl (q.0, lets q.1)
   adjusts_as treatment copies lets (inr both) = inr (inr (copies, (both.0.0, rw there at both.0.1, silent_body both.1), both.2))
 
-  pub used_as : (treatment : Treatment) → IsCalled (operations_of program.types.items of) treatment number → IsUsedAs whole of number treatment b
-  used_as (begins Creation done) called = initializes_as done (used.initializes called)
-  used_as (begins Copy done) called = adjusts_as (begins Copy done) tt (λ none. none) (used.adjusts called)
-  used_as (begins (Adjustment n) done) called = adjusts_as (begins (Adjustment n) done) tt (λ none. none) (used.adjusts called)
-  used_as (ends cause) called = finalizes_as cause (used.finalizes called)
+  pub used_as : (treatment : Treatment) → (AdjustsCopy treatment → copies_parts whole ≡ true) → IsCalled (operations_of program.types.items of) treatment number → IsUsedAs whole of number treatment b
+  used_as (begins Creation done) copies called = initializes_as done (used.initializes called)
+  used_as (begins Copy done) copies called = adjusts_as (begins Copy done) tt (λ none. none) (used.adjusts (copies tt) called)
+  used_as (begins (Adjustment n) done) copies called = adjusts_as (begins (Adjustment n) done) tt (λ none. none) (used.adjusts (copies tt) called)
+  used_as (ends cause) copies called = finalizes_as cause (used.finalizes called)

@@ -1,8 +1,9 @@
 -- Runs keep the invariant, and what each step tells of objects adds up.
 
 use Rattle.std.proofs.Common.{◌≡◌, ℕ, suc, ◌≤◌, Bool, true, false, List, [], ◌∷◌, ◌++◌, refl, sym, ap, subst, ◌∙◌, ◌⊎◌, inl, inr, arith}
-use Rattle.std.specs.Prelude.{◌↔◌, Option, Some, None}
+use Rattle.std.specs.Prelude.{◌↔◌, not, ◌&&◌, Option, Some, None}
 use Rattle.std.specs.List.{All, AllPairs, slice_index_or}
+use Rattle.std.proofs.lemmas.Bool.{or_cases}
 use Rattle.std.proofs.lemmas.Option.{slice_get-get_or}
 use Rattle.std.proofs.lemmas.List.Elements.{All-nil, All-cons}
 use Rattle.std.proofs.lemmas.List.Kept.{AllPairs-cons}
@@ -15,6 +16,9 @@ use Rattle.ada_effects.specs.Effects.{Implicit}
 use Rattle.ada_meaning.specs.declared.state.Id.{Id}
 use Rattle.ada_meaning.specs.declared.state.Value.{Value}
 use Rattle.ada_meaning.specs.declared.state.Value.TheVariants.{Names}
+use Rattle.ada_parts.specs.Part as parts
+use Rattle.ada_meaning.specs.declared.event.Birth.{Birth}
+use Rattle.ada_meaning.specs.declared.event.Birth.TheVariants.{Creation, Copy, Adjustment}
 use Rattle.ada_meaning.specs.declared.event.Halt.{Halt}
 use Rattle.ada_meaning.specs.declared.event.Halt.TheVariants.{Finished, Unhandled, Escaped, Erroneous, Stuck, Memory}
 use Rattle.ada_meaning.specs.declared.event.Why.{Why}
@@ -45,6 +49,13 @@ use Rattle.ada_typed.proofs.Runs.{step_typed}
 use Rattle.ada_scopes.specs.Scopes.{InnermostHeldInside, is_innermost, Holds as HoldsName}
 use Rattle.ada_scopes.proofs.Components.{AreOfKinds, collect_two, held_outside, held_inside}
 use Rattle.ada_scopes.proofs.Runs.{step_nested}
+use Rattle.ada_scopes.proofs.Treatments.{TreatsFirst}
+use Rattle.ada_idle.proofs.Idle.{ControlIsIdle}
+use Rattle.ada_idle.proofs.Runs.{step_idle}
+use Rattle.ada_idle.proofs.UnadjustedRuns.{step_adjusts_none}
+use Rattle.ada_idle.specs.Law.{adjusts_copy}
+use Rattle.ada_quiet.specs.Idle.{copies_parts, makes_parts}
+use Rattle.ada_quiet.specs.InUse.{operations_are_idle, operations_may_be_called, operations_stand_in_order}
 use Rattle.ada_sound.proofs.Items.{NoMaster, HasItem, has_after, items_fall}
 use Rattle.ada_sound.proofs.Stored.{IsUnder, Stored, there_listed}
 use Rattle.ada_sound.proofs.Leavings.{HeldIn}
@@ -54,6 +65,7 @@ use Rattle.ada_sound.proofs.Sees.{reaches_in, may_call}
 use Rattle.ada_sound.proofs.TracksWell.{copies_at, allocates_at, called_apart}
 use Rattle.ada_sound.proofs.Trackers.{calls_stand_apart, stand_apart}
 use Rattle.ada_sound.proofs.TracksAs.{adjust_tracks}
+use Rattle.ada_sound.proofs.CopiedOwners.{BeginsCopy}
 use Rattle.ada_sound.proofs.CopySteps.{next_overrides, sees_to_none}
 use Rattle.ada_sound.proofs.Adjusting.{AdjustingCopy}
 use Rattle.ada_sound.proofs.AdjustingEnters.{filled_in_program}
@@ -62,7 +74,7 @@ use Rattle.ada_sound.proofs.AdjustingCopies.{InCopy, WentOn, copy_goes, copy_sto
 use Rattle.ada_finalized.proofs.Standing.{nothing_begins, untreated_start}
 use Rattle.ada_sound.proofs.CallsApartRuns.{step_apart}
 use Rattle.ada_quiet.specs.Apart.{is_tracker}
-use Rattle.ada_sound.proofs.QuietOperations.{IsUsedAs, used_as}
+use Rattle.ada_sound.proofs.QuietOperations.{AdjustsCopy, IsUsedAs, operations_nest, used_as}
 use Rattle.ada_sound.proofs.TouchingStarts.{touching_starts}
 use Rattle.ada_sound.proofs.TouchingSteps.{InTouching, Went, touching_step}
 use Rattle.ada_sound.proofs.Touching.{Touching, waiting_for}
@@ -289,6 +301,25 @@ held_there heap ms stored inside holder held (o, p, c, holds, names, at') =
 abbrev state_with : Mode → Control → List (Activation Value) → State → State
 state_with mode k all s = record s { mode = mode; control = k; activations = all }
 
+-- Where operations are idle, nothing is treated: so where something is, they are in use as operations that may be called.
+treats_in_use : (program : Program) (s : State) → Sound program s → (k : Control) → s.control ≡ k → TreatsFirst k → operations_may_be_called (program_form program) ≡ true
+treats_in_use program s sound [] is treats = absurd treats
+treats_in_use program s sound (Treats v treatment tasks ∷ k) is treats = by (or_cases (operations_are_idle p) (operations_may_be_called p) sound.in_use)
+  where
+    p : ProgramForm
+    p = program_form program
+
+    none : (made ordered : Bool) → (not made && ordered) ≡ true → made ≡ false
+    none true ordered idle = absurd (cc idle)
+    none false ordered idle = refl
+
+    by : (operations_are_idle p ≡ true) ⊎ (operations_may_be_called p ≡ true) → operations_may_be_called p ≡ true
+    by (inr called) = called
+    by (inl idle) =
+        let is_idle = sound.idle (none (makes_parts p) (operations_stand_in_order p) idle) in
+        absurd ((subst (λ (all : Control). ControlIsIdle p.types all) is is_idle.control).0)
+treats_in_use program s sound (f ∷ k) is treats = absurd treats
+
 -- A step that begins no call and ends none, and treats nothing.
 ordinary : (program : Program) (s : State) (sound : Sound program s) (o : Ordinary program s) → inside.crosses s.mode s.control ≡ false → (n : Next) → mode_next named program.types.items (body_forms program) s.mode s ≡ n → Each (Stays s) n → FineIn program s n
 unfolding next
@@ -353,6 +384,29 @@ module _ (program : Program) (a : Activation Value) (rest : List (Activation Val
     abbrev treater : Known
     treater = known_in program a.procedure o.suspensions
 
+    -- Where what is treated is a copy, the program copies records with controlled parts.
+    copied_here : adjusts_copy treatment ≡ true → copies_parts (program_form program) ≡ true
+    copied_here copy = by (copies_parts (program_form program)) refl
+      where
+        by : (copies : Bool) → copies_parts (program_form program) ≡ copies → copies ≡ true
+        by true is = refl
+        by false none = let never = (sound.copies none).0 in absurd (cc (copy, never))
+
+    copied_as : (by : Treatment) → by ≡ treatment → AdjustsCopy by → copies_parts (program_form program) ≡ true
+    copied_as (frame.begins Creation done) same copy = absurd copy
+    copied_as (frame.begins Copy done) same copy = copied_here (rw (← same) refl)
+    copied_as (frame.begins (Adjustment n) done) same copy = copied_here (rw (← same) refl)
+    copied_as (frame.ends cause) same copy = absurd copy
+
+    copied_by : (by : Birth) (done : List parts.Part) → frame.begins by done ≡ treatment → BeginsCopy by → copies_parts (program_form program) ≡ true
+    copied_by Creation done same copies = absurd copies
+    copied_by Copy done same copies = copied_as (frame.begins Copy done) same tt
+    copied_by (Adjustment n) done same copies = copied_as (frame.begins (Adjustment n) done) same tt
+
+    -- Operations are not idle here.
+    in_use_here : operations_may_be_called (program_form program) ≡ true
+    in_use_here = treats_in_use program whole sound whole.control refl tt
+
     -- A record that is controlled itself lies in objects of the type of the one that is treated.
     abbrev IsOperated : Treatment → Id → ℕ → Type 0
     IsOperated by o of = OperatedAs (program_form program).types v treatment (cells_of s.heap) k by o of
@@ -368,7 +422,7 @@ module _ (program : Program) (a : Activation Value) (rest : List (Activation Val
     -- The Adjust is called that tracks the components of a copy.
     begins_adjusting : (e : Event) (after : State) → next program.types.items (body_forms program) whole ≡ moves e after → BeginsAdjust treater a rest s program.types.items (body_forms program) v k IsOperated e after → Led program s.heap e after
     begins_adjusting e after is c =
-        let tracks = adjust_tracks program sound.well sound.in_use a rest s o.suspensions v k IsOperated e after c in
+        let tracks = adjust_tracks program sound.well (copied_by c.by c.done c.operated.0 c.copies) in_use_here a rest s o.suspensions v k IsOperated e after c in
         let untreated = untreated_start program sound.reached.0 sound.reached.1 whole calm_here sound.reached.2 v c.by c.done tasks k (ap (λ (by : Treatment). Treats v by tasks ∷ k) (sym c.operated.0)) in
         let adjusting = adjusting_starts program sound.well sound.obeys a rest s o.suspensions v k IsOperated e after c tracks.0 tracks.1
         (filled_in_program (program_form program) a.procedure whole sound.typed.inside)
@@ -398,7 +452,7 @@ module _ (program : Program) (a : Activation Value) (rest : List (Activation Val
     })))
 
     begins_there : (e : Event) (after : State) → next program.types.items (body_forms program) whole ≡ moves e after → Begins treater a rest s program.types.items (body_forms program) k IsOperated e after → Led program s.heap e after
-    begins_there e after is c = begun_as e after is c (used_as program sound.in_use sound.well c.of c.number c.b c.there c.treatment c.called)
+    begins_there e after is c = begun_as e after is c (used_as program in_use_here sound.well c.of c.number c.b c.there c.treatment (copied_as c.treatment c.operated.0) c.called)
 
     treated_led : (n : Next) → next program.types.items (body_forms program) whole ≡ n → TreatedIn treater a rest s program.types.items (body_forms program) k IsOperated v n → FineIn program whole n
     treated_led (halts halt) is t = t
@@ -631,9 +685,11 @@ sound_step program s choice e after r step = record {
   frees_own = r.frees_own;
   obeys = r.obeys;
   goes = goes_so program s.heap e after (led program s choice e after r step);
+  idle = λ none. step_idle program none s after choice e (r.idle none) step;
+  copies = λ none. step_adjusts_none program none s after choice e (r.copies none) step;
   apart = λ stand. step_apart (program_form program).types (is_tracker (program_form program)) program (calls_stand_apart (program_form program) stand).1 s after choice e (r.apart stand) step;
   typed = step_typed program r.well s after choice e r.typed step;
-  nested = step_nested program s after choice e r.nested step;
+  nested = step_nested program s after choice e (λ treats. operations_nest (program_form program) r.well (treats_in_use program s r s.control refl treats)) r.nested step;
 }
 
 pub sound_run : {program : Program} {s last : State} {events : List Event} → Run program s events last → Sound program s → Sound program last

@@ -19,6 +19,11 @@ use Rattle.ada_meaning.specs.Named.{State, named}
 use Rattle.ada_meaning.specs.Run.{Event, Run, here, first_state}
 use Rattle.ada_typed.proofs.Kept.{behind_call}
 use Rattle.ada_sound.specs.Agreement.{running_procedure}
+use Rattle.ada_idle.proofs.Idle.{IsIdle}
+use Rattle.ada_idle.proofs.Runs.{first_idle}
+use Rattle.ada_idle.proofs.Unadjusted.{AdjustsNone}
+use Rattle.ada_idle.proofs.UnadjustedRuns.{first_adjusts_none}
+use Rattle.ada_quiet.specs.Idle.{copies_parts, makes_parts}
 use Rattle.ada_quiet.specs.InUse.{operations_are_in_use}
 use Rattle.ada_typed.proofs.Bodies.{seen_fits}
 use Rattle.ada_typed.proofs.Control as typed
@@ -37,7 +42,6 @@ use Rattle.ada_sound.proofs.Callers.{Suspension, known_in, Stands, callers_of}
 use Rattle.ada_sound.proofs.Touching.{Touching}
 use Rattle.ada_sound.proofs.Adjusting.{AdjustingCopy}
 use Rattle.ada_sound.proofs.Operating.{IsCalm, Operates}
-use Rattle.ada_sound.proofs.QuietOperations.{operations_nest}
 use Rattle.ada_sound.proofs.Returns.{same_types}
 
 -- A run of the program comes to this state.
@@ -58,7 +62,8 @@ abbrev pub Obeys : Program → Type 0
 Obeys program = TracksSafely (program_form program) × ObeysRules program
 
 -- What every state of a run keeps: that invariant, or the body of an operation runs, one that touches no storage, an Initialize or a Finalize that does, or an
--- Adjust that tracks components; values are of their kinds, and collections nest.
+-- Adjust that tracks components; values are of their kinds, and collections nest. Where the text makes no object with controlled parts, none is treated, and
+-- where it copies no record with some, nothing is adjusted.
 pub record Sound (program : Program) (s : State) : Type 0 where
   pub reached : IsReached program s
   pub well : IsWellFormed (program_form program)
@@ -66,6 +71,8 @@ pub record Sound (program : Program) (s : State) : Type 0 where
   pub frees_own : FreesItsOwn (program_form program)
   pub obeys : Obeys program
   pub goes : Ordinary program s ⊎ (Operates program s ⊎ (Touching program s ⊎ AdjustingCopy program s))
+  pub idle : makes_parts (program_form program) ≡ false → IsIdle (program_form program).types s
+  pub copies : copies_parts (program_form program) ≡ false → AdjustsNone (program_form program).types s.control
   pub apart : operations_stand_apart (program_form program) ≡ true → CallApart (program_form program).types (is_tracker (program_form program)) s.control
   pub typed : typed.Typed (program_form program) s
   pub nested : Scoped (program_form program) s
@@ -131,7 +138,9 @@ sound_first program input well uses nest own obeys = let obeys_so : Obeys progra
     calm = tt;
     settled = refl;
   });
+  idle = λ none. first_idle program none input;
+  copies = λ none. first_adjusts_none program none input;
   apart = λ stand. first_apart (program_form program).types (is_tracker (program_form program)) program (calls_stand_apart (program_form program) stand).1 (calls_stand_apart (program_form program) stand).0 input;
   typed = first_typed program input well;
-  nested = first_nested program well nest (operations_nest (program_form program) well uses) input;
+  nested = first_nested program well nest input;
 }

@@ -28,10 +28,10 @@ use Rattle.ada_owners.proofs.Ends.{IsUnnamed}
 use Rattle.ada_scopes.proofs.Homes.{OwnedFits, ItemsFit}
 use Rattle.ada_sound.proofs.Endings.{among_by}
 use Rattle.ada_sound.proofs.Emptying.{lost_fit, lost_unaliased, null_there}
-use Rattle.ada_sound.proofs.Touching.{IsNamedNowhere, Enters, Paused, Resting, RestsAtEnd, ended_object, RestsBy, StoresInto, ended_frees}
+use Rattle.ada_sound.proofs.Touching.{IsNamedNowhere, Enters, Naming, Paused, Resting, RestsAtEnd, Starting, ended_object, RestsBy, StoresInto, ended_frees}
 use Rattle.ada_sound.proofs.FrugalUseEnds.{any_end}
 use Rattle.ada_effects.specs.Effects.{endings_free, Implicit, assignment_frees}
-use Rattle.ada_sound.proofs.Fits.{IsRelied, Outsiders, hold_in, none_spared, first_left, outer_hold, outer_value_at, respare, sparing, stacked, IsReferred, Reference}
+use Rattle.ada_sound.proofs.Fits.{Fit, IsRelied, Outsiders, hold_in, none_spared, in_front, lies_nowhere, outer_hold, outer_value_at, respare, sparing, stacked, IsReferred, Reference}
 use Rattle.ada_sound.proofs.Invariant.{Behind, CopiesBehind, Control, Ending, EndingBy, EndsTo, Freed, IsCopied, IsNewest, Known, LeavesTo, Roomed, Rooms, RunsOn, ThenBack, TreatsBy, WillBeCovered, below, innermost, outers, Beginning, CameOut, ResumesTo, BeginsWell, To, By, ways, gone_in, LiesAmong, LiesIn, StoresBehind, ClearsTo, FreesWell, IsCovered, IsNamedIn, Making}
 use Rattle.ada_sound.proofs.Items.{Counted, HasItem, Houses, newest_is}
 use Rattle.ada_sound.proofs.Stored.{Stored, exists_out}
@@ -91,14 +91,14 @@ named_nowhere outer spared heap places holds o none = record {
 }
 
 module _ (known : Known) (under : List Id) (heap : List Object) (o : Id) (x : Object) (found : object_at heap o ≡ Some x) (out : x.out ≡ true) (ahead : (owned : Owned) → Houses owned x.cell.access x.cell.home.pool → OwnedFits known.program.types owned → known.ahead owned ≡ true) (m : Master) (ms : List Master) (stored : Stored under heap (m ∷ ms)) (fits : ItemsFit known.program.types (items_of (m ∷ ms))) where
-  -- The newest item is the home of the object, so it is of a type that the master may own; and it goes first.
+  -- The newest item is the home of the object, so it is of a type that the master may own; and no item is in front of it.
   newest_houses : (i : Item) (is : List Item) → m.items ≡ i ∷ is → i.number ≡ x.cell.home.item → Houses i.owned x.cell.access x.cell.home.pool
   newest_houses i is at same =
       newest_is x.cell.home.item x.cell.access x.cell.home.pool i (is ++ items_of ms) (sym same)
       (subst (λ (items : List Item). Counted (items ++ items_of ms)) at stored.counted)
       (subst (λ (items : List Item). HasItem x.cell.home.item x.cell.access x.cell.home.pool (items ++ items_of ms)) at ((stored.sane o x found).housed out))
 
-  left_by : (is : List Item) → m.items ≡ is → IsNewest x.cell.home.item is → first_left known.ahead is ≡ true
+  left_by : (is : List Item) → m.items ≡ is → IsNewest x.cell.home.item is → in_front known.ahead is ≡ []
   left_by [] at newest = absurd newest
   left_by (i ∷ is) at newest =
       rw (ahead i.owned (newest_houses i is at newest) (subst (λ (items : List Item). ItemsFit known.program.types (items ++ items_of ms)) at fits).0) refl
@@ -113,13 +113,13 @@ module _ (known : Known) (o : Id) (x : Object) (heap : List Object) (found : obj
   none_others : (p : Id) (t : ℕ) → IsReferred [] p t → (access_at heap p ≡ Some t) × (has_bare_objects known.program.types t ≡ false)
   none_others p t none = absurd none
 
-  -- The master is left: the home of the object is among what goes first.
+  -- The master is left: the home of the object is the newest item, and one for whose objects such an operation may be called.
   module _ (ahead : (owned : Owned) → Houses owned x.cell.access x.cell.home.pool → OwnedFits known.program.types owned → known.ahead owned ≡ true) (mode : Mode) (rest : Control) (master : ℕ) (newest : IsNewest x.cell.home.item (innermost masters)) (untreated : NothingTreated rest) (stored : Stored (o ∷ (outers known).under) heap masters) (out : x.out ≡ true) (r : Freed known (Some o) (sparing known.ahead heap (innermost masters)) heap places masters (RunsOn known (Leaves mode ∷ rest))) where
-    left_over : (ms : List Master) → masters ≡ ms → first_left known.ahead (innermost ms) ≡ true
+    left_over : (ms : List Master) → masters ≡ ms → in_front known.ahead (innermost ms) ≡ []
     left_over [] at = absurd (rw at at newest)
     left_over (m ∷ ms) at = left_by known (o ∷ (outers known).under) heap o x found out ahead m ms (rw at at stored) (rw at at fits) m.items refl (rw at at newest)
 
-    left : first_left known.ahead (innermost masters) ≡ true
+    left : in_front known.ahead (innermost masters) ≡ []
     left = left_over masters refl
 
     among_by_rooms : (gone : GoneWith) (inner : Rooms) (ms : List Master) → masters ≡ ms → Roomed (below known) ms (gone ∷ inner) → is_among gone.types (Some x.cell.access) ≡ true
@@ -163,7 +163,7 @@ module _ (known : Known) (o : Id) (x : Object) (heap : List Object) (found : obj
       there = none_others;
       waits = paused_here;
       rests = rests_at_end known cause end o x.cell.access x.cell.home places operands behind_it masters r.rooms r.holds (inl resting_here);
-      fit = respare (sparing known.ahead heap (innermost masters)) none_spared (λ k c p e. rw left refl) r.fit;
+      fit = respare (sparing known.ahead heap (innermost masters)) none_spared (λ k c p e. rw left (lies_nowhere (object_at heap k))) r.fit;
       stored = stored_at_end cause end o (outers known).under heap masters stored;
       may = endings_free known.implicit gone.types;
       includes = λ t is. any_end (λ u. known.implicit.end_frees u t) x.cell.access gone.types (among_by_rooms gone inner masters refl roomed) (frees_at_end known.implicit cause end x.cell.access behind_it t is);
@@ -398,6 +398,32 @@ module _ (known : Known) (o : Id) (x : Object) (heap : List Object) (found : obj
     assigns_by (Copies first t ∷ k) r alone = assigned_here first t k (alone first t k refl) r
     assigns_by (f ∷ k) r alone = absurd r
 
+  -- Where the initialization of the object begins, and what is behind it is known.
+  starts_here : (done : List parts.Part) (k : Control) → NothingTreated k → (rooms : Rooms) (holds : Holds) → Stored (outers known).under heap masters → Roomed (below known) masters rooms
+      → Fit known.program.types known.program.variables (outers known) none_spared heap places holds → BeginsWell known x.cell.access holds
+      → Starting known o x.cell.access places k rooms holds ⊎ Naming known o x.cell.access places operands k rooms holds
+      → Enters known (begins Creation done) o x k heap places operands masters
+  starts_here done k untreated rooms holds stored roomed fit well behind = record {
+    rooms = rooms;
+    holds = holds;
+    also = [];
+    there = none_others;
+    waits = record {
+      parted = not_bare;
+      untreated = λ v ne. nothing_begins v k untreated;
+      roomed = roomed;
+      said = fit.said;
+      objects = fit.objects;
+    };
+    rests = (refl, refl, behind);
+    fit = fit;
+    stored = stored;
+    may = known.implicit.start_frees x.cell.access;
+    includes = λ t is. is;
+    spares = well.0;
+    unaliased = well.1;
+  }
+
   -- A record object is initialized that a declaration creates.
   begins_here : (done : List parts.Part) (k : Control) → NothingTreated k → Beginning known (Names o) k heap places masters → Enters known (begins Creation done) o x k heap places operands masters
   begins_here done k untreated b =
@@ -405,56 +431,19 @@ module _ (known : Known) (o : Id) (x : Object) (heap : List Object) (found : obj
       let one : b.object ≡ x = let at = b.found in cc (rw same at at, found) in
       let aside = rw same at b.aside in
       let well : BeginsWell known x.cell.access b.holds = rw one at b.well in
-      record {
-        rooms = b.rooms;
-        holds = b.holds;
-        also = [];
-        there = none_others;
-        waits = record {
-          parted = not_bare;
-          untreated = λ v ne. nothing_begins v k untreated;
-          roomed = b.roomed;
-          said = b.fit.said;
-          objects = b.fit.objects;
-        };
-        rests = (
-          refl,
-          refl,
-          inl (record {
-            x = b.x;
-            runs = b.runs;
-            undone = rw one at b.undone;
-            well = well;
-            nowhere = named_nowhere (outers known) none_spared heap places (slice_set b.holds b.x hold.Lost) o aside.0;
-            unreferred = aside.1;
-          }),
-        );
-        fit = b.fit;
-        stored = b.stored;
-        may = known.implicit.start_frees x.cell.access;
-        includes = λ t is. is;
-        spares = well.0;
-        unaliased = well.1;
-      }
+      starts_here done k untreated b.rooms b.holds b.stored b.roomed b.fit well (inl (record {
+        x = b.x;
+        runs = b.runs;
+        undone = rw one at b.undone;
+        well = well;
+        nowhere = named_nowhere (outers known) none_spared heap places (slice_set b.holds b.x hold.Lost) o aside.0;
+        unreferred = aside.1;
+      }))
 
   -- An object is initialized that an allocator made, and a variable gets its name.
   made_here : (done : List parts.Part) (k : Control) → NothingTreated k → first_or Null operands ≡ Names o → Making known o x.cell.access k heap places masters → Enters known (begins Creation done) o x k heap places operands masters
-  made_here done k untreated named m = record {
-    rooms = m.rooms;
-    holds = m.holds;
-    also = [];
-    there = none_others;
-    waits = record {
-      parted = not_bare;
-      untreated = λ v ne. nothing_begins v k untreated;
-      roomed = m.roomed;
-      said = m.fit.said;
-      objects = m.fit.objects;
-    };
-    rests = (
-      refl,
-      refl,
-      inr (record {
+  made_here done k untreated named m =
+      starts_here done k untreated m.rooms m.holds m.stored m.roomed m.fit m.well (inr (record {
         named = named;
         room = m.room;
         to = m.to;
@@ -462,15 +451,7 @@ module _ (known : Known) (o : Id) (x : Object) (heap : List Object) (found : obj
         well = m.well;
         nowhere = named_nowhere (outers known) none_spared heap places m.holds o m.aside.0;
         unreferred = m.aside.1;
-      }),
-    );
-    fit = m.fit;
-    stored = m.stored;
-    may = known.implicit.start_frees x.cell.access;
-    includes = λ t is. is;
-    spares = m.well.0;
-    unaliased = m.well.1;
-  }
+      }))
 
   pub at_start : known.touches x.cell.access ≡ true → (done : List parts.Part) (tasks : List Task) (k : Control) → TreatsBy known (Names o) (begins Creation done) tasks k heap places operands masters → NothingTreated k → Enters known (begins Creation done) o x k heap places operands masters
   at_start touches done tasks k (inl b, may) untreated = begins_here done k untreated b

@@ -126,7 +126,7 @@ module _ (program : Program) (a : Activation Value) (rest : List (Activation Val
 
     -- What waits for it, by what is treated.
     module _ (may : may_be_frugal p ≡ true) (o : Id) (x : Object) (heap : List Object) (named : v ≡ Names o) (found : object_at heap o ≡ Some x) (not_bare : has_bare_objects known.program.types x.cell.access ≡ false) where
-      -- The home of the object goes first where its master is left.
+      -- The home of the object is an item for whose objects an operation may be called that touches storage.
       goes_ahead : (owned : Owned) → Houses owned x.cell.access x.cell.home.pool → OwnedFits known.program.types owned → known.ahead owned ≡ true
       goes_ahead (declared y) houses fits = absurd houses
       goes_ahead (record_object t) houses fits = refl

@@ -4,7 +4,7 @@
 use Rattle.std.proofs.Common.{◌≡◌, ℕ, zero, suc, Bool, true, false, ◌&&◌, ◌||◌, not, if◌then◌else◌, List, [], ◌∷◌, length, map, ◌+◌, refl, sym, ◌∙◌, ◌⊎◌, inl, inr}
 use Rattle.std.specs.Prelude.{Option, Some, None, is_some, find}
 use Rattle.std.specs.List.{list_all, list_any, slice_get}
-use Rattle.std.proofs.lemmas.Bool.{eq-eqb}
+use Rattle.std.proofs.lemmas.Bool.{eq-eqb, not-true}
 use Rattle.ada_program.specs.declared.program.Finalization.{Finalization}
 use Rattle.ada_program.specs.declared.program.ProcedureNo.{ProcedureNo}
 use Rattle.ada_program.specs.declared.program.ComponentKind.TheVariants as component
@@ -24,12 +24,13 @@ use Rattle.ada_program.specs.WellFormed.{IsWellFormed, finalization_in, has_oper
 use Rattle.ada_flow.specs.Flow.{is_owning_part, object_record, is_procedure, tracked_of, tracked_by_adjust, tracks_of}
 use Rattle.ada_flow.specs.Tracking.{no_tracks, tracks_behind, access_numbers, number_within}
 use Rattle.ada_quiet.specs.Apart.{is_this_one, is_adjust_of, is_tracker, body_calls_apart, overrides_apart, operations_apart, operations_stand_apart}
-use Rattle.ada_quiet.specs.InUse.{uses_adjust, allocates_no_parts, may_allocate_parts, may_be_frugal, uses_operations, operations_are_in_use, is_copied_in_order, may_track}
+use Rattle.ada_quiet.specs.Idle.{makes_parts, copies_parts}
+use Rattle.ada_quiet.specs.InUse.{uses_adjust, allocates_no_parts, may_allocate_parts, may_be_frugal, uses_operations, operations_are_idle, operations_may_be_called, operations_are_in_use, is_copied_in_order, may_track, adjusts_nothing, operations_stand_in_order}
 use Rattle.ada_quiet.specs.Quiet.{has_access, is_of_access, operation_body}
 use Rattle.ada_sound.proofs.OperationStarts.{apart}
 use Rattle.ada_sound.specs.Untracked.{AdjustsNoOwners}
 
--- Where operations are in use, nothing tracks, or components may be tracked.
+-- Where operations are in use, nothing tracks, or what tracks stands apart.
 module _ (p : ProgramForm) where
   body_there : (bs : List BodyForm) (n t : ℕ) → is_operation p.types t (slice_get (map profile_of bs) n) ≡ true → is_some (slice_get bs n) ≡ true
   body_there [] n t is = absurd (cc is)
@@ -37,49 +38,38 @@ module _ (p : ProgramForm) where
   body_there (b ∷ bs) (suc n) t is = body_there bs n t is
 
   none_by : (owns : Bool) (n : ℕ) (adjust : Option ProcedureNo) → overrides_rightly p.types (callable_in p) n adjust ≡ true → uses_adjust p owns adjust ≡ true
-      → may_track p ≡ false → (m : ℕ) → (owns && is_this_one m adjust) ≡ false
-  none_by false n adjust right uses never m = refl
-  none_by true n None right uses never m = refl
-  none_by true n (Some procedure) right uses never m =
+      → adjusts_nothing p ≡ false → may_track p ≡ false → (m : ℕ) → (owns && is_this_one m adjust) ≡ false
+  none_by false n adjust right uses some never m = refl
+  none_by true n None right uses some never m = refl
+  none_by true n (Some procedure) right uses some never m =
       let there : is_some (operation_body p (Some procedure)) ≡ true = body_there p.bodies procedure.0 n right in
-      let is = rw (there, never) at uses in
+      let is = rw (some, there, never) at uses in
       absurd (cc is)
 
   none_at : (n : ℕ) (t : TypeForm) (f : Option Finalization) → finalization_in (Some t) ≡ f → has_operations p.types (callable_in p) n f ≡ true
-      → uses_operations p (has_access (Some t)) f ≡ true → may_track p ≡ false → (m : ℕ) → (has_access (Some t) && is_adjust_of m f) ≡ false
-  none_at n t None is right uses never m = and_none (has_access (Some t))
+      → uses_operations p (has_access (Some t)) f ≡ true → adjusts_nothing p ≡ false → may_track p ≡ false → (m : ℕ) → (has_access (Some t) && is_adjust_of m f) ≡ false
+  none_at n t None is right uses some never m = and_none (has_access (Some t))
     where
       and_none : (b : Bool) → (b && false) ≡ false
       and_none true = refl
       and_none false = refl
-  none_at n t (Some f) is right uses never m =
+  none_at n t (Some f) is right uses some never m =
       let two = apart _ _ right in
       let three = apart _ _ two.0 in
       let uses_two = apart _ _ uses in
       let uses_three = apart _ _ uses_two.0 in
-      none_by (has_access (Some t)) n f.operations.adjust three.1 uses_three.1 never m
+      none_by (has_access (Some t)) n f.operations.adjust three.1 uses_three.1 some never m
 
   none_among : (n : ℕ) (ts : List TypeForm) → have_operations p.types (callable_in p) n ts ≡ true
-      → list_all (λ t. uses_operations p (has_access (Some t)) (finalization_in (Some t))) ts ≡ true → may_track p ≡ false
+      → list_all (λ t. uses_operations p (has_access (Some t)) (finalization_in (Some t))) ts ≡ true → adjusts_nothing p ≡ false → may_track p ≡ false
       → (m : ℕ) → list_any (λ t. has_access (Some t) && is_adjust_of m (finalization_in (Some t))) ts ≡ false
-  none_among n [] right uses never m = refl
-  none_among n (t ∷ ts) right uses never m =
+  none_among n [] right uses some never m = refl
+  none_among n (t ∷ ts) right uses some never m =
       let rights = apart _ _ right in
       let both = apart _ _ uses in
-      rw (none_at n t (finalization_in (Some t)) refl rights.0 both.0 never m, none_among (1 + n) ts rights.1 both.1 never m) refl
+      rw (none_at n t (finalization_in (Some t)) refl rights.0 both.0 some never m, none_among (1 + n) ts rights.1 both.1 some never m) refl
 
-  -- Nothing tracks, or components may be tracked.
-  abbrev pub TracksSafely : Type 0
-  TracksSafely = ((m : ℕ) → is_tracker p m ≡ false) ⊎ (may_track p ≡ true)
-
-  pub tracks_safely : IsWellFormed p → operations_are_in_use p ≡ true → TracksSafely
-  tracks_safely well uses = by (may_track p) refl
-    where
-      by : (b : Bool) → may_track p ≡ b → TracksSafely
-      by true may = inr may
-      by false never = inl (none_among 0 p.types well.operations_fit uses never)
-
-  -- Where they may be, operations may be frugal, and the components of each record stand in order.
+  -- Where components may be tracked, operations may be frugal, and the components of each record stand in order.
   frugal_and_order : may_track p ≡ true → (may_be_frugal p ≡ true) × (list_all (is_copied_in_order p.types) p.types ≡ true)
   frugal_and_order may = apart (may_be_frugal p) (list_all (is_copied_in_order p.types) p.types) may
 
@@ -96,7 +86,41 @@ module _ (p : ProgramForm) where
   pub stand_apart : may_track p ≡ true → operations_stand_apart p ≡ true
   stand_apart may = apart_too (frugal_too may)
 
-  -- So no body calls what tracks then.
+  -- What tracks components stands apart, and the components of each record stand in order.
+  abbrev pub TracksApart : Type 0
+  TracksApart = (operations_stand_apart p ≡ true) × (list_all (is_copied_in_order p.types) p.types ≡ true)
+
+  -- So it is where components may be tracked, and where operations are idle.
+  pub tracks_apart : may_track p ≡ true → TracksApart
+  tracks_apart may = (stand_apart may, order_too may)
+
+  idle_apart : operations_are_idle p ≡ true → TracksApart
+  idle_apart idle = apart (operations_stand_apart p) (list_all (is_copied_in_order p.types) p.types) (apart (not (makes_parts p)) (operations_stand_in_order p) idle).1
+
+  -- And so it is where no Adjust is called.
+  nothing_apart : adjusts_nothing p ≡ true → TracksApart
+  nothing_apart nothing = apart (operations_stand_apart p) (list_all (is_copied_in_order p.types) p.types) (apart (not (copies_parts p)) (operations_stand_in_order p) nothing).1
+
+  -- Nothing tracks, or what does stands apart.
+  abbrev pub TracksSafely : Type 0
+  TracksSafely = ((m : ℕ) → is_tracker p m ≡ false) ⊎ TracksApart
+
+  called_safely : IsWellFormed p → operations_may_be_called p ≡ true → TracksSafely
+  called_safely well called = by (may_track p) (adjusts_nothing p) refl refl
+    where
+      by : (may nothing : Bool) → may_track p ≡ may → adjusts_nothing p ≡ nothing → TracksSafely
+      by true nothing may none = inr (tracks_apart may)
+      by false true never none = inr (nothing_apart none)
+      by false false never some = inl (none_among 0 p.types well.operations_fit called some never)
+
+  pub tracks_safely : IsWellFormed p → operations_are_in_use p ≡ true → TracksSafely
+  tracks_safely well uses = by (operations_are_idle p) refl uses
+    where
+      by : (idle : Bool) → operations_are_idle p ≡ idle → (idle || operations_may_be_called p) ≡ true → TracksSafely
+      by true idle uses' = inr (idle_apart idle)
+      by false never uses' = called_safely well uses'
+
+  -- Where operations stand apart, no body calls what tracks.
   pub calls_stand_apart : operations_stand_apart p ≡ true → (body_calls_apart p.types (is_tracker p) (main_body p) ≡ true) × (list_all (body_calls_apart p.types (is_tracker p)) p.bodies ≡ true)
   calls_stand_apart stand = apart _ _ (apart (body_calls_apart p.types (is_tracker p) (main_body p) && list_all (body_calls_apart p.types (is_tracker p)) p.bodies) _ stand).0
 
@@ -187,11 +211,7 @@ module _ (tracks : ℕ → Bool) where
 
   pub called_plainly : (o : Option ProcedureNo) (number : ℕ) → overrides_apart tracks o ≡ true → procedure_number o ≡ Some number → tracks number ≡ false
   called_plainly None number is called = absurd (cc called)
-  called_plainly (Some procedure) number is called = let same : procedure.0 ≡ number = cc called in none (tracks number) (rw same at is)
-    where
-      none : (b : Bool) → not b ≡ true → b ≡ false
-      none true e = absurd (cc e)
-      none false e = refl
+  called_plainly (Some procedure) number is called = let same : procedure.0 ≡ number = cc called in not-true (tracks number) (rw same at is)
 
 -- So it is where an operation of a type with controlled parts is called that may touch storage.
 pub touches_apart : (program : Program) → TracksSafely (program_form program) → (of number : ℕ) (treatment : Treatment) → MayTouch treatment
@@ -203,7 +223,7 @@ touches_apart program (inr tracks) of number treatment may called = by treatment
     plainly =
         plainly_found (is_tracker (program_form program)) (λ t. is_number of (number_by (Some t))) program.types.items
         (apart (body_calls_apart (program_form program).types (is_tracker (program_form program)) (main_body (program_form program)) && list_all (body_calls_apart (program_form program).types (is_tracker (program_form program))) (program_form program).bodies) _
-        (stand_apart (program_form program) tracks)).1
+        tracks.0).1
 
     by : (treatment' : Treatment) → MayTouch treatment' → IsCalled (operations_of program.types.items of) treatment' number → is_tracker (program_form program) number ≡ false
     by (begins Creation done) may' called' = called_plainly (is_tracker (program_form program)) _ number plainly.initialize called'

@@ -1,5 +1,6 @@
--- Where nothing tracks components (7.6), no record with owners is copied; and where they may be tracked, an Adjust sees to those of each copy, and nothing but the
--- treatment of an object calls that. Where an operation may touch storage, no allocator with items makes an object for which one is called (4.8).
+-- Where nothing tracks components (7.6), no record with owners is copied; and where the components of each record stand in order, an Adjust sees to those of each
+-- copy, and nothing but the treatment of an object calls that. Where an operation may touch storage, no allocator with items makes an object for which one is called
+-- (4.8).
 
 use Rattle.std.proofs.Common.{◌≡◌, ℕ, Bool, true, false, ◌&&◌, not, List, ◌∷◌, refl, sym, subst, inl, inr}
 use Rattle.std.specs.Prelude.{Option}
@@ -13,7 +14,7 @@ use Rattle.ada_meaning.specs.Frame.{Calls, Evaluates}
 use Rattle.ada_meaning.specs.Named.{State}
 use Rattle.ada_quiet.specs.Apart.{is_bare_item, is_tracker, operations_stand_apart}
 use Rattle.ada_quiet.specs.Bare.{has_bare_objects}
-use Rattle.ada_quiet.specs.InUse.{may_be_frugal, may_track}
+use Rattle.ada_quiet.specs.InUse.{may_be_frugal, is_copied_in_order}
 use Rattle.ada_sound.proofs.Callers.{Suspension, known_in}
 use Rattle.ada_sound.proofs.CallsApart.{CallApart}
 use Rattle.ada_sound.proofs.CallsApartRuns.{no_record_allocated, no_tracker_called}
@@ -27,26 +28,28 @@ use Rattle.ada_sound.proofs.Returns.{same_types}
 use Rattle.ada_sound.proofs.Sees.{copies_in, allocates_in}
 use Rattle.ada_sound.proofs.BareObjects.{components_untouched}
 use Rattle.ada_sound.proofs.Touched.{ComponentsUntouched, touches_in}
-use Rattle.ada_sound.proofs.Trackers.{TracksSafely, order_too, apart_too, nothing_adjusts, stand_apart}
+use Rattle.ada_sound.proofs.Trackers.{TracksApart, TracksSafely, apart_too, nothing_adjusts}
 
--- Where components may be tracked, those of each record stand in order.
-pub copied_in_order : (p : ProgramForm) → IsWellFormed p → may_track p ≡ true → AreCopiedInOrder p.types
-copied_in_order p well may = record {
+-- Where the components of each record stand in order, types are as a copy needs them.
+pub copied_in_order : (p : ProgramForm) → IsWellFormed p → list_all (is_copied_in_order p.types) p.types ≡ true → AreCopiedInOrder p.types
+copied_in_order p well order = record {
   types_fit = well.types_fit;
   components_lie = well.components_lie;
-  copied_in_order = order_too p may;
+  copied_in_order = order;
 }
 
 -- So copies that leave no two owners are seen to.
-pub tracked_well : (program : Program) → IsWellFormed (program_form program) → may_track (program_form program) ≡ true → CopiesWell (program_form program).types
-tracked_well program well may =
+pub tracked_well :
+    (program : Program) → IsWellFormed (program_form program) → list_all (is_copied_in_order (program_form program).types) (program_form program).types ≡ true
+    → CopiesWell (program_form program).types
+tracked_well program well order =
     let p = program_form program in
-    copies_well p.types (copied_in_order p well may) (covered_there program well)
+    copies_well p.types (copied_in_order p well order) (covered_there program well)
 
 -- What a body copies leaves no two owners.
 pub copies_at : (program : Program) (procedure : Option ℕ) (gs : List Suspension) → IsWellFormed (program_form program) → TracksSafely (program_form program) → CopiesWell (known_in program procedure gs).program.types
 copies_at program procedure gs well (inl none) = copies_in program procedure gs well (nothing_adjusts (program_form program) none)
-copies_at program procedure gs well (inr may) = subst CopiesWell (sym (same_types procedure (program_form program))) (tracked_well program well may)
+copies_at program procedure gs well (inr stand) = subst CopiesWell (sym (same_types procedure (program_form program))) (tracked_well program well stand.1)
 
 -- Where operations stand apart, what is left to do calls nothing that tracks, and no allocator in it makes an object with controlled parts from items, or copies a
 -- record with some.
@@ -69,25 +72,28 @@ makes_apart p s apart' access items behind is = by (may_be_frugal p) refl
     by true may = rw ((bare_next p s (apart_too p may) apart' access items behind is).0) refl
 
 -- And the records among those items own nothing.
-pub tracked_bare : (program : Program) → IsWellFormed (program_form program) → may_track (program_form program) ≡ true → ComponentsUntouched (program_form program).types (touches_in (program_form program)) → (s : State) → StaysApart (program_form program) s.control → AllocatesBare (program_form program).types (touches_in (program_form program)) s.control
-tracked_bare program well may untouched s apart' =
+pub tracked_bare :
+    (program : Program) → IsWellFormed (program_form program) → TracksApart (program_form program)
+    → ComponentsUntouched (program_form program).types (touches_in (program_form program)) → (s : State) → StaysApart (program_form program) s.control
+    → AllocatesBare (program_form program).types (touches_in (program_form program)) s.control
+tracked_bare program well stand untouched s apart' =
     let p = program_form program in
-    allocates_bare p.types (tracked_well program well may) s.control
-    (λ access items behind is. (bare_next p s (stand_apart p may) apart' access items behind is).1) untouched (makes_apart p s apart')
+    allocates_bare p.types (tracked_well program well stand.1) s.control
+    (λ access items behind is. (bare_next p s stand.0 apart' access items behind is).1) untouched (makes_apart p s apart')
 
 -- So it is with an allocator that a body of the program evaluates next.
 pub allocates_at : (program : Program) (procedure : Option ℕ) (gs : List Suspension) (s : State) → IsWellFormed (program_form program) → TracksSafely (program_form program) → StaysApart (program_form program) s.control
     → AllocatesBare (known_in program procedure gs).program.types (known_in program procedure gs).touches s.control
 allocates_at program procedure gs s well (inl none) apart' =
     allocates_in program procedure gs s.control (nothing_adjusts (program_form program) none) (components_untouched program well) (makes_apart (program_form program) s apart')
-allocates_at program procedure gs s well (inr may) apart' =
+allocates_at program procedure gs s well (inr stand) apart' =
     let p = program_form program in
-    subst (λ (types : List TypeForm). AllocatesBare types (touches_in p) s.control) (sym (same_types procedure p)) (tracked_bare program well may (components_untouched program well) s apart')
+    subst (λ (types : List TypeForm). AllocatesBare types (touches_in p) s.control) (sym (same_types procedure p)) (tracked_bare program well stand (components_untouched program well) s apart')
 
 -- What is called next tracks nothing.
 pub called_apart : (program : Program) (s : State) (number : ℕ) (b : BodyForm) (actuals : List ActualForm) (k : Control) → s.control ≡ Calls number b actuals ∷ k → TracksSafely (program_form program)
     → StaysApart (program_form program) s.control → is_tracker (program_form program) number ≡ false
 called_apart program s number b actuals k is (inl none) apart' = none number
-called_apart program s number b actuals k is (inr may) apart' =
+called_apart program s number b actuals k is (inr stand) apart' =
     let p = program_form program in
-    no_tracker_called p.types (is_tracker p) s number b actuals k is (apart' (stand_apart p may))
+    no_tracker_called p.types (is_tracker p) s number b actuals k is (apart' stand.0)

@@ -214,8 +214,8 @@ writes_shown = record {
   beside = (1, Names ghost, refl, refl);
   writes = record {
     goes_on = (Followed (Names holder), holding [] [] Null (Names ghost), refl);
-    held = (Names other, refl);
-    holds = (Null, refl);
+    before = (Names other, refl);
+    behind = (Null, refl);
     differs = λ e. absurd (cc);
   };
 }
@@ -226,8 +226,8 @@ writes_hidden = record {
   is_hidden = refl;
   writes = record {
     goes_on = (Followed (Names holder), holding [] [] (Names other) Null, refl);
-    held = (Names ghost, refl);
-    holds = (Null, refl);
+    before = (Names ghost, refl);
+    behind = (Null, refl);
     differs = λ e. absurd (cc);
   };
 }

@@ -67,9 +67,9 @@ PremiseIsNeeded =
 -- A step behind which a component of an object holds something else.
 pub record Writes (types : List TypeDefinition) (bodies : List BodyForm) (s : State) (o : Id) (component : ℕ) : Type 0 where
   pub goes_on : (e : Event) × (after : State) × (next types bodies s ≡ moves e after)
-  pub held : (v : Value) × (component_in (object_at s.heap o) component ≡ Some v)
-  pub holds : (v : Value) × (component_in (object_at (goes_on.1).heap o) component ≡ Some v)
-  pub differs : held.0 ≡ holds.0 → ⊥
+  pub before : (v : Value) × (component_in (object_at s.heap o) component ≡ Some v)
+  pub behind : (v : Value) × (component_in (object_at (goes_on.1).heap o) component ≡ Some v)
+  pub differs : before.0 ≡ behind.0 → ⊥
 
 -- It is none of the hidden ones, and the object has one of these.
 pub record WritesShown (types : List TypeDefinition) (bodies : List BodyForm) (hidden : Id → (component : ℕ) → Bool) (s : State) (o : Id) (component : ℕ) : Type 0 where

@@ -1,13 +1,11 @@
-use Rattle.std.proofs.Common.{◌≡◌, map, drop}
-use Rattle.ada_program.specs.Form.{declaration_form}
 use Rattle.ada_program.specs.Kept.{types_in}
-use Rattle.ada_program.specs.Nested.{collected}
-use Rattle.ada_quiet.specs.Bare.{collect_in_order}
-use Rattle.ada_quiet.proofs.Behind.{follow_in_order}
+use Rattle.ada_quiet.specs.Known.{AreHeld}
+use Rattle.ada_quiet.proofs.Collecting.{IsMarkedUpTo}
 use Rattle.ada_quiet.proofs.collections.collect_in_order.Given as goal
 
--- the collections that are left, behind one whose objects have controlled parts or not, tell of all
-abbrev pub invariant-declarations : goal.invariant-declarations
-invariant-declarations l =
-    follow_in_order (types_in l.components.types.now) l.holds_parts (collected (map declaration_form (drop l.declaration-index l.declarations)))
-    ≡ collect_in_order (types_in l.components.types.now) (collected (map declaration_form l.declarations))
+-- the marks tell of the collections so far, and those that are left of all
+abbrev pub invariant-collections : goal.invariant-collections
+invariant-collections l = record {
+  marks : IsMarkedUpTo (types_in l.types) l.accesses l.held.accesses.items l.marked l.index;
+  records : AreHeld (types_in l.types) l.held;
+}

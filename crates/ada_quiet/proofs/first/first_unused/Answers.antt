@@ -1,24 +1,18 @@
-use Rattle.std.proofs.Common.{◌≡◌, ℕ, length, map, subst, arith}
-use Rattle.std.specs.Prelude.{Option}
-use Rattle.std.proofs.lemmas.List.{length-map}
+use Rattle.std.proofs.Common.{◌≡◌, false, sym, ◌∙◌}
+use Rattle.std.specs.Prelude.{Result, Ok, Err, IfOk, Option}
 use Rattle.ada_text.specs.declared.spot.Spot.{Spot}
-use Rattle.ada_program.specs.declared.program.Program.{Program}
-use Rattle.ada_program.specs.ProgramForm.{program_form, type_form}
-use Rattle.ada_quiet.specs.First.{IsFirst, IsFirstUnused}
-use Rattle.ada_quiet.proofs.Unused.{Below, below_all, none_exactly}
+use Rattle.ada_program.specs.ProgramForm.{ProgramForm, program_form}
+use Rattle.ada_quiet.specs.First.{BeginsUnused, HasUnused, IsFirst}
+use Rattle.ada_quiet.specs.InUse.{operations_are_idle}
+use Rattle.ada_quiet.proofs.Unused.{called_first}
 use Rattle.ada_quiet.proofs.first.first_unused.Goals as goal
 
--- behind the last type all are examined
-behind_last : (program : Program) (number : ℕ) (first : Option Spot) → number ≡ length program.types.items → IsFirst (Below (program_form program) number) first →
-    IsFirstUnused (program_form program) first
-behind_last program number first is found =
-    let here : number ≡ length (map type_form program.types.items) = omega (arith, is, length-map program.types.items type_form) in
-    below_all (program_form program) first (subst (λ (n : ℕ). IsFirst (Below (program_form program) n) first) here found)
+-- what is first among those that would not be in use is so in a program whose operations are not idle
+first_still : {E : Type 0} (p : ProgramForm) (found : Result (Option Spot) E) → operations_are_idle p ≡ false → IfOk found (IsFirst (BeginsUnused p))
+    → IfOk found (IsFirst (HasUnused p))
+first_still p (Ok a) called f = called_first p a called f
+first_still p (Err e) called f = tt
 
 pub returns-clause-first : goal.returns-clause-first
-returns-clause-first c = behind_last c.args.program.now c.types.number c.types.first (omega (arith, c.len-number-end.ensures, c.types.auto.number-end, c.types-test.false)) c.types.invariant
-
-pub returns-clause-used : goal.returns-clause-used
-returns-clause-used c =
-    none_exactly (program_form c.args.program.now) c.types.first
-    (behind_last c.args.program.now c.types.number c.types.first (omega (arith, c.len-number-end.ensures, c.types.auto.number-end, c.types-test.false)) c.types.invariant)
+returns-clause-first c =
+    first_still (program_form c.args.program.now) c.first_uncallable.result (sym c.in_ok-are_idle.ensures ∙ c.if-branch.false) c.first_uncallable.ensures.first

@@ -1,0 +1,23 @@
+with Ada.Finalization; with Ada.Text_IO;
+procedure Main is
+   type Bell is record Sound : Integer := 4; end record;
+   type Rope is access Bell;
+   type Tower is new Ada.Finalization.Controlled with record Hung : Rope; end record;
+   overriding procedure Adjust (Object : in out Tower);
+   procedure Ring (Times : Integer) is
+   begin
+      if Times > 0 then
+         Ada.Text_IO.Put_Line ("ding");
+      end if;
+   end Ring;
+   overriding procedure Adjust (Object : in out Tower) is
+   begin
+      Object.Hung := null;
+      Ring (1);
+   end Adjust;
+   Old : Tower;
+begin
+   Ring (2);
+   Old.Hung := new Bell;
+   Ada.Text_IO.Put_Line (Integer'Image (Old.Hung.Sound));
+end Main;
