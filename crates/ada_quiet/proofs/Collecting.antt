@@ -6,13 +6,13 @@ use Rattle.std.specs.List.{list_all, list_any, slice_range}
 use Rattle.std.proofs.lemmas.List.{take_more, drop_more, get_or-drop, reverse-append, length-drop}
 use Rattle.std.proofs.lemmas.List.Folds.{list_any-append}
 use Rattle.ada_program.specs.ProgramForm.{TypeForm}
-use Rattle.ada_quiet.specs.Bare.{has_bare_objects, holds_component, is_apart_from, collect_in_order}
+use Rattle.ada_quiet.specs.Bare.{has_bare_objects, holds_component, hold_none, hold_none_from, is_apart_from, collect_in_order}
 use Rattle.ada_quiet.specs.Known.{is_marked}
 
--- Behind older collections, the newest one first, those access types are marked that a new one is not to be of. With the types of the components of the objects
--- of the recent ones, which are still to be marked from, those of all objects are marked.
+-- Behind older collections, the newest one first, those access types are marked of which objects have a component, from the newest collection on whose objects have
+-- controlled parts. With the types of the components of the objects of the recent ones, which are still to be marked from, those of all objects are marked.
 pub record IsMarkedBehind (types : List TypeForm) (older recent : List ℕ) (marks : List Bool) : Type 0 where
-  pub apart : (n : ℕ) → is_apart_from types n older ≡ not (is_marked marks n)
+  pub none : (n : ℕ) → hold_none_from types n older ≡ not (is_marked marks n)
   pub held : (n : ℕ) → list_any (holds_component types n) older ≡ (is_marked marks n || list_any (holds_component types n) recent)
 
 -- So it is behind the first ones of some collections, where fewer are marked from. With those that are left, the first ones are in order where all are.
@@ -20,6 +20,13 @@ pub record IsMarkedUpTo (types : List TypeForm) (accesses : List ℕ) (marks : L
   pub within : marked ≤ index
   pub behind : IsMarkedBehind types (reverse (take index accesses)) (slice_range accesses marked index) marks
   pub left : collect_in_order types (reverse (take index accesses)) (drop index accesses) ≡ collect_in_order types [] accesses
+
+-- So it is behind one more, the next one, whose type is to be asked for its mark: all are in order where it has none, and those that are left behind it are.
+pub record IsAsked (types : List TypeForm) (accesses : List ℕ) (marks : List Bool) (marked index : ℕ) : Type 0 where
+  pub within : marked ≤ index + 1
+  pub behind : IsMarkedBehind types (reverse (take (index + 1) accesses)) (slice_range accesses marked (index + 1)) marks
+  pub left : (not (is_marked marks (get_or accesses index 0)) && collect_in_order types (reverse (take (index + 1) accesses)) (drop (index + 1) accesses))
+      ≡ collect_in_order types [] accesses
 
 -- What holds of none does not hold of one.
 none_or_one : {X : Type 0} (holds : X → Bool) (xs : List X) → list_all (λ x. not (holds x)) xs ≡ not (list_any holds xs)
@@ -52,8 +59,7 @@ module _ (types : List TypeForm) (older recent : List ℕ) (marks : List Bool) (
   -- Behind one whose objects have no controlled parts as many types are marked.
   behind_bare : has_bare_objects types t ≡ true → IsMarkedBehind types (t ∷ older) (recent ++ t ∷ []) marks
   behind_bare bare = record {
-    apart = λ n.
-        ap (λ (b : Bool). if b then is_apart_from types n older else list_all (λ w. not (holds_component types n w)) (t ∷ older)) bare ∙ before.apart n;
+    none = λ n. ap (λ (b : Bool). if b then hold_none_from types n older else hold_none types n (t ∷ older)) bare ∙ before.none n;
     held = held_more;
   }
 
@@ -61,15 +67,23 @@ module _ (types : List TypeForm) (older recent : List ℕ) (marks : List Bool) (
   behind_parts : (more : List Bool) → has_bare_objects types t ≡ false →
       ((n : ℕ) → is_marked more n ≡ (is_marked marks n || list_any (holds_component types n) (recent ++ t ∷ []))) → IsMarkedBehind types (t ∷ older) [] more
   behind_parts more parts grown = record {
-    apart = λ n.
-        ap (λ (b : Bool). if b then is_apart_from types n older else list_all (λ w. not (holds_component types n w)) (t ∷ older)) parts
+    none = λ n.
+        ap (λ (b : Bool). if b then hold_none_from types n older else hold_none types n (t ∷ older)) parts
         ∙ none_or_one (holds_component types n) (t ∷ older) ∙ ap not (held_more n ∙ sym (grown n));
     held = λ n. held_more n ∙ sym (grown n) ∙ or_nothing (is_marked more n);
   }
 
-  -- A collection of a type that is not marked is in order where those behind it are.
-  goes_on : (ts : List ℕ) → is_marked marks t ≡ false → collect_in_order types older (t ∷ ts) ≡ collect_in_order types (t ∷ older) ts
-  goes_on ts unmarked = ap (λ (b : Bool). b && collect_in_order types (t ∷ older) ts) (before.apart t ∙ ap not unmarked)
+  -- One whose objects have no controlled parts is in order where its type is not marked before.
+  apart_bare : has_bare_objects types t ≡ true → is_apart_from types t older ≡ not (is_marked marks t)
+  apart_bare bare = ap (λ (b : Bool). if b then hold_none_from types t older else hold_none types t (t ∷ older)) bare ∙ before.none t
+
+  -- One whose objects have some is in order where its type is not marked behind it.
+  apart_parts : (more : List Bool) → has_bare_objects types t ≡ false →
+      ((n : ℕ) → is_marked more n ≡ (is_marked marks n || list_any (holds_component types n) (recent ++ t ∷ []))) →
+      is_apart_from types t older ≡ not (is_marked more t)
+  apart_parts more parts grown =
+      ap (λ (b : Bool). if b then hold_none_from types t older else hold_none types t (t ∷ older)) parts
+      ∙ none_or_one (holds_component types t) (t ∷ older) ∙ ap not (held_more t ∙ sym (grown t))
 
 module _ (types : List TypeForm) (accesses : List ℕ) (marks : List Bool) (marked index : ℕ) (inside : index < length accesses)
     (before : IsMarkedUpTo types accesses marks marked index) where
@@ -89,40 +103,58 @@ module _ (types : List TypeForm) (accesses : List ℕ) (marks : List Bool) (mark
       ∙ ap (λ (t : ℕ). slice_range accesses marked index ++ t ∷ [])
       (get_or-drop marked accesses (index - marked) 0 ∙ ap (λ (n : ℕ). get_or accesses n 0) place)
 
-  -- Where its type is not marked, those that are passed then are in order where all are.
-  left_more : is_marked marks (get_or accesses index 0) ≡ false →
-      collect_in_order types (reverse (take (index + 1) accesses)) (drop (index + 1) accesses) ≡ collect_in_order types [] accesses
-  left_more unmarked =
-      ap (λ (ts : List ℕ). collect_in_order types ts (drop (index + 1) accesses)) newest
-      ∙ sym (goes_on types (reverse (take index accesses)) (slice_range accesses marked index) marks (get_or accesses index 0) before.behind
-      (drop (index + 1) accesses) unmarked)
+  -- All are in order where it is, and those that are left behind it.
+  one_less : (apart : Bool) → is_apart_from types (get_or accesses index 0) (reverse (take index accesses)) ≡ apart →
+      (apart && collect_in_order types (reverse (take (index + 1) accesses)) (drop (index + 1) accesses)) ≡ collect_in_order types [] accesses
+  one_less apart is =
+      ap (λ (ts : List ℕ). apart && collect_in_order types ts (drop (index + 1) accesses)) newest
+      ∙ ap (λ (b : Bool). b && collect_in_order types (get_or accesses index 0 ∷ reverse (take index accesses)) (drop (index + 1) accesses)) (sym is)
       ∙ sym (ap (collect_in_order types (reverse (take index accesses))) (drop_more accesses index 0 inside))
       ∙ before.left
 
-  -- It is so behind one more collection whose objects have no controlled parts.
-  pub after_bare : is_marked marks (get_or accesses index 0) ≡ false → has_bare_objects types (get_or accesses index 0) ≡ true →
-      IsMarkedUpTo types accesses marks marked (index + 1)
-  after_bare unmarked bare =
-      let more = behind_bare types (reverse (take index accesses)) (slice_range accesses marked index) marks (get_or accesses index 0) before.behind bare in
+  -- What is known of the next collection, whose objects have no controlled parts, before its type is asked for its mark.
+  pub before_bare : has_bare_objects types (get_or accesses index 0) ≡ true → IsAsked types accesses marks marked index
+  before_bare bare =
+      let older = reverse (take index accesses) in
+      let more = behind_bare types older (slice_range accesses marked index) marks (get_or accesses index 0) before.behind bare in
       record {
         within = omega (arith, before.within);
         behind = subst (λ (ts : List ℕ). IsMarkedBehind types ts (slice_range accesses marked (index + 1)) marks) (sym newest)
-            (subst (λ (ts : List ℕ). IsMarkedBehind types (get_or accesses index 0 ∷ reverse (take index accesses)) ts marks) (sym one_more) more);
-        left = left_more unmarked;
+            (subst (λ (ts : List ℕ). IsMarkedBehind types (get_or accesses index 0 ∷ older) ts marks) (sym one_more) more);
+        left = one_less (not (is_marked marks (get_or accesses index 0)))
+            (apart_bare types older (slice_range accesses marked index) marks (get_or accesses index 0) before.behind bare);
       }
 
-  -- It is so behind one more whose objects have some, where it and the recent ones are marked from.
-  pub after_parts : (more : List Bool) → is_marked marks (get_or accesses index 0) ≡ false → has_bare_objects types (get_or accesses index 0) ≡ false →
+  -- So it is with one whose objects have some, where it and the recent ones are marked from.
+  pub before_parts : (more : List Bool) → has_bare_objects types (get_or accesses index 0) ≡ false →
       ((n : ℕ) → is_marked more n ≡ (is_marked marks n || list_any (holds_component types n) (slice_range accesses marked (index + 1)))) →
-      IsMarkedUpTo types accesses more (index + 1) (index + 1)
-  after_parts more unmarked parts grown =
-      let none : index + 1 - (index + 1) ≡ 0 = omega arith in
-      let behind = behind_parts types (reverse (take index accesses)) (slice_range accesses marked index) marks (get_or accesses index 0) before.behind more parts
-      (λ n. grown n ∙ ap (λ (ts : List ℕ). is_marked marks n || list_any (holds_component types n) ts) one_more) in
+      IsAsked types accesses more (index + 1) index
+  before_parts more parts grown =
+      let older = reverse (take index accesses) in
+      let nothing : index + 1 - (index + 1) ≡ 0 = omega arith in
+      let all : (n : ℕ) → is_marked more n ≡ (is_marked marks n || list_any (holds_component types n) (slice_range accesses marked index ++ get_or accesses index 0 ∷ [])) =
+      λ n. grown n ∙ ap (λ (ts : List ℕ). is_marked marks n || list_any (holds_component types n) ts) one_more in
+      let behind = behind_parts types older (slice_range accesses marked index) marks (get_or accesses index 0) before.behind more parts all in
       record {
         within = omega arith;
         behind = subst (λ (ts : List ℕ). IsMarkedBehind types ts (slice_range accesses (index + 1) (index + 1)) more) (sym newest)
-            (subst (λ (k : ℕ). IsMarkedBehind types (get_or accesses index 0 ∷ reverse (take index accesses)) (take k (drop (index + 1) accesses)) more)
-            (sym none) behind);
-        left = left_more unmarked;
+            (subst (λ (k : ℕ). IsMarkedBehind types (get_or accesses index 0 ∷ older) (take k (drop (index + 1) accesses)) more) (sym nothing) behind);
+        left = one_less (not (is_marked more (get_or accesses index 0)))
+            (apart_parts types older (slice_range accesses marked index) marks (get_or accesses index 0) before.behind more parts all);
       }
+
+-- Behind a collection whose type is not marked, as many are marked as where it was asked.
+pub after_unmarked : (types : List TypeForm) (accesses : List ℕ) (marks : List Bool) (marked index : ℕ) → IsAsked types accesses marks marked index →
+    is_marked marks (get_or accesses index 0) ≡ false → IsMarkedUpTo types accesses marks marked (index + 1)
+after_unmarked types accesses marks marked index asked unmarked = record {
+  within = asked.within;
+  behind = asked.behind;
+  left =
+      ap (λ (b : Bool). not b && collect_in_order types (reverse (take (index + 1) accesses)) (drop (index + 1) accesses)) (sym unmarked) ∙ asked.left;
+}
+
+-- Where its type is marked, they are not all in order.
+pub not_in_order : (types : List TypeForm) (accesses : List ℕ) (marks : List Bool) (marked index : ℕ) → IsAsked types accesses marks marked index →
+    is_marked marks (get_or accesses index 0) ≡ true → false ≡ collect_in_order types [] accesses
+not_in_order types accesses marks marked index asked marked_too =
+    ap (λ (b : Bool). not b && collect_in_order types (reverse (take (index + 1) accesses)) (drop (index + 1) accesses)) (sym marked_too) ∙ asked.left

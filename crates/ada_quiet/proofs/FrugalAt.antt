@@ -21,7 +21,7 @@ module _ (types : List TypeForm) (less more : List Bool) (tells : TellsMore less
     stmt_more : (f : StmtForm) → is_frugal_stmt (by types less) f ≡ true → is_frugal_stmt (by types more) f ≡ true
     stmt_more skips h = refl
     stmt_more (assigns target right) h = h
-    stmt_more (assigns_record target items) h = absurd (cc h)
+    stmt_more (assigns_record target items) h = h
     stmt_more (frees access path) h = h
     stmt_more (gets target) h = refl
     stmt_more (writes e) h = refl

@@ -62,11 +62,20 @@ record_has_component_of types t (Some r) = has_component_of t (slice_get types r
 abbrev pub holds_component : List TypeForm → (access : ℕ) → (holder : ℕ) → Bool
 holds_component types t v = record_has_component_of types t (designated_type types v)
 
--- A collection is created (7.6.1) behind others, the newest one first. From the newest one on whose objects have controlled parts, no objects have a component of
--- its access type: so, where their master is left, these are finalized while each component still names what is there.
+-- No objects of these collections have a component of an access type.
+abbrev pub hold_none : List TypeForm → (access : ℕ) → List ℕ → Bool
+hold_none types t vs = list_all (λ v. not (holds_component types t v)) vs
+
+-- So it is with these, the newest one first, from the newest one on whose objects have controlled parts.
+abbrev pub hold_none_from : List TypeForm → (access : ℕ) → (older : List ℕ) → Bool
+hold_none_from types t [] = true
+hold_none_from types t (v ∷ vs) = if has_bare_objects types v then hold_none_from types t vs else hold_none types t (v ∷ vs)
+
+-- A collection is created (7.6.1) behind others, the newest one first. Where its own objects have controlled parts, neither they nor older ones have a component of
+-- its access type; else older ones have none, from the newest collection on whose objects have controlled parts. So, where their master is left, these are finalized
+-- while each component still names what is there.
 abbrev pub is_apart_from : List TypeForm → (access : ℕ) → (older : List ℕ) → Bool
-is_apart_from types t [] = true
-is_apart_from types t (v ∷ vs) = if has_bare_objects types v then is_apart_from types t vs else list_all (λ w. not (holds_component types t w)) (v ∷ vs)
+is_apart_from types t older = if has_bare_objects types t then hold_none_from types t older else hold_none types t (t ∷ older)
 
 -- So it is with collections that are created one after the other, behind others.
 abbrev pub collect_in_order : List TypeForm → (older : List ℕ) → List ℕ → Bool

@@ -1,11 +1,12 @@
--- Bodies of Initialize and Finalize that touch storage, and of procedures that they call (7.6, 4.8, 6.4, 13.11.2): they allocate, move, follow and free objects
--- without controlled parts, and declare variables alone, which may be given what they allocate.
+-- Bodies of Initialize and Finalize that touch storage, and of procedures that they call (7.6, 4.8, 5.2, 6.4, 13.11.2): they allocate, move, follow and free objects
+-- without controlled parts, assign records without them, and declare variables alone, which may be given what they allocate.
 
-use Rattle.std.specs.Prelude.{Bool, true, false, not, ◌&&◌, List, [], ◌∷◌, ◌++◌, Option, Some, None}
+use Rattle.std.specs.Prelude.{Bool, true, false, not, ◌&&◌, List, [], ◌∷◌, ◌++◌, Option, Some, None, is_some}
 use Rattle.std.specs.List.{list_all, slice_get, slice_index_or}
 use Rattle.ada_program.specs.Form.{StmtForm, skips, assigns, assigns_record, frees, gets, writes, writes_text, chooses, repeats, counts, exits, calls, returns, raises, encloses, StmtsForm, no_stmts, a_stmt, BranchesForm, otherwise, a_branch, HandlersForm, no_handlers, a_handler, DeclarationForm, creates_pool, collects, declares, declares_record}
 use Rattle.ada_program.specs.declared.program.ProcedureNo.{ProcedureNo}
 use Rattle.ada_program.specs.ProgramForm.{TypeForm, BodyForm, ProgramForm}
+use Rattle.ada_program.specs.WellFormed.{finalization_of}
 use Rattle.ada_quiet.specs.Bare.{has_bare_objects, allocates_bare}
 use Rattle.ada_effects.specs.Effects.{Effects, no_implicit, effects_of, body_raises}
 
@@ -28,12 +29,12 @@ pub record Thrift : Type 0 where
 
 module _ (thrift : Thrift) where
   abbrev mutual
-    -- A statement assigns no record as a whole (5.1), allocates and frees no object with controlled parts (4.8, 13.11.2), and calls procedures with frugal bodies
-    -- alone (6.4).
+    -- A statement assigns no record with controlled parts as a whole (5.2), allocates and frees no object with some (4.8, 13.11.2), and calls procedures with frugal
+    -- bodies alone (6.4).
     pub is_frugal_stmt : StmtForm → Bool
     is_frugal_stmt skips = true
     is_frugal_stmt (assigns target right) = allocates_bare thrift.types right
-    is_frugal_stmt (assigns_record target items) = false
+    is_frugal_stmt (assigns_record target items) = not (is_some (finalization_of thrift.types target.record_type))
     is_frugal_stmt (frees access path) = has_bare_objects thrift.types access
     is_frugal_stmt (gets target) = true
     is_frugal_stmt (writes e) = true

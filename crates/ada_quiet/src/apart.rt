@@ -1,10 +1,11 @@
 //! Where the operations of controlled types stand apart (7.6): no body calls the procedures that override an Adjust which tracks
 //! components (6.4), and they override no other operation; and no allocator gives values to the components of an object with
-//! controlled parts, or copies a record with some (4.8): so each such object that is allocated is initialized by default.
+//! controlled parts, or copies a record with some (4.8): so each such object that is allocated is initialized by default. And where
+//! such objects are freed by variables alone (13.11.2).
 
 ghost use Rattle.std.specs.Prelude.{◌≡◌, ◌&&◌, ◌||◌, ◌==◌, ℕ, Some, IfOk, OnOk, map};
 ghost use Rattle.std.specs.List.{list_all};
-ghost use Rattle.ada_program.specs.Form.{StmtsForm, branches_form, declaration_form, handlers_form, initial_form, item_form, right_form, stmt_form, stmts_form};
+ghost use Rattle.ada_program.specs.Form.{StmtsForm, branches_form, declaration_form, handlers_form, initial_form, item_form, path_form, right_form, stmt_form, stmts_form};
 ghost use Rattle.ada_program.specs.Kept.{types_in};
 ghost use Rattle.ada_program.specs.ProgramForm.{body_form, main_body, program_form, type_form};
 ghost use Rattle.ada_program.specs.WellFormed.{finalization_in};
@@ -17,7 +18,7 @@ use crate::marks::{has_mark, mark};
 use crate::operations::have_access;
 use ada_program::parts::finalization_of;
 use ada_program::program::{
-    Branch, Declaration, Finalization, Handler, Item, Procedure, Right, TypeDefinition,
+    Branch, Declaration, Finalization, Handler, Item, Path, Procedure, Right, TypeDefinition,
 };
 use ada_program::{ProcedureNo, Program, Stmt};
 use std::alloc::{AllocError, Global};
@@ -144,61 +145,92 @@ fn declare_apart(types: &[TypeDefinition], declarations: &[Declaration]) -> bool
     true
 }
 
+/// Whether a path is a variable (4.1).
+fn is_variable(path: &Path) -> bool
+    ensures { result ≡ rules.is_variable (path_form path.now).selectors }
+{
+    path.selectors.is_empty()
+}
+
+/// Whether a path to what is freed is a variable, or the object has no controlled parts, where objects with some are freed by variables
+/// alone.
+fn frees_alone(alone: bool, path: &Path, bare: bool) -> bool
+    ensures { result ≡ rules.frees_alone alone (path_form path.now) bare }
+{
+    !alone || is_variable(path) || bare
+}
+
+/// What is asked of the statements of a program.
+#[derive(Clone, Copy)]
+struct Asked<'a> {
+    /// The types of the program.
+    types: &'a [TypeDefinition],
+    /// Of each procedure, by its number, whether it is marked: none that is may be called.
+    marks: &'a [bool],
+    /// Whether objects with controlled parts are freed by variables alone (13.11.2).
+    alone: bool,
+}
+
 /// Whether a statement calls no procedure that is marked (6.4), and its allocator with items makes no object with controlled parts and
-/// copies no record with some (4.8).
+/// copies no record with some (4.8). If these are freed by variables alone, it frees none by a component (13.11.2).
 #[cycle(statements)]
 #[tactic(auto, using(std::proofs::lemmas::Grind::common_steps, ada_program::specs::Form::statement_rules))]
-fn calls_apart(types: &[TypeDefinition], marks: &[bool], statement: &Stmt) -> bool
-    ensures { result ≡ rules.calls_apart (types_in types.now) (is_marked marks.now) (stmt_form statement.now) }
+fn calls_apart(asked: Asked<'_>, statement: &Stmt) -> bool
+    ensures { result
+        ≡ rules.calls_apart (types_in asked.entry.types.now) (is_marked asked.entry.marks.now) asked.entry.alone (stmt_form statement.now) }
 {
     match statement {
         Stmt::Null
         | Stmt::AssignRecord { .. }
-        | Stmt::Free { .. }
         | Stmt::Get(_)
         | Stmt::PutImage(_)
         | Stmt::PutText(_)
         | Stmt::Exit { .. }
         | Stmt::Return(_)
         | Stmt::Raise(_) => true,
-        Stmt::Assign { target: _, value } => is_bare_right(types, value),
+        Stmt::Assign { target: _, value } => is_bare_right(asked.types, value),
+        Stmt::Free { access, path } => {
+            let bare = has_bare_objects(asked.types, *access);
+            frees_alone(asked.alone, path, bare)
+        }
         Stmt::Call {
             procedure,
             actuals: _,
-        } => !has_mark(marks, procedure.0),
+        } => !has_mark(asked.marks, procedure.0),
         Stmt::If {
             branches,
             otherwise,
-        } => branches_call_apart(types, marks, branches) && all_call_apart(types, marks, otherwise),
+        } => branches_call_apart(asked, branches) && all_call_apart(asked, otherwise),
         Stmt::Loop {
             condition: _,
             statements,
             end: _,
-        } => all_call_apart(types, marks, statements),
+        } => all_call_apart(asked, statements),
         Stmt::For {
             parameter: _,
             first: _,
             last: _,
             statements,
             end: _,
-        } => all_call_apart(types, marks, statements),
+        } => all_call_apart(asked, statements),
         Stmt::Block {
             declarations,
             statements,
             handlers,
-        } => declare_apart(types, declarations)
-            && all_call_apart(types, marks, statements)
-            && handlers_call_apart(types, marks, handlers),
+        } => declare_apart(asked.types, declarations)
+            && all_call_apart(asked, statements)
+            && handlers_call_apart(asked, handlers),
     }
 }
 
 /// Whether that is so with statements.
 #[cycle(statements)]
-fn all_call_apart(types: &[TypeDefinition], marks: &[bool], statements: &[Stmt]) -> bool
-    ensures { result ≡ rules.all_call_apart (types_in types.now) (is_marked marks.now) (stmts_form statements.now) }
+fn all_call_apart(asked: Asked<'_>, statements: &[Stmt]) -> bool
+    ensures { result
+        ≡ rules.all_call_apart (types_in asked.entry.types.now) (is_marked asked.entry.marks.now) asked.entry.alone (stmts_form statements.now) }
 {
     'statements: for statement in statements {
-        if !calls_apart(types, marks, statement) {
+        if !calls_apart(asked, statement) {
             return false;
         }
     }
@@ -207,12 +239,15 @@ fn all_call_apart(types: &[TypeDefinition], marks: &[bool], statements: &[Stmt])
 
 /// Whether that is so with branches (5.3).
 #[cycle(statements)]
-fn branches_call_apart(types: &[TypeDefinition], marks: &[bool], branches: &[Branch]) -> bool
-    ensures { (others : StmtsForm) → rules.branches_call_apart (types_in types.now) (is_marked marks.now) (branches_form branches.now others)
-        ≡ (result && rules.all_call_apart (types_in types.now) (is_marked marks.now) others) }
+fn branches_call_apart(asked: Asked<'_>, branches: &[Branch]) -> bool
+    ensures { let types = types_in asked.entry.types.now in
+        let tracks = is_marked asked.entry.marks.now in
+        let alone = asked.entry.alone in
+        (others : StmtsForm) → rules.branches_call_apart types tracks alone (branches_form branches.now others)
+        ≡ (result && rules.all_call_apart types tracks alone others) }
 {
     'branches: for branch in branches {
-        if !all_call_apart(types, marks, &branch.statements) {
+        if !all_call_apart(asked, &branch.statements) {
             return false;
         }
     }
@@ -221,11 +256,12 @@ fn branches_call_apart(types: &[TypeDefinition], marks: &[bool], branches: &[Bra
 
 /// Whether that is so with handlers (11.2).
 #[cycle(statements)]
-fn handlers_call_apart(types: &[TypeDefinition], marks: &[bool], handlers: &[Handler]) -> bool
-    ensures { result ≡ rules.handlers_call_apart (types_in types.now) (is_marked marks.now) (handlers_form handlers.now) }
+fn handlers_call_apart(asked: Asked<'_>, handlers: &[Handler]) -> bool
+    ensures { result ≡ rules.handlers_call_apart (types_in asked.entry.types.now) (is_marked asked.entry.marks.now) asked.entry.alone
+        (handlers_form handlers.now) }
 {
     'handlers: for handler in handlers {
-        if !all_call_apart(types, marks, &handler.statements) {
+        if !all_call_apart(asked, &handler.statements) {
             return false;
         }
     }
@@ -233,17 +269,18 @@ fn handlers_call_apart(types: &[TypeDefinition], marks: &[bool], handlers: &[Han
 }
 
 /// Whether that is so with the bodies of these procedures. Linear in the bodies.
-fn bodies_call_apart(types: &[TypeDefinition], marks: &[bool], procedures: &[Procedure]) -> bool
-    ensures { result ≡ list_all (rules.body_calls_apart (types_in types.now) (is_marked marks.now)) (map body_form procedures.now) }
+fn bodies_call_apart(asked: Asked<'_>, procedures: &[Procedure]) -> bool
+    ensures { result ≡ list_all (rules.body_calls_apart (types_in asked.entry.types.now) (is_marked asked.entry.marks.now) asked.entry.alone)
+        (map body_form procedures.now) }
 {
     'procedures: for procedure in procedures {
-        if !declare_apart(types, &procedure.declarations) {
+        if !declare_apart(asked.types, &procedure.declarations) {
             return false;
         }
-        if !all_call_apart(types, marks, &procedure.statements) {
+        if !all_call_apart(asked, &procedure.statements) {
             return false;
         }
-        if !handlers_call_apart(types, marks, &procedure.handlers) {
+        if !handlers_call_apart(asked, &procedure.handlers) {
             return false;
         }
     }
@@ -251,12 +288,13 @@ fn bodies_call_apart(types: &[TypeDefinition], marks: &[bool], procedures: &[Pro
 }
 
 /// Whether that is so with the main procedure's body. Linear in the body.
-fn main_calls_apart(marks: &[bool], program: &Program) -> bool
-    ensures { let p = program_form program.now in result ≡ rules.body_calls_apart p.types (is_marked marks.now) (main_body p) }
+fn main_calls_apart(asked: Asked<'_>, program: &Program) -> bool
+    ensures { result ≡ rules.body_calls_apart (types_in asked.entry.types.now) (is_marked asked.entry.marks.now) asked.entry.alone
+        (main_body (program_form program.now)) }
 {
-    declare_apart(&program.types, &program.declarations)
-        && all_call_apart(&program.types, marks, &program.statements)
-        && handlers_call_apart(&program.types, marks, &program.handlers)
+    declare_apart(asked.types, &program.declarations)
+        && all_call_apart(asked, &program.statements)
+        && handlers_call_apart(asked, &program.handlers)
 }
 
 /// Whether what overrides an operation is not marked, if one is overridden.
@@ -312,26 +350,53 @@ fn are_apart(marks: &[bool], types: &[TypeDefinition]) -> bool
 }
 
 /// Whether what is marked stands apart in a program: no body calls it, and it overrides nothing but Adjust of types that declare such a
-/// component; and no allocator with items makes an object with controlled parts, or copies a record with some.
-fn marked_stand_apart(marks: &[bool], program: &Program) -> bool
+/// component; and no allocator with items makes an object with controlled parts, or copies a record with some. These are freed by
+/// variables alone, or not.
+fn marked_stand_apart(marks: &[bool], program: &Program, alone: bool) -> bool
     ensures { let p = program_form program.now in
         let tracks = is_marked marks.now in
-        result ≡ (rules.body_calls_apart p.types tracks (main_body p) && list_all (rules.body_calls_apart p.types tracks) p.bodies
+        result ≡ (rules.body_calls_apart p.types tracks alone (main_body p) && list_all (rules.body_calls_apart p.types tracks alone) p.bodies
         && list_all (λ t. rules.operations_apart tracks (has_access (Some t)) (finalization_in (Some t))) p.types) }
 {
-    main_calls_apart(marks, program)
-        && bodies_call_apart(&program.types, marks, &program.procedures)
+    let asked = Asked {
+        types: &program.types,
+        marks,
+        alone,
+    };
+    main_calls_apart(asked, program)
+        && bodies_call_apart(asked, &program.procedures)
         && are_apart(marks, &program.types)
 }
 
-/// Whether operations stand apart in a program: no body calls what tracks, and that overrides nothing else; and no allocator with items
-/// makes an object with controlled parts, or copies a record with some. Linear in the types, their components, and all bodies.
+/// Whether no body calls what tracks, and that overrides nothing else; and no allocator with items makes an object with controlled parts,
+/// or copies a record with some. These are freed by variables alone, or not. Linear in the types, their components, and all bodies.
+///
+/// # Errors
+/// `AllocError` where memory was refused.
+fn stand_apart(alloc: Global, program: &Program, alone: bool) -> Result<bool, AllocError>
+    ensures { IfOk result (λ answer. answer ≡ rules.stand_apart (program_form program.now) alone) }
+{
+    let marks = trackers(alloc, program)?;
+    Ok(marked_stand_apart(&marks, program, alone))
+}
+
+/// Whether operations stand apart in a program, whatever frees objects with controlled parts. Linear in the types, their components, and
+/// all bodies.
 ///
 /// # Errors
 /// `AllocError` where memory was refused.
 pub(crate) fn operations_stand_apart(alloc: Global, program: &Program) -> Result<bool, AllocError>
     ensures { IfOk result (λ answer. answer ≡ rules.operations_stand_apart (program_form program.now)) }
 {
-    let marks = trackers(alloc, program)?;
-    Ok(marked_stand_apart(&marks, program))
+    stand_apart(alloc, program, false)
+}
+
+/// Whether they do, and these are freed by variables alone. Linear in the types, their components, and all bodies.
+///
+/// # Errors
+/// `AllocError` where memory was refused.
+pub(crate) fn parts_stand_alone(alloc: Global, program: &Program) -> Result<bool, AllocError>
+    ensures { IfOk result (λ answer. answer ≡ rules.parts_stand_alone (program_form program.now)) }
+{
+    stand_apart(alloc, program, true)
 }

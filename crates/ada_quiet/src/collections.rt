@@ -1,5 +1,5 @@
 //! Collections whose objects have controlled parts (7.6.1): neither these objects nor those of an older collection have a component of
-//! an access type whose collection is created later in the text.
+//! their access type, or of one whose collection is created later in the text.
 
 ghost use Rattle.std.specs.Prelude.{◌≡◌, ◌++◌, [], map, IfOk, OnOk};
 ghost use Rattle.ada_program.specs.Form.{StmtsForm, branches_form, declaration_form, handlers_form, stmt_form, stmts_form};
@@ -153,9 +153,9 @@ fn text_collections(alloc: Global, program: &Program) -> Result<Vec<usize>, Allo
     Ok(accesses)
 }
 
-/// Whether collections of these access types are created in order, one after the other (7.6.1): behind one whose objects have controlled
-/// parts none is created of an access type of which these objects, or those of an older collection, have a component. Linear in the
-/// types, their components, and the collections.
+/// Whether collections of these access types are created in order, one after the other (7.6.1): where the objects of one have controlled
+/// parts, neither these objects nor those of an older collection have a component of its access type, or of one whose collection is
+/// created behind it. Linear in the types, their components, and the collections.
 ///
 /// # Errors
 /// `AllocError` where memory was refused.
@@ -174,12 +174,12 @@ fn collect_in_order(
     // How many collections these are, that one and the older ones.
     let mut marked = 0;
     'collections: for (index, access) in accesses.iter().enumerate() {
-        if has_mark(&held.accesses, *access) {
-            return Ok(false);
-        }
         if !has_bare_objects(types, TypeNo(*access)) {
             hold_all(&mut held, types, &accesses[marked..=index])?;
             marked = index + 1;
+        }
+        if has_mark(&held.accesses, *access) {
+            return Ok(false);
         }
     }
     Ok(true)

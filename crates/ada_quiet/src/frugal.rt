@@ -1,5 +1,6 @@
 //! Declarations, statements and bodies, where they are frugal: they allocate, move, follow and free objects without controlled parts
-//! (7.6, 4.8, 13.11.2), call procedures with frugal bodies alone (6.4), and declare no more than variables.
+//! (7.6, 4.8, 13.11.2), assign records without them (5.2), call procedures with frugal bodies alone (6.4), and declare no more than
+//! variables.
 
 ghost use Rattle.std.specs.Prelude.{◌≡◌, ◌&&◌, false, map, slice_index_or};
 ghost use Rattle.ada_program.specs.Form.{StmtsForm, branches_form, declaration_form, handlers_form, stmt_form, stmts_form};
@@ -9,6 +10,7 @@ ghost use Rattle.ada_quiet.specs.Frugal as rules;
 ghost use Rattle.ada_quiet.specs.Known.{thrift_in};
 
 use crate::bare::{allocates_bare, has_bare_objects, initial_allocates_bare};
+use ada_program::parts::finalization_of;
 use ada_program::program::{Branch, Declaration, Handler, Procedure, TypeDefinition};
 use ada_program::{ProcedureNo, Stmt};
 
@@ -47,8 +49,8 @@ pub(crate) fn is_frugal_call(frugal: &[bool], procedure: ProcedureNo) -> bool
     }
 }
 
-/// Whether a statement assigns no record as a whole (5.1), allocates and frees no object with controlled parts (4.8, 13.11.2), and calls
-/// procedures with frugal bodies alone (6.4).
+/// Whether a statement assigns no record with controlled parts as a whole (5.2), allocates and frees no object with some (4.8, 13.11.2),
+/// and calls procedures with frugal bodies alone (6.4).
 #[cycle(statements)]
 #[tactic(auto, using(std::proofs::lemmas::Grind::common_steps, ada_program::specs::Form::statement_rules))]
 fn is_frugal_stmt(types: &[TypeDefinition], frugal: &[bool], statement: &Stmt) -> bool
@@ -62,7 +64,9 @@ fn is_frugal_stmt(types: &[TypeDefinition], frugal: &[bool], statement: &Stmt) -
         | Stmt::Exit { .. }
         | Stmt::Return(_)
         | Stmt::Raise(_) => true,
-        Stmt::AssignRecord { .. } => false,
+        Stmt::AssignRecord { target, items: _ } => {
+            finalization_of(types, target.record.0).is_none()
+        }
         Stmt::Assign { target: _, value } => allocates_bare(types, value),
         Stmt::Free { access, path: _ } => has_bare_objects(types, *access),
         Stmt::Call {
@@ -136,7 +140,8 @@ fn are_frugal_handlers(types: &[TypeDefinition], frugal: &[bool], handlers: &[Ha
 }
 
 /// Whether a body is frugal: it allocates, moves, follows and frees objects without controlled parts; it calls procedures with frugal
-/// bodies alone, assigns no record as a whole, and declares variables alone. An exception may come out of it. Linear in the body.
+/// bodies alone, assigns no record with controlled parts as a whole, and declares variables alone. An exception may come out of it.
+/// Linear in the body.
 pub(crate) fn is_frugal_body(
     types: &[TypeDefinition],
     frugal: &[bool],

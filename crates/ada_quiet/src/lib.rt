@@ -1,9 +1,9 @@
 //! Plain and quiet operations: those procedures that override Initialize, Adjust or Finalize of a controlled type (7.6), read and write
 //! Integers and Booleans alone, and call nothing, are plain; and quiet, where they let no exception out. An Initialize or a Finalize
 //! is frugal that allocates and frees objects without controlled parts alone, moves and follows, and calls procedures with frugal
-//! bodies, but assigns no record as a whole, and declares variables alone, which may be given what it allocates. An exception may come
-//! out of a frugal Initialize; a Finalize is to be silent too: none comes out. What procedures may raise, and which are frugal, is
-//! found once for all, in the order in which they call each other.
+//! bodies, but assigns no record with controlled parts as a whole, and declares variables alone, which may be given what it allocates. An
+//! exception may come out of a frugal Initialize; a Finalize is to be silent too: none comes out. What procedures may raise, and which are
+//! frugal, is found once for all, in the order in which they call each other.
 //!
 //! Where nothing in the text of a program creates an object with controlled parts (3.3.1, 4.8), or assigns a record with some (5.2), no
 //! operation is called: operations are idle, and each is in use, whatever its body does. Where nothing in it copies such a record, no
@@ -18,11 +18,11 @@
 //! parts.
 //!
 //! An Initialize and a Finalize may be frugal in a program in which no access type designates a record type with controlled parts, so
-//! that these lie in declared objects alone. They may be frugal, too, in one whose access types designate such record types, if no
-//! component is of such an access type: then an object with controlled parts is never freed by way of another one; and if, where the
-//! objects of a collection have controlled parts, neither they nor the objects of an older collection have a component of an access
-//! type whose collection is created later in the text (7.6.1): then, where a master is left and newer collections go before older ones,
-//! objects are finalized while each component still names what is there.
+//! that these lie in declared objects alone. They may be frugal, too, in one whose access types designate such record types, if objects
+//! with controlled parts are freed by variables alone (13.11.2), though components may own them before: then no component names one that
+//! is finalized; and if, where the objects of a collection have controlled parts, neither they nor the objects of an older collection have
+//! a component of their access type, or of one whose collection is created later in the text (7.6.1): then, where a master is left and
+//! newer collections go before older ones, objects are finalized while each component still names what is there.
 //!
 //! In all these programs operations are to stand apart. No procedure that overrides an Adjust of a type with a component of an access
 //! type, declared in it directly, is called or overrides another operation: so it runs nowhere else. And no allocator gives values to
@@ -31,17 +31,18 @@
 //! and a Finalize where an object's master is left, an exception comes out of the initialization of one (7.6.1), another record is
 //! assigned to it (7.6), or a variable is freed that names it (13.11.2), and nowhere else.
 //!
-//! An Adjust may track where a Finalize may be frugal, if also the elementary components of each record type stand in the order of its
-//! declared ones, and a record whose type overrides Adjust is itself controlled, as in each program that is resolved. A record may have
-//! any number of controlled parts: where it is copied, they are adjusted one behind the other (7.6). But where some record of the
-//! program has two, an Adjust that tracks frees nothing. For until a part of the copy is adjusted, its components name the same objects
-//! as those of the source: while another part is adjusted before it, these are to stay, and do so where nothing is freed. Where each
-//! record has at most one controlled part, none is left to be adjusted later.
+//! An Adjust may track where a Finalize may be frugal, if also no component names an object with controlled parts, since no access type
+//! designates such a record type, or no component is of one that does; and if the elementary components of each record type stand in the
+//! order of its declared ones, and a record whose type overrides Adjust is itself controlled, as in each program that is resolved. A
+//! record may have any number of controlled parts: where it is copied, they are adjusted one behind the other (7.6). But where some
+//! record of the program has two, an Adjust that tracks frees nothing. For until a part of the copy is adjusted, its components name the
+//! same objects as those of the source: while another part is adjusted before it, these are to stay, and do so where nothing is freed.
+//! Where each record has at most one controlled part, none is left to be adjusted later.
 //!
 //! A program with another body is refused (F23), since no theorem covers it so far: an Initialize, an Adjust or a Finalize that
-//! touches storage in another program, or allocates or frees objects with controlled parts, an Adjust that touches storage of a type
-//! without such a component, operations that call procedures that are not frugal, an Adjust that calls, or copies records, or frees
-//! objects where a record has two controlled parts, and an Adjust or a Finalize that lets an exception out.
+//! touches storage in another program, allocates or frees objects with controlled parts, or assigns records with some, an Adjust that
+//! touches storage of a type without such a component, operations that call procedures that are not frugal, an Adjust that calls, or
+//! copies records, or frees objects where a record has two controlled parts, and an Adjust or a Finalize that lets an exception out.
 #![tactic(auto)]
 
 mod apart;

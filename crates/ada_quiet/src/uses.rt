@@ -6,7 +6,7 @@ ghost use Rattle.ada_quiet.specs.First as first;
 ghost use Rattle.ada_quiet.specs.InUse as rules;
 ghost use Rattle.ada_quiet.specs.Known.{IsKnown};
 
-use crate::apart::operations_stand_apart;
+use crate::apart::{operations_stand_apart, parts_stand_alone};
 use crate::bare::have_bare_components;
 use crate::collections::collections_in_order;
 use crate::known::Known;
@@ -45,16 +45,24 @@ fn allocates_no_parts(program: &Program) -> bool
     true
 }
 
-/// Whether objects with controlled parts may be allocated beside operations that touch storage: no component is of an access type that
-/// designates such objects, and collections are created in order: neither such objects nor those of an older collection have a
-/// component of an access type whose collection is created later. Linear in the types, their components, and all bodies.
+/// Whether objects with controlled parts may be allocated beside operations that touch storage: these are freed by variables alone, and
+/// collections are created in order: neither such objects nor those of an older collection have a component of their access type, or of
+/// one whose collection is created later. Linear in the types, their components, and all bodies.
 ///
 /// # Errors
 /// `AllocError` where memory was refused.
 fn may_allocate_parts(alloc: Global, program: &Program) -> Result<bool, AllocError>
     ensures { IfOk result (λ answer. answer ≡ rules.may_allocate_parts (program_form program.now)) }
 {
-    Ok(have_bare_components(&program.types) && collections_in_order(alloc, program)?)
+    Ok(collections_in_order(alloc, program)? && parts_stand_alone(alloc, program)?)
+}
+
+/// Whether no component names an object with controlled parts: none is allocated, or each component is of another type. Linear in the
+/// types and their components.
+pub(crate) fn names_no_parts(program: &Program) -> bool
+    ensures { result ≡ rules.names_no_parts (program_form program.now) }
+{
+    allocates_no_parts(program) || have_bare_components(&program.types)
 }
 
 /// Whether an Initialize and a Finalize may be frugal in a program: no object with controlled parts is allocated, or each may be, and

@@ -1,7 +1,7 @@
 -- The body of an Adjust runs that tracks components of its formal parameter (7.6), after a copy of a record: what holds of the state that stands for the real one,
 -- which has a variable for each of them.
 
-use Rattle.std.proofs.Common.{◌≡◌, ℕ, ◌==◌, Bool, true, List, [], ◌∷◌, length, drop, ◌⊎◌}
+use Rattle.std.proofs.Common.{◌≡◌, ℕ, ◌==◌, Bool, true, false, List, [], ◌∷◌, length, drop, ◌⊎◌}
 use Rattle.std.specs.Prelude.{Option, Some}
 use Rattle.std.specs.List.{list_any, slice_get}
 use Rattle.ada_parts.specs.Part as parts
@@ -108,7 +108,7 @@ pub record Adjusting (program : Program) (s : State) : Type 0 where
   pub bodies : AreOf program (older s.activations) (resting procedure places (begins by done) object access [] place behind lower kept rooms holds ∷ suspensions)
   pub standing : Standing (known_judged program number w.tracks (resting procedure places (begins by done) object access [] place behind lower kept rooms holds ∷ suspensions)) t
   pub typed : typed.TypedIn (known_judged program number w.tracks []).program t
-  pub apart : CallApart (program_form program).types (is_tracker (program_form program)) t.control
+  pub apart : CallApart (program_form program).types (is_tracker (program_form program)) false t.control
   pub ready : Ready (known_judged program number w.tracks (resting procedure places (begins by done) object access [] place behind lower kept rooms holds ∷ suspensions)) t
 
 -- The activation that waits for the body.

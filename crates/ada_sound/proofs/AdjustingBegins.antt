@@ -327,7 +327,7 @@ module _ (program : Program) (number : ℕ) (b : BodyForm) (there : slice_get (p
     -- The body begins.
     pub adjusting_begins : IsOfCopy by → tracks_of p.types number b ≡ w.tracks → is_tracker p number ≡ true → BodyIsOrderly w.tracks b → hold_bare p.types (drop 1 b.variables) ≡ true → may_track p ≡ true → may_be_frugal p ≡ true → is_frugal_body (calling_none p.types) b ≡ true → FrameIsSimple w.tracks.first (Elaborates b.declarations b.statements b.handlers)
         → ((e : Exception) → body_among (implicit_of p) (known_judged program number w.tracks []).program e ≡ true → ⊥)
-        → CallApart p.types (is_tracker p) (seen_state w begun).control → RunsAsJudged → BeginsAsJudged → TypedAsJudged
+        → CallApart p.types (is_tracker p) false (seen_state w begun).control → RunsAsJudged → BeginsAsJudged → TypedAsJudged
         → (e : Event) (of : ℕ) → Alters s.heap e heap → WaitsFor p.types o of (begins by done) tasks k behind → Stands program gs (record s { activations = a ∷ rest }) → IsCalm (behind_call behind) → under_in (callers_of program gs) ≡ []
         → ((v : Value) → v ≢ Names o → NothingBegins v k)
         → AdjustsIn program o x.cell.access record_type tasks w begun
@@ -399,7 +399,7 @@ module _ (program : Program) (number : ℕ) (b : BodyForm) (there : slice_get (p
           standing = record {
             suspended = (refl, stands.standing.suspended);
             waiting = (inr (record { roomed = at.works.roomed; covers = covers; operated = subst IsAwaited (sym awaited.1) tt }), stands.standing.waiting);
-            low = (variables_low, referred_low, (λ q none. absurd none), still.standing.low);
+            low = (variables_low, referred_low, (λ q none. absurd none), still.standing.low, (λ y q none names. absurd none));
           };
           typed = typed_judged;
           apart = calls_apart;

@@ -53,7 +53,7 @@ use Rattle.ada_sound.proofs.OnlyParts.{passed_at}
 use Rattle.ada_sound.proofs.Returns.{CrossesTo, same_types}
 use Rattle.ada_sound.proofs.TracksApart.{AreInARow, tracks_apart}
 use Rattle.ada_sound.proofs.TracksWell.{copied_in_order, tracked_well}
-use Rattle.ada_sound.proofs.Trackers.{calls_stand_apart, order_too, stand_apart}
+use Rattle.ada_sound.proofs.Trackers.{calls_stand_apart, names_none_too, order_too, stands_apart}
 use Rattle.ada_sound.proofs.BareObjects.{components_are_bare}
 use Rattle.ada_sound.proofs.FrugalBodies.{calling_none}
 use Rattle.ada_sound.proofs.WatchedBy.{hold_bare, watched_by}
@@ -92,7 +92,7 @@ is_judged program well may frees number b tracks there components orderly =
     record {
       fits = judged_tables p well number b there tracks components;
       covered = λ t covers. judged_covers own tracks (tracks_seen p number b tracks there components) (orderly_seen p number b tracks there orderly) (implicit_of p) t covers;
-      apart = (calls_stand_apart p (stand_apart p may)).1;
+      apart = (calls_stand_apart p false (stands_apart p may)).1;
       stays = λ t typing alone crossing ending.
           each_comes (judged_in tracks own) (next program.types.items (body_forms program) t)
           (judged_stays p well number b there tracks components program.types.items refl t crossing ending typing);
@@ -134,7 +134,7 @@ module _
   components_there : (holder c access : ℕ) → access_of (kind_among (reached_components own.types holder) c) ≡ Some access → has_bare_objects own.types access ≡ true
   components_there =
       subst (λ (types : List TypeForm). (holder c access : ℕ) → access_of (kind_among (reached_components types holder) c) ≡ Some access → has_bare_objects types access ≡ true)
-      (sym (same_types (Some f.number) p)) (components_are_bare program well f.may)
+      (sym (same_types (Some f.number) p)) (components_are_bare program well (names_none_too p may))
 
   -- The object is watched, where it exists.
   pub is_watched : x.stage ≡ Existing → IsWatched f.w (places s) heap

@@ -44,7 +44,7 @@ use Rattle.ada_sound.proofs.Defaults.{Reaches}
 use Rattle.ada_sound.proofs.Sees.{reaches_in}
 use Rattle.ada_sound.proofs.Waiting.{low_kept}
 
--- One step keeps the invariant of a body, where no body begins and none ends, nothing is called and no record comes to be or gets a value as a whole.
+-- One step keeps the invariant of a body, where no body begins and none ends, nothing is called and no record comes to be as a whole.
 abbrev pub StepsKeep : Known → List TypeDefinition → List BodyForm → Type 0
 StepsKeep known types bodies =
     (t : State) → calls_or_copies t.control ≡ false → inside.crosses t.mode t.control ≡ false → typed.TypedIn known.program t
@@ -68,7 +68,7 @@ pub record IsJudged (program : Program) (number : ℕ) (tracks : Tracks) : Type 
   pub owns : typed.OwnBody (judged_in tracks (seen_in (Some number) (program_form program)))
   pub covered : (t : ℕ) → CoveredIn (implicit_of (program_form program)) (judged_in tracks (seen_in (Some number) (program_form program))) t
       → CoveredIn (implicit_of (program_form program)) (seen_in (Some number) (program_form program)) t
-  pub apart : list_all (body_calls_apart (program_form program).types (is_tracker (program_form program))) (body_forms program) ≡ true
+  pub apart : list_all (body_calls_apart (program_form program).types (is_tracker (program_form program)) false) (body_forms program) ≡ true
   pub stays : StepsStayTyped (judged_in tracks (seen_in (Some number) (program_form program))) program.types.items (body_forms program)
   pub keeps : (gs : List Suspension) → StepsKeep (known_judged program number tracks gs) program.types.items (body_forms program)
 

@@ -5,7 +5,7 @@ use Rattle.std.proofs.Common.{◌≡◌, ℕ, Bool, true, false, List, [], ◌�
 use Rattle.std.specs.Prelude.{Option, Some, None, ◌||◌}
 use Rattle.ada_program.specs.declared.program.Exception.{Exception}
 use Rattle.ada_program.specs.declared.program.TypeDefinition.{TypeDefinition}
-use Rattle.ada_program.specs.Form.{calls, assigns_record, a_stmt, declares_record}
+use Rattle.ada_program.specs.Form.{calls, a_stmt, declares_record}
 use Rattle.ada_program.specs.ProgramForm.{BodyForm, TypeForm}
 use Rattle.ada_parts.specs.Task.{Task}
 use Rattle.ada_meaning.specs.declared.state.Mode.{Mode}
@@ -31,17 +31,15 @@ use Rattle.ada_sound.proofs.FrugalSteps.{is_call_first}
 use Rattle.ada_sound.proofs.Invariant.{Control}
 use Rattle.ada_sound.proofs.Steps as inside
 
--- Does a call begin next, or does a record as a whole come to be or get a value?
+-- Does a call begin next, or does a record come to be as a whole?
 abbrev pub calls_or_copies : Control → Bool
 calls_or_copies (Does (a_stmt (calls procedure actuals) fs) ∷ k) = true
-calls_or_copies (Does (a_stmt (assigns_record target items) fs) ∷ k) = true
 calls_or_copies (Elaborates (declares_record x t initial ∷ ds) fs hs ∷ k) = true
 calls_or_copies k = false
 
 -- Not in a frugal body, where no procedure is called frugal.
 leads_on : (types : List TypeForm) (behind k : Control) (ms : List Master) → FrugalLeads (calling_none types) behind k ms → calls_or_copies k ≡ false
 leads_on types behind (Does (a_stmt (calls procedure actuals) fs) ∷ k) ms q = absurd (cc (q.0))
-leads_on types behind (Does (a_stmt (assigns_record target items) fs) ∷ k) ms q = absurd (cc (q.0))
 leads_on types behind (Elaborates (declares_record x t initial ∷ ds) fs hs ∷ k) [] q = absurd q
 leads_on types behind (Elaborates (declares_record x t initial ∷ ds) fs hs ∷ k) (m ∷ ms) q = absurd (cc (q.0.0))
 leads_on types behind k ms q = refl

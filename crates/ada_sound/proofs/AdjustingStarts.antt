@@ -67,7 +67,7 @@ use Rattle.ada_sound.proofs.SimpleEffects.{simple_silent}
 use Rattle.ada_sound.proofs.Starts.{Obeys}
 use Rattle.ada_sound.proofs.Touching.{resting}
 use Rattle.ada_sound.proofs.TouchingBegins.{IsAlone, alone}
-use Rattle.ada_sound.proofs.Trackers.{calls_stand_apart, frugal_too, stand_apart}
+use Rattle.ada_sound.proofs.Trackers.{calls_stand_apart, frugal_too, names_none_too, stands_apart}
 use Rattle.ada_sound.proofs.TracksApart.{tracks_apart}
 use Rattle.ada_sound.proofs.Treatments.{BeginsAdjust}
 use Rattle.ada_sound.proofs.TypedAside.{typed_aside}
@@ -250,7 +250,7 @@ module _
         (subst (λ (q : ProgramForm). length (places begun) ≡ length q.variables) here count) found exists
         (subst (λ (types : List TypeForm). has_bare_objects types x.cell.access ≡ false) (known_types ∙ sym types) at.parted)
         (subst (λ (types : List TypeForm). hold_bare types (drop 1 own.variables) ≡ true) (sym types) (subst (λ (q : ProgramForm). hold_bare p.types (drop 1 q.variables) ≡ true) here none_other))
-        (subst (λ (types : List TypeForm). (holder component access : ℕ) → access_of (kind_among (reached_components types holder) component) ≡ Some access → has_bare_objects types access ≡ true) (sym types) (components_are_bare program well may))
+        (subst (λ (types : List TypeForm). (holder component access : ℕ) → access_of (kind_among (reached_components types holder) component) ≡ Some access → has_bare_objects types access ≡ true) (sym types) (components_are_bare program well (names_none_too p tracks.0)))
         (tracks_apart p.types (in_a_row p well tracks.0) c.number c.b)
 
     -- It frees no more than the adjustment may.
@@ -267,9 +267,9 @@ module _
         (frugal_frees_bare program well c.number c.b c.there frugal t (judged_covers own w.tracks own_components own_orderly (implicit_of p) t covered))
 
     -- What is left to do calls nothing that tracks.
-    calls_apart : CallApart p.types (is_tracker p) k → CallApart p.types (is_tracker p) (seen_state w begun).control
+    calls_apart : CallApart p.types (is_tracker p) false k → CallApart p.types (is_tracker p) false (seen_state w begun).control
     calls_apart behind_apart =
-        let own_apart = passed_at (body_calls_apart p.types (is_tracker p)) p.bodies c.number c.b (calls_stand_apart p (stand_apart p tracks.0)).1 c.there in
+        let own_apart = passed_at (body_calls_apart p.types (is_tracker p) false) p.bodies c.number c.b (calls_stand_apart p false (stands_apart p tracks.0)).1 c.there in
         (judged_apart p.types w.tracks (is_tracker p) c.b own_apart, (tt, (tt, behind_apart)))
 
     -- The state that stands for the real one is typed.
@@ -314,7 +314,7 @@ module _
     -- So it begins.
     begins_so :
         is_tracker p c.number ≡ true → Stands program gs (record s { activations = a ∷ rest }) → IsCalm (behind_call k) → under_in (callers_of program gs) ≡ []
-        → CallApart p.types (is_tracker p) k → ((u : Value) → u ≢ Names o → NothingBegins u k) → AdjustsIn program o x.cell.access r c.tasks w begun
+        → CallApart p.types (is_tracker p) false k → ((u : Value) → u ≢ Names o → NothingBegins u k) → AdjustsIn program o x.cell.access r c.tasks w begun
     begins_so tracker stands calm settled behind_apart untreated =
         let kept = keeps_tracking program c.number w.tracks in
         let waiting = resting a.procedure a.places (begins c.by c.done) o x.cell.access [] place behind s.masters kept at.works.rooms at.works.holds in
@@ -329,7 +329,7 @@ module _
     -- And so it begins in the real state.
     copy_so :
         is_tracker p c.number ≡ true → Stands program gs (record s { activations = a ∷ rest }) → IsCalm (behind_call k) → under_in (callers_of program gs) ≡ []
-        → CallApart p.types (is_tracker p) k → ((u : Value) → u ≢ Names o → NothingBegins u k) → AdjustingCopy program real
+        → CallApart p.types (is_tracker p) false k → ((u : Value) → u ≢ Names o → NothingBegins u k) → AdjustingCopy program real
     copy_so tracker stands calm settled behind_apart untreated =
         let f = begins_so tracker stands calm settled behind_apart untreated in
         record {
@@ -356,7 +356,7 @@ pub adjusting_starts :
     → MayTrack (program_form program) c.b → is_tracker (program_form program) c.number ≡ true
     → AreFilled (program_form program).types (cells_of s.heap) (cells_of s.heap) → typed.Typed (program_form program) after
     → Stands program gs (record s { activations = a ∷ rest }) → IsCalm (behind_call k) → under_in (callers_of program gs) ≡ []
-    → CallApart (program_form program).types (is_tracker (program_form program)) k → ((u : Value) → u ≢ Names c.to.o → NothingBegins u k)
+    → CallApart (program_form program).types (is_tracker (program_form program)) false k → ((u : Value) → u ≢ Names c.to.o → NothingBegins u k)
     → AdjustingCopy program after
 adjusting_starts program well obeys a rest s gs v k IsOperated e after c tracks tracker filled typing stands calm settled behind_apart untreated =
     subst (AdjustingCopy program) (sym c.is)

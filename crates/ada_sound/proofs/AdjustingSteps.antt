@@ -1,7 +1,7 @@
 -- Each step of the body of an Adjust that tracks components of its formal parameter (7.6), but its end: the state that stands for the real one takes a step, too, or
 -- stays as it is, and keeps what is known of it.
 
-use Rattle.std.proofs.Common.{◌≡◌, ℕ, Bool, true, false, List, [], ◌∷◌, refl, sym, ◌∙◌, subst, inl, inr}
+use Rattle.std.proofs.Common.{◌≡◌, ℕ, Bool, true, false, ◌&&◌, not, List, [], ◌∷◌, refl, sym, ◌∙◌, subst, inl, inr}
 use Rattle.std.specs.Prelude.{Option, Some}
 use Rattle.std.specs.List.{AllPairs}
 use Rattle.ada_deeds.specs.Implicit.{implicit_of}
@@ -35,6 +35,7 @@ use Rattle.ada_typed.proofs.Kept.{Each}
 use Rattle.ada_sound.specs.Agreement.{running_procedure}
 use Rattle.ada_quiet.specs.Apart.{is_tracker}
 use Rattle.ada_quiet.specs.Bare.{has_bare_objects}
+use Rattle.ada_quiet.specs.InUse.{may_be_frugal}
 use Rattle.ada_sound.proofs.CallsApart.{CallApart, AllCallApart}
 use Rattle.ada_sound.proofs.CallsApartSteps.{calls_stay_apart}
 use Rattle.ada_sound.proofs.FormalStays.{SamePlaces, AllSamePlaces, places_stay}
@@ -58,13 +59,13 @@ use Rattle.ada_sound.proofs.Leavings.{AreInOrder, HeldIn, NamedBelow}
 use Rattle.ada_sound.proofs.Operating.{AreVariables, InBody, StepsTo}
 use Rattle.ada_sound.proofs.Returns.{same_types}
 use Rattle.ada_sound.proofs.FrugalBodies.{calling_none}
-use Rattle.ada_sound.proofs.FrugalFrees.{bare_by}
+use Rattle.ada_sound.proofs.FrugalFrees.{bare_by, records_bare_by}
 use Rattle.ada_sound.proofs.Standing.{AllStand, FinalizesBy, FinalizesIn, FreesAmong}
 use Rattle.ada_sound.proofs.TouchingStands.{frees_bare}
 use Rattle.ada_sound.proofs.Steps as inside
 use Rattle.ada_sound.proofs.Stored.{IsUnder, Stored}
 use Rattle.ada_sound.proofs.StoredStates.{ready_stored}
-use Rattle.ada_sound.proofs.BareObjects.{components_untouched}
+use Rattle.ada_sound.proofs.Touched.{ComponentsUntouched, GoesByComponent, touches_in}
 use Rattle.ada_sound.proofs.Trackers.{tracks_apart}
 use Rattle.ada_sound.proofs.TracksWell.{tracked_bare}
 
@@ -191,17 +192,31 @@ module _
   none_is_under : NoneIsUnder bare_types (outers known).under f.t.heap
   none_is_under o x under found = let none : IsUnder [] o = subst (λ (all : List Id). IsUnder all o) f.settled under in absurd none
 
+  -- What is freed next by a component is bare, too.
+  component_bare : (access : ℕ) (mode : Mode) (k : Control) (ms : List Master) → GoesByComponent access k → Frugal (calling_none p.types) f.behind mode k ms → bare_types access ≡ true
+  component_bare access mode [] ms goes q = absurd goes
+  component_bare access mode (frame.FreesIn t c ∷ k) ms goes (inl q) = subst (λ (u : ℕ). bare_types u ≡ true) goes q.0
+  component_bare access mode (frame.FreesIn t c ∷ k) ms goes (inr (runs, leaving)) = absurd leaving
+  component_bare access mode (g ∷ k) ms goes q = absurd goes
+
+  components_untouched : ComponentsUntouched p.types (touches_in p) f.t.control
+  components_untouched holder c access is goes = by (may_be_frugal p)
+    where
+      by : (may : Bool) → (may && not (has_bare_objects p.types access)) ≡ false
+      by true = rw (component_bare access f.t.mode f.t.control f.frugal.upper goes f.frugal.frugal) refl
+      by false = refl
+
   -- No allocator copies a record with controlled parts, or makes an object with some from items.
   bare_there : AllocatesBare known.program.types known.touches f.t.control
   bare_there =
       subst (λ (types : List TypeForm). AllocatesBare types known.touches f.t.control) (sym types_are)
-      (tracked_bare program well (tracks_apart (program_form program) f.tracking) (components_untouched program well) f.t (λ stand. f.apart))
+      (tracked_bare program well (tracks_apart (program_form program) f.tracking) f.t components_untouched (λ stand. f.apart))
 
   places_on : AllSamePlaces s (next tds bodies s)
   places_on = places_stay tds bodies f.w.tracks.first s (within f.w.tracks.first s.control f.simple inner)
 
-  apart_on : AllCallApart p.types (is_tracker p) (next tds bodies f.t)
-  apart_on = calls_stay_apart tds bodies p.types (is_tracker p) judged.apart f.t f.apart
+  apart_on : AllCallApart p.types (is_tracker p) false (next tds bodies f.t)
+  apart_on = calls_stay_apart tds bodies p.types (is_tracker p) false judged.apart f.t f.apart
 
   -- So the other one takes its step well.
   fine_on : Fine known f.t.heap f.t.masters (next tds bodies f.t)
@@ -211,7 +226,7 @@ module _
 
   frugal_on : GoesFrugally (calling_none p.types) f.lower f.behind (next tds bodies f.t)
   frugal_on =
-      frugal_steps known.program judged.owns tds bodies (calling_none p.types) (bare_by program) (λ number b there told. absurd (cc told)) f.behind f.lower f.t f.frugal
+      frugal_steps known.program judged.owns tds bodies (calling_none p.types) (bare_by program) (records_bare_by program) (λ number b there told. absurd (cc told)) f.behind f.lower f.t f.frugal
       (λ actuals references k is. absurd (let first = firsts.0 in cc (rw is at first))) f.typed
 
   typed_on : Each (typed.TypedIn known.program) (next tds bodies f.t)
@@ -249,7 +264,7 @@ module _
   Runs after = SameRun s after × SamePlaces s after
 
   abbrev Kept : State → Type 0
-  Kept stands = typed.TypedIn known.program stands × CallApart p.types (is_tracker p) stands.control
+  Kept stands = typed.TypedIn known.program stands × CallApart p.types (is_tracker p) false stands.control
 
   -- What holds behind a step.
   adjusting_by :
@@ -362,7 +377,7 @@ module _
   pub step_on : GoesAdjusting program s f (next tds bodies s)
   step_on =
       next_on (next tds bodies s) (next tds bodies f.t) shown (each_both (SameRun s) (SamePlaces s) (next tds bodies s) real_on (each_next (SamePlaces s) (next tds bodies s) places_on)) simple_on fine_on frugal_on
-      (each_both (typed.TypedIn known.program) (λ stands. CallApart p.types (is_tracker p) stands.control) (next tds bodies f.t) typed_on (each_next (λ (stands : State). CallApart p.types (is_tracker p) stands.control) (next tds bodies f.t) apart_on))
+      (each_both (typed.TypedIn known.program) (λ stands. CallApart p.types (is_tracker p) false stands.control) (next tds bodies f.t) typed_on (each_next (λ (stands : State). CallApart p.types (is_tracker p) false stands.control) (next tds bodies f.t) apart_on))
 
 -- Each step of the body but its end keeps all that is known while it runs.
 pub adjusting_step :

@@ -1,5 +1,5 @@
 -- What an operation that touches storage may be called for where a master is left (7.6.1): its objects, and, where objects with controlled parts may be allocated
--- beside such operations, the collections of those. No component names then what has gone before.
+-- beside such operations, the collections of those. No component that is left names then what has gone before.
 
 use Rattle.std.proofs.Common.{◌≡◌, ℕ, Bool, true, false, not, ◌&&◌, List, [], ◌∷◌}
 use Rattle.ada_program.specs.ProgramForm.{TypeForm, ProgramForm}
@@ -38,16 +38,20 @@ houses_parts types (collection v pool) = not (has_bare_objects types v)
 houses_parts types (record_object u) = false
 houses_parts types (storage_pool declaration number) = false
 
--- At such an item one thing holds, and at another one something else.
+-- Where objects have controlled parts one thing holds, and elsewhere something else.
 abbrev pub AtParts : (parts : Bool) → (here later : Type 0) → Type 0
 AtParts true here later = here
 AtParts false here later = later
 
--- The collection of an access type is created behind these items, the newest one first: from the first one on that is a collection of objects with controlled
--- parts, none has objects with a component of that type.
+-- From the first one of these items on that is a collection of objects with controlled parts, no objects have a component of an access type.
+abbrev pub HoldNoneFrom : List TypeForm → (access : ℕ) → List Item → Type 0
+HoldNoneFrom types t [] = Unit {0}
+HoldNoneFrom types t (i ∷ is) = AtParts (houses_parts types i.owned) (HoldsNone types t i.owned × AllHoldNone types t is) (HoldNoneFrom types t is)
+
+-- The collection of an access type is created behind these items, the newest one first. Where its objects have controlled parts, neither they nor those of any
+-- item have a component of that type; else none have from the first one on that is a collection of such objects.
 abbrev pub IsApart : List TypeForm → (access : ℕ) → List Item → Type 0
-IsApart types t [] = Unit {0}
-IsApart types t (i ∷ is) = AtParts (houses_parts types i.owned) (HoldsNone types t i.owned × AllHoldNone types t is) (IsApart types t is)
+IsApart types t is = AtParts (not (has_bare_objects types t)) ((holds_component types t t ≡ false) × AllHoldNone types t is) (HoldNoneFrom types t is)
 
 -- An item is no collection, or it is one that is created apart from older ones.
 abbrev pub GoesApart : List TypeForm → Owned → (older : List Item) → Type 0

@@ -39,9 +39,10 @@ use Rattle.ada_sound.proofs.Objects.{get_more, get_new}
 use Rattle.ada_sound.proofs.Items.{home_has}
 use Rattle.ada_sound.proofs.Stored.{Stored, stored_new, stored_filled}
 use Rattle.ada_sound.proofs.Alters.{alters_new}
-use Rattle.ada_sound.proofs.Fits.{Fit, Hand, stacked, none_spared, hold_in, place_at, component_access, is_object, weaker_fit, plain_place, as_reliance, less_unnamed, lose_all, put_owner, create_fit, insert_fit}
+use Rattle.ada_sound.proofs.Fits.{Fit, Hand, stacked, none_spared, hold_in, place_at, component_access, is_object, weaker_fit, plain_place, as_reliance, less_unnamed, lose_all, put_owner, create_fit, created_access, insert_fit}
+use Rattle.ada_sound.proofs.Awaiting.{awaits_along, goes_along}
 use Rattle.ada_sound.proofs.Begins.{root_follows}
-use Rattle.ada_sound.proofs.Invariant.{begun, along, outers, HasRoom, RoomFor, Known, Control, Rooms, NoneBroken, MayRaise, back_onto, named_of, FilledBy, GoesInto, LeadsTo, Filling, FillsTo, Accepts, StoresTo, IsHolder, Initializes, IsMade, Making, goes_to_variable, NamesTo, To, RunsOn, Working, Stepped, Fine, InitialTo, AdjustsFirst, HasCopied, IsPlainFirst}
+use Rattle.ada_sound.proofs.Invariant.{begun, along, outers, HasRoom, RoomFor, Known, Control, Rooms, NoneBroken, MayRaise, back_onto, named_of, FilledBy, GoesInto, LeadsTo, Filling, FillsTo, Accepts, StoresTo, IsHolder, AwaitsIn, Initializes, IsMade, Making, NamesTo, To, RunsOn, Working, Stepped, Fine, InitialTo, AdjustsFirst, HasCopied, IsPlainFirst}
 use Rattle.ada_sound.proofs.Ready.{running, at_work, ready_on, jumps_less, treats_ready}
 use Rattle.ada_sound.proofs.Followings.{first_kept}
 use Rattle.ada_sound.proofs.Roots.{root_object, object_there, rest_raises, record_raises, selected_raises}
@@ -49,7 +50,6 @@ use Rattle.ada_sound.proofs.Filled.{Lends, kept_by, filled_length, filled_in_han
 use Rattle.ada_sound.proofs.Copied.{give_next, fill_one, raise_back, copies_on, RecordThere, record_there}
 use Rattle.ada_sound.proofs.Lendings.{lends_none, lends_some}
 use Rattle.ada_sound.proofs.Records.{new_unnamed, new_unreferred}
-use Rattle.ada_sound.proofs.Touched.{ComponentsUntouched}
 use Rattle.ada_sound.proofs.Undone.{new_may_undo}
 use Rattle.ada_sound.proofs.Walks.{finds_fine, fills_fine}
 use Rattle.ada_sound.proofs.Raising.{or_left}
@@ -199,7 +199,7 @@ module _ (known : Known) (k : Control) (a : Activation Value) (rest : List (Acti
       record_item p items (record_fits cs p items fits) w (record_kept w.holds p (next_keeps known s.heap a.places (item_of_record p) items k a.operands w.rooms w.holds w.rest))
 
   -- A new object is granted, or refused.
-  module _ (untouched : ComponentsUntouched known.program.types known.touches) (types : List TypeDefinition) (access count words : ℕ) (home : Destination) (is_home : home_of access s.masters ≡ Some home) (w : Working known s.heap a.places s.masters (Filling known s.heap a.places access count [] k a.operands)) (kinds : HaveKinds known.program.types (cells_of s.heap) w.rest.leads.components (reverse (take count a.operands))) where
+  module _ (types : List TypeDefinition) (access count words : ℕ) (home : Destination) (is_home : home_of access s.masters ≡ Some home) (w : Working known s.heap a.places s.masters (Filling known s.heap a.places access count [] k a.operands)) (kinds : HaveKinds known.program.types (cells_of s.heap) w.rest.leads.components (reverse (take count a.operands))) where
     cell : Cell Value
     cell = new_cell named types access count home (running k a rest s)
 
@@ -271,14 +271,14 @@ module _ (known : Known) (k : Control) (a : Activation Value) (rest : List (Acti
     granted_names (StoresIn o c ∷ k') operands room into to = stored_in o c k' (λ path is. rw is at into) to.0 to.1
     granted_names (f ∷ k') operands room into to = absurd to
 
-    -- Where operations may touch storage that are called for it, and a variable gets it, nothing relies on it until then.
+    -- Where operations may touch storage that are called for it, nothing relies on it until it gets to a variable or a component.
     next : Id
     next = record { 0 = length s.heap }
 
     made_unmoved : (done : List ItemForm) → moved_by_items no_tracks (back_onto done []) ≡ [] → without_values (moved_by_items no_tracks (back_onto done [])) w.holds ≡ w.holds
     made_unmoved done none = rw none refl
 
-    making_by : (k' : Control) → w.rest.target ≡ None → RoomFor k' w.rooms → (moved_by_items no_tracks (back_onto w.rest.done []) ≡ []) × Initializes known access k' w.rooms w.holds → Making known next access k' (create s.heap words cell) a.places s.masters
+    making_by : (k' : Control) → w.rest.target ≡ None → RoomFor k' w.rooms → (moved_by_items no_tracks (back_onto w.rest.done []) ≡ []) × Initializes known s.heap access k' w.rooms w.holds → Making known next access k' (create s.heap words cell) a.places s.masters
     unfolding cell lost next
     making_by k' none room (unmoved, i) =
         let both = made none in
@@ -293,31 +293,14 @@ module _ (known : Known) (k : Control) (a : Activation Value) (rest : List (Acti
           fit = weaker_fit i.less i.good fit;
           aside = (less_unnamed i.less i.good next fit (new_unnamed words cell w.fit hand), new_unreferred words cell w.fit);
           room = room;
-          to = i.to;
+          to = goes_along known (AwaitsIn known s.heap access) (AwaitsIn known (create s.heap words cell) access)
+              (awaits_along known s.heap (create s.heap words cell) (λ p t there. created_access s.heap words cell p t there) access) access k' w.rooms i.less i.to;
           undone = i.undone;
           well = i.well;
         }
 
-    -- No component gets it.
-    never_accepts : known.touches access ≡ true → (o : Value) (c : ℕ) → Accepts known s.heap o c (Some access) → ⊥
-    never_accepts touches Null c accepts = accepts
-    never_accepts touches (Names o) c (object, found, listed, is) = let none = untouched object.cell.access c access is in cc (touches, none)
-    never_accepts touches (Scalar n) c accepts = accepts
-    never_accepts touches (Part o first) c accepts = accepts
-
     making : known.touches access ≡ true → Making known next access k (create s.heap words cell) a.places s.masters
-    unfolding lost
-    making touches = by k w.rest.into w.rest.leads.room w.rest.leads.to w.rest.leads.initializes
-      where
-        by : (k' : Control) → GoesInto s.heap a.places w.rest.target k' → RoomFor k' w.rooms
-            → StoresTo k' (λ x k2. ((variable_access known.program.variables x ≡ Some access) × (is_object known.program.variables x ≡ false)) × To (RunsOn known k2 w.rooms) (slice_set lost x (hold.Own Whole))) (λ o c k2. Accepts known s.heap o c (Some access) × To (RunsOn known k2 w.rooms) lost)
-            → (known.touches access ≡ true → goes_to_variable k' ≡ true → (moved_by_items no_tracks (back_onto w.rest.done []) ≡ []) × Initializes known access k' w.rooms w.holds)
-            → Making known next access k' (create s.heap words cell) a.places s.masters
-        by [] into room to initializes = absurd to
-        by (Stores x ∷ k') into room to initializes = making_by (Stores x ∷ k') (stores_none s.heap a.places w.rest.target x k' into) room (initializes touches refl)
-        by (Declares x ∷ k') into room to initializes = making_by (Declares x ∷ k') (declares_none s.heap a.places w.rest.target x k' into) room (initializes touches refl)
-        by (StoresIn o c ∷ k') into room to initializes = absurd (never_accepts touches o c to.0)
-        by (f ∷ k') into room to initializes = absurd to
+    making touches = making_by k (w.rest.unlent touches) w.rest.leads.room (w.rest.leads.initializes touches)
 
     made_here : IsMade known (created s.heap words) k (create s.heap words cell) a.places s.masters
     unfolding cell next
@@ -334,12 +317,12 @@ module _ (known : Known) (k : Control) (a : Activation Value) (rest : List (Acti
     answered_fine true = record { ready = (tt, treats_ready known (created s.heap words) (begins Creation []) (all_tasks types access PartsFirst) k (create s.heap words cell) a.places (created s.heap words ∷ drop count a.operands) s.masters (inr (refl, made_here, granted_names k (drop count a.operands) w.rest.leads.room w.rest.into w.rest.leads.to), new_may_undo known s.heap words cell k a.places s.masters w.rooms w.holds stored w.roomed w.fit w.rest.leads.starts making) tt); alters = alters_new s.heap Quiet (new_object cell) refl; says = tt }
     answered_fine false = jumps_less known k a rest s (Raising StorageError) (at_work w (w.rest.leads.refused refl))
 
-  creates_by : ComponentsUntouched known.program.types known.touches → (types : List TypeDefinition) (access count words : ℕ) (home : Option Destination) → home_of access s.masters ≡ home → (w : Working known s.heap a.places s.masters (Filling known s.heap a.places access count [] k a.operands)) → HaveKinds known.program.types (cells_of s.heap) w.rest.leads.components (reverse (take count a.operands)) → Fine known s.heap s.masters (new_next named types access count words home (running k a rest s))
-  creates_by untouched types access count words None e w kinds = jumps_less known k a rest s (Raising StorageError) (at_work w (w.rest.leads.refused refl))
-  creates_by untouched types access count words (Some home) e w kinds = answered_fine untouched types access count words home e w kinds
+  creates_by : (types : List TypeDefinition) (access count words : ℕ) → (home : Option Destination) → home_of access s.masters ≡ home → (w : Working known s.heap a.places s.masters (Filling known s.heap a.places access count [] k a.operands)) → HaveKinds known.program.types (cells_of s.heap) w.rest.leads.components (reverse (take count a.operands)) → Fine known s.heap s.masters (new_next named types access count words home (running k a rest s))
+  creates_by types access count words None e w kinds = jumps_less known k a rest s (Raising StorageError) (at_work w (w.rest.leads.refused refl))
+  creates_by types access count words (Some home) e w kinds = answered_fine types access count words home e w kinds
 
-  pub creates_fine : ComponentsUntouched known.program.types known.touches → (types : List TypeDefinition) (access count words : ℕ) (kinds : List OperandKind) → typed.Fits known.program (cells_of s.heap) kinds (Creates access count ∷ k) → AreComputed known.program.types (cells_of s.heap) kinds a.operands → Working known s.heap a.places s.masters (Filling known s.heap a.places access count [] k a.operands) → Fine known s.heap s.masters (new_next named types access count words (home_of access s.masters) (running k a rest s))
-  creates_fine untouched types access count words kinds fits computed w =
+  pub creates_fine : (types : List TypeDefinition) (access count words : ℕ) → (kinds : List OperandKind) → typed.Fits known.program (cells_of s.heap) kinds (Creates access count ∷ k) → AreComputed known.program.types (cells_of s.heap) kinds a.operands → Working known s.heap a.places s.masters (Filling known s.heap a.places access count [] k a.operands) → Fine known s.heap s.masters (new_next named types access count words (home_of access s.masters) (running k a rest s))
+  creates_fine types access count words kinds fits computed w =
       let split_kinds = (typed.split known.program.types (cells_of s.heap) fits.1 fits.0 a.operands (rw fits.2 at computed)).0 in
       let same : fits.1 ≡ w.rest.leads.components = let reached = fits.3 in let other = w.rest.leads.reached in cc (reached, other) in
-      creates_by untouched types access count words (home_of access s.masters) refl w (rw (← same, fits.4) split_kinds)
+      creates_by types access count words (home_of access s.masters) refl w (rw (← same, fits.4) split_kinds)

@@ -1,7 +1,7 @@
 -- Where operations may touch storage, what they free has no controlled parts, and neither has what a component names; and what they are called for does, or is a
 -- declared object (7.6, 3.10).
 
-use Rattle.std.proofs.Common.{◌≡◌, ℕ, zero, suc, Bool, true, false, ◌||◌, ◌&&◌, not, List, [], ◌∷◌, refl, ap, ◌⊎◌, inl, inr}
+use Rattle.std.proofs.Common.{◌≡◌, ℕ, zero, suc, true, false, ◌||◌, List, [], ◌∷◌, refl, ap, ◌⊎◌, inl, inr}
 use Rattle.std.specs.Prelude.{Option, Some, None, is_some}
 use Rattle.std.specs.List.{list_all, slice_get}
 use Rattle.std.proofs.lemmas.Bool.{or_cases}
@@ -15,15 +15,14 @@ use Rattle.ada_program.specs.declared.program.Program.{Program}
 use Rattle.ada_program.specs.ProgramForm.{TypeForm, record_of, access_to, object_of, BodyForm, ProgramForm, program_form, seen_in}
 use Rattle.ada_program.specs.WellFormed.{IsWellFormed, access_of, components_in, components_reached, designated_in, finalization_in, finalization_of, is_access, kind_among, named_in, object_named, reached_components}
 use Rattle.ada_quiet.specs.Apart.{operations_stand_apart}
-use Rattle.ada_quiet.specs.Bare.{collections_in_order, has_bare_components, has_bare_objects, is_bare_access, is_bare_component}
+use Rattle.ada_quiet.specs.Bare.{has_bare_components, has_bare_objects, is_bare_access, is_bare_component}
 use Rattle.ada_quiet.specs.Frugal.{is_frugal_body, thrift_of}
-use Rattle.ada_quiet.specs.InUse.{designates_no_parts, may_allocate_parts, allocates_no_parts, may_be_frugal}
+use Rattle.ada_quiet.specs.InUse.{designates_no_parts, may_allocate_parts, allocates_no_parts, may_be_frugal, names_no_parts}
 use Rattle.ada_sound.proofs.FrugalFrees.{accepted_access}
 use Rattle.ada_sound.proofs.FrugalUseFrees.{covered_bare}
 use Rattle.ada_sound.proofs.FrugalUseParts.{some_parts, walked_parts}
 use Rattle.ada_sound.proofs.Invariant.{CoveredIn}
 use Rattle.ada_sound.proofs.OperationStarts.{apart}
-use Rattle.ada_sound.proofs.Touched.{ComponentsUntouched, touches_in}
 use Rattle.ada_typed.specs.Holding.{PartsLie, WalksTo}
 use Rattle.ada_typed.proofs.Inner.{lies_at}
 use Rattle.ada_typed.proofs.Lying.{IsOperable}
@@ -69,35 +68,18 @@ module _ (program : Program) (well : IsWellFormed (program_form program)) where
   abbrev p : ProgramForm
   p = program_form program
 
-  -- Where objects with controlled parts may be allocated, components name none of these.
-  parts_allocated : may_allocate_parts p ≡ true → list_all (has_bare_components p.types) p.types ≡ true
-  parts_allocated may = (apart (list_all (has_bare_components p.types) p.types) (collections_in_order p) may).0
-
-  -- So what a component is to name there is of a type whose objects are bare.
-  pub named_are_bare : may_allocate_parts p ≡ true → (holder c access : ℕ) → access_of (kind_among (reached_components p.types holder) c) ≡ Some access
-      → has_bare_objects p.types access ≡ true
-  named_are_bare may holder c access is = reached_bare p.types (parts_allocated may) (named_in (slice_get p.types holder)) c access is
-
   -- Where operations may be frugal, none is allocated, or each may be.
   parts_where : may_be_frugal p ≡ true → (allocates_no_parts p ≡ true) ⊎ (may_allocate_parts p ≡ true)
   parts_where may =
       or_cases (allocates_no_parts p) (may_allocate_parts p) (apart (allocates_no_parts p || may_allocate_parts p) (operations_stand_apart p) may).0
 
-  -- What a component is to name has no controlled parts.
-  pub components_are_bare : may_be_frugal p ≡ true → (holder c access : ℕ) → access_of (kind_among (reached_components p.types holder) c) ≡ Some access → has_bare_objects p.types access ≡ true
-  components_are_bare may holder c access is = by (parts_where may)
+  -- What a component is to name has no controlled parts, where none of these is named.
+  pub components_are_bare : names_no_parts p ≡ true → (holder c access : ℕ) → access_of (kind_among (reached_components p.types holder) c) ≡ Some access → has_bare_objects p.types access ≡ true
+  components_are_bare names holder c access is = by (or_cases (allocates_no_parts p) (list_all (has_bare_components p.types) p.types) names)
     where
-      by : (allocates_no_parts p ≡ true) ⊎ (may_allocate_parts p ≡ true) → has_bare_objects p.types access ≡ true
+      by : (allocates_no_parts p ≡ true) ⊎ (list_all (has_bare_components p.types) p.types ≡ true) → has_bare_objects p.types access ≡ true
       by (inl none) = bare_access p.types none access (accepted_access p.types well.types_fit holder c access is)
-      by (inr parts) = named_are_bare parts holder c access is
-
-  -- So none is to name an object for which an operation is called that touches storage.
-  pub components_untouched : ComponentsUntouched p.types (touches_in p)
-  components_untouched holder c access is = by (may_be_frugal p) refl
-    where
-      by : (may : Bool) → may_be_frugal p ≡ may → (may && not (has_bare_objects p.types access)) ≡ false
-      by false never = refl
-      by true may = rw (components_are_bare may holder c access is) refl
+      by (inr each) = reached_bare p.types each (named_in (slice_get p.types holder)) c access is
 
   -- An object is that of a variable or a component, or it has controlled parts, where an operation is called for one of these.
   pub operable_is_not_bare : (access of part : ℕ) → IsOperable p.types access of part → has_bare_objects p.types access ≡ false

@@ -1,7 +1,7 @@
 -- What callers rely on lies in masters that were entered before their calls: none of it goes while a body is left.
 
 use Rattle.std.proofs.Common.{◌≡◌, ℕ, zero, suc, ◌≤◌, Bool, true, false, List, [], ◌∷◌, ◌++◌, length, refl, sym, ◌∙◌, arith, length-append, ◌⊎◌, inl, inr}
-use Rattle.std.specs.Prelude.{Some, ◌==◌}
+use Rattle.std.specs.Prelude.{Option, Some, None, ◌==◌}
 use Rattle.std.specs.List.{slice_get}
 use Rattle.std.proofs.lemmas.Bool.{eqb-true}
 use Rattle.ada_effects.specs.Effects.{Implicit}
@@ -15,10 +15,10 @@ use Rattle.ada_meaning.specs.State.{Item, Master, height}
 use Rattle.ada_meaning.specs.Law.{items_of}
 use Rattle.ada_meaning.specs.Named.{Object, object_at}
 use Rattle.ada_scopes.specs.Scopes.{is_number_of}
-use Rattle.ada_sound.proofs.Fits.{outer_hold, outer_value, IsRelied, IsReferred, referred_either}
+use Rattle.ada_sound.proofs.Fits.{Outer, outer_hold, outer_value, IsRelied, IsReferred, referred_either}
 use Rattle.ada_sound.proofs.Items.{Counted, height_is}
 use Rattle.ada_sound.proofs.Leavings.{NamedBelow}
-use Rattle.ada_sound.proofs.Invariant.{Known, Control, Caller, Rooms, Roomed, RunsOn, Parting, AllWait, waits_roomed, LieBelow, below, below_callers, outers, outer_in, referenced_in, under_in}
+use Rattle.ada_sound.proofs.Invariant.{Known, Control, Caller, Rooms, Roomed, RunsOn, Parting, AllWait, waits_roomed, LieBelow, below, below_callers, outers, held_first, outer_in, referenced_in, under_in}
 use Rattle.ada_sound.proofs.Stored.{IsUnder}
 
 -- Masters with rooms stand above those of the callers.
@@ -36,6 +36,20 @@ inner_high (i ∷ is) js n c e = go (i.number == n) refl (λ among. inner_high i
     go true same others = let at = eqb-true i.number n same in let count = c.0 in omega (arith, at, count, length-append is js)
     go false same others = others (rw same at e)
 
+-- What is held comes first: it lies low, and so do the others.
+held_low : (heap : List Object) (held : Option Outer) (others : List Outer) (count : ℕ) → ((x : ℕ) (o : Id) → IsRelied (outer_hold held x) → outer_value held x ≡ Names o → (object : Object) × (object_at heap o ≡ Some object) × (suc object.cell.home.item ≤ count))
+    → ((d x : ℕ) (o : Id) (object : Object) → IsRelied (outer_hold (slice_get others d) x) → outer_value (slice_get others d) x ≡ Names o → object_at heap o ≡ Some object → suc object.cell.home.item ≤ count)
+    → (d x : ℕ) (o : Id) (object : Object) → IsRelied (outer_hold (slice_get (held_first held others) d) x) → outer_value (slice_get (held_first held others) d) x ≡ Names o → object_at heap o ≡ Some object → suc object.cell.home.item ≤ count
+held_low heap None others count low before d x o object relied names found = before d x o object relied names found
+held_low heap (Some held) others count low before zero x o object relied names found =
+    let lies = low x o relied names in
+    let same : lies.0 ≡ object = some_same lies.0 object (sym lies.1 ∙ found) in
+    rw (← same) lies.2
+  where
+    some_same : (x y : Object) → Some x ≡ Some y → x ≡ y
+    some_same x y e = cc e
+held_low heap (Some held) others count low before (suc d) x o object relied names found = before d x o object relied names found
+
 -- What a caller relies on lies below the masters of the running body.
 low_at : (heap : List Object) (implicit : Implicit) (body : ProgramForm) (callers : List Caller) → AllWait implicit body callers → LieBelow heap callers → (d x : ℕ) (o : Id) (object : Object) → IsRelied (outer_hold (slice_get (outer_in callers) d) x) → outer_value (slice_get (outer_in callers) d) x ≡ Names o → object_at heap o ≡ Some object → suc object.cell.home.item ≤ height (below_callers callers)
 low_at heap implicit body [] waits low d x o object relied names found = absurd relied
@@ -47,9 +61,11 @@ low_at heap implicit body (w ∷ ws) waits low zero x o object relied names foun
     some_same : (x y : Object) → Some x ≡ Some y → x ≡ y
     some_same x y e = cc e
 low_at heap implicit body (w ∷ ws) waits low (suc d) x o object relied names found =
-    let lower = low_at heap w.implicit w.program ws waits.1 low.3 d x o object relied names found in
+    held_low heap w.held (outer_in ws) (height w.masters) low.4
+    (λ e y p q relies is there.
+    let lower = low_at heap w.implicit w.program ws waits.1 low.3 e y p q relies is there in
     let high = roomed_high (below_callers ws) w.masters w.rooms (waits_roomed waits.0) in
-    omega (arith, lower, high)
+    omega (arith, lower, high)) d x o object relied names found
 
 -- So does what its call refers to.
 lower_or_here : (heap : List Object) (w : Caller) (ws : List Caller) → ((o : Id) (t : ℕ) → IsReferred w.referenced o t → (object : Object) × (object_at heap o ≡ Some object) × (suc object.cell.home.item ≤ height w.masters)) → (o : Id) (t : ℕ) (object : Object) → object_at heap o ≡ Some object → Roomed (below_callers ws) w.masters w.rooms → (IsReferred (referenced_in ws) o t → suc object.cell.home.item ≤ height (below_callers ws)) → IsReferred w.referenced o t ⊎ IsReferred (referenced_in ws) o t → suc object.cell.home.item ≤ height w.masters

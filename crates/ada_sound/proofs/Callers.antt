@@ -15,14 +15,15 @@ use Rattle.ada_meaning.specs.Named.{State}
 use Rattle.ada_sound.specs.Agreement.{Turning, IsFlowAt, IsBehind, running_procedure}
 use Rattle.ada_sound.proofs.Ahead.{ahead_in}
 use Rattle.ada_sound.proofs.Touched.{touches_in}
-use Rattle.ada_sound.proofs.Fits.{Reference}
+use Rattle.ada_sound.proofs.Fits.{Outer, Reference}
 use Rattle.ada_sound.proofs.Bodies.{IsBody}
 use Rattle.ada_sound.proofs.Invariant.{Control, Rooms, Caller, Known, Standing}
 use Rattle.ada_meaning.specs.declared.state.Id.{Id}
 
 -- A suspended activation: of which body it is, the actual parameters of its call, their values, what refers to the components that get something back, the
--- objects to which all that refers leads, those that are under way, as a treatment finalizes them, and what the procedure keeps of the parameters; what is left to do once the call has come to its end, the masters that are
--- entered then, and their rooms; what its variables hold, and what is known of them behind the call, as if nothing were handed over.
+-- objects to which all that refers leads, those that are under way, as a treatment finalizes them, and what an operation is called for, as if a variable held
+-- it; what the procedure keeps of the parameters; what is left to do once the call has come to its end, the masters that are entered then, and their rooms;
+-- what its variables hold, and what is known of them behind the call, as if nothing were handed over.
 pub record Suspension : Type 0 where
   pub procedure : Option ℕ
   pub actuals : List ActualForm
@@ -30,6 +31,7 @@ pub record Suspension : Type 0 where
   pub references : List Value
   pub referenced : List Reference
   pub under : List Id
+  pub held : Option Outer
   pub kept : Keeping
   pub control : Control
   pub masters : List Master
@@ -59,6 +61,7 @@ caller_of program g gs = record {
   references = g.references;
   referenced = g.referenced;
   under = g.under;
+  held = g.held;
   kept = g.kept;
   control = g.control;
   masters = g.masters;

@@ -110,6 +110,7 @@ module _ (program : Program) (number : ℕ) (b : BodyForm) (given : List ActualF
     references = references;
     referenced = referenced;
     under = [];
+    held = None;
     kept = kept_in caller number;
     control = k;
     masters = s.masters;
@@ -291,6 +292,7 @@ module _ (program : Program) (number : ℕ) (b : BodyForm) (given : List ActualF
           opened = all_opened caller.program.types caller.program.variables frees s.heap a.places w.holds w.fit (formal_kinds b) given values references suits.0 refer w.rest.6;
           covers = λ t may. (w.rest.3 t (freed_by_it t may)).1;
           settled = refl;
+          unheld = refl;
         }
           where
             passes_by : (i x : ℕ) → handed_at given i ≡ Some x → place_at values i ≡ place_at a.places x
@@ -329,7 +331,7 @@ module _ (program : Program) (number : ℕ) (b : BodyForm) (given : List ActualF
             standing = record {
               suspended = (refl, stands.standing.suspended);
               waiting = (inl caller_waits, stands.standing.waiting);
-              low = (caller_low, referred_low, (λ o none. absurd none), stands.standing.low);
+              low = (caller_low, referred_low, (λ o none. absurd none), stands.standing.low, (λ x o none names. absurd none));
             };
           };
         }

@@ -1,9 +1,9 @@
--- The collections of each master are created in order (7.6.1): none of an access type of which the objects of an older one have a component, from the newest one
--- on whose objects have controlled parts. So they are in what is left to do: in each declarative part, and behind the items that its master has already. Paths,
--- values and Free keep that.
+-- The collections of each master are created in order (7.6.1): where the objects of one have controlled parts, neither they nor those of an older one have a
+-- component of its access type; else those of an older one have none, from the newest one on whose objects have controlled parts. So they are in what is left to
+-- do: in each declarative part, and behind the items that its master has already. Paths, values and Free keep that.
 
 use Rattle.std.proofs.Common.{◌≡◌, ℕ, Bool, true, false, not, ◌&&◌, if◌then◌else◌, List, [], ◌∷◌, length, Option, Some, None, Result, Ok, Err, refl, sym, subst, ◌⊎◌, inl, inr}
-use Rattle.std.specs.List.{list_all, slice_get}
+use Rattle.std.specs.List.{slice_get}
 use Rattle.std.proofs.lemmas.Bool.{and_parts, not-true}
 use Rattle.ada_program.specs.declared.program.TypeDefinition.{TypeDefinition}
 use Rattle.ada_program.specs.Form.{RecordPathForm, ExpressionForm, integer, boolean, reads, is_null, applied_to, chained, LinksForm, no_more_links, a_link, ItemForm, null_item, item_of_path, item_of_value, item_of_record, RightForm, nothing, value_of, allocates, allocates_default, computes, StmtsForm, HandlersForm, DeclarationForm}
@@ -32,9 +32,9 @@ use Rattle.ada_meaning.specs.Heap.{Cell, Found, on_null, on_gone, on_other, find
 use Rattle.ada_meaning.specs.Step.{halts, moves, all_tasks, record_tasks, older, owning, treating, copy_next, record_assign_next, assigns_next, at, held, newest, reading, component_next, follow_next, path_next, before_last, last_of, selected, named_next, holder_next, place_in, record_holder_next, referred_next, refers_next, open_next, opened_next, opens_next, expression_next, null_test_next, is_decided, link_next, links_next, outcome_next, item_next, items_next, copied_next, copies_next, newest_ones, without_newest, record_in, record_target_next, record_stored_next, store_record_next, answered, new_next, right_next, free_next, end_next, same_pool, told_back, given_back, back_next, freeing, freeing_next, freed_next, free_component_next, free_in_next}
 use Rattle.ada_meaning.specs.Named.{State, Next, named, whole, base, part_base, inside, look, returned, on_object, reads_boolean}
 use Rattle.ada_meaning.specs.Run.{Event}
-use Rattle.ada_quiet.specs.Bare.{has_bare_objects, holds_component, is_apart_from, collect_in_order}
+use Rattle.ada_quiet.specs.Bare.{has_bare_objects, holds_component, hold_none, hold_none_from, is_apart_from, collect_in_order}
 use Rattle.ada_scopes.proofs.Control.{is_confine, Either}
-use Rattle.ada_sound.proofs.Ahead.{HoldsNone, AllHoldNone, houses_parts, AtParts, IsApart, GoesApart, ItemsApart, MastersApart}
+use Rattle.ada_sound.proofs.Ahead.{HoldsNone, AllHoldNone, houses_parts, AtParts, HoldNoneFrom, IsApart, GoesApart, ItemsApart, MastersApart}
 use Rattle.ada_sound.proofs.PartsInOrder.{part_in_order, stmts_in_order, branches_in_order, handlers_in_order, body_in_order, alone_in_order}
 use Rattle.ada_idle.proofs.Coming.{AllNext, all_next}
 
@@ -170,44 +170,51 @@ module _ (forms : List TypeForm) where
   older_owning item [] = refl
   older_owning item (m ∷ ms) = refl
 
-  -- The objects of none of these access types have a component of another one.
-  abbrev NoneHolds : (access : ℕ) → List ℕ → Type 0
-  NoneHolds t vs = list_all (λ w. not (holds_component forms t w)) vs ≡ true
-
-  -- So it is with the objects of items, if it is so with the collections among these.
-  all_hold_none : (t : ℕ) (is : List Item) → NoneHolds t (housed_by is) → AllHoldNone forms t is
+  -- The objects of none of these items have a component of an access type, if it is so with the collections among these.
+  all_hold_none : (t : ℕ) (is : List Item) → hold_none forms t (housed_by is) ≡ true → AllHoldNone forms t is
   all_hold_none t [] none = tt
   all_hold_none t (i ∷ is) none = by i.owned (all_hold_none t is) none
     where
-      by : (owned : Owned) → (NoneHolds t (housed_by is) → AllHoldNone forms t is) → NoneHolds t (housed_with owned (housed_by is))
+      by : (owned : Owned) → (hold_none forms t (housed_by is) ≡ true → AllHoldNone forms t is) → hold_none forms t (housed_with owned (housed_by is)) ≡ true
           → HoldsNone forms t owned × AllHoldNone forms t is
       by (declared x) later none' = (tt, later none')
       by (collection v pool) later none' =
-          let both = and_parts (not (holds_component forms t v)) (list_all (λ w. not (holds_component forms t w)) (housed_by is)) none' in
+          let both = and_parts (not (holds_component forms t v)) (hold_none forms t (housed_by is)) none' in
           (not-true (holds_component forms t v) both.0, later both.1)
       by (record_object u) later none' = (tt, later none')
       by (storage_pool declaration number) later none' = (tt, later none')
 
-  -- So a collection is created apart from items where it is apart from the collections among these.
-  housed_apart : (t : ℕ) (is : List Item) → is_apart_from forms t (housed_by is) ≡ true → IsApart forms t is
-  housed_apart t [] apart = tt
-  housed_apart t (i ∷ is) apart = by i.owned (housed_apart t is) apart
+  -- So it is from the first one on whose objects have controlled parts.
+  hold_none_behind : (t : ℕ) (is : List Item) → hold_none_from forms t (housed_by is) ≡ true → HoldNoneFrom forms t is
+  hold_none_behind t [] none = tt
+  hold_none_behind t (i ∷ is) none = by i.owned (hold_none_behind t is) none
     where
-      by_parts : (v : ℕ) (bare : Bool) → (is_apart_from forms t (housed_by is) ≡ true → IsApart forms t is)
-          → (if bare then is_apart_from forms t (housed_by is) else list_all (λ w. not (holds_component forms t w)) (v ∷ housed_by is)) ≡ true
-          → AtParts (not bare) ((holds_component forms t v ≡ false) × AllHoldNone forms t is) (IsApart forms t is)
-      by_parts v true later apart' = later apart'
-      by_parts v false later apart' =
-          let both = and_parts (not (holds_component forms t v)) (list_all (λ w. not (holds_component forms t w)) (housed_by is)) apart' in
+      by_parts : (v : ℕ) (bare : Bool) → (hold_none_from forms t (housed_by is) ≡ true → HoldNoneFrom forms t is)
+          → (if bare then hold_none_from forms t (housed_by is) else hold_none forms t (v ∷ housed_by is)) ≡ true
+          → AtParts (not bare) ((holds_component forms t v ≡ false) × AllHoldNone forms t is) (HoldNoneFrom forms t is)
+      by_parts v true later none' = later none'
+      by_parts v false later none' =
+          let both = and_parts (not (holds_component forms t v)) (hold_none forms t (housed_by is)) none' in
           (not-true (holds_component forms t v) both.0, all_hold_none t is both.1)
 
-      by : (owned : Owned) → (is_apart_from forms t (housed_by is) ≡ true → IsApart forms t is)
-          → is_apart_from forms t (housed_with owned (housed_by is)) ≡ true
-          → AtParts (houses_parts forms owned) (HoldsNone forms t owned × AllHoldNone forms t is) (IsApart forms t is)
-      by (declared x) later apart' = later apart'
-      by (collection v pool) later apart' = by_parts v (has_bare_objects forms v) later apart'
-      by (record_object u) later apart' = later apart'
-      by (storage_pool declaration number) later apart' = later apart'
+      by : (owned : Owned) → (hold_none_from forms t (housed_by is) ≡ true → HoldNoneFrom forms t is)
+          → hold_none_from forms t (housed_with owned (housed_by is)) ≡ true
+          → AtParts (houses_parts forms owned) (HoldsNone forms t owned × AllHoldNone forms t is) (HoldNoneFrom forms t is)
+      by (declared x) later none' = later none'
+      by (collection v pool) later none' = by_parts v (has_bare_objects forms v) later none'
+      by (record_object u) later none' = later none'
+      by (storage_pool declaration number) later none' = later none'
+
+  -- So a collection is created apart from items where it is apart from the collections among these.
+  housed_apart : (t : ℕ) (is : List Item) → is_apart_from forms t (housed_by is) ≡ true → IsApart forms t is
+  housed_apart t is apart = by (has_bare_objects forms t) apart
+    where
+      by : (bare : Bool) → (if bare then hold_none_from forms t (housed_by is) else hold_none forms t (t ∷ housed_by is)) ≡ true
+          → AtParts (not bare) ((holds_component forms t t ≡ false) × AllHoldNone forms t is) (HoldNoneFrom forms t is)
+      by true apart' = hold_none_behind t is apart'
+      by false apart' =
+          let both = and_parts (not (holds_component forms t t)) (hold_none forms t (housed_by is)) apart' in
+          (not-true (holds_component forms t t) both.0, all_hold_none t is both.1)
 
   -- A collection is created apart from the items of the innermost master, and then it is one of these: behind it come the others, in order.
   pub collects_orderly : (access : ℕ) (pool : Option ℕ) (number : ℕ) (coming : List ℕ) (ms : List Master)

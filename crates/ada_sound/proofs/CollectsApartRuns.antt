@@ -8,7 +8,8 @@ use Rattle.ada_program.specs.Form.{stmt_forms, handler_forms, declaration_forms}
 use Rattle.ada_program.specs.ProgramForm.{TypeForm, main_body, body_forms, program_form}
 use Rattle.ada_meaning.specs.Named.{State, next}
 use Rattle.ada_meaning.specs.Run.{Event, Choice, Step, Run, here, there, first_state}
-use Rattle.ada_quiet.specs.Bare.{collections_in_order, has_bare_components}
+use Rattle.ada_quiet.specs.Apart.{parts_stand_alone}
+use Rattle.ada_quiet.specs.Bare.{collections_in_order}
 use Rattle.ada_quiet.specs.InUse.{may_allocate_parts}
 use Rattle.ada_sound.proofs.Ahead.{MastersApart}
 use Rattle.ada_sound.proofs.CollectsApart.{Good, masters_of, masters_going, elaborates_orderly}
@@ -53,5 +54,5 @@ pub apart_where_reached : (program : Program) (s : State) → IsReached program 
     → MastersApart (program_form program).types s.masters
 apart_where_reached program s reached may =
     let p = program_form program in
-    let two = and_parts (list_all (has_bare_components p.types) p.types) (collections_in_order p) may in
-    masters_apart program two.1 reached.0 reached.1 s reached.2
+    let two = and_parts (collections_in_order p) (parts_stand_alone p) may in
+    masters_apart program two.0 reached.0 reached.1 s reached.2

@@ -45,6 +45,7 @@ module _ (known : Known) (heap : List Object) (places : List Value) where
     spot = f.spot;
     target = f.target;
     into = f.into;
+    unlent = f.unlent;
     filled = (is, f.filled);
     before = (f.behind.0, f.before);
     behind = f.behind.1;
@@ -152,6 +153,7 @@ module _ (known : Known) (heap : List Object) (places : List Value) where
         spot = f.spot;
         target = f.target;
         into = f.into;
+        unlent = f.unlent;
         filled = f.filled;
         before = f.before;
         behind = unrolled_keep types f.spot f.target holds (named_of f.done) kinds items f.behind.1;
@@ -165,7 +167,7 @@ module _ (known : Known) (heap : List Object) (places : List Value) where
           starts = f.leads.starts;
           room = f.leads.room;
           to = rw moves at f.leads.to;
-          initializes = λ touches to_variable. (let i = f.leads.initializes touches to_variable in (sym moves ∙ i.0, i.1));
+          initializes = λ touches. (let i = f.leads.initializes touches in (sym moves ∙ i.0, i.1));
         };
         counted = f.counted;
       }

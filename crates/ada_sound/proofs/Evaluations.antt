@@ -19,7 +19,7 @@ use Rattle.ada_effects.specs.Effects.{expression_raises, items_raise, path_raise
 use Rattle.ada_flow.specs.declared.rule.Hold.{Hold}
 use Rattle.ada_flow.specs.declared.rule.Hold.TheVariants as hold
 use Rattle.ada_flow.specs.declared.rule.Region.TheVariants.{Whole}
-use Rattle.ada_flow.specs.Flow.{Holds, hold_at, variable_access, uses_in, uses_in_items, uses_in_target, gives_component, is_freed, lost_by, without_alias, without_freed, without_values, moved_by_items, value_hold, borrowed_hold, ends_with, gives, same_selectors, same_path, clears, touched_hold}
+use Rattle.ada_flow.specs.Flow.{Holds, hold_at, variable_access, uses_in, uses_in_items, uses_in_target, gives_component, is_freed, lost_by, without_alias, without_freed, without_values, moved_by_items, value_hold, borrowed_hold, ends_with, gives, same_selectors, same_path, clears, touched_hold, reads_it, broken_in}
 use Rattle.ada_flow.specs.Tracking.{no_tracks}
 use Rattle.ada_meaning.specs.declared.state.Id.{Id}
 use Rattle.ada_meaning.specs.declared.state.Value.{Value}
@@ -33,7 +33,7 @@ use Rattle.ada_meaning.specs.Step.{in_front, initial_value, initial_values, owne
 use Rattle.ada_meaning.specs.Named.{Object, State, object_at, look, named, store, inside}
 use Rattle.ada_meaning.specs.Named.{whole as whole_of}
 use Rattle.ada_owners.specs.Keeping.{IsThere}
-use Rattle.ada_owners.specs.Places.{is_there, component, component_in, value_at}
+use Rattle.ada_owners.specs.Places.{access_at, is_there, component, component_in, value_at}
 use Rattle.ada_owners.proofs.Kernel.{same_place}
 use Rattle.ada_owners.proofs.Changes.{store_reads, store_value}
 use Rattle.ada_owners.specs.Walks.{walk}
@@ -45,9 +45,9 @@ use Rattle.ada_sound.proofs.Gathered.{BareItems}
 use Rattle.ada_sound.proofs.Defaults.{defaults_fit, defaults_raise, defaults_move, defaults_keep, defaults_bare, fill_defaults, DefaultFor, default_for, Reaches}
 use Rattle.ada_sound.proofs.Values.{read_other}
 use Rattle.ada_sound.proofs.Stored.{Stored, exists_out, stored_owning}
-use Rattle.ada_sound.proofs.Fits.{Fit, MayFollow, names_object, is_object, component_value, component_access, none_spared, place_at, put_null, put_alias, component_is, component_follows, take_variable, take_component, ArePlain, plain_object}
-use Rattle.ada_sound.proofs.Begins.{root_at, root_access, root_follows}
-use Rattle.ada_sound.proofs.Invariant.{assignment_among, outers, below, HasRoom, Known, Control, Rooms, Roomed, Accepts, LeadsTo, GoesInto, Allocating, Clearing, component_among, StoringIn, Pairs, IsAlone, IsOne, Half, HalfBy, IsCleared, front, final, WalksOn, Goes, GoesTo, Initializes, Raised, RaisesAfter, RunsAfter, RunsOn, Spares, NoneBroken, To, MayRaise, RaisesAt, FillsIn, IsHolder, Takes, Computing, Working, Resumes, EvaluatesTo, Awaits, FindsFor, MovesOn, FillsOn, PassesOn, PassesTo, FollowsFor, HalfFollows, ReadyIn, Stepped, Fine, ways, begun, along}
+use Rattle.ada_sound.proofs.Fits.{Fit, MayFollow, names_object, is_object, component_value, component_access, none_spared, place_at, put_null, put_alias, access_is, component_is, component_follows, take_variable, take_component, ArePlain, plain_object}
+use Rattle.ada_sound.proofs.Begins.{component_opened, root_at, root_access, root_follows}
+use Rattle.ada_sound.proofs.Invariant.{assignment_among, outers, below, HasRoom, Known, Control, Rooms, Roomed, Accepts, AwaitsIn, LeadsTo, GoesInto, Allocating, Clearing, component_among, StoringIn, Pairs, IsAlone, IsOne, Half, HalfBy, IsCleared, front, final, WalksOn, Goes, GoesTo, Initializes, Raised, RaisesAfter, RunsAfter, RunsOn, Spares, NoneBroken, StartsTo, To, MayRaise, RaisesAt, FillsIn, IsHolder, Takes, Computing, Working, Resumes, EvaluatesTo, Awaits, FindsFor, MovesOn, FillsOn, PassesOn, PassesTo, FollowsFor, HalfFollows, ReadyIn, Stepped, Fine, ways, begun, along}
 use Rattle.ada_sound.proofs.Ready.{running, at_work, stays, ready_on, runs_on, resumes_on, jumps_less}
 use Rattle.ada_sound.proofs.Walks.{finds_fine, fills_fine, passed_fine, half_fine, plain_whole}
 use Rattle.ada_sound.proofs.Passed.{raises_behind, passes_fine}
@@ -55,7 +55,7 @@ use Rattle.ada_sound.proofs.Rooms.{roomed_declares}
 use Rattle.ada_sound.proofs.LeftFinalized.{freed_none}
 use Rattle.ada_sound.proofs.Orderings.{AsGood, without_freed_good}
 use Rattle.ada_sound.proofs.Outcomes.{raised_before, to_here, using_goes, ends_goes}
-use Rattle.ada_sound.proofs.Followings.{kept_apart}
+use Rattle.ada_sound.proofs.Followings.{first_kept, kept_apart}
 use Rattle.ada_sound.proofs.Roots.{selected_no_object, takes_none, takes_object, object_there, raises_null, raises_all, rest_raises}
 use Rattle.ada_sound.proofs.Raising.{or_left, or_right}
 use Rattle.ada_sound.proofs.Expressions.{MayRead, reads_fine}
@@ -381,22 +381,21 @@ module _ (known : Known) (k : Control) (a : Activation Value) (rest : List (Acti
       go [] fits' g = absurd g
       go (Stores x ∷ k') fits' g =
           let h = to x k' (variable_goes known.program s.heap kind kinds x k' fits') g.1.0 g.0 g.1.1 in
-          (g.1.0, None, tt, h.0, record { components = al.components; reached = al.reached; fit = al.fit; fails = λ may. h.1.1 ConstraintError (rw may refl); refused = λ may. h.1.1 StorageError refl; starts = λ e may. h.1.1 e (or_right (right_raises (is_same e) (allocates access items)) (right_starts known.implicit (is_same e) (allocates access items)) may); room = tt; to = ((h.1.0.0, variable_none known.program s.heap kind kinds x k' none fits'), h.1.0.1); initializes = λ touches to_variable. absurd (cc (touches, apart)) })
+          (g.1.0, None, tt, h.0, record { components = al.components; reached = al.reached; fit = al.fit; fails = λ may. h.1.1 ConstraintError (rw may refl); refused = λ may. h.1.1 StorageError refl; starts = λ e may. h.1.1 e (or_right (right_raises (is_same e) (allocates access items)) (right_starts known.implicit (is_same e) (allocates access items)) may); room = tt; to = ((h.1.0.0, variable_none known.program s.heap kind kinds x k' none fits'), h.1.0.1); initializes = λ touches. absurd (cc (touches, apart)) })
       go (Declares x ∷ k') fits' g =
           let h = to x k' (declared_goes known.program s.heap kind kinds x k' fits') g.2.0 g.1 g.2.1 in
-          (g.2.0, None, tt, h.0, record { components = al.components; reached = al.reached; fit = al.fit; fails = λ may. h.1.1 ConstraintError (rw may refl); refused = λ may. h.1.1 StorageError refl; starts = λ e may. h.1.1 e (or_right (right_raises (is_same e) (allocates access items)) (right_starts known.implicit (is_same e) (allocates access items)) may); room = g.0; to = ((h.1.0.0, declared_none known.program s.heap kind kinds x k' none fits'), h.1.0.1); initializes = λ touches to_variable. absurd (cc (touches, apart)) })
+          (g.2.0, None, tt, h.0, record { components = al.components; reached = al.reached; fit = al.fit; fails = λ may. h.1.1 ConstraintError (rw may refl); refused = λ may. h.1.1 StorageError refl; starts = λ e may. h.1.1 e (or_right (right_raises (is_same e) (allocates access items)) (right_starts known.implicit (is_same e) (allocates access items)) may); room = g.0; to = ((h.1.0.0, declared_none known.program s.heap kind kinds x k' none fits'), h.1.0.1); initializes = λ touches. absurd (cc (touches, apart)) })
       go (StoresIn o c ∷ k') fits' g =
           let h = into o c k' fits' g.0 g.1 in
-          (spot_of g.1.0, Some g.1.0, g.1.4, h.0, record { components = al.components; reached = al.reached; fit = al.fit; fails = λ may. h.1.1 ConstraintError (or_left (path_raises g.1.0 || items_raise items) (right_starts known.implicit (is_same ConstraintError) (allocates access items)) (or_right (path_raises g.1.0) (items_raise items) may)); refused = λ may. h.1.1 StorageError refl; starts = λ e may. h.1.1 e (or_right ((is_same e ConstraintError && path_raises g.1.0) || right_raises (is_same e) (allocates access items)) (right_starts known.implicit (is_same e) (allocates access items)) may); room = tt; to = h.1.0; initializes = λ touches to_variable. absurd (cc (touches, apart)) })
+          (spot_of g.1.0, Some g.1.0, g.1.4, h.0, record { components = al.components; reached = al.reached; fit = al.fit; fails = λ may. h.1.1 ConstraintError (or_left (path_raises g.1.0 || items_raise items) (right_starts known.implicit (is_same ConstraintError) (allocates access items)) (or_right (path_raises g.1.0) (items_raise items) may)); refused = λ may. h.1.1 StorageError refl; starts = λ e may. h.1.1 e (or_right ((is_same e ConstraintError && path_raises g.1.0) || right_raises (is_same e) (allocates access items)) (right_starts known.implicit (is_same e) (allocates access items)) may); room = tt; to = h.1.0; initializes = λ touches. absurd (cc (touches, apart)) })
       go (f ∷ k') fits' g = absurd g
 
-  -- The component that the object of an allocator without items goes to, if it goes to one; and what the allocator leads to.
+  -- What an allocator without items leads to.
   abbrev Defaulted_to : ℕ → List ComponentKind → Control → Rooms → Holds → Type 0
-  Defaulted_to access components k' rooms holds =
-      (target : Option PathForm) × GoesInto s.heap a.places target k' × Allocating known s.heap access (map default_item components) k' rooms holds
+  Defaulted_to access components k' rooms holds = Allocating known s.heap access (map default_item components) k' rooms holds
 
-  defaulting : (access : ℕ) (kind : VariableKind) (kinds : List OperandKind) (d : DefaultFor known.program.types kind access) → names_object (Some kind) ≡ false → typed.Fits known.program (cells_of s.heap) (of_kind kind ∷ kinds) k → (rooms : Rooms) (holds : Holds) → Takes known s.heap a.places (allocates_default access) k rooms holds → Defaulted_to access d.components k rooms holds
-  defaulting access kind kinds d none fits rooms holds = go k fits
+  defaulting : (access : ℕ) (kind : VariableKind) (kinds : List OperandKind) (d : DefaultFor known.program.types kind access) → names_object (Some kind) ≡ false → typed.Fits known.program (cells_of s.heap) (of_kind kind ∷ kinds) k → (rooms : Rooms) (holds : Holds) → Fit known.program.types known.program.variables (outers known) none_spared s.heap a.places holds → Takes known s.heap a.places (allocates_default access) k rooms holds → Defaulted_to access d.components k rooms holds
+  defaulting access kind kinds d none fits rooms holds fit = go k fits
     where
       variables : List VariableForm
       variables = known.program.variables
@@ -438,6 +437,35 @@ module _ (known : Known) (k : Control) (a : Activation Value) (rest : List (Acti
       into (Scalar n) c k' fits' there g = absurd there
       into (Part object_id base) c k' fits' there g = absurd there
 
+      -- The path of the component uses nothing that is lost.
+      kept_here : (c : ℕ) (o : Id) (k' : Control) (g : FillsIn known (allocates_default access) (LeadsTo s.heap a.places (Names o) [] c) rooms holds k') → lost_by (hold_at holds g.0.root) g.0.spot ≡ None
+      kept_here c o k' g =
+          let some = path_raises g.0 || true in
+          let after = RunsAfter known (allocates_default access) k' rooms in
+          let raised' = RaisesAfter known (allocates_default access) k' rooms (component_among known (path_raises g.0) (allocates_default access)) in
+          let u = using_goes (uses_in_target g.0 ++ []) holds (ends_with some holds holds) after raised' g.2 in
+          by g.0.selectors refl (first_kept holds (reads_it g.0) [] (kept_apart holds (uses_in_target g.0) [] u.0).0).0
+        where
+          by : (ds : List ℕ) → g.0.selectors ≡ ds → broken_in no_tracks holds (reads_it g.0) ≡ None → lost_by (hold_at holds g.0.root) g.0.spot ≡ None
+          by [] is kept = let never : None ≡ Some c = rw is at (g.4.1) in absurd (cc never)
+          by (d ∷ ds) is kept = rw is at kept
+
+      -- The object of the component waits for the new one: it is of a type that the initialization may not free, or a call refers to it.
+      waits : (o : Value) (c : ℕ) (k' : Control) → typed.Fits known.program (cells_of s.heap) (of_kind kind ∷ kinds) (StoresIn o c ∷ k') → IsHolder s.heap o → FillsIn known (allocates_default access) (LeadsTo s.heap a.places o [] c) rooms holds k' → AwaitsIn known s.heap access o c
+      waits Null c k' fits' there g = absurd there
+      waits (Names o) c k' fits' there g =
+          let found = component_opened fit g.0 g.5.1 (Part o (record { component = c; part = 0 })) g.5.2 (kept_here c o k' g) (o, c, refl, g.4.0, g.4.1) in
+          let same : found.o ≡ o = let names = found.is in cc names in
+          let here : access_at s.heap o ≡ Some found.t = rw same at (found.there) in
+          let own : there.0.cell.access ≡ found.t = let at = access_is s.heap o there.0 there.1 there.2 in cc (at, here) in
+          let accepts : component_access known.program.types there.0 c ≡ Some access = component_goes known.program s.heap kind kinds o there.0 c k' there.1 fits' ∙ d.goes in (
+            found.t,
+            here,
+            (rw own at accepts, elim (found.spared) [ inl static ↦ inl (static may g.5.0) | inr refers ↦ inr (rw same at refers) ]),
+          )
+      waits (Scalar n) c k' fits' there g = absurd there
+      waits (Part object_id base) c k' fits' there g = absurd there
+
       -- What may come out of the initialization is among what the assignment to a variable raises.
       among : Exception → Bool
       among = assignment_among known (allocates_default access)
@@ -445,11 +473,11 @@ module _ (known : Known) (k : Control) (a : Activation Value) (rest : List (Acti
       more : (e : Exception) → list_any (is_same e) (known.implicit.start_raises access) ≡ true → among e ≡ true
       more e starts = or_right (right_raises (is_same e) (allocates_default access)) (right_starts known.implicit (is_same e) (allocates_default access)) starts
 
-      -- What it leads to where a variable gets the object, and operations may be called for it that touch storage.
-      initialized : (k' : Control) → Spares known may → Raised among (ways known k' rooms) behind → GoesTo known access k' rooms behind → (moved_by_items no_tracks (map default_item d.components) ≡ []) × Initializes known access k' rooms holds
-      initialized k' spares raised goes = (
+      -- What it leads to where operations may be called for the object that touch storage.
+      initialized : (k' : Control) → Spares known may → StartsTo known access k' rooms behind → GoesTo known (AwaitsIn known s.heap access) access k' rooms behind → (moved_by_items no_tracks (map default_item d.components) ≡ []) × Initializes known s.heap access k' rooms holds
+      initialized k' spares undone goes = (
         defaults_move d.components,
-        record { less = behind; good = good; well = (spares, freed_none variables may holds); undone = λ e starts. raised e (more e starts); to = goes },
+        record { less = behind; good = good; well = (spares, freed_none variables may holds); undone = undone; to = goes },
       )
 
       go : (k' : Control) → typed.Fits known.program (cells_of s.heap) (of_kind kind ∷ kinds) k' → Takes known s.heap a.places (allocates_default access) k' rooms holds → Defaulted_to access d.components k' rooms holds
@@ -458,16 +486,17 @@ module _ (known : Known) (k : Control) (a : Activation Value) (rest : List (Acti
           let h = to x k' g.1.0 g.0 g.1.1 in
           let raised = raised_here k' among h.1 in
           let owner : (variable_access variables x ≡ Some access) × (is_object variables x ≡ false) = (variable_goes known.program s.heap kind kinds x k' fits' ∙ d.goes, variable_none known.program s.heap kind kinds x k' none fits') in
-          (None, tt, record { components = d.components; reached = d.reached; fit = defaults_fit known.program.types variables d.components; fails = λ raising. absurd (cc (raising, defaults_raise d.components)); refused = λ raising. raised StorageError refl; starts = λ e starts. raised e (more e starts); room = tt; to = (owner, rw (defaults_move d.components) (owned x k' h.0.0)); initializes = λ touches to_variable. initialized (Stores x ∷ k') h.0.1 h.1 (owner, owned_behind x k' h.0.0) })
+          record { components = d.components; reached = d.reached; fit = defaults_fit known.program.types variables d.components; fails = λ raising. absurd (cc (raising, defaults_raise d.components)); refused = λ raising. raised StorageError refl; starts = λ e starts. raised e (more e starts); room = tt; to = (owner, rw (defaults_move d.components) (owned x k' h.0.0)); initializes = λ touches. initialized (Stores x ∷ k') h.0.1 (λ e starts. h.1 e (more e starts)) (owner, owned_behind x k' h.0.0) }
       go (Declares x ∷ k') fits' g =
           let h = to x k' g.2.0 g.1 g.2.1 in
           let raised = raised_here k' among h.1 in
           let owner : (variable_access variables x ≡ Some access) × (is_object variables x ≡ false) = (declared_goes known.program s.heap kind kinds x k' fits' ∙ d.goes, declared_none known.program s.heap kind kinds x k' none fits') in
-          (None, tt, record { components = d.components; reached = d.reached; fit = defaults_fit known.program.types variables d.components; fails = λ raising. absurd (cc (raising, defaults_raise d.components)); refused = λ raising. raised StorageError refl; starts = λ e starts. raised e (more e starts); room = g.0; to = (owner, rw (defaults_move d.components) (owned x k' h.0.0)); initializes = λ touches to_variable. initialized (Declares x ∷ k') h.0.1 h.1 (owner, owned_behind x k' h.0.0) })
+          record { components = d.components; reached = d.reached; fit = defaults_fit known.program.types variables d.components; fails = λ raising. absurd (cc (raising, defaults_raise d.components)); refused = λ raising. raised StorageError refl; starts = λ e starts. raised e (more e starts); room = g.0; to = (owner, rw (defaults_move d.components) (owned x k' h.0.0)); initializes = λ touches. initialized (Declares x ∷ k') h.0.1 (λ e starts. h.1 e (more e starts)) (owner, owned_behind x k' h.0.0) }
       go (StoresIn o c ∷ k') fits' g =
           let h = into o c k' fits' g.0 g.1 in
           let raised = raised_here k' (component_among known (path_raises g.1.0) (allocates_default access)) h.1 in
-          (Some g.1.0, g.1.4, record { components = d.components; reached = d.reached; fit = defaults_fit known.program.types variables d.components; fails = λ raising. absurd (cc (raising, defaults_raise d.components)); refused = λ raising. raised StorageError refl; starts = λ e starts. raised e (or_right ((is_same e ConstraintError && path_raises g.1.0) || right_raises (is_same e) (allocates_default access)) (right_starts known.implicit (is_same e) (allocates_default access)) starts); room = tt; to = (h.0.0, rw (defaults_move d.components) (behind, good, h.0.1.0)); initializes = λ touches to_variable. absurd (cc to_variable) })
+          let starting : StartsTo known access k' rooms behind = λ e starts. h.1 e (or_right ((is_same e ConstraintError && path_raises g.1.0) || right_raises (is_same e) (allocates_default access)) (right_starts known.implicit (is_same e) (allocates_default access)) starts) in
+          record { components = d.components; reached = d.reached; fit = defaults_fit known.program.types variables d.components; fails = λ raising. absurd (cc (raising, defaults_raise d.components)); refused = λ raising. raised StorageError refl; starts = λ e starts. raised e (or_right ((is_same e ConstraintError && path_raises g.1.0) || right_raises (is_same e) (allocates_default access)) (right_starts known.implicit (is_same e) (allocates_default access)) starts); room = tt; to = (h.0.0, rw (defaults_move d.components) (behind, good, h.0.1.0)); initializes = λ touches. initialized (StoresIn o c ∷ k') h.0.1.1 starting (waits o c k' fits' g.0 g.1, to_here (RunsOn known k' rooms) behind h.0.1.0) }
       go (f ∷ k') fits' g = absurd g
 
   -- An expression goes to a variable on which nothing relies, or into a component without access values.
@@ -526,7 +555,7 @@ module _ (known : Known) (k : Control) (a : Activation Value) (rest : List (Acti
       let found : reached_of types access ≡ Some kinds = same ∙ d.reached in
       rw found (ready_on known (Creates access (length kinds) ∷ k) a rest s (in_front (map (initial_value named) kinds) a.operands)
       (at_work w (fill_defaults known s.heap a.places access (length kinds) k w.rooms w.holds kinds a.operands
-      (record { done = []; spot = record { line = 0; column = 0 }; target = h.0; into = h.1; filled = tt; before = tt; behind = defaults_keep known.program.types (record { line = 0; column = 0 }) h.0 w.holds [] kinds; bare = defaults_bare known.program.types kinds; leads = h.2; counted = (let one : kinds ≡ h.2.components = let mine = d.reached in let its = h.2.reached in cc (mine, its) in ap length one) }))))
+      (record { done = []; spot = record { line = 0; column = 0 }; target = None; into = tt; unlent = λ touches. refl; filled = tt; before = tt; behind = defaults_keep known.program.types (record { line = 0; column = 0 }) None w.holds [] kinds; bare = defaults_bare known.program.types kinds; leads = h; counted = (let one : kinds ≡ h.components = let mine = d.reached in let its = h.reached in cc (mine, its) in ap length one) }))))
 
   -- What is assigned is evaluated.
   right_fine : (types : List TypeDefinition) → Reaches known types → (right : RightForm) → ((access : ℕ) (items : List ItemForm) → right ≡ allocates access items → BareItems known.program.types items × (known.touches access ≡ false)) → (kinds : List OperandKind) → typed.Fits known.program (cells_of s.heap) kinds (Evaluates right ∷ k) → EvaluatesTo known right k s.heap a.places s.masters → Fine known s.heap s.masters (right_next named types right (running k a rest s))
@@ -535,10 +564,10 @@ module _ (known : Known) (k : Control) (a : Activation Value) (rest : List (Acti
   right_fine types reaches (allocates access items) bare kinds (kind, takes, fits) w =
       let h = allocating access items kind kinds (bare access items refl).1 takes fits w.rooms w.holds w.rest in
       ready_on known (Fills items ∷ Creates access (words_of types access) ∷ k) a rest s a.operands
-      (at_work w (record { done = []; spot = h.0; target = h.1; into = h.2; filled = tt; before = tt; behind = items_keep known.program.types h.0 h.1 w.holds [] items h.3; bare = (bare access items refl).0 h.0 h.1 w.holds h.3; leads = h.4; counted = ap count_of (reaches.0 access ∙ h.4.reached) }))
+      (at_work w (record { done = []; spot = h.0; target = h.1; into = h.2; unlent = λ touches. (let apart = (bare access items refl).1 in absurd (cc (touches, apart))); filled = tt; before = tt; behind = items_keep known.program.types h.0 h.1 w.holds [] items h.3; bare = (bare access items refl).0 h.0 h.1 w.holds h.3; leads = h.4; counted = ap count_of (reaches.0 access ∙ h.4.reached) }))
   right_fine types reaches (allocates_default access) bare kinds (kind, takes, fits) w =
       let d = default_for known.program.types known.program.variables kind access takes in
-      let h = defaulting access kind kinds d (takes_none known.program.types known.program.variables kind (allocates_default access) takes) fits w.rooms w.holds w.rest in
+      let h = defaulting access kind kinds d (takes_none known.program.types known.program.variables kind (allocates_default access) takes) fits w.rooms w.holds w.fit w.rest in
       default_ready types access kind d w (reaches.0 access) h
   right_fine types reaches (computes e) bare kinds (kind, takes, fits) w =
       ready_on known (Computes e ∷ k) a rest s a.operands (at_work w (computing e kind kinds takes fits w.rooms w.holds w.rest))

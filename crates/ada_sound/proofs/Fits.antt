@@ -516,7 +516,7 @@ component_follows {types = types} {outer = outer} {heap = heap} o object c v kep
     follows_by heap v (λ p is. there_by heap (component_access types object c) p (component_is o object c v p kept found listed at is f))
 
 -- Where an object changes, and stays in its collection, what is referred to is there still; so it is where one is created, or leaves that none refers to.
-same_access : (heap : List Object) (o : Id) (x y : Object) → object_at heap o ≡ Some x → access_in (Some y) ≡ access_in (Some x) → (k : Id) → access_at (slice_set heap o.0 y) k ≡ access_at heap k
+pub same_access : (heap : List Object) (o : Id) (x y : Object) → object_at heap o ≡ Some x → access_in (Some y) ≡ access_in (Some x) → (k : Id) → access_at (slice_set heap o.0 y) k ≡ access_at heap k
 same_access heap o x y found same k = go (same_id k o)
   where
     go : (k ≡ o) ⊎ (k ≢ o) → access_at (slice_set heap o.0 y) k ≡ access_at heap k
@@ -532,11 +532,13 @@ AreReferred outer heap = (k : Id) (t : ℕ) → IsReferred outer.referenced k t 
 stored_referred : (outer : Outsiders) (heap : List Object) (o : Id) (object : Object) (c : ℕ) (v : Value) → object_at heap o ≡ Some object → AreReferred outer heap → AreReferred outer (store heap (Names o) c v)
 stored_referred outer heap o object c v found are k t is = stored_access heap o object c v found k ∙ are k t is
 
-created_referred : (outer : Outsiders) (heap : List Object) (words : ℕ) (cell : Cell Value) → AreReferred outer heap → AreReferred outer (create heap words cell)
-created_referred outer heap words cell are k t is =
-    let at = are k t is in
+pub created_access : (heap : List Object) (words : ℕ) (cell : Cell Value) (k : Id) (t : ℕ) → access_at heap k ≡ Some t → access_at (create heap words cell) k ≡ Some t
+created_access heap words cell k t at =
     let h = present_at heap k t at in
     ap access_in (at_older heap words cell k (not_past heap k h.object h.found)) ∙ at
+
+created_referred : (outer : Outsiders) (heap : List Object) (words : ℕ) (cell : Cell Value) → AreReferred outer heap → AreReferred outer (create heap words cell)
+created_referred outer heap words cell are k t is = created_access heap words cell k t (are k t is)
 
 -- An object is not referred to.
 abbrev pub IsUnreferred : Outsiders → Id → Type 0

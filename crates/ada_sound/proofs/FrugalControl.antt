@@ -7,7 +7,7 @@ use Rattle.ada_program.specs.ProgramForm.{BodyForm}
 use Rattle.ada_meaning.specs.declared.state.Value.{Value}
 use Rattle.ada_meaning.specs.declared.state.Mode.{Mode}
 use Rattle.ada_meaning.specs.declared.state.Mode.TheVariants.{Running}
-use Rattle.ada_meaning.specs.Frame.{Frame, is_return, Elaborates, Does, Decides, Repeats, Turns, Ranges, Counts, Exits, Handles, Closes, Leaves, Calls, Returns, Evaluates, Computes, Follows, TestsNull, Refers, RefersIn, Opens, OpensIn, Continues, Applies, AppliesAlone, Stores, Targets, StoresIn, Receives, Fills, Copies, Creates, FreesIn, Declares, Writes, Ends, GivesBack, Clears, ClearsIn}
+use Rattle.ada_meaning.specs.Frame.{Frame, is_return, Elaborates, Does, Decides, Repeats, Turns, Ranges, Counts, Exits, Handles, Closes, Leaves, Calls, Returns, Evaluates, Computes, Follows, TestsNull, Refers, RefersIn, Opens, OpensIn, Continues, Applies, AppliesAlone, Stores, Targets, StoresIn, TargetsRecord, StoresRecord, Receives, Fills, Copies, Creates, FreesIn, Declares, Writes, Ends, GivesBack, Clears, ClearsIn}
 use Rattle.ada_meaning.specs.Frame as frame
 use Rattle.ada_meaning.specs.State.{Master}
 use Rattle.ada_meaning.specs.Step.{operating, halts, moves, tells, asks, picks}
@@ -47,6 +47,8 @@ module _ (frugal : Thrift) where
   FrugalFrame (Stores x) = Unit {0}
   FrugalFrame (Targets c right) = (allocates_bare frugal.types right ≡ true)
   FrugalFrame (StoresIn v c) = Unit {0}
+  FrugalFrame (TargetsRecord first t items) = Unit {0}
+  FrugalFrame (StoresRecord v first count) = Unit {0}
   FrugalFrame (Receives c) = Unit {0}
   FrugalFrame (Fills items) = Unit {0}
   FrugalFrame (Copies first t) = Unit {0}

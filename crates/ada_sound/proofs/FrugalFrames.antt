@@ -2,7 +2,7 @@
 -- and what is called is frugal, too (6.4).
 
 use Rattle.std.proofs.Common.{◌≡◌, ℕ, Bool, true, false, List, [], ◌∷◌, ◌++◌, refl, inl, inr}
-use Rattle.std.specs.Prelude.{ℤ, Option, Some, None, Result, Ok, Err, ◌&&◌, int_le, if◌then◌else◌}
+use Rattle.std.specs.Prelude.{ℤ, Option, Some, None, drop, Result, Ok, Err, ◌&&◌, int_le, if◌then◌else◌}
 use Rattle.std.specs.List.{slice_get, slice_index_or}
 use Rattle.ada_values.specs.declared.operator.BinaryOperator.{BinaryOperator}
 use Rattle.ada_values.specs.declared.fault.OperatorFault.{OperatorFault}
@@ -23,9 +23,9 @@ use Rattle.ada_meaning.specs.declared.state.Mode.{Mode}
 use Rattle.ada_meaning.specs.declared.state.Mode.TheVariants.{Running, Raising, Exiting, Returning}
 use Rattle.ada_meaning.specs.Event.{Event, Followed, Quiet}
 use Rattle.ada_meaning.specs.Heap.{Cell, Found, on_null, on_gone, on_other, finds}
-use Rattle.ada_meaning.specs.Frame.{Frame, Elaborates, Leaves, Calls, TestsNull, RefersIn, OpensIn, Fills, Copies, Targets, Receives, FreesIn, Declares, Clears, ClearsIn}
+use Rattle.ada_meaning.specs.Frame.{Frame, Elaborates, Leaves, Calls, TestsNull, RefersIn, OpensIn, Fills, Copies, Targets, Receives, FreesIn, Declares, Clears, ClearsIn, TargetsRecord}
 use Rattle.ada_meaning.specs.State.{Activation, Item, Master, Owned, declared, collection, record_object, storage_pool, Destination, height, home_of, pool_freed_to}
-use Rattle.ada_meaning.specs.Step.{first_or, older, places_of, operands_of, with_operands, begun, record_holder_next, referred_next, refers_next, open_next, opened_next, opens_next, storing, returned, computing, call_next, entered, all_tasks, halts, moves, same_pool, raised, jumping, computed, put, owned, at, reading, component_next, follow_next, path_next, selected, named_next, before_last, last_of, holder_next, expression_next, null_test_next, is_decided, link_next, links_next, outcome_next, place_in, record_in, item_next, items_next, copied_next, copies_next, answered, new_next, right_next, freeing, freeing_next, free_next, end_next, told_back, given_back, back_next, assign_next, target_next, stored_next, store_next, frees_next, freed_next, free_component_next, free_in_next, branches_next, decided_next, turn_next, repeats_next, turned_next, count_turn_next, counts_next, ranges_next, gets_next, received_next, receive_next, exit_next, exited_next, stmt_next, line_next, declarations_next, leave_next, master_leave_next, item_leave_next}
+use Rattle.ada_meaning.specs.Step.{first_or, older, places_of, operands_of, with_operands, begun, record_holder_next, referred_next, refers_next, open_next, opened_next, opens_next, storing, returned, computing, call_next, entered, all_tasks, halts, moves, same_pool, raised, jumping, computed, put, owned, at, reading, component_next, follow_next, path_next, selected, named_next, before_last, last_of, holder_next, expression_next, null_test_next, is_decided, link_next, links_next, outcome_next, place_in, record_in, item_next, items_next, copied_next, copies_next, answered, new_next, right_next, freeing, freeing_next, free_next, end_next, told_back, given_back, back_next, assign_next, target_next, stored_next, store_next, record_target_next, record_stored_next, newest_ones, without_newest, store_record_next, record_assign_next, has_parts, frees_next, freed_next, free_component_next, free_in_next, branches_next, decided_next, turn_next, repeats_next, turned_next, count_turn_next, counts_next, ranges_next, gets_next, received_next, receive_next, exit_next, exited_next, stmt_next, line_next, declarations_next, leave_next, master_leave_next, item_leave_next}
 use Rattle.ada_meaning.specs.Named.{State, Next, named, whole, look, standing}
 use Rattle.ada_quiet.specs.Bare.{allocates_bare, has_bare_objects}
 use Rattle.ada_quiet.specs.Frugal.{Thrift, is_frugal_declaration, are_frugal_declarations, is_frugal_stmt, are_frugal, are_frugal_branches, are_frugal_handlers, is_frugal_body}
@@ -35,7 +35,7 @@ use Rattle.ada_sound.proofs.OperationStarts.{apart}
 use Rattle.ada_sound.proofs.Operating.{IsVariable, AreVariables, OwnVariables}
 use Rattle.ada_sound.proofs.FrugalBodies.{frugal_parts}
 use Rattle.ada_sound.proofs.FrugalControl.{FrugalLeads, FrugalLeaves, Frugally, GoesFrugally, same_masters}
-use Rattle.ada_sound.proofs.FrugalFrees.{IsBare, StmtIsBare}
+use Rattle.ada_sound.proofs.FrugalFrees.{IsBare, RecordIsBare, StmtIsBare}
 
 module _ (marks : Thrift) (lower : List Master) (behind : Control) (tds : List TypeDefinition) (bodies : List BodyForm) (s : State) where
   abbrev pub Fine : Next → Type 0
@@ -185,6 +185,30 @@ module _ (marks : Thrift) (lower : List Master) (behind : Control) (tds : List T
     store_on o c v on_gone all k q = tt
     store_on o c v on_other all k q = tt
     store_on o c v (finds cell) all k q = stored_on o c v (slice_get cell.values c) all k q
+
+    -- A record without controlled parts is assigned (5.2): the object in which it lies is found, the items are evaluated, and then its components get their values.
+    record_assign_on : (parts : Bool) → parts ≡ false → (p : RecordPathForm) (items : List ItemForm) (all : List (Activation Value)) → (k : Control) → Left k → Fine (record_assign_next named parts p items (now all k ms))
+    record_assign_on true none p items all k q = absurd (cc none)
+    record_assign_on false none p items all k q =
+        let v = place_at (places_of all) p.object.root in
+        path_on (selected named v p.object.selectors) (whole v) all (TargetsRecord (place_in named v p.object.selectors p).component p.record_type items ∷ k) (tt, q)
+
+    pub record_target_on : (o : Value) (first count : ℕ) (items : List ItemForm) (found : Found (Cell Value)) (all : List (Activation Value)) → (k : Control) → Left k → Fine (record_target_next named o first count items found (now all k ms))
+    record_target_on o first count items on_null all k q = raises_on ConstraintError all k q
+    record_target_on o first count items on_gone all k q = tt
+    record_target_on o first count items on_other all k q = tt
+    record_target_on o first count items (finds cell) all k q = on _ refl (tt, (tt, q))
+
+    record_stored_on : (o : Value) (first : ℕ) (vs : List Value) (found : Option (List Value)) (all : List (Activation Value)) → (k : Control) → Left k → Fine (record_stored_next named o first vs found (now all k ms))
+    record_stored_on o first vs None all k q = tt
+    record_stored_on o first vs (Some before) all k q = on _ refl q
+
+    pub store_record_on : (o : Value) (first count : ℕ) (found : Found (Cell Value)) (all : List (Activation Value)) → (k : Control) → Left k → Fine (store_record_next named o first count found (now all k ms))
+    store_record_on o first count on_null all k q = tt
+    store_record_on o first count on_gone all k q = tt
+    store_record_on o first count on_other all k q = tt
+    store_record_on o first count (finds cell) all k q =
+        record_stored_on o first (newest_ones named count (now all k ms)) (record_in cell.values first count) (with_operands (drop count (operands_of all)) all) k q
 
     -- A variable gets a value.
     pub puts_on : (x : ℕ) (v : Value) (all : List (Activation Value)) → (k : Control) → Left k → Goes (put x v (now all k ms))
@@ -396,22 +420,23 @@ module _ (marks : Thrift) (lower : List Master) (behind : Control) (tds : List T
     returned_on actuals references all k q = on _ refl (storing_left references k q)
 
     -- Statements.
-    pub stmt_on : (f : StmtForm) → ((number : ℕ) (b : BodyForm) → slice_get bodies number ≡ Some b → slice_index_or marks.procedures number false ≡ true → is_frugal_body marks b ≡ true) → is_frugal_stmt marks f ≡ true → (all : List (Activation Value)) → StmtIsBare marks.types tds f s.heap (places_of all) → (k : Control) → Left k → Fine (stmt_next named tds bodies f (now all k ms))
-    stmt_on skips finds_frugal frugal all bare k q = on _ refl q
-    stmt_on (assigns target right) finds_frugal frugal all bare k q = assigns_on target.selectors target.root right frugal all k q
-    stmt_on (assigns_record target items) finds_frugal frugal all bare k q = absurd (cc frugal)
-    stmt_on (frees access path) finds_frugal frugal all bare k q = frees_on path.selectors access path.root all frugal (bare frugal) k q
-    stmt_on (gets target) finds_frugal frugal all bare k q = gets_on target.selectors target.root s.input all k q
-    stmt_on (writes e) finds_frugal frugal all bare k q = on _ refl (tt, (tt, q))
-    stmt_on (writes_text text) finds_frugal frugal all bare k q = on _ refl q
-    stmt_on (chooses branches) finds_frugal frugal all bare k q = branches_on branches frugal all k q
-    stmt_on (repeats condition fs spot) finds_frugal frugal all bare k q = on _ refl (frugal, q)
-    stmt_on (counts x low high fs spot) finds_frugal frugal all bare k q = on _ refl (tt, (tt, (frugal, q)))
-    stmt_on (exits condition spot) finds_frugal frugal all bare k q = exit_on condition all k q
-    stmt_on (calls number actuals) finds_frugal frugal all bare k q = call_on number actuals (slice_get bodies number) (λ b there. finds_frugal number b there frugal) all k q
-    stmt_on (returns spot) finds_frugal frugal all bare k q = jumps_on Returning all k q
-    stmt_on (raises e) finds_frugal frugal all bare k q = raises_on e all k q
-    stmt_on (encloses ds fs hs) finds_frugal frugal all bare k q = encloses_on ds fs hs frugal all k q
+    pub stmt_on : (f : StmtForm) → ((number : ℕ) (b : BodyForm) → slice_get bodies number ≡ Some b → slice_index_or marks.procedures number false ≡ true → is_frugal_body marks b ≡ true) → RecordIsBare marks.types tds → is_frugal_stmt marks f ≡ true → (all : List (Activation Value)) → StmtIsBare marks.types tds f s.heap (places_of all) → (k : Control) → Left k → Fine (stmt_next named tds bodies f (now all k ms))
+    stmt_on skips finds_frugal records_bare frugal all bare k q = on _ refl q
+    stmt_on (assigns target right) finds_frugal records_bare frugal all bare k q = assigns_on target.selectors target.root right frugal all k q
+    stmt_on (assigns_record target items) finds_frugal records_bare frugal all bare k q =
+        record_assign_on (has_parts tds target.record_type) (records_bare target.record_type frugal) target items all k q
+    stmt_on (frees access path) finds_frugal records_bare frugal all bare k q = frees_on path.selectors access path.root all frugal (bare frugal) k q
+    stmt_on (gets target) finds_frugal records_bare frugal all bare k q = gets_on target.selectors target.root s.input all k q
+    stmt_on (writes e) finds_frugal records_bare frugal all bare k q = on _ refl (tt, (tt, q))
+    stmt_on (writes_text text) finds_frugal records_bare frugal all bare k q = on _ refl q
+    stmt_on (chooses branches) finds_frugal records_bare frugal all bare k q = branches_on branches frugal all k q
+    stmt_on (repeats condition fs spot) finds_frugal records_bare frugal all bare k q = on _ refl (frugal, q)
+    stmt_on (counts x low high fs spot) finds_frugal records_bare frugal all bare k q = on _ refl (tt, (tt, (frugal, q)))
+    stmt_on (exits condition spot) finds_frugal records_bare frugal all bare k q = exit_on condition all k q
+    stmt_on (calls number actuals) finds_frugal records_bare frugal all bare k q = call_on number actuals (slice_get bodies number) (λ b there. finds_frugal number b there frugal) all k q
+    stmt_on (returns spot) finds_frugal records_bare frugal all bare k q = jumps_on Returning all k q
+    stmt_on (raises e) finds_frugal records_bare frugal all bare k q = raises_on e all k q
+    stmt_on (encloses ds fs hs) finds_frugal records_bare frugal all bare k q = encloses_on ds fs hs frugal all k q
 
   -- The declarations of a block, or of the body.
   declaration_on : (m : Master) (ms : List Master) → OwnVariables (m ∷ ms) → (d : DeclarationForm) (ds : List DeclarationForm) (fs : StmtsForm) (hs : HandlersForm) → is_frugal_declaration marks.types d ≡ true → (are_frugal_declarations marks.types ds ≡ true) × (are_frugal marks fs ≡ true) × (are_frugal_handlers marks hs ≡ true) → (all : List (Activation Value)) → (k : Control) → FrugalLeads marks behind k ms → Fine (declarations_next named tds (d ∷ ds) fs hs (now all k (m ∷ ms)))

@@ -1,5 +1,5 @@
--- What a frugal body allocates or frees has no controlled parts (4.8, 7.6, 7.6.1, 13.11.2), as the access types say that it names: its allocators and its Free treat
--- nothing.
+-- What a frugal body allocates or frees has no controlled parts (4.8, 7.6, 7.6.1, 13.11.2), as the access types say that it names, nor has a record that it assigns (5.2):
+-- its allocators, its Free and its assignments treat nothing.
 
 use Rattle.std.proofs.Common.{◌≡◌, ℕ, zero, suc, Bool, true, false, ◌&&◌, if◌then◌else◌, List, [], ◌∷◌, refl, sym, ap, ◌∙◌}
 use Rattle.std.specs.Prelude.{Option, Some, None, is_some, not}
@@ -12,6 +12,7 @@ use Rattle.ada_program.specs.declared.program.TypeDefinition.{TypeDefinition}
 use Rattle.ada_program.specs.declared.program.TypeNo.{TypeNo}
 use Rattle.ada_program.specs.declared.program.VariableKind.{VariableKind}
 use Rattle.ada_program.specs.declared.program.VariableKind.TheVariants as variable
+use Rattle.ada_program.proofs.Shapes.{same_number}
 use Rattle.ada_program.specs.Controlled.{number_in, number_reached, shapes_of}
 use Rattle.ada_program.specs.Form.{PathForm, StmtForm, frees, a_stmt}
 use Rattle.ada_program.specs.ProgramForm.{TypeForm, record_of, access_to, object_of, ProgramForm, program_form}
@@ -29,7 +30,7 @@ use Rattle.ada_meaning.specs.declared.state.Value.TheVariants.{Null, Names, Scal
 use Rattle.ada_meaning.specs.Frame.{Frame, Does, FreesIn}
 use Rattle.ada_meaning.specs.Heap.{Cell, Found, on_null, on_gone, on_other, finds}
 use Rattle.ada_meaning.specs.State.{Activation}
-use Rattle.ada_meaning.specs.Step.{all_tasks, tasks_for, first_or, places_of, operands_of, places, operands}
+use Rattle.ada_meaning.specs.Step.{has_parts, all_tasks, tasks_for, first_or, places_of, operands_of, places, operands}
 use Rattle.ada_meaning.specs.Named.{Object, State, object_at, look, seen, existing, all_alive, standing, standing_by}
 use Rattle.ada_typed.specs.Holding.{Cells, Designates, IsAccess, HasKind, cells_of}
 use Rattle.ada_typed.proofs.Control as typed
@@ -53,6 +54,14 @@ AccessIsBare types tds = (access : ℕ) (direction : Direction) → has_bare_obj
 none_numbered : (o : Option Finalization) → not (is_some o) ≡ true → number_in o ≡ None
 none_numbered None none = refl
 none_numbered (Some f) none = absurd (cc none)
+
+-- A record of a type without controlled parts has none to finalize or to adjust, where it is assigned (5.2, 7.6).
+abbrev pub RecordIsBare : List TypeForm → List TypeDefinition → Type 0
+RecordIsBare types tds = (t : ℕ) → not (is_some (finalization_of types t)) ≡ true → has_parts tds t ≡ false
+
+-- So it is in every program.
+pub records_bare_by : (program : Program) → RecordIsBare (program_form program).types program.types.items
+records_bare_by program t is = ap is_some (same_number program.types.items t ∙ none_numbered (finalization_of (program_form program).types t) is)
 
 -- What such a type designates has no number among the record types that have controlled parts.
 pub bare_number : (types : List TypeForm) (found : Option TypeForm) → is_bare_access types found ≡ true → shown_number types (named_in found) ≡ None

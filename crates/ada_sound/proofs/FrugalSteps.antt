@@ -16,7 +16,7 @@ use Rattle.ada_meaning.specs.declared.state.Value.{Value}
 use Rattle.ada_meaning.specs.declared.state.Value.TheVariants.{Null}
 use Rattle.ada_meaning.specs.declared.state.Mode.{Mode}
 use Rattle.ada_meaning.specs.declared.state.Mode.TheVariants.{Running, Raising, Exiting, Returning}
-use Rattle.ada_meaning.specs.Frame.{Frame, is_return, Elaborates, Does, Decides, Repeats, Turns, Ranges, Counts, Exits, Handles, Closes, Leaves, Calls, Returns, Evaluates, Computes, Follows, TestsNull, Refers, RefersIn, Opens, OpensIn, Continues, Applies, AppliesAlone, Fills, Copies, Creates, Stores, Targets, StoresIn, Receives, FreesIn, Declares, Treats, Awaits, Confines, Writes, Ends, GivesBack, Clears, ClearsIn, handler_landing}
+use Rattle.ada_meaning.specs.Frame.{Frame, is_return, Elaborates, Does, Decides, Repeats, Turns, Ranges, Counts, Exits, Handles, Closes, Leaves, Calls, Returns, Evaluates, Computes, Follows, TestsNull, Refers, RefersIn, Opens, OpensIn, Continues, Applies, AppliesAlone, Fills, Copies, Creates, Stores, Targets, StoresIn, TargetsRecord, StoresRecord, Receives, FreesIn, Declares, Treats, Awaits, Confines, Writes, Ends, GivesBack, Clears, ClearsIn, handler_landing}
 use Rattle.ada_meaning.specs.State.{Activation, Master, home_of}
 use Rattle.ada_meaning.specs.Step.{first_or, places_of, operands_of, operand_count, newest_ones, frame_next, landed, jump_next, mode_next}
 use Rattle.ada_meaning.specs.Named.{State, Next, named, next, look, lent}
@@ -33,7 +33,7 @@ use Rattle.ada_sound.proofs.OperationStarts.{apart}
 use Rattle.ada_sound.proofs.Operating.{OwnVariables}
 use Rattle.ada_sound.proofs.FrugalControl.{FrugalFrame, FrugalLeads, FrugalLeaves, Frugal, is_return_first, first_frugal, Frugally, GoesFrugally}
 use Rattle.ada_sound.proofs.Steps.{crosses}
-use Rattle.ada_sound.proofs.FrugalFrees.{AccessIsBare, bare_by, FrameIsBare, NextIsBare, next_bare}
+use Rattle.ada_sound.proofs.FrugalFrees.{AccessIsBare, bare_by, RecordIsBare, records_bare_by, FrameIsBare, NextIsBare, next_bare}
 use Rattle.ada_sound.proofs.FrugalFrames as frames
 
 -- The statements of the handler that takes an exception.
@@ -52,7 +52,7 @@ handler_frugal marks (a_handler choices gs hs) e fs is frugal = by (some_takes e
 abbrev FindsFrugal : Thrift → List BodyForm → Type 0
 FindsFrugal marks bodies = (number : ℕ) (b : BodyForm) → slice_get bodies number ≡ Some b → slice_index_or marks.procedures number false ≡ true → is_frugal_body marks b ≡ true
 
-module _ (marks : Thrift) (lower : List Master) (behind : Control) (tds : List TypeDefinition) (bodies : List BodyForm) (access_bare : AccessIsBare marks.types tds) (finds_frugal : FindsFrugal marks bodies) (s : State) where
+module _ (marks : Thrift) (lower : List Master) (behind : Control) (tds : List TypeDefinition) (bodies : List BodyForm) (access_bare : AccessIsBare marks.types tds) (records_bare : RecordIsBare marks.types tds) (finds_frugal : FindsFrugal marks bodies) (s : State) where
   abbrev Fine : Next → Type 0
   Fine n = GoesFrugally marks lower behind n
 
@@ -77,7 +77,7 @@ module _ (marks : Thrift) (lower : List Master) (behind : Control) (tds : List T
   frame_on (Does no_stmts) k ms own all inner bare (frugal, q) = frames.on marks lower behind tds bodies s ms own _ refl q
   frame_on (Does (a_stmt f fs)) k ms own all inner bare (frugal, q) =
       let both = apart _ _ frugal in
-      frames.stmt_on marks lower behind tds bodies s ms own f finds_frugal both.0 all bare (Does fs ∷ k) (both.1, q)
+      frames.stmt_on marks lower behind tds bodies s ms own f finds_frugal records_bare both.0 all bare (Does fs ∷ k) (both.1, q)
   frame_on (Decides fs branches) k ms own all inner bare (frugal, q) =
       frames.decided_on marks lower behind tds bodies s ms own fs branches (named.reads_boolean (first_or Null (operands_of all))) frugal (without all) k q
   frame_on (Repeats condition fs) k ms own all inner bare (frugal, q) = frames.repeats_on marks lower behind tds bodies s ms own condition fs frugal all k q
@@ -123,6 +123,10 @@ module _ (marks : Thrift) (lower : List Master) (behind : Control) (tds : List T
       frames.target_on marks lower behind tds bodies s ms own (first_or Null (operands_of all)) c right (look s.heap (first_or Null (operands_of all))) frugal (without all) k q
   frame_on (StoresIn o c) k ms own all inner bare (frugal, q) =
       frames.store_on marks lower behind tds bodies s ms own o c (first_or Null (operands_of all)) (look s.heap o) (without all) k q
+  frame_on (TargetsRecord first t items) k ms own all inner bare (frugal, q) =
+      frames.record_target_on marks lower behind tds bodies s ms own (first_or Null (operands_of all)) first (width_of tds t) items (look s.heap (first_or Null (operands_of all))) (without all) k q
+  frame_on (StoresRecord o first count) k ms own all inner bare (frugal, q) =
+      frames.store_record_on marks lower behind tds bodies s ms own o first count (look s.heap o) all k q
   frame_on (Receives c) k ms own all inner bare (frugal, q) =
       frames.receive_on marks lower behind tds bodies s ms own (first_or Null (operands_of all)) c (look s.heap (first_or Null (operands_of all))) (without all) k q
   frame_on (FreesIn access c) k ms own all inner bare (frugal, q) =
@@ -219,13 +223,13 @@ EndsInner marks behind k ms = (actuals : List ActualForm) (references : List Val
 -- While a frugal body runs, or one that it calls, and its own end is not next, nothing is treated: whatever comes next is in such a body, too. Each Free of what
 -- runs is by the instance for the access type of what it frees (13.11.2).
 pub frugal_steps :
-    (p : ProgramForm) → OwnBody p → (tds : List TypeDefinition) (bodies : List BodyForm) (marks : Thrift) → AccessIsBare marks.types tds → FindsFrugal marks bodies
+    (p : ProgramForm) → OwnBody p → (tds : List TypeDefinition) (bodies : List BodyForm) (marks : Thrift) → AccessIsBare marks.types tds → RecordIsBare marks.types tds → FindsFrugal marks bodies
     → (behind : Control) (lower : List Master) (s : State) (f : Frugally marks lower behind s)
     → EndsInner marks behind s.control f.upper → typed.TypedIn p s → GoesFrugally marks lower behind (next tds bodies s)
 unfolding next
-frugal_steps p whole tds bodies marks bare finds_frugal behind lower s f inner typing =
+frugal_steps p whole tds bodies marks bare records_bare finds_frugal behind lower s f inner typing =
     subst (λ (t : State). GoesFrugally marks lower behind (mode_next named tds bodies s.mode t)) state_is
-    (mode_on marks lower behind tds bodies bare finds_frugal s s.mode s.control f.upper f.own s.activations inner none f.frugal)
+    (mode_on marks lower behind tds bodies bare records_bare finds_frugal s s.mode s.control f.upper f.own s.activations inner none f.frugal)
   where
     none : s.mode ≡ Running → NextIsBare marks.types tds s.control s.heap (places_of s.activations) (operands_of s.activations)
     none runs = next_bare p whole marks.types tds bare s typing runs (none_ends marks behind s.mode s.control f.upper f.frugal)
@@ -244,7 +248,7 @@ pub frugal_goes :
 frugal_goes program whole lower behind s f inner typing =
     let p = program_form program in
     let procedure = running_procedure s in
-    frugal_steps (seen_in procedure p) (own_bodies p whole procedure) program.types.items (body_forms program) (thrift_of p) (bare_by program) (λ number b there told. frugal_at p number b told there) behind lower s f inner typing
+    frugal_steps (seen_in procedure p) (own_bodies p whole procedure) program.types.items (body_forms program) (thrift_of p) (bare_by program) (records_bare_by program) (λ number b there told. frugal_at p number b told there) behind lower s f inner typing
 
 -- A call comes next.
 abbrev pub is_call_first : Control → Bool

@@ -1,21 +1,23 @@
--- What a frugal body may free (7.6, 7.6.1, 13.11.2), or one that it calls, has no controlled parts: a Free of it says so, and implicitly it calls nothing.
+-- What a frugal body may free (7.6, 7.6.1, 13.11.2), or one that it calls, has no controlled parts: a Free of it says so, and implicitly it calls nothing, also where
+-- it assigns a record (5.2).
 
 use Rattle.std.proofs.Common.{◌≡◌, ℕ, zero, suc, Bool, true, false, ◌||◌, List, [], ◌∷◌, ◌++◌, map, take, refl, sym, ap, ◌∙◌, subst, inl, inr}
 use Rattle.std.proofs.lemmas.Bool.{eqb-true, or_cases}
 use Rattle.std.proofs.lemmas.Option.{slice_get-map}
 use Rattle.std.specs.List.{list_all, slice_get, slice_index_or}
-use Rattle.std.specs.Prelude.{Option, Some, None}
+use Rattle.std.specs.Prelude.{Option, Some, None, is_some, not}
 use Rattle.ada_deeds.proofs.Freed.{deed}
 use Rattle.ada_deeds.specs.Implicit.{implicit_of}
-use Rattle.ada_deeds.specs.declared.deed.Operation.TheVariants.{Finalize}
-use Rattle.ada_effects.specs.Effects.{Effect, Effects, call_frees, right_frees, ending_frees, declarations_free, leaving_frees, stmt_frees, stmts_free, branches_free, handlers_free, body_frees, effect_of, known_of, effects_from, effects_of}
-use Rattle.ada_program.specs.Form.{RightForm, nothing, value_of, allocates, allocates_default, computes, DeclarationForm, creates_pool, collects, declares, declares_record, StmtForm, skips, assigns, assigns_record, frees, gets, writes, writes_text, chooses, repeats, counts, exits, calls, returns, raises, encloses, StmtsForm, no_stmts, a_stmt, BranchesForm, otherwise, a_branch, HandlersForm, no_handlers, a_handler}
+use Rattle.ada_deeds.specs.declared.deed.Operation.TheVariants.{Adjust, Finalize}
+use Rattle.ada_effects.specs.Effects.{Effect, Effects, assignment_frees, call_frees, right_frees, ending_frees, declarations_free, leaving_frees, stmt_frees, stmts_free, branches_free, handlers_free, body_frees, effect_of, known_of, effects_from, effects_of}
+use Rattle.ada_program.specs.Form.{RecordPathForm, RightForm, nothing, value_of, allocates, allocates_default, computes, DeclarationForm, creates_pool, collects, declares, declares_record, StmtForm, skips, assigns, assigns_record, frees, gets, writes, writes_text, chooses, repeats, counts, exits, calls, returns, raises, encloses, StmtsForm, no_stmts, a_stmt, BranchesForm, otherwise, a_branch, HandlersForm, no_handlers, a_handler}
 use Rattle.ada_program.specs.ProgramForm.{TypeForm, record_of, access_to, object_of, VariableForm, BodyForm, ProgramForm, seen_in, seen_by}
-use Rattle.ada_program.specs.WellFormed.{IsWellFormed, Profile, profile_of, designated_in, is_freed_by, is_this, path_access, same_record, suits_profile, type_fits, statement_fits, stmts_fit, branches_fit, handlers_fit, body_fits, bodies_fit}
+use Rattle.ada_program.specs.WellFormed.{IsWellFormed, Profile, profile_of, finalization_of, is_record_path, designated_in, is_freed_by, is_this, path_access, same_record, suits_profile, type_fits, statement_fits, stmts_fit, branches_fit, handlers_fit, body_fits, bodies_fit}
 use Rattle.ada_quiet.specs.Bare.{allocates_bare, has_bare_objects, is_bare_access}
 use Rattle.ada_quiet.specs.Frugal.{Thrift, thrift_of, are_frugal_declarations, is_frugal_stmt, are_frugal, are_frugal_branches, are_frugal_handlers, is_frugal_body, frugal_from, frugal_procedures}
 use Rattle.ada_sound.proofs.Bodies.{seen_is}
-use Rattle.ada_sound.proofs.FrugalUseLets.{bare_does_nothing, created_nothing, known_before}
+use Rattle.ada_sound.proofs.Copied.{record_there}
+use Rattle.ada_sound.proofs.FrugalUseLets.{bare_does_nothing, record_does_nothing, created_nothing, known_before}
 use Rattle.ada_sound.proofs.Invariant.{CoveredIn}
 use Rattle.ada_sound.proofs.OperationStarts.{apart}
 use Rattle.ada_typed.proofs.Bodies.{body_at}
@@ -70,6 +72,18 @@ module _ (p : ProgramForm) (types_fit : list_all (type_fits p.types) p.types ≡
           | inr ended ↦ absurd (cc (sym none ∙ ended))
         ]
 
+    -- Where a record without controlled parts is assigned (5.2), nothing is finalized or adjusted.
+    assignment_spares : (variables : List VariableForm) (target : RecordPathForm) → is_record_path p.types variables target ≡ true → not (is_some (finalization_of p.types target.record_type)) ≡ true
+        → assignment_frees (implicit_of p) t target.record_type ≡ false
+    assignment_spares variables target leads is =
+        let there = record_there p.types variables target leads in
+        let r = target.record_type in
+        let o = slice_get p.types r in
+        rw (
+          record_does_nothing p types_fit (deed t) Finalize r o there.kinds there.components is,
+          record_does_nothing p types_fit (deed t) Adjust r o there.kinds there.components is,
+        ) refl
+
     -- Neither of two frees what is not bare.
     either : (a b : Bool) → (a ≡ true → IsBare t) → (b ≡ true → IsBare t) → (a || b) ≡ true → IsBare t
     either a b first second h = elim (or_cases a b h) [ inl x ↦ first x | inr y ↦ second y ]
@@ -108,7 +122,8 @@ module _ (p : ProgramForm) (types_fit : list_all (type_fits p.types) p.types ≡
               → stmt_frees p.types variables effects t f ≡ true → IsBare t
           stmt_bare inside skips is fits h = absurd (cc h)
           stmt_bare inside (assigns target right) is fits h = not_so (right_frees (implicit_of p) t right) (right_spares right is) h
-          stmt_bare inside (assigns_record target items) is fits h = absurd (cc is)
+          stmt_bare inside (assigns_record target items) is fits h =
+              not_so (assignment_frees (implicit_of p) t target.record_type) (assignment_spares variables target (apart _ _ fits).0 is) h
           stmt_bare inside (frees access path) is fits h = freed_bare access (path_access p.types variables path) (apart _ _ fits).0 is h
           stmt_bare inside (gets target) is fits h = absurd (cc h)
           stmt_bare inside (writes e) is fits h = absurd (cc h)

@@ -6,7 +6,7 @@ use Rattle.std.proofs.lemmas.Bool.{not-true, or_left}
 use Rattle.std.proofs.lemmas.Option.{slice_get-map}
 use Rattle.std.specs.List.{filter, list_all, list_any, slice_get, slice_index_or}
 use Rattle.std.specs.Option.{option_map}
-use Rattle.std.specs.Prelude.{Option, Some, None, is_some}
+use Rattle.std.specs.Prelude.{Option, Some, None, is_some, not}
 use Rattle.ada_deeds.proofs.Known.{raises_are_done}
 use Rattle.ada_deeds.proofs.Parted.{does_parted}
 use Rattle.ada_deeds.proofs.Starting.{created_out}
@@ -31,7 +31,8 @@ use Rattle.ada_program.specs.Controlled.{procedure_number, operations_of}
 use Rattle.ada_program.specs.Form.{ActualForm, nothing, calls, raises, StmtForm, skips, assigns, assigns_record, frees, gets, writes, writes_text, chooses, repeats, counts, exits, returns, encloses, StmtsForm, no_stmts, a_stmt, BranchesForm, otherwise, a_branch, HandlersForm, no_handlers, a_handler, RightForm, value_of, allocates, allocates_default, computes, DeclarationForm, creates_pool, collects, declares, declares_record}
 use Rattle.ada_program.specs.Handling.{is_same}
 use Rattle.ada_program.specs.ProgramForm.{BodyForm, ProgramForm, VariableForm, TypeForm, record_of, access_to, object_of, seen_in, program_form, body_forms}
-use Rattle.ada_program.specs.WellFormed.{type_fits, finalization_of, suits_profile, statement_fits, stmts_fit, branches_fit, handlers_fit, body_fits, bodies_fit, IsWellFormed, Profile, profile_of}
+use Rattle.ada_program.specs.WellFormed.{components_in, type_fits, finalization_of, suits_profile, statement_fits, stmts_fit, branches_fit, handlers_fit, body_fits, bodies_fit, IsWellFormed, Profile, profile_of}
+use Rattle.ada_program.specs.declared.program.ComponentKind.{ComponentKind}
 use Rattle.ada_program.specs.declared.program.Exception.{Exception}
 use Rattle.ada_program.specs.declared.program.Exception.TheVariants.{ConstraintError}
 use Rattle.ada_program.specs.declared.program.Program.{Program}
@@ -51,7 +52,8 @@ none_among : (test among : Exception → Bool) (xs : List Exception) → ((e : E
 none_among test among [] none = refl
 none_among test among (x ∷ xs) none = rw (none x) (none_among test among xs none)
 
--- A frugal body calls nothing implicitly (4.8, 7.6), since what it allocates has no controlled parts: what is known of implicit calls changes nothing of what it raises.
+-- A frugal body calls nothing implicitly (4.8, 5.2, 7.6), since what it allocates or assigns has no controlled parts: what is known of implicit calls changes nothing of
+-- what it raises.
 module _ (p : ProgramForm) (types_fit : list_all (type_fits p.types) p.types ≡ true) where
   -- Nothing is done for a record without controlled parts.
   pub does_nothing : (d : Deed) (operation : Operation) (r : ℕ) → is_some (finalization_of p.types r) ≡ false → does_by p d (callee.Parts operation (record { 0 = r })) ≡ false
@@ -70,6 +72,13 @@ module _ (p : ProgramForm) (types_fit : list_all (type_fits p.types) p.types ≡
   bare_does_nothing d operation access (Some (record_of name parts components finalization)) is = absurd (cc is)
   bare_does_nothing d operation access (Some (access_to name designated pool)) is = does_nothing d operation designated (not-true (is_some (finalization_of p.types designated)) is)
   bare_does_nothing d operation access (Some (object_of record_type)) is = absurd (cc is)
+
+  -- Nor is it for a record that is assigned (5.2), if it has none.
+  pub record_does_nothing : (d : Deed) (operation : Operation) (r : ℕ) (o : Option TypeForm) (kinds : List ComponentKind) → components_in o ≡ Some kinds → not (is_some (finalization_of p.types r)) ≡ true → parts_do (does_by p d) operation (record_in r o) ≡ false
+  record_does_nothing d operation r None kinds of is = absurd (cc of)
+  record_does_nothing d operation r (Some (record_of name parts components finalization)) kinds of is = does_nothing d operation r (not-true (is_some (finalization_of p.types r)) is)
+  record_does_nothing d operation r (Some (access_to name designated pool)) kinds of is = absurd (cc of)
+  record_does_nothing d operation r (Some (object_of record_type)) kinds of is = absurd (cc of)
 
   -- So its creation does nothing, whatever is asked for.
   pub created_nothing : (d : Deed) (access : ℕ) → has_bare_objects p.types access ≡ true → creation_does (does_by p d) (record_at p.types access) ≡ false

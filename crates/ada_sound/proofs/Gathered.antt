@@ -36,11 +36,11 @@ BareItems types items = (spot : Spot) (target : Option PathForm) (holds : Holds)
 abbrev pub AllocatesApart : (touches : ℕ → Bool) → Control → Type 0
 AllocatesApart touches k = (access : ℕ) (items : List ItemForm) (behind : Control) → k ≡ Evaluates (allocates access items) ∷ behind → touches access ≡ false
 
--- No component names an object for which an operation is called that touches storage; records that are items of an allocator that is evaluated next own nothing, and no such operation is
--- called for its object.
+-- What is freed next by a component is no object for which an operation is called that touches storage; records that are items of an allocator that is evaluated next
+-- own nothing, and no such operation is called for its object.
 abbrev pub AllocatesBare : List TypeForm → (touches : ℕ → Bool) → Control → Type 0
 AllocatesBare types touches k =
-    ComponentsUntouched types touches
+    ComponentsUntouched types touches k
     × ((access : ℕ) (items : List ItemForm) (behind : Control) → k ≡ Evaluates (allocates access items) ∷ behind → BareItems types items × (touches access ≡ false))
 
 module _ (types : List TypeForm) (none : AdjustsNoOwners types) where
@@ -183,7 +183,7 @@ items_bare types none spot target holds earlier (i ∷ items) kept =
     (item_bare types none spot target holds earlier i two.0, items_bare types none spot target holds (named_by_item i ++ earlier) items two.1)
 
 -- Where no Adjust is of a type that declares components of access types, records that are items own nothing.
-pub allocates_none : {touches : ℕ → Bool} (types : List TypeForm) (k : Control) → AdjustsNoOwners types → ComponentsUntouched types touches → AllocatesApart touches k → AllocatesBare types touches k
+pub allocates_none : {touches : ℕ → Bool} (types : List TypeForm) (k : Control) → AdjustsNoOwners types → ComponentsUntouched types touches k → AllocatesApart touches k → AllocatesBare types touches k
 allocates_none types k none untouched apart =
     (untouched, λ access items behind is. ((λ spot target holds kept. items_bare types none spot target holds [] items kept), apart access items behind is))
 
@@ -214,6 +214,6 @@ all_bare types copies spot target holds earlier (i ∷ items) bare kept =
     (one_bare types copies spot target holds earlier i each.0 two.0, all_bare types copies spot target holds (named_by_item i ++ earlier) items each.1 two.1)
 
 -- So do those of an allocator that is evaluated next, where it copies no such record.
-pub allocates_bare : {touches : ℕ → Bool} (types : List TypeForm) → CopiesWell types → (k : Control) → ((access : ℕ) (items : List ItemForm) (behind : Control) → k ≡ Evaluates (allocates access items) ∷ behind → list_all (is_bare_item types) items ≡ true) → ComponentsUntouched types touches → AllocatesApart touches k → AllocatesBare types touches k
+pub allocates_bare : {touches : ℕ → Bool} (types : List TypeForm) → CopiesWell types → (k : Control) → ((access : ℕ) (items : List ItemForm) (behind : Control) → k ≡ Evaluates (allocates access items) ∷ behind → list_all (is_bare_item types) items ≡ true) → ComponentsUntouched types touches k → AllocatesApart touches k → AllocatesBare types touches k
 allocates_bare types copies k bare untouched apart =
     (untouched, λ access items behind is. ((λ spot target holds kept. all_bare types copies spot target holds [] items (bare access items behind is) kept), apart access items behind is))

@@ -14,12 +14,12 @@ use Rattle.ada_program.specs.ProgramForm.{TypeForm, VariableForm, BodyForm, Prog
 use Rattle.ada_program.specs.declared.program.VariableKind.{VariableKind}
 use Rattle.ada_program.specs.declared.program.VariableKind.TheVariants as variable
 use Rattle.ada_program.specs.declared.program.TypeNo.{TypeNo}
-use Rattle.ada_program.specs.WellFormed.{finalization_of, is_access, access_of, kind_among, selectors_kind, variable_kind, record_components, reached_components, items_fit, is_record_object, object_named, profile_of, suits_profile}
+use Rattle.ada_program.specs.WellFormed.{finalization_of, is_access, access_of, kind_among, path_kind, selectors_kind, variable_kind, record_components, reached_components, items_fit, is_record_object, object_named, profile_of, suits_profile}
 use Rattle.ada_program.specs.Handling.{is_same, handler_of}
 use Rattle.ada_effects.specs.Effects.{expression_raises, links_raise, items_raise, path_raises, record_path_raises, condition_raises, unary_raises, binary_raises, right_raises, right_starts, declaration_raises, stmts_raise, branches_raise, handlers_raise, Effect, Implicit, call_raises, body_raises, stmts_free, branches_free, handlers_free, body_frees, call_frees, effects_of, endings_free, declaration_frees, assignment_frees}
 use Rattle.ada_flow.specs.declared.rule.Hold.TheVariants as hold
 use Rattle.ada_flow.specs.declared.rule.Region.TheVariants.{Whole}
-use Rattle.ada_flow.specs.Flow.{Holds, hold_at, variable_access, lost_by, Outcome, faults, goes, Use, uses_in, uses_in_links, uses_in_item, named_by_item, is_owning, is_owning_record, broken_among, without_freed, without_values, moved_by_items, passes_type, behind_end, gives, gives_component, clears, compares_it, uses_in_actuals, Keeping, keeping_of, kept_at, is_kept, handed_back, left_unkept, owed_from, gives_back, all_give_back, are_as_good, have_exit, branches_have_exit, handlers_have_exit, is_left, condition_flow, stmts_flow, branches_flow, handlers_flow, declaration_flow, Gone as GoneWith, collected, is_among, left, left_finalized, left_by_call, nothing_gone, Around, owns_among}
+use Rattle.ada_flow.specs.Flow.{Holds, hold_at, variable_access, lost_by, Outcome, faults, goes, Use, uses_in, uses_in_links, uses_in_item, named_by_item, is_owning, is_owning_record, broken_among, without_freed, without_values, moved_by_items, passes_type, behind_end, gives, gives_component, clears, compares_it, uses_in_actuals, Keeping, keeping_of, kept_at, is_kept, handed_back, left_unkept, owed_from, gives_back, all_give_back, are_as_good, have_exit, branches_have_exit, handlers_have_exit, is_left, condition_flow, stmts_flow, branches_flow, handlers_flow, declaration_flow, Gone as GoneWith, collected, is_among, left, left_finalized, left_by_call, nothing_gone, Around, owns_among, component_passes}
 use Rattle.ada_flow.specs.Tracking.{no_tracks, with_tracked}
 use Rattle.ada_meaning.specs.declared.state.Id.{Id}
 use Rattle.ada_meaning.specs.declared.state.Place.{Place}
@@ -47,10 +47,10 @@ use Rattle.ada_sound.proofs.Items.{NoMaster}
 use Rattle.ada_sound.proofs.Stored.{IsUnder, Stored}
 use Rattle.ada_owners.specs.Reliance.{Borrows}
 use Rattle.ada_owners.specs.Keeping.{IsThere}
-use Rattle.ada_owners.specs.Places.{is_there, component_in}
+use Rattle.ada_owners.specs.Places.{access_at, is_there, component_in}
 use Rattle.ada_owners.proofs.Ends.{IsUnnamed}
 use Rattle.ada_owners.specs.Walks.{walk}
-use Rattle.ada_sound.proofs.Fits.{Outer, Reference, IsReferred, IsPlace, Outsiders, NoOuterAlias, IsSaid, place_at, Fit, IsRelied, IsUnreferred, MayFollow, component_access, is_object, hold_in, stacked, none_spared, sparing}
+use Rattle.ada_sound.proofs.Fits.{Outer, Reference, IsReferred, IsPlace, Outsiders, NoOuterAlias, IsSaid, place_at, Fit, IsRelied, IsUnreferred, MayFollow, component_access, is_object, hold_in, stacked, none_spared, sparing, outer_hold, outer_value}
 use Rattle.ada_sound.proofs.Orderings.{AsGood}
 use Rattle.ada_sound.proofs.InsideRecords.{TasksInside}
 use Rattle.ada_typed.specs.Holding.{PartsLie}
@@ -83,10 +83,12 @@ Roomed below ms [] = ms ≡ below
 Roomed below [] (gone ∷ rooms) = ⊥
 Roomed below (m ∷ ms) (gone ∷ rooms) = ItemsAmong m.items gone.types × Roomed below ms rooms
 
--- A caller, whose activation is suspended: what is known of implicit calls; the program as its body sees it, for the objects of which items an operation may be called that touches
--- storage where a master is left, for objects of which types one may be called, and what is known where flow comes to a place in it; the actual parameters of its call, their values, what refers to the components that get something back, the objects to which all that refers leads, those that are under
--- way, as a treatment finalizes them, and what the procedure keeps of the parameters; what is left to do once the call has come to its end, the masters that are entered then, and their rooms; what its variables hold, and what is
--- known of them behind the call, as if nothing were handed over.
+-- A caller, whose activation is suspended: what is known of implicit calls; the program as its body sees it, for the objects of which items an operation may be
+-- called that touches storage where a master is left, for objects of which types one may be called, and what is known where flow comes to a place in it; the
+-- actual parameters of its call, their values, what refers to the components that get something back, the objects to which all that refers leads, those that
+-- are under way, as a treatment finalizes them, and what an operation is called for, as if a variable held it; what the procedure keeps of the parameters; what
+-- is left to do once the call has come to its end, the masters that are entered then, and their rooms; what its variables hold, and what is known of them
+-- behind the call, as if nothing were handed over.
 pub record Caller : Type 1 where
   pub implicit : Implicit
   pub program : ProgramForm
@@ -98,6 +100,7 @@ pub record Caller : Type 1 where
   pub references : List Value
   pub referenced : List Reference
   pub under : List Id
+  pub held : Option Outer
   pub kept : Keeping
   pub control : Control
   pub masters : List Master
@@ -123,10 +126,15 @@ pub record Known : Type 1 where
 abbrev pub outer_of : Caller → Outer
 outer_of w = record { variables = w.program.variables; places = w.places; holds = waiting_holds w }
 
--- What the variables of suspended activations hold, and are relied on for.
+-- What is held comes first, if anything is.
+abbrev pub held_first : Option Outer → List Outer → List Outer
+held_first None outer = outer
+held_first (Some held) outer = held ∷ outer
+
+-- What the variables of suspended activations hold, and are relied on for; and what operations are called for that these wait for, as if variables held it.
 abbrev pub outer_in : List Caller → List Outer
 outer_in [] = []
-outer_in (w ∷ ws) = outer_of w ∷ outer_in ws
+outer_in (w ∷ ws) = outer_of w ∷ held_first w.held (outer_in ws)
 
 -- What the call of a body gave its formal parameters: nothing, where it is the main one.
 abbrev pub given_in : List Caller → List Value
@@ -548,12 +556,23 @@ along places path = selected named (place_at places path.root) path.selectors
 abbrev pub LeadsTo : List Object → List Value → Value → List ℕ → (c : ℕ) → PathForm → Type 0
 LeadsTo heap places w cs c path = (walk heap (begun places path) (front (along places path)) ≡ walk heap w cs) × (final (along places path) ≡ Some c)
 
+-- A component that gets a new object is found before that is initialized: its path leads somewhere, and follows no value of an access type of which the
+-- initialization may free objects (4.8, 7.6).
+abbrev pub StaysFound : Known → RightForm → PathForm → Type 0
+StaysFound known nothing path = Unit {0}
+StaysFound known (value_of taken) path = Unit {0}
+StaysFound known (allocates access items) path = Unit {0}
+StaysFound known (allocates_default access) path =
+    (component_passes known.program.types known.program.variables (known.implicit.start_frees access) path ≡ false)
+    × (to : VariableKind) × (path_kind known.program.types known.program.variables path ≡ Some to)
+StaysFound known (computes e) path = Unit {0}
+
 -- A component gets what is assigned, to which a path leads.
 abbrev pub FillsIn : Known → RightForm → (leads : PathForm → Type 0) → Rooms → Holds → Control → Type 0
 FillsIn known right leads rooms holds k =
     (path : PathForm) × (cleared : Bool)
     × Goes (gives_component known.program.types no_tracks cleared path right holds) (RunsAfter known right k rooms) (RaisesAfter known right k rooms (component_among known (path_raises path) right))
-    × Pairs cleared right (λ taken. IsOne taken.selectors) k × leads path
+    × Pairs cleared right (λ taken. IsOne taken.selectors) k × leads path × StaysFound known right path
 
 -- An object that a component lies in is there.
 abbrev pub IsHolder : List Object → Value → Type 0
@@ -632,30 +651,37 @@ StartsTo known t k rooms holds = (e : Exception) → list_any (is_same e) (known
 abbrev pub BeginsWell : Known → (access : ℕ) → Holds → Type 0
 BeginsWell known access holds = Spares known (known.implicit.start_frees access) × Unaliased known.program.variables (known.implicit.start_frees access) holds
 
--- A variable gets what is evaluated.
-abbrev pub goes_to_variable : Control → Bool
-goes_to_variable [] = false
-goes_to_variable (Stores x ∷ k) = true
-goes_to_variable (Declares x ∷ k) = true
-goes_to_variable (f ∷ k) = false
+-- While a new object of this access type is initialized, one that is known by another type waits for its name, in a component for such names: the initialization
+-- frees no object of that other type, or a call refers to the one that waits.
+abbrev pub MayAwait : Known → (access : ℕ) → Id → (c t : ℕ) → Type 0
+MayAwait known access o c t =
+    (access_of (kind_among (reached_components known.program.types t) c) ≡ Some access)
+    × ((known.implicit.start_frees access t ≡ false) ⊎ IsReferred (outers known).referenced o t)
 
--- A variable gets the name of a new object of this type, which owns it then.
-abbrev pub GoesTo : Known → (access : ℕ) → Control → Rooms → Holds → Type 0
-GoesTo known access k rooms holds =
+-- An object that is there waits for it.
+abbrev pub AwaitsIn : Known → List Object → (access : ℕ) → Value → (c : ℕ) → Type 0
+AwaitsIn known heap access Null c = ⊥
+AwaitsIn known heap access (Names o) c = (t : ℕ) × (access_at heap o ≡ Some t) × MayAwait known access o c t
+AwaitsIn known heap access (Scalar v) c = ⊥
+AwaitsIn known heap access (Part o first) c = ⊥
+
+-- A variable gets the name of a new object of this type, which owns it then, or a component does, which waits for it.
+abbrev pub GoesTo : Known → (awaits : Value → (c : ℕ) → Type 0) → (access : ℕ) → Control → Rooms → Holds → Type 0
+GoesTo known awaits access k rooms holds =
     StoresTo k
     (λ x k'. ((variable_access known.program.variables x ≡ Some access) × (is_object known.program.variables x ≡ false)) × To (RunsOn known k' rooms) (slice_set holds x (hold.Own Whole)))
-    (λ o c k'. ⊥)
+    (λ o c k'. awaits o c × To (RunsOn known k' rooms) holds)
 
 -- What an allocator without items leads to, in the midst of which operations may free objects (4.8, 7.6): with less known, no alias of these is left.
-pub record Initializes (known : Known) (access : ℕ) (k : Control) (rooms : Rooms) (holds : Holds) : Type 0 where
+pub record Initializes (known : Known) (heap : List Object) (access : ℕ) (k : Control) (rooms : Rooms) (holds : Holds) : Type 0 where
   pub less : Holds
   pub good : AsGood holds less
   pub well : BeginsWell known access less
   pub undone : StartsTo known access k rooms less
-  pub to : GoesTo known access k rooms less
+  pub to : GoesTo known (AwaitsIn known heap access) access k rooms less
 
--- What an allocator with all these items leads to: less may be known behind it, where the new object is initialized. Where operations may touch storage that are called then, and a variable
--- gets the object, it has no items that move a value.
+-- What an allocator with all these items leads to: less may be known behind it, where the new object is initialized. Where operations may touch storage that are called
+-- then, it has no items that move a value.
 pub record Allocating (known : Known) (heap : List Object) (access : ℕ) (all : List ItemForm) (k : Control) (rooms : Rooms) (holds : Holds) : Type 0 where
   pub components : List ComponentKind
   pub reached : reached_components known.program.types access ≡ Some components
@@ -668,7 +694,7 @@ pub record Allocating (known : Known) (heap : List Object) (access : ℕ) (all :
       (λ x k'. ((variable_access known.program.variables x ≡ Some access) × (is_object known.program.variables x ≡ false))
       × To (RunsOn known k' rooms) (slice_set (without_values (moved_by_items no_tracks all) holds) x (hold.Own Whole)))
       (λ o c k'. Accepts known heap o c (Some access) × To (RunsOn known k' rooms) (without_values (moved_by_items no_tracks all) holds))
-  pub initializes : known.touches access ≡ true → goes_to_variable k ≡ true → (moved_by_items no_tracks all ≡ []) × Initializes known access k rooms holds
+  pub initializes : known.touches access ≡ true → (moved_by_items no_tracks all ≡ []) × Initializes known heap access k rooms holds
 
 -- An item that is a record owns nothing; nor do all that are, of these.
 abbrev pub OwnsNothing : List TypeForm → ItemForm → Type 0
@@ -681,12 +707,13 @@ abbrev pub OwnNothing : List TypeForm → List ItemForm → Type 0
 OwnNothing types [] = Unit {0}
 OwnNothing types (i ∷ is) = OwnsNothing types i × OwnNothing types is
 
--- Some items are evaluated, and these are left.
+-- Some items are evaluated, and these are left. Where operations may touch storage that are called for the new object, none of them is what its component held.
 pub record Filling (known : Known) (heap : List Object) (places : List Value) (access count : ℕ) (todo : List ItemForm) (k : Control) (operands : List Value) (rooms : Rooms) (holds : Holds) : Type 0 where
   pub done : List ItemForm
   pub spot : Spot
   pub target : Option PathForm
   pub into : GoesInto heap places target k
+  pub unlent : known.touches access ≡ true → target ≡ None
   pub filled : Filled heap places done operands
   pub before : DoneKeep known.program.types spot target holds done
   pub behind : ItemsKeep known.program.types spot target holds (named_of done) todo
@@ -1107,13 +1134,13 @@ FreesWell known heap (Some o) holds =
     (object : Object) → object_at heap o ≡ Some object
     → Spares known (known.implicit.end_frees object.cell.access) × Unaliased known.program.variables (known.implicit.end_frees object.cell.access) holds
 
--- A component that is freed is of the type of the object under way, if there is one.
+-- A component that is freed is of the type of the object under way, if there is one; and no operation is called for that object that touches storage.
 abbrev pub IsNamedIn : Known → List Object → (holder : Value) → (c : ℕ) → (under : Option Id) → Type 0
 IsNamedIn known heap v c None = Unit {0}
 IsNamedIn known heap Null c (Some o) = ⊥
 IsNamedIn known heap (Names p) c (Some o) =
     (holder : Object) × (object : Object) × (object_at heap p ≡ Some holder) × (object_at heap o ≡ Some object)
-    × (component_access known.program.types holder c ≡ Some object.cell.access)
+    × (component_access known.program.types holder c ≡ Some object.cell.access) × (known.touches object.cell.access ≡ false)
 IsNamedIn known heap (Scalar v) c (Some o) = ⊥
 IsNamedIn known heap (Part p place) c (Some o) = ⊥
 
@@ -1333,8 +1360,8 @@ pub record Beginning (known : Known) (v : Value) (k : Control) (heap : List Obje
   pub undone : StartsTo known object.cell.access k rooms (slice_set holds x hold.Lost)
   pub well : BeginsWell known object.cell.access holds
 
--- A new object is initialized that an allocator made (4.8, 7.6). Nothing relies on it. A variable gets its name behind that, and where an exception comes out, that goes on without the
--- object. Of what its initialization may free there is no alias.
+-- A new object is initialized that an allocator made (4.8, 7.6). Nothing relies on it. A variable or a component gets its name behind that, and where an exception
+-- comes out, that goes on without the object. Of what its initialization may free there is no alias.
 pub record Making (known : Known) (o : Id) (access : ℕ) (k : Control) (heap : List Object) (places : List Value) (masters : List Master) : Type 0 where
   pub rooms : Rooms
   pub holds : Holds
@@ -1343,7 +1370,7 @@ pub record Making (known : Known) (o : Id) (access : ℕ) (k : Control) (heap : 
   pub fit : Fit known.program.types known.program.variables (outers known) none_spared heap places holds
   pub aside : IsAside known none_spared heap places holds (Some o)
   pub room : RoomFor k rooms
-  pub to : GoesTo known access k rooms holds
+  pub to : GoesTo known (AwaitsIn known heap access) access k rooms holds
   pub undone : StartsTo known access k rooms holds
   pub well : BeginsWell known access holds
 
@@ -1580,8 +1607,8 @@ AreOpened types referenced (r ∷ rs) =
 
 -- A caller waits for a body: it goes on with what is known of its variables, behind the call and where the body raises an exception; its masters have their
 -- rooms; what is called null is null, what is kept holds what was given, and a record object that is not lost is there; nothing relies on the Integers and
--- Booleans that get something back; what is handed over is what the formal parameters were given; the components that get something back hold
--- Integers or Booleans; and no object is under way in it.
+-- Booleans that get something back; what is handed over is what the formal parameters were given; the components that get something back hold Integers or
+-- Booleans; and no object is under way in it, and none is held for an operation.
 pub record Waits (implicit : Implicit) (body : ProgramForm) (w : Caller) (ws : List Caller) : Type 0 where
   pub goes_on : To (RunsOn (known_of w ws) w.control w.rooms) (handed_back w.actuals w.before)
   pub raises : (e : Exception) → body_among implicit body e ≡ true → To ((ways (known_of w ws) w.control w.rooms).raised e) (left_unkept w.kept w.actuals w.before)
@@ -1594,6 +1621,7 @@ pub record Waits (implicit : Implicit) (body : ProgramForm) (w : Caller) (ws : L
   pub opened : AreOpened w.program.types w.referenced w.references
   pub covers : (t : ℕ) → CoveredIn implicit body t → CoveredIn w.implicit w.program t
   pub settled : w.under ≡ []
+  pub unheld : w.held ≡ None
 
 -- The body of an operation comes to its end in front of this (7.6, 7.6.1).
 abbrev pub IsAwaited : Control → Type 0
@@ -1632,7 +1660,8 @@ AreSuspended [] (w ∷ ws) = ⊥
 AreSuspended (a ∷ rest) [] = ⊥
 AreSuspended (a ∷ rest) (w ∷ ws) = (a.places ≡ w.places) × AreSuspended rest ws
 
--- What a caller's variable is relied on to name, what its call refers to, and what is under way in it lies in an item of a master that was entered before its call.
+-- What a caller's variable is relied on to name, what its call refers to, what is under way in it, and what an operation is called for that it waits for lies
+-- in an item of a master that was entered before its call.
 abbrev pub LieBelow : List Object → List Caller → Type 0
 LieBelow heap [] = Unit {0}
 LieBelow heap (w ∷ ws) =
@@ -1641,6 +1670,7 @@ LieBelow heap (w ∷ ws) =
     × ((o : Id) (t : ℕ) → IsReferred w.referenced o t → (object : Object) × (object_at heap o ≡ Some object) × (suc object.cell.home.item ≤ height w.masters))
     × ((o : Id) → IsUnder w.under o → (object : Object) × (object_at heap o ≡ Some object) × (suc object.cell.home.item ≤ height w.masters))
     × LieBelow heap ws
+    × ((x : ℕ) (o : Id) → IsRelied (outer_hold w.held x) → outer_value w.held x ≡ Names o → (object : Object) × (object_at heap o ≡ Some object) × (suc object.cell.home.item ≤ height w.masters))
 
 -- The callers of a state are as they are known.
 pub record Standing (known : Known) (s : State) : Type 0 where

@@ -1,15 +1,14 @@
 -- The forms of a body that tracks components of its formal parameter (7.6) call no procedure that tracks, as they are judged, where they call none as they are;
 -- and no allocator of theirs with items makes an object with controlled parts, or copies a record with some (4.8).
 
-use Rattle.std.proofs.Common.{◌≡◌, ℕ, Bool, true, ◌&&◌, List, [], ◌∷◌, refl, ap, ◌∙◌}
+use Rattle.std.proofs.Common.{◌≡◌, ℕ, Bool, true, false, ◌&&◌, List, [], ◌∷◌, refl, ap, ◌∙◌}
 use Rattle.std.specs.List.{list_all}
 use Rattle.ada_flow.specs.Tracking.{Tracks}
-use Rattle.ada_meaning.specs.Frame.{Elaborates}
 use Rattle.ada_program.specs.Form.{ItemForm, null_item, item_of_path, item_of_value, item_of_record, RightForm, nothing, value_of, allocates, allocates_default, computes, StmtForm, skips, assigns, assigns_record, frees, gets, writes, writes_text, chooses, repeats, counts, exits, calls, returns, raises, encloses, StmtsForm, no_stmts, a_stmt, BranchesForm, otherwise, a_branch, HandlersForm, no_handlers, a_handler, DeclarationForm, creates_pool, collects, declares, declares_record}
 use Rattle.ada_program.specs.ProgramForm.{TypeForm, BodyForm}
 use Rattle.ada_quiet.specs.Apart.{is_bare_item, is_bare_right, declares_apart, declare_apart, calls_apart, all_call_apart, branches_call_apart, handlers_call_apart, body_calls_apart}
 use Rattle.ada_quiet.specs.Bare.{has_bare_objects}
-use Rattle.ada_sound.proofs.CallsApart.{FrameCallsApart, elaborates_apart}
+use Rattle.ada_sound.proofs.CallsApart.{ElaboratesApart, elaborates_apart}
 use Rattle.ada_tracked.specs.Forms.{seen_item, seen_items, seen_right, seen_declaration, seen_declarations, seen_stmt, seen_stmts, seen_branches, seen_handlers}
 
 module _ (types : List TypeForm) (tracks : Tracks) where
@@ -44,9 +43,9 @@ module _ (types : List TypeForm) (tracks : Tracks) where
   -- Statements call the same.
   module _ (apart : ℕ → Bool) where
     mutual
-      stmt_same : (f : StmtForm) → calls_apart types apart (seen_stmt tracks f) ≡ calls_apart types apart f
+      stmt_same : (f : StmtForm) → calls_apart types apart false (seen_stmt tracks f) ≡ calls_apart types apart false f
       stmt_same skips = refl
-      stmt_same (assigns target right) = right_same right
+      stmt_same (assigns target right) = rw (right_same right) refl
       stmt_same (assigns_record target items) = refl
       stmt_same (frees access path) = refl
       stmt_same (gets target) = refl
@@ -61,26 +60,26 @@ module _ (types : List TypeForm) (tracks : Tracks) where
       stmt_same (raises e) = refl
       stmt_same (encloses ds fs hs) = rw (declarations_same ds, stmts_same fs, handlers_same hs) refl
 
-      stmts_same : (fs : StmtsForm) → all_call_apart types apart (seen_stmts tracks fs) ≡ all_call_apart types apart fs
+      stmts_same : (fs : StmtsForm) → all_call_apart types apart false (seen_stmts tracks fs) ≡ all_call_apart types apart false fs
       stmts_same no_stmts = refl
       stmts_same (a_stmt f fs) = rw (stmt_same f, stmts_same fs) refl
 
-      branches_same : (branches : BranchesForm) → branches_call_apart types apart (seen_branches tracks branches) ≡ branches_call_apart types apart branches
+      branches_same : (branches : BranchesForm) → branches_call_apart types apart false (seen_branches tracks branches) ≡ branches_call_apart types apart false branches
       branches_same (otherwise fs) = stmts_same fs
       branches_same (a_branch e fs branches) = rw (stmts_same fs, branches_same branches) refl
 
-      handlers_same : (hs : HandlersForm) → handlers_call_apart types apart (seen_handlers tracks hs) ≡ handlers_call_apart types apart hs
+      handlers_same : (hs : HandlersForm) → handlers_call_apart types apart false (seen_handlers tracks hs) ≡ handlers_call_apart types apart false hs
       handlers_same no_handlers = refl
       handlers_same (a_handler choices fs hs) = rw (stmts_same fs, handlers_same hs) refl
 
     body_same :
-        (b : BodyForm) → (declare_apart types (seen_declarations tracks b.declarations) && all_call_apart types apart (seen_stmts tracks b.statements) && handlers_call_apart types apart (seen_handlers tracks b.handlers))
-        ≡ body_calls_apart types apart b
+        (b : BodyForm) → (declare_apart types (seen_declarations tracks b.declarations) && all_call_apart types apart false (seen_stmts tracks b.statements) && handlers_call_apart types apart false (seen_handlers tracks b.handlers))
+        ≡ body_calls_apart types apart false b
     body_same b = rw (declarations_same b.declarations, stmts_same b.statements, handlers_same b.handlers) refl
 
     -- So does a body whose declarations are next.
     pub judged_apart :
-        (b : BodyForm) → body_calls_apart types apart b ≡ true
-        → FrameCallsApart types apart (Elaborates (seen_declarations tracks b.declarations) (seen_stmts tracks b.statements) (seen_handlers tracks b.handlers))
+        (b : BodyForm) → body_calls_apart types apart false b ≡ true
+        → ElaboratesApart types apart false (seen_declarations tracks b.declarations) (seen_stmts tracks b.statements) (seen_handlers tracks b.handlers)
     judged_apart b own =
-        elaborates_apart types apart (seen_declarations tracks b.declarations) (seen_stmts tracks b.statements) (seen_handlers tracks b.handlers) (body_same b ∙ own)
+        elaborates_apart types apart false (seen_declarations tracks b.declarations) (seen_stmts tracks b.statements) (seen_handlers tracks b.handlers) (body_same b ∙ own)

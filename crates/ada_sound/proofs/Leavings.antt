@@ -244,13 +244,11 @@ HoldNone types t [] = Unit {0}
 HoldNone types t (i ∷ is) =
     ((v : ℕ) (pool : Option ℕ) → Houses i.owned v pool → (c : ℕ) → access_of (kind_among (reached_components types v) c) ≡ Some t → ⊥) × HoldNone types t is
 
--- The newest item goes: one whose objects no component names, as those of an object; or a collection for whose objects no operation is called that touches storage,
--- and whose objects no component names of what such an operation may be called for later.
+-- The newest item goes: no objects have a component of the type of its own ones, from the first item on for whose objects an operation may be called that touches
+-- storage, be it this one or an older one.
 abbrev pub GoesInOrder : (ahead : Owned → Bool) → List TypeForm → Item → List Item → Type 0
 GoesInOrder ahead types item items =
-    ((ahead item.owned ≡ false) × ((access : ℕ) (pool : Option ℕ) → Houses item.owned access pool → HoldNone types access (from_ahead ahead items)))
-    ⊎ ((access : ℕ) (pool : Option ℕ) → Houses item.owned access pool
-    → (holder c : ℕ) → access_of (kind_among (reached_components types holder) c) ≡ Some access → ⊥)
+    (access : ℕ) (pool : Option ℕ) → Houses item.owned access pool → HoldNone types access (from_ahead ahead (item ∷ items))
 
 abbrev pub AreInOrder : (ahead : Owned → Bool) → List TypeForm → List Item → Type 0
 AreInOrder ahead types [] = Unit {0}
@@ -339,12 +337,12 @@ module _ (ahead : Owned → Bool) (types : List TypeForm) (variables : List Vari
       says_of heap h (component_kind (kinds_of types variables outer) (access_at heap p) c) o (owns_relied h own) (fit.owners.fit.relied (component p c) o names)
 
   -- An object that names it lies in the same master: so it does not count, or it has no component of that type.
-  no_holder : (not_ahead : ahead item.owned ≡ false) → HoldNone types x.cell.access (from_ahead ahead items) → (p : Id) (c : ℕ) (t : Option Object) → object_at heap p ≡ t
-      → Owns (component_hold (lies_among t (item ∷ in_front ahead items))) → component_in t c ≡ Names o
+  no_holder : (p : Id) (c : ℕ) (t : Option Object) → object_at heap p ≡ t
+      → Owns (component_hold (lies_among t (in_front ahead (item ∷ items)))) → component_in t c ≡ Names o
       → IsOf (access_at heap) (component_kind (kinds_of types variables outer) (access_at heap p) c) o → ⊥
-  no_holder not_ahead others p c None at own names of = cc names
-  no_holder not_ahead others p c (Some holder) at own names of =
-      by (is_number_of (item ∷ in_front ahead items) holder.cell.home.item) refl own
+  no_holder p c None at own names of = cc names
+  no_holder p c (Some holder) at own names of =
+      by (is_number_of (in_front ahead (item ∷ items)) holder.cell.home.item) refl own
     where
       it : (is_there holder.stage ≡ true) × (slice_index_or holder.cell.values c Null ≡ Names o)
       it = there_names (is_there holder.stage) (slice_index_or holder.cell.values c Null) o names
@@ -357,29 +355,20 @@ module _ (ahead : Owned → Bool) (types : List TypeForm) (variables : List Vari
           let sane = stored.sane p holder at in
           sane.housed (exists_out p holder at (sane.there_exists it.0) stored)
 
-      behind : is_number_of (item ∷ in_front ahead items) holder.cell.home.item ≡ false
+      behind : is_number_of (in_front ahead (item ∷ items)) holder.cell.home.item ≡ false
           → HasItem holder.cell.home.item holder.cell.access holder.cell.home.pool (from_ahead ahead (item ∷ items))
-      behind away =
-          has_behind ahead holder.cell.home.item holder.cell.access holder.cell.home.pool (item ∷ items) (items_of ms) stored.counted houses_it inside
-          (rw not_ahead away)
+      behind away = has_behind ahead holder.cell.home.item holder.cell.access holder.cell.home.pool (item ∷ items) (items_of ms) stored.counted houses_it inside away
 
       access_is : (u : ℕ) → access_at heap p ≡ Some u → holder.cell.access ≡ u
       access_is u is = let own_access : access_at heap p ≡ Some holder.cell.access = rw (at, it.0) refl in cc (own_access, is)
 
-      by : (b : Bool) → is_number_of (item ∷ in_front ahead items) holder.cell.home.item ≡ b → Owns (component_hold b) → ⊥
+      by : (b : Bool) → is_number_of (in_front ahead (item ∷ items)) holder.cell.home.item ≡ b → Owns (component_hold b) → ⊥
       by true near own' = own'
       by false away own' =
           no_kind c (access_at heap p) (component_kind (kinds_of types variables outer) (access_at heap p) c)
-          (λ u is named. none_held types x.cell.access holder.cell.home.item holder.cell.access holder.cell.home.pool (from_ahead ahead items) others
-          (rw not_ahead at (behind away)) c (rw (access_is u is) named))
+          (λ u is named. none_held types x.cell.access holder.cell.home.item holder.cell.access holder.cell.home.pool (from_ahead ahead (item ∷ items))
+          (order x.cell.access pool houses) (behind away) c (rw (access_is u is) named))
           refl of
-
-  no_component : (p : Id) (c : ℕ) → GoesInOrder ahead types item items → Owns (hold_in outer (sparing ahead heap (item ∷ items)) holds (component p c)) → component_in (object_at heap p) c ≡ Names o → ⊥
-  no_component p c (inl (not_ahead, others)) own names =
-      no_holder not_ahead (others x.cell.access pool houses) p c (object_at heap p) refl (rw not_ahead at own) names (of_kind p c own names)
-  no_component p c (inr none) own names =
-      no_kind c (access_at heap p) (component_kind (kinds_of types variables outer) (access_at heap p) c)
-      (λ u is named. none x.cell.access pool houses u c named) refl (of_kind p c own names)
 
   no_name : (y : ℕ) → IsRelied (hold_at holds y) → place_at places y ≡ Names o → ⊥
   no_name y is names =
@@ -398,7 +387,7 @@ module _ (ahead : Owned → Bool) (types : List TypeForm) (variables : List Vari
 
   no_owner : (q : Place) → Owns (hold_in outer (sparing ahead heap (item ∷ items)) holds q) → value_at heap (stacked places outer) q ≡ Names o → ⊥
   no_owner (variable y) own names = no_name y (owns_relied (hold_at holds y) own) names
-  no_owner (component p c) own names = no_component p c order own names
+  no_owner (component p c) own names = no_holder p c (object_at heap p) refl own names (of_kind p c own names)
   no_owner (elsewhere d y) own names = no_elsewhere d y (owns_relied (outer_hold (slice_get outer.suspended d) y) own) names
 
   pub taken_unnamed : IsUnnamed heap (stacked places outer) (hold_in outer (sparing ahead heap (item ∷ items)) holds) o

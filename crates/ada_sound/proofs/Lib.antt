@@ -25,6 +25,7 @@ pub mod Standing
 -- pools that exist
 pub mod Pools
 -- back from a heap in which a component was written
+pub mod Awaiting
 pub mod Back
 -- values and holds
 pub mod Values
@@ -202,6 +203,8 @@ pub mod Statements
 pub mod Jumps
 -- the body of a Finalize that touches storage
 pub mod Touched
+-- what it is called for is held while it runs
+pub mod Held
 pub mod Touching
 -- a body that tracks components, as it is judged
 pub mod Judged

@@ -7,7 +7,7 @@ use Rattle.std.proofs.lemmas.Bool.{and_from, and_parts}
 use Rattle.ada_program.specs.Form.{StmtForm, skips, assigns, assigns_record, frees, gets, writes, writes_text, chooses, repeats, counts, exits, calls, returns, raises, encloses, StmtsForm, no_stmts, a_stmt, BranchesForm, otherwise, a_branch, HandlersForm, no_handlers, a_handler, DeclarationForm}
 use Rattle.ada_program.specs.Nested.{collected}
 use Rattle.ada_program.specs.ProgramForm.{TypeForm, BodyForm, ProgramForm, main_body}
-use Rattle.ada_quiet.specs.Bare.{has_bare_objects, holds_component, is_apart_from, collect_in_order, stmt_collections, stmts_collections, branches_collections, handlers_collections, body_collections, bodies_collections, collections_in_order}
+use Rattle.ada_quiet.specs.Bare.{has_bare_objects, holds_component, hold_none, hold_none_from, is_apart_from, collect_in_order, stmt_collections, stmts_collections, branches_collections, handlers_collections, body_collections, bodies_collections, collections_in_order}
 
 module _ (types : List TypeForm) where
   -- The collections of a declarative part are created in order: no others are in front of them.
@@ -59,16 +59,28 @@ module _ (types : List TypeForm) where
       let both = and_parts (f v) (list_all f (vs ++ more)) each in
       rw both.0 (all_in_front f vs more both.1)
 
+  -- Where no objects of some collections have a component of an access type, those of the newest ones of these have none.
+  fewer_hold : (t : ℕ) (vs older : List ℕ) → hold_none types t (vs ++ older) ≡ true → hold_none types t vs ≡ true
+  fewer_hold t vs older none = all_in_front (λ w. not (holds_component types t w)) vs older none
+
+  fewer_from : (t : ℕ) (vs older : List ℕ) → hold_none_from types t (vs ++ older) ≡ true → hold_none_from types t vs ≡ true
+  fewer_from t [] older none = refl
+  fewer_from t (v ∷ vs) older none = by (has_bare_objects types v) (fewer_from t vs older) none
+    where
+      by : (bare : Bool) → (hold_none_from types t (vs ++ older) ≡ true → hold_none_from types t vs ≡ true)
+          → (if bare then hold_none_from types t (vs ++ older) else hold_none types t (v ∷ vs ++ older)) ≡ true
+          → (if bare then hold_none_from types t vs else hold_none types t (v ∷ vs)) ≡ true
+      by true later none' = later none'
+      by false later none' = fewer_hold t (v ∷ vs) older none'
+
   -- A collection that is created apart from others is apart from the newest ones of these.
   fewer_older : (t : ℕ) (vs older : List ℕ) → is_apart_from types t (vs ++ older) ≡ true → is_apart_from types t vs ≡ true
-  fewer_older t [] older apart = refl
-  fewer_older t (v ∷ vs) older apart = by (has_bare_objects types v) (fewer_older t vs older) apart
+  fewer_older t vs older apart = by (has_bare_objects types t) apart
     where
-      by : (bare : Bool) → (is_apart_from types t (vs ++ older) ≡ true → is_apart_from types t vs ≡ true)
-          → (if bare then is_apart_from types t (vs ++ older) else list_all (λ w. not (holds_component types t w)) (v ∷ vs ++ older)) ≡ true
-          → (if bare then is_apart_from types t vs else list_all (λ w. not (holds_component types t w)) (v ∷ vs)) ≡ true
-      by true later apart' = later apart'
-      by false later apart' = all_in_front (λ w. not (holds_component types t w)) (v ∷ vs) older apart'
+      by : (bare : Bool) → (if bare then hold_none_from types t (vs ++ older) else hold_none types t (t ∷ vs ++ older)) ≡ true
+          → (if bare then hold_none_from types t vs else hold_none types t (t ∷ vs)) ≡ true
+      by true apart' = fewer_from t vs older apart'
+      by false apart' = fewer_hold t (t ∷ vs) older apart'
 
   -- So it is with collections that are created one after the other.
   fewer_in_order : (ts vs older : List ℕ) → collect_in_order types (vs ++ older) ts ≡ true → collect_in_order types vs ts ≡ true

@@ -47,6 +47,7 @@ use Rattle.ada_sound.proofs.Begins.{Root, IsAlone, IsPart, root_at, root_access,
 use Rattle.ada_sound.proofs.Walks.{selected_access, raises_less, finds_fine}
 use Rattle.ada_sound.proofs.Targets.{followed}
 use Rattle.ada_sound.proofs.Endings.{stored_elsewhere}
+use Rattle.ada_sound.proofs.Touched.{ComponentsUntouched}
 
 -- The selectors of a path but the last one, and that one, are all.
 front_last : (c : ℕ) (cs : List ℕ) → before_last c cs ++ last_of c cs ∷ [] ≡ c ∷ cs
@@ -157,7 +158,7 @@ module _ (known : Known) (a : Activation Value) (rest : List (Activation Value))
       }))
       (root_follows path.root path.spot kept.0 w.fit)
 
-  module _ (types : List TypeDefinition) (access c : ℕ) (k : Control) (below : List Value) (may : ℕ → Bool) (homes : HaveHomes may known.program.types (outers known).under s.heap s.masters) (freely : may access ≡ true) where
+  module _ (types : List TypeDefinition) (access c : ℕ) (k : Control) (below : List Value) (may : ℕ → Bool) (homes : HaveHomes may known.program.types (outers known).under s.heap s.masters) (freely : may access ≡ true) (untouched : ComponentsUntouched known.program.types known.touches (FreesIn access c ∷ k)) where
     -- The component is null: nothing happens.
     null_freed : (o : Id) → IsThere s.heap o → Working known s.heap a.places s.masters (Releasing known s.heap (Names o) [] access c k) → Stepped known s.heap (Followed (Names o)) (running k (record a { operands = below }) rest s)
     null_freed o there w =
@@ -199,6 +200,7 @@ module _ (known : Known) (a : Activation Value) (rest : List (Activation Value))
         let runs : To (RunsOn known k w.rooms) (behind_end known.program.variables (Some t) w.holds) = rw is_t at w.rest.runs in
         let home = freed_home access p there.object homes w.stored there.found exists (rw there.access (w.rest.own t is_t)) (there.access ∙ by_own) in
         let leads : component_access known.program.types object c ≡ Some there.object.cell.access = names_own o object found w ∙ (is_t ∙ ap Some (sym there.access)) in
+        let never : known.touches there.object.cell.access ≡ false = untouched object.cell.access c there.object.cell.access leads (sym (there.access ∙ by_own)) in
         let under : Ending known p (GivesBack (Names p) (Freeing s.next) (Some (pool_freed_to (home_of access s.masters))) ∷ ClearsIn (Names o) c ∷ k) (slice_set s.heap p.0 (parted there.object)) a.places s.masters = record {
           object = parted there.object;
           found = set_here s.heap p.0 there.object (parted there.object) there.found;
@@ -212,7 +214,7 @@ module _ (known : Known) (a : Activation Value) (rest : List (Activation Value))
             (
               (object, elsewhere.0, held),
               (λ same. apart (cc same)),
-              (object, parted there.object, elsewhere.0, set_here s.heap p.0 there.object (parted there.object) there.found, leads),
+              (object, parted there.object, elsewhere.0, set_here s.heap p.0 there.object (parted there.object) there.found, leads, never),
               record {
                 rooms = w.rooms;
                 holds = runs.0;

@@ -19,7 +19,7 @@ use Rattle.ada_meaning.specs.Step.{places_of, operands_of, with_places, with_ope
 use Rattle.ada_meaning.specs.Named.{Object, State, named}
 use Rattle.ada_meaning.specs.Run.{Event}
 use Rattle.ada_sound.specs.Agreement.{running_procedure}
-use Rattle.ada_sound.proofs.Fits.{none_spared, Fit, IsReferred, referred_first, component_access, plain_object}
+use Rattle.ada_sound.proofs.Fits.{Outer, Outsiders, none_spared, Fit, IsReferred, referred_first, component_access, plain_object}
 use Rattle.ada_meaning.specs.declared.state.Id.{Id}
 use Rattle.ada_owners.specs.Places.{access_at}
 use Rattle.ada_owners.proofs.Objects.{present_at}
@@ -28,7 +28,7 @@ use Rattle.ada_sound.proofs.Stored.{Stored}
 use Rattle.ada_sound.proofs.Activations.{returned_fit}
 use Rattle.ada_sound.proofs.GivenBack.{gives_some, ArePlaced, since_back, said_back, objects_back, since_left, said_left, objects_left}
 use Rattle.ada_sound.proofs.Ready.{at_work, at_less, runs_stores, stores_ready, goes_ready, stays}
-use Rattle.ada_sound.proofs.Invariant.{Known, Control, Rooms, Roomed, RunsOn, GoesOn, StoresOn, AreOpened, ReadyIn, Working, Stepped, Waits, WaitsSo, AllWait, IsAwaited, KeepsAll, below, outers, under_in, outer_of, owed_in, handed_at}
+use Rattle.ada_sound.proofs.Invariant.{held_first, outer_in, Known, Control, Rooms, Roomed, RunsOn, GoesOn, StoresOn, AreOpened, ReadyIn, Working, Stepped, Waits, WaitsSo, AllWait, IsAwaited, KeepsAll, below, outers, under_in, outer_of, owed_in, handed_at}
 use Rattle.ada_sound.proofs.Callers.{Suspension, caller_of, callers_of, known_in, Stands}
 
 -- What a step from one body to another keeps: it is known what it leads to, and so are the callers.
@@ -87,8 +87,14 @@ module _ (program : Program) (procedure : Option ℕ) (g : Suspension) (gs : Lis
     abbrev FitsHere : Holds → Type 0
     FitsHere holds = Fit callee.program.types callee.program.variables (outers callee) none_spared heap places holds
 
-    fit_there : (holds : Holds) → FitsHere holds → Fit caller.program.types callee.program.variables (outers callee) none_spared heap places holds
-    fit_there holds f = subst (λ (types : List TypeForm). Fit types callee.program.variables (outers callee) none_spared heap places holds) same_here f
+    -- No object is held for the call.
+    abbrev behind_it : Option Outer → Outsiders
+    behind_it held = record (outers callee) { suspended = outer_of (caller_of program g gs) ∷ held_first held (outer_in (callers_of program gs)) }
+
+    fit_there : (holds : Holds) → WaitsForIt → FitsHere holds → Fit caller.program.types callee.program.variables (behind_it None) none_spared heap places holds
+    fit_there holds waits f =
+        subst (λ (held : Option Outer). Fit caller.program.types callee.program.variables (behind_it held) none_spared heap places holds) waits.unheld
+        (subst (λ (types : List TypeForm). Fit types callee.program.variables (outers callee) none_spared heap places holds) same_here f)
 
     -- At a normal end, and where the body raises an exception.
     back_fit : (holds : Holds) (waits : WaitsForIt) → ArePlaced callee.program.variables places → all_give_back (owed_in callee.program) holds ≡ true → FitsHere holds → Fit caller.program.types caller.program.variables (outers caller) none_spared heap given_back (handed_back g.actuals g.before)
@@ -96,7 +102,7 @@ module _ (program : Program) (procedure : Option ℕ) (g : Suspension) (gs : Lis
         let w = caller_of program g gs in
         let ws = callers_of program gs in
         returned_fit (outer_of w) callee.program.variables places holds (handed_at g.actuals) given_back (handed_back g.actuals g.before) caller.program.types (outers caller) g.passed g.referenced g.under none_spared heap
-        (since_back callee.implicit callee.program w ws waits places holds placed gave) (fit_there holds f)
+        (since_back callee.implicit callee.program w ws waits places holds placed gave) (fit_there holds waits f)
         (said_back callee.implicit callee.program w ws waits places holds placed gave) (objects_back callee.implicit callee.program w ws waits places holds placed gave (λ i x is. plain_object i (gives_some (hold_at holds i) (waits.hands.owes i x is holds gave)) (waits.hands.formal i x is) f))
 
     left_fit : (holds : Holds) (waits : WaitsForIt) → KeepsAll g.kept holds → FitsHere holds → Fit caller.program.types caller.program.variables (outers caller) none_spared heap g.places (left_unkept g.kept g.actuals g.before)
@@ -104,7 +110,7 @@ module _ (program : Program) (procedure : Option ℕ) (g : Suspension) (gs : Lis
         let w = caller_of program g gs in
         let ws = callers_of program gs in
         returned_fit (outer_of w) callee.program.variables places holds (handed_at g.actuals) g.places (left_unkept g.kept g.actuals g.before) caller.program.types (outers caller) g.passed g.referenced g.under none_spared heap
-        (since_left callee.implicit callee.program w ws waits places holds keeps f.said) (fit_there holds f)
+        (since_left callee.implicit callee.program w ws waits places holds keeps f.said) (fit_there holds waits f)
         (said_left callee.implicit callee.program w ws waits places holds keeps f.said) (objects_left callee.implicit callee.program w ws waits places holds keeps f.said)
 
     -- No more objects are under way in the callee's view.

@@ -63,7 +63,7 @@ use Rattle.ada_sound.proofs.CollectsApartRuns.{apart_where_reached}
 use Rattle.ada_sound.proofs.InOrder.{in_order}
 use Rattle.ada_sound.proofs.Sees.{reaches_in, may_call}
 use Rattle.ada_sound.proofs.TracksWell.{copies_at, allocates_at, called_apart}
-use Rattle.ada_sound.proofs.Trackers.{calls_stand_apart, stand_apart}
+use Rattle.ada_sound.proofs.Trackers.{calls_stand_apart, stands_apart}
 use Rattle.ada_sound.proofs.TracksAs.{adjust_tracks}
 use Rattle.ada_sound.proofs.CopiedOwners.{BeginsCopy}
 use Rattle.ada_sound.proofs.CopySteps.{next_overrides, sees_to_none}
@@ -427,7 +427,7 @@ module _ (program : Program) (a : Activation Value) (rest : List (Activation Val
         let adjusting = adjusting_starts program sound.well sound.obeys a rest s o.suspensions v k IsOperated e after c tracks.0 tracks.1
         (filled_in_program (program_form program) a.procedure whole sound.typed.inside)
         (step_typed program sound.well whole after settled e sound.typed (rw is (refl, refl)))
-        (restand Running (Treats v treatment tasks) o.suspensions o.stands) o.calm o.settled (sound.apart (stand_apart (program_form program) tracks.0.0)).1 (λ u ne. nothing_begins u k untreated) in
+        (restand Running (Treats v treatment tasks) o.suspensions o.stands) o.calm o.settled (sound.apart false (stands_apart (program_form program) tracks.0.0)).1 (λ u ne. nothing_begins u k untreated) in
         inr (inr (inr (record {
           body = adjusting;
           alters = rw c.is (alters_same s.heap e);
@@ -687,7 +687,7 @@ sound_step program s choice e after r step = record {
   goes = goes_so program s.heap e after (led program s choice e after r step);
   idle = λ none. step_idle program none s after choice e (r.idle none) step;
   copies = λ none. step_adjusts_none program none s after choice e (r.copies none) step;
-  apart = λ stand. step_apart (program_form program).types (is_tracker (program_form program)) program (calls_stand_apart (program_form program) stand).1 s after choice e (r.apart stand) step;
+  apart = λ alone stand. step_apart (program_form program).types (is_tracker (program_form program)) alone program (calls_stand_apart (program_form program) alone stand).1 s after choice e (r.apart alone stand) step;
   typed = step_typed program r.well s after choice e r.typed step;
   nested = step_nested program s after choice e (λ treats. operations_nest (program_form program) r.well (treats_in_use program s r s.control refl treats)) r.nested step;
 }

@@ -8,13 +8,14 @@ use Rattle.ada_program.specs.declared.program.TypeDefinition.{TypeDefinition}
 use Rattle.ada_program.specs.WellFormed.{callable_in, is_this, access_of, selectors_kind, variable_kind, path_kind, path_access, object_named, is_record_path, record_fits, right_fits, lends_to, names_borrower, is_freed_by, is_record_object}
 use Rattle.ada_program.specs.declared.program.Exception.{Exception}
 use Rattle.ada_program.specs.declared.program.Exception.TheVariants.{ConstraintError, EndError}
+use Rattle.ada_program.specs.declared.program.VariableKind.{VariableKind}
 use Rattle.ada_program.specs.Form.{PathForm, ExpressionForm, RightForm, nothing, value_of, allocates, allocates_default, computes, StmtForm, skips, assigns, assigns_record, frees, gets, writes, writes_text, chooses, repeats, counts, exits, calls, returns, raises, encloses, StmtsForm, no_stmts, a_stmt, BranchesForm, otherwise, a_branch, HandlersForm, DeclarationForm, creates_pool, collects, declares, declares_record}
 use Rattle.ada_program.specs.Handling.{is_same}
 use Rattle.ada_program.specs.Freed.{statement_frees_own, statements_free_own}
 use Rattle.ada_program.specs.Typed.{pool_named}
 use Rattle.ada_program.specs.ProgramForm.{BodyForm}
 use Rattle.ada_effects.specs.Effects.{effects_of, stmt_raises, expression_raises, path_raises, condition_raises, right_raises, right_starts, right_frees, ending_frees}
-use Rattle.ada_flow.specs.Flow.{Holds, Outcome, hold_at, loses, finalizes, released, without_freed, uses_in_target, uses_in_start, initializes, ends_with, bounds_flow, gives, gives_seen, gets_path, frees_seen, leaves_path, clears, begins_pair, exit_of, declared_at, collected, gone_with, computed}
+use Rattle.ada_flow.specs.Flow.{Holds, Outcome, hold_at, loses, finalizes, released, without_freed, uses_in_target, uses_in_start, initializes, ends_with, bounds_flow, gives, gives_seen, gets_path, frees_seen, leaves_path, clears, begins_pair, exit_of, declared_at, collected, gone_with, computed, component_passes, passes_it, waits_for}
 use Rattle.ada_flow.specs.Tracking.{no_tracks}
 use Rattle.ada_meaning.specs.declared.state.Value.{Value}
 use Rattle.ada_meaning.specs.declared.state.Mode.TheVariants.{Raising, Exiting, Returning}
@@ -38,14 +39,16 @@ use Rattle.ada_sound.proofs.Copied.{record_there}
 use Rattle.ada_sound.proofs.Records.{has_place, record_fine}
 use Rattle.ada_sound.proofs.Wholes.{record_begins}
 use Rattle.ada_sound.proofs.RecordAssignments.{copy_begins}
-use Rattle.ada_sound.proofs.Invariant.{outers, Spares, owed_by, Known, Where, below, Control, Rooms, Roomed, Goes, To, Raised, Doing, Choosing, TurnsTo, condition_among, assignment_among, component_among, Counting, Elaborating, Handled, Outside, RunsOn, RunsAfter, RaisesAfter, behind_right, Deciding, TurningOn, ExitingTo, Computing, IsOne, Pairs, Takes, Working, Resumes, EvaluatesTo, Fine, ways}
+use Rattle.ada_sound.proofs.Invariant.{outers, Spares, owed_by, Known, Where, below, Control, Rooms, Roomed, Goes, To, Raised, Doing, Choosing, TurnsTo, condition_among, assignment_among, component_among, Counting, Elaborating, Handled, Outside, RunsOn, RunsAfter, RaisesAfter, behind_right, Deciding, TurningOn, ExitingTo, Computing, IsOne, NoneBroken, Pairs, StaysFound, Takes, Working, Resumes, EvaluatesTo, Fine, ways}
 use Rattle.ada_sound.proofs.Ready.{running, at_work, with_less, at_less, stays, lost_stored, ready_on, runs_on, jumps, jumps_less}
 use Rattle.ada_sound.proofs.Nestings.{Starting, starts, others_do, branch_does, chooses_from, repeats_from, turn_runs, counts_from, count_runs, exit_parts, encloses_from}
 use Rattle.ada_sound.proofs.Outcomes.{Down, return_goes, goes_map, to_before, raised_before, raised_less, then_goes, using_goes, computed_goes, initializes_after, loses_goes, before_lost}
 use Rattle.ada_sound.proofs.Raising.{or_left, or_right, same_here}
 use Rattle.ada_sound.proofs.Leavings.{all_among}
 use Rattle.ada_sound.proofs.Targets.{component_begins, get_begins, half_begins}
+use Rattle.ada_sound.proofs.Followings.{first_kept}
 use Rattle.ada_sound.proofs.Frees.{FreesTo, free_fine}
+use Rattle.ada_sound.proofs.Handings.{passed_safe}
 use Rattle.ada_sound.proofs.Releases.{free_begins}
 use Rattle.ada_sound.proofs.CallStatements.{MayCall, call_begins}
 use Rattle.ada_sound.proofs.CopiedOwners.{CopiesWell}
@@ -98,6 +101,26 @@ pairs_component c cs target (value_of path) fs k is =
 pairs_component c cs target (allocates access items) fs k is = tt
 pairs_component c cs target (allocates_default access) fs k is = tt
 pairs_component c cs target (computes e) fs k is = tt
+
+-- Flow sees to it that a component that gets a new object is found still, once that is initialized.
+abbrev pub StaysFoundAt : Known → (cs : List ℕ) → RightForm → PathForm → Type 0
+StaysFoundAt known [] right target = Unit {0}
+StaysFoundAt known (c ∷ cs) right target = StaysFound known right target
+
+stays_found : (known : Known) (holds : Holds) (cs : List ℕ) (target : PathForm) (right : RightForm) (to : VariableKind) → target.selectors ≡ cs
+    → path_kind known.program.types known.program.variables target ≡ Some to → NoneBroken holds (uses_in_start known.program.types known.program.variables no_tracks known.implicit target right)
+    → StaysFoundAt known cs right target
+stays_found known holds [] target right to is leads kept = tt
+stays_found known holds (c ∷ cs) target nothing to is leads kept = tt
+stays_found known holds (c ∷ cs) target (value_of path) to is leads kept = tt
+stays_found known holds (c ∷ cs) target (allocates access items) to is leads kept = tt
+stays_found known holds (c ∷ cs) target (allocates_default access) to is leads kept =
+    let may = known.implicit.start_frees access in
+    let unsafe = component_passes known.program.types known.program.variables may target in
+    let used : NoneBroken holds (waits_for known.program.types known.program.variables may target.selectors target) = kept in
+    let first = subst (λ (ds : List ℕ). NoneBroken holds (waits_for known.program.types known.program.variables may ds target)) is used in
+    ((passed_safe unsafe (hold_at holds target.root) target.spot (first_kept holds (passes_it unsafe target) [] first).0).0, to, leads)
+stays_found known holds (c ∷ cs) target (computes e) to is leads kept = tt
 
 -- Is a call next (6.4)?
 abbrev pub is_call : StmtForm → Bool
@@ -207,8 +230,8 @@ module _ (known : Known) where
       declarations_fine types (d ∷ ds) held fits w = declaration_fine types d ds held (and_parts _ _ fits).0 w
 
     -- Paths that are targets, or are freed.
-    assign_fine : (cs : List ℕ) (target : PathForm) (right : RightForm) (fs : StmtsForm) (k : Control) → target.selectors ≡ cs → (target.of_record ≡ true → is_object known.program.variables target.root ≡ true) → Working known s.heap a.places s.masters (λ rooms holds. Goes (gives_seen known.program.types known.program.variables no_tracks false (begins_pair (assigns target right) fs) cs target right holds) (RunsAfter known right (Does fs ∷ k) rooms) (RaisesAfter known right k rooms (component_among known (path_raises target) right))) → Fine known s.heap s.masters (assign_next named cs target.root right (running (Does fs ∷ k) a rest s))
-    assign_fine [] target right fs k is whole w =
+    assign_fine : (cs : List ℕ) (target : PathForm) (right : RightForm) (fs : StmtsForm) (k : Control) → target.selectors ≡ cs → (target.of_record ≡ true → is_object known.program.variables target.root ≡ true) → StaysFoundAt known cs right target → Working known s.heap a.places s.masters (λ rooms holds. Goes (gives_seen known.program.types known.program.variables no_tracks false (begins_pair (assigns target right) fs) cs target right holds) (RunsAfter known right (Does fs ∷ k) rooms) (RaisesAfter known right k rooms (component_among known (path_raises target) right))) → Fine known s.heap s.masters (assign_next named cs target.root right (running (Does fs ∷ k) a rest s))
+    assign_fine [] target right fs k is whole stays_found w =
         let out = ways known k w.rooms in
         let cleared = begins_pair (assigns target right) fs in
         let among = component_among known (path_raises target) right in
@@ -222,9 +245,9 @@ module _ (known : Known) where
           ),
           pairs_variable target right fs k is,
         ))))
-    assign_fine (c ∷ cs) target right fs k is whole w =
+    assign_fine (c ∷ cs) target right fs k is whole stays_found w =
         let cleared = begins_pair (assigns target right) fs in
-        component_begins known a rest s cleared c cs target right fs k is whole (at_work w (w.rest, pairs_component c cs target right fs k is))
+        component_begins known a rest s cleared c cs target right fs k is whole stays_found (at_work w (w.rest, pairs_component c cs target right fs k is))
 
     -- What flow says of a Free, in the midst of which operations may free objects: no alias of these is left behind it (7.6.1).
     frees_goes : (access : Option ℕ) (t : ℕ) (o : Outcome) (k : Control) (rooms : Rooms) (raised : Holds → Type 0) → access ≡ Some t → Spares known (known.implicit.end_frees t) → Down raised → Goes (finalizes known.program.variables known.implicit access o) (RunsOn known k rooms) raised → Goes o (To (FreesTo known t k rooms)) raised
@@ -358,6 +381,7 @@ module _ (known : Known) where
         let spares = w.rest.4 in
         let goes_on = initializes_after known right flow (Does fs ∷ k) w.rooms among (λ access is. subst (λ (r : RightForm). Spares known (λ t. right_frees known.implicit t r)) is spares) used.1 in
         assign_fine target.selectors target right fs k refl (root_object types variables target leads.0 leads.1)
+        (stays_found known w.holds target.selectors target right leads.0 refl leads.1 used.0)
         (at_work w goes_on)
     stmt_fine may defined reaches bodies copies inside here (assigns_record target items) calling fs k homes freely fits own w =
         assigned_fine (has_parts defined target.record_type) refl

@@ -208,7 +208,7 @@ module _ (known : Known) (copies : CopiesWell known.program.types) (may : â„• â†
         outcome_fine known k a rest s (older a.operands) (at_work r r.rest.1) (unary_raises operator) (named.unary operator operand) (unary_only operator operand) r.rest.0
     frame_fine (Fills items) calling bare inner t kept well freely low r = items_fine known k a rest s items t.1.0 t.1.1 r
     frame_fine (Copies first u) calling bare inner t kept well freely low r = copies_fine known types reaches k a rest s first u (first_or Null a.operands) (older a.operands) r
-    frame_fine (Creates access count) calling bare inner t kept well freely low r = creates_fine known k a rest s bare.0 types access count (words_of types access) t.0 t.1 t.2 r
+    frame_fine (Creates access count) calling bare inner t kept well freely low r = creates_fine known k a rest s types access count (words_of types access) t.0 t.1 t.2 r
     frame_fine (Stores x) calling bare inner t kept well freely low r = stores_fine known k a rest s kept.plain x (first_or Null a.operands) (older a.operands) r
     frame_fine (Targets c right) calling bare inner t kept well freely low r = found_fine c right a.operands t r
     frame_fine (StoresIn o c) calling bare inner t kept well freely low r = put_fine o c a.operands t r
@@ -216,7 +216,7 @@ module _ (known : Known) (copies : CopiesWell known.program.types) (may : â„• â†
     frame_fine (StoresRecord o first count) calling bare inner t kept well freely low r = store_record_fine known types reaches k a rest s o first count t.0 t.1 t.2 r
     frame_fine (Assigns u) calling bare inner t kept well freely low r = assigned_by u a.operands t r
     frame_fine (Receives c) calling bare inner t kept well freely low r = receive_fine known k a rest s (first_or Null a.operands) (older a.operands) c r
-    frame_fine (FreesIn access c) calling bare inner t kept well freely low r = free_in_fine known a rest s types access c k (older a.operands) may (homes_in kept well) freely (first_or Null a.operands) r
+    frame_fine (FreesIn access c) calling bare inner t kept well freely low r = free_in_fine known a rest s types access c k (older a.operands) may (homes_in kept well) freely bare.0 (first_or Null a.operands) r
     frame_fine (Declares x) calling bare inner t kept well freely low r = declares_fine known k a rest s kept.plain x (first_or Null a.operands) (older a.operands) r
     frame_fine (DeclaresRecord x u) calling bare inner t kept well freely low r = recorded_fine known k a rest s types reaches x u t.0 t.1 t.2 t.3 r
     frame_fine (Treats v treatment tasks) calling bare inner t kept well freely low r = absurd (cc inner)

@@ -33,7 +33,7 @@ use Rattle.ada_sound.proofs.Fits.{MayFollow, is_object, component_access, place_
 use Rattle.ada_sound.proofs.Stored.{Stored, exists_out, stored_filled}
 use Rattle.ada_sound.proofs.Alters.{alters_set}
 use Rattle.ada_sound.proofs.Begins.{root_follows}
-use Rattle.ada_sound.proofs.Invariant.{outers, behind_right, begun, along, Known, Control, Rooms, ReadyIn, Goes, Raised, RunsOn, RunsAfter, RaisesAfter, NoneBroken, MayRaise, RaisesAt, Pairs, IsOne, component_among, Doing, LeadsTo, FillsIn, Receiving, Working, Half, HalfBy, Resumes, Clearing, EvaluatesTo, TargetsTo, StoringIn, StoresOn, Accepts, IsFollowed, Stepped, Fine, front, final, ways}
+use Rattle.ada_sound.proofs.Invariant.{outers, behind_right, begun, along, Known, Control, Rooms, ReadyIn, Goes, Raised, RunsOn, RunsAfter, RaisesAfter, NoneBroken, MayRaise, RaisesAt, Pairs, IsOne, component_among, Doing, LeadsTo, FillsIn, StaysFound, Receiving, Working, Half, HalfBy, Resumes, Clearing, EvaluatesTo, TargetsTo, StoringIn, StoresOn, Accepts, IsFollowed, Stepped, Fine, front, final, ways}
 use Rattle.ada_sound.proofs.Objects.{set_here, set_other}
 use Rattle.ada_sound.proofs.Values.{same_or_not}
 use Rattle.ada_sound.proofs.Ready.{stores_ready, running, at_work, at_less, stays, runs_ready, resumes_ready, goes_ready, jumps_less}
@@ -90,14 +90,14 @@ module _ (known : Known) (a : Activation Value) (rest : List (Activation Value))
       (λ object. object_there target.root target.spot (rw is at (first_kept w.holds (reads_it target) [] kept).0) (whole object) w.fit) (rw is at may)
 
   -- An assignment to a component begins: its object is found first.
-  pub component_begins : (cleared : Bool) (c : ℕ) (cs : List ℕ) (target : PathForm) (right : RightForm) (fs : StmtsForm) (k : Control) → target.selectors ≡ c ∷ cs → (target.of_record ≡ true → is_object known.program.variables target.root ≡ true) → Working known s.heap a.places s.masters (λ rooms holds. Goes (gives_component known.program.types no_tracks cleared target right holds) (RunsAfter known right (Does fs ∷ k) rooms) (RaisesAfter known right k rooms (component_among known (path_raises target) right)) × Pairs cleared right (λ taken. IsOne taken.selectors) (Does fs ∷ k)) → Fine known s.heap s.masters (path_next named (before_last (inside (place_at a.places target.root) c) cs) (begun a.places target) (running (Targets (last_of (inside (place_at a.places target.root) c) cs) right ∷ Does fs ∷ k) a rest s))
-  component_begins cleared c cs target right fs k is whole w =
+  pub component_begins : (cleared : Bool) (c : ℕ) (cs : List ℕ) (target : PathForm) (right : RightForm) (fs : StmtsForm) (k : Control) → target.selectors ≡ c ∷ cs → (target.of_record ≡ true → is_object known.program.variables target.root ≡ true) → StaysFound known right target → Working known s.heap a.places s.masters (λ rooms holds. Goes (gives_component known.program.types no_tracks cleared target right holds) (RunsAfter known right (Does fs ∷ k) rooms) (RaisesAfter known right k rooms (component_among known (path_raises target) right)) × Pairs cleared right (λ taken. IsOne taken.selectors) (Does fs ∷ k)) → Fine known s.heap s.masters (path_next named (before_last (inside (place_at a.places target.root) c) cs) (begun a.places target) (running (Targets (last_of (inside (place_at a.places target.root) c) cs) right ∷ Does fs ∷ k) a rest s))
+  component_begins cleared c cs target right fs k is whole stays_found w =
       let among = component_among known (path_raises target) right in
       let g = target_goes known.program.types cleared target right w.holds (RunsAfter known right (Does fs ∷ k) w.rooms) (RaisesAfter known right k w.rooms among) w.rest.0 in
       finds_fine known a rest s a.operands (Targets (last_of (inside (place_at a.places target.root) c) cs) right ∷ Does fs ∷ k) (before_last (inside (place_at a.places target.root) c) cs) (begun a.places target)
       (at_work w (
         target_raises c cs target (Does fs ∷ k) is whole w g.0 (λ may. raised_before among (ways known k w.rooms) w.holds (behind_right known right w.holds) (behind_good known right w.holds) (g.2 may) ConstraintError (or_left (path_raises target || right_raises (is_same ConstraintError) right) (right_starts known.implicit (is_same ConstraintError) right) (or_left (path_raises target) (right_raises (is_same ConstraintError) right) may))),
-        (target, cleared, w.rest.0, w.rest.1, (ap (λ (ds : List ℕ). walk s.heap (begun a.places target) (front (selected named (place_at a.places target.root) ds))) is, ap (λ (ds : List ℕ). final (selected named (place_at a.places target.root) ds)) is)),
+        (target, cleared, w.rest.0, w.rest.1, (ap (λ (ds : List ℕ). walk s.heap (begun a.places target) (front (selected named (place_at a.places target.root) ds))) is, ap (λ (ds : List ℕ). final (selected named (place_at a.places target.root) ds)) is), stays_found),
       )) (target_follows c cs target is w g.0)
 
   -- So does a read into a component.

@@ -3,7 +3,7 @@
 -- waits for it.
 
 use Rattle.std.proofs.Common.{◌≡◌, ◌≢◌, ℕ, true, false, List, [], ◌∷◌, ◌++◌, ◌⊎◌, Option, drop, length, suc, take}
-use Rattle.std.specs.Prelude.{Bool, Some}
+use Rattle.std.specs.Prelude.{Bool, Some, None}
 use Rattle.std.specs.List.{slice_get, slice_set, list_any}
 use Rattle.ada_parts.specs.Task.{Task}
 use Rattle.ada_program.specs.declared.program.Exception.{Exception}
@@ -11,7 +11,7 @@ use Rattle.ada_quiet.specs.Bare.{has_bare_objects}
 use Rattle.ada_quiet.specs.InUse.{may_be_frugal}
 use Rattle.ada_program.specs.declared.program.Program.{Program}
 use Rattle.ada_program.specs.ProgramForm.{program_form, seen_in}
-use Rattle.ada_program.specs.WellFormed.{variable_kind, reached_components}
+use Rattle.ada_program.specs.WellFormed.{is_access, variable_kind, reached_components}
 use Rattle.ada_deeds.specs.Implicit.{implicit_of}
 use Rattle.ada_effects.specs.Effects.{Implicit, assignment_frees}
 use Rattle.ada_flow.specs.declared.rule.Hold.TheVariants as hold
@@ -22,7 +22,7 @@ use Rattle.ada_meaning.specs.declared.state.Id.{Id}
 use Rattle.ada_meaning.specs.declared.state.Mode.{Mode}
 use Rattle.ada_meaning.specs.declared.state.Place.{Place}
 use Rattle.ada_meaning.specs.declared.state.Value.{Value}
-use Rattle.ada_meaning.specs.declared.state.Value.TheVariants.{Names, Part, Null}
+use Rattle.ada_meaning.specs.declared.state.Value.TheVariants.{Names, Part, Null, Scalar}
 use Rattle.ada_meaning.specs.Finalization.{NothingTreated}
 use Rattle.ada_meaning.specs.Frame.{Treatment, begins, ends, Leaves, Ends, GivesBack, Clears, Resumes, StoresRecord, Copies}
 use Rattle.ada_meaning.specs.Heap.{Home}
@@ -33,7 +33,8 @@ use Rattle.ada_sound.proofs.Bodies.{IsBody}
 use Rattle.ada_sound.proofs.Callers.{Suspension, known_in, Stands, callers_of}
 use Rattle.ada_sound.proofs.Fits.{Fit, Outsiders, IsPlace, IsRelied, IsSaid, IsUnreferred, none_spared, outer_hold, outer_value, place_at, Reference, IsReferred}
 use Rattle.ada_sound.proofs.FrugalControl.{Frugally}
-use Rattle.ada_sound.proofs.Invariant.{body_among, Control, Rooms, Roomed, GoesTo, RoomFor, RunsOn, Known, IsNewest, Ready, Spares, StartsTo, Unaliased, below, innermost, outers, BeginsWell, CameOut, To, By, ways, IsAwaited, under_in, AssignsWell, IsCopied, LiesAmong, AdjustedBehind, IsCovered}
+use Rattle.ada_sound.proofs.Held.{FreeIf, holder_if}
+use Rattle.ada_sound.proofs.Invariant.{body_among, Control, Rooms, Roomed, GoesTo, MayAwait, RoomFor, RunsOn, Known, IsNewest, Ready, Spares, StartsTo, Unaliased, below, innermost, outers, BeginsWell, CameOut, To, By, ways, IsAwaited, under_in, AssignsWell, IsCopied, LiesAmong, AdjustedBehind, IsCovered}
 use Rattle.ada_sound.proofs.Operating.{WaitsFor, IsCalm, lets_out}
 use Rattle.ada_sound.proofs.Stored.{Stored}
 use Rattle.ada_sound.specs.Agreement.{running_procedure}
@@ -42,6 +43,7 @@ use Rattle.ada_finalized.specs.Law.{NothingBegins}
 use Rattle.ada_meaning.specs.declared.event.Cause.{Cause}
 use Rattle.ada_meaning.specs.Step.{first_or, operands_of}
 use Rattle.ada_owners.specs.Places.{access_at}
+use Rattle.ada_owners.specs.Reliance.{Owns}
 use Rattle.ada_program.specs.declared.program.ComponentKind.{ComponentKind}
 
 -- Neither a variable of the running activation nor one of a suspended one is relied on to name this object.
@@ -64,22 +66,31 @@ pub record Resting (known : Known) (object : Id) (home : Home) (places : List Va
   pub unreferred : IsUnreferred (outers known) object
   pub untreated : NothingTreated rest
 
--- What is behind the initialization of a record object that a declaration creates, whose variable owns it: what is left goes on, and where an exception comes
--- out, it does so without the variable.
-pub record Starting (known : Known) (object : Id) (access : ℕ) (places : List Value) (after : Control) (rooms : Rooms) (holds : Holds) : Type 0 where
+-- What is behind the initialization of a record object that a declaration creates, whose variable owns it, or it is held: what is left goes on, and where an exception
+-- comes out, it does so without the variable.
+pub record Starting (known : Known) (held : Bool) (object : Id) (access : ℕ) (places : List Value) (after : Control) (rooms : Rooms) (holds : Holds) : Type 0 where
   pub x : ℕ
+  pub owner : (held ≡ true) ⊎ (Owns (hold_at holds x) × (place_at places x ≡ Names object))
   pub runs : RunsOn known after rooms holds
   pub undone : StartsTo known access after rooms (slice_set holds x hold.Lost)
   pub well : BeginsWell known access holds
   pub nowhere : IsNamedNowhere (outers known) places (slice_set holds x hold.Lost) object
   pub unreferred : IsUnreferred (outers known) object
 
--- What is behind the initialization of an object that an allocator made: a variable gets its name, and then what is left goes on; where an exception comes out, it
--- does so without the object (4.8, 7.6). No component gets it, since none is of its type.
-pub record Naming (known : Known) (object : Id) (access : ℕ) (places operands : List Value) (after : Control) (rooms : Rooms) (holds : Holds) : Type 0 where
+-- The object whose component waits for the name of a new one is among those to which the activation that waits refers, so that it is there still behind the body.
+abbrev pub AwaitsAmong : Known → (also : List Reference) → (access : ℕ) → Value → (c : ℕ) → Type 0
+AwaitsAmong known also access Null c = ⊥
+AwaitsAmong known also access (Names o) c = (t : ℕ) × IsReferred also o t × MayAwait known access o c t
+AwaitsAmong known also access (Scalar v) c = ⊥
+AwaitsAmong known also access (Part o first) c = ⊥
+
+-- What is behind the initialization of an object that an allocator made: a variable or a component gets its name, and then what is left goes on; where an exception
+-- comes out, it does so without the object (4.8, 7.6). The object is held until then.
+pub record Naming (known : Known) (held : Bool) (object : Id) (access : ℕ) (places operands : List Value) (also : List Reference) (after : Control) (rooms : Rooms) (holds : Holds) : Type 0 where
+  pub is_held : held ≡ true
   pub named : first_or Null operands ≡ Names object
   pub room : RoomFor after rooms
-  pub to : GoesTo known access after rooms holds
+  pub to : GoesTo known (AwaitsAmong known also access) access after rooms holds
   pub undone : StartsTo known access after rooms holds
   pub well : BeginsWell known access holds
   pub nowhere : IsNamedNowhere (outers known) places holds object
@@ -148,24 +159,24 @@ pub record Overwrites (known : Known) (object : Id) (access : ℕ) (operands : L
   pub into : StoresInto known object access record_type stores rooms holds
   pub well : AssignsWell known record_type holds
 
--- What is behind a finalization, by its cause.
-abbrev pub RestsBy : Known → Cause → (object : Id) → (access : ℕ) → Home → (places operands : List Value) → (also : List Reference) → (after : Control) → (lower : List Master) → Rooms → Holds → Type 0
-RestsBy known (Leaving m item) object access home places operands also after lower rooms holds =
-    (also ≡ []) × RestsAtEnd known object access home places after lower rooms holds
-RestsBy known (Freeing number) object access home places operands also after lower rooms holds =
-    (also ≡ []) × RestsAtEnd known object access home places after lower rooms holds
-RestsBy known (Assigning number) object access home places operands also after lower rooms holds = Overwrites known object access operands also after rooms holds
-RestsBy known (Undoing number) object access home places operands also after lower rooms holds =
-    (also ≡ []) × RestsAtEnd known object access home places after lower rooms holds
+-- What is behind a finalization, by its cause: an object that ceases to exist then is held.
+abbrev pub RestsBy : Known → Cause → (held : Bool) → (object : Id) → (access : ℕ) → Home → (places operands : List Value) → (also : List Reference) → (after : Control) → (lower : List Master) → Rooms → Holds → Type 0
+RestsBy known (Leaving m item) held object access home places operands also after lower rooms holds =
+    (held ≡ true) × (also ≡ []) × RestsAtEnd known object access home places after lower rooms holds
+RestsBy known (Freeing number) held object access home places operands also after lower rooms holds =
+    (held ≡ true) × (also ≡ []) × RestsAtEnd known object access home places after lower rooms holds
+RestsBy known (Assigning number) held object access home places operands also after lower rooms holds = Overwrites known object access operands also after rooms holds
+RestsBy known (Undoing number) held object access home places operands also after lower rooms holds =
+    (held ≡ true) × (also ≡ []) × RestsAtEnd known object access home places after lower rooms holds
 
--- What is behind the body, by what it is called for; and to which other objects the activation that waits refers.
-abbrev pub Rests : Known → Treatment → (object : Id) → (access : ℕ) → Home → (places operands : List Value) → (also : List Reference) → (after : Control) → (lower : List Master) → Rooms → Holds → Type 0
-Rests known (begins by done) object access home places operands also after lower rooms holds =
-    (by ≡ Creation) × (also ≡ []) × (Starting known object access places after rooms holds ⊎ Naming known object access places operands after rooms holds)
-Rests known (ends cause) object access home places operands also after lower rooms holds = RestsBy known cause object access home places operands also after lower rooms holds
+-- What is behind the body, by what it is called for, which is held for it or not; and to which other objects the activation that waits refers.
+abbrev pub Rests : Known → Treatment → (held : Bool) → (object : Id) → (access : ℕ) → Home → (places operands : List Value) → (also : List Reference) → (after : Control) → (lower : List Master) → Rooms → Holds → Type 0
+Rests known (begins by done) held object access home places operands also after lower rooms holds =
+    (by ≡ Creation) × (((also ≡ []) × Starting known held object access places after rooms holds) ⊎ Naming known held object access places operands also after rooms holds)
+Rests known (ends cause) held object access home places operands also after lower rooms holds = RestsBy known cause held object access home places operands also after lower rooms holds
 
--- What is known of the activation that waits, whatever the body is called for: the object has controlled parts, or is a declared one, so that no component names it;
--- no other object begins behind it; and what each variable holds is as it is said of it.
+-- What is known of the activation that waits, whatever the body is called for: the object has controlled parts, or is a declared one; no other object begins
+-- behind it; and what each variable holds is as it is said of it.
 pub record Paused (known : Known) (object : Id) (access : ℕ) (places : List Value) (after : Control) (lower : List Master) (rooms : Rooms) (holds : Holds) : Type 0 where
   pub parted : has_bare_objects known.program.types access ≡ false
   pub untreated : (v : Value) → v ≢ Names object → NothingBegins v after
@@ -198,20 +209,24 @@ abbrev pub treated_frees : Implicit → Treatment → (access : ℕ) → (behind
 treated_frees implicit (begins by done) access k t = implicit.start_frees access t
 treated_frees implicit (ends cause) access k t = ended_frees implicit cause access k t
 
--- What is known where such a body is called: what waits for it, and what it may free, of which there is no alias.
+-- What is known where such a body is called: what waits for it, whether the object is held, which is in hand then, and what it may free, of which there is no alias.
+-- Of what has no controlled parts, which bodies free alone, that is no other object to which the activation that waits refers.
 pub record Enters (known : Known) (treatment : Treatment) (o : Id) (x : Object) (after : Control) (heap : List Object) (places operands : List Value) (masters : List Master) : Type 0 where
   pub rooms : Rooms
   pub holds : Holds
   pub also : List Reference
-  pub there : (p : Id) (t : ℕ) → IsReferred also p t → (access_at heap p ≡ Some t) × (has_bare_objects known.program.types t ≡ false)
+  pub there : (p : Id) (t : ℕ) → IsReferred also p t → access_at heap p ≡ Some t
   pub waits : Paused known o x.cell.access places after masters rooms holds
-  pub rests : Rests known treatment o x.cell.access x.cell.home places operands also after masters rooms holds
+  pub held : Bool
+  pub hand : FreeIf held (outers known) heap places holds x.cell.access o
+  pub rests : Rests known treatment held o x.cell.access x.cell.home places operands also after masters rooms holds
   pub fit : Fit known.program.types known.program.variables (outers known) none_spared heap places holds
   pub stored : Stored (under_way treatment o ++ (outers known).under) heap masters
   pub may : ℕ → Bool
   pub includes : (t : ℕ) → treated_frees known.implicit treatment x.cell.access after t ≡ true → may t ≡ true
   pub spares : Spares known may
   pub unaliased : Unaliased known.program.variables may holds
+  pub kept : (p : Id) (t : ℕ) → IsReferred also p t → may t ≡ true → is_access known.program.types t ≡ true → has_bare_objects known.program.types t ≡ true → ⊥
 
 -- The activation that waits for the body, whose formal parameter stands for a record in the object.
 abbrev pub resting : (procedure : Option ℕ) (places : List Value) (treatment : Treatment) (object : Id) (access : ℕ) (also : List Reference) (place : Place) (behind : Control) (lower : List Master) → Keeping → Rooms → Holds → Suspension
@@ -222,6 +237,7 @@ resting procedure places treatment object access also place behind lower kept ro
   references = [];
   referenced = record { object = object; access = access } ∷ also;
   under = under_way treatment object;
+  held = None;
   kept = kept;
   control = behind;
   masters = lower;
@@ -229,6 +245,11 @@ resting procedure places treatment object access also place behind lower kept ro
   places = places;
   before = holds;
 }
+
+-- So it is where the object is held, if it is, as if a variable owned it.
+abbrev pub holding : (held : Bool) (procedure : Option ℕ) (places : List Value) (treatment : Treatment) (object : Id) (access : ℕ) (also : List Reference) (place : Place) (behind : Control) (lower : List Master) → Keeping → Rooms → Holds → Suspension
+holding held procedure places treatment object access also place behind lower kept rooms holds =
+    record (resting procedure places treatment object access also place behind lower kept rooms holds) { held = holder_if held object access }
 
 -- The procedure that the outermost one of these calls was made by: the operation, where they are those that it has made.
 abbrev pub called_by : (running : Option ℕ) → (inner : List Suspension) → Option ℕ
@@ -273,17 +294,18 @@ pub record Touching (program : Program) (s : State) : Type 0 where
   pub also : List Reference
   pub operands : List Value
   pub computed : operands_of (drop (suc (length inner)) s.activations) ≡ operands
-  pub rests : Rests (known_in program procedure suspensions) treatment object access home places operands also after lower rooms holds
-  pub stands : Stands program (inner ++ resting procedure places treatment object access also place behind lower kept rooms holds ∷ suspensions) s
+  pub held : Bool
+  pub rests : Rests (known_in program procedure suspensions) treatment held object access home places operands also after lower rooms holds
+  pub stands : Stands program (inner ++ holding held procedure places treatment object access also place behind lower kept rooms holds ∷ suspensions) s
   pub calm : IsCalm (behind_call behind)
   pub settled : under_in (callers_of program suspensions) ≡ []
   pub may : may_be_frugal (program_form program) ≡ true
   pub lets : (e : Exception) → body_among (implicit_of (program_form program)) (seen_in (Some number) (program_form program)) e ≡ true → lets_out (implicit_of (program_form program)) access treatment e ≡ true
-  pub ready : Ready (known_in program (running_procedure s) (inner ++ resting procedure places treatment object access also place behind lower kept rooms holds ∷ suspensions)) s
+  pub ready : Ready (known_in program (running_procedure s) (inner ++ holding held procedure places treatment object access also place behind lower kept rooms holds ∷ suspensions)) s
 
 -- The activation that waits for the operation.
 abbrev pub origin : (program : Program) (s : State) → Touching program s → Suspension
-origin program s f = resting f.procedure f.places f.treatment f.object f.access f.also f.place f.behind f.lower f.kept f.rooms f.holds
+origin program s f = holding f.held f.procedure f.places f.treatment f.object f.access f.also f.place f.behind f.lower f.kept f.rooms f.holds
 
 -- The activations that wait for what runs, the nearest one first.
 abbrev pub waiting_for : (program : Program) (s : State) → Touching program s → List Suspension

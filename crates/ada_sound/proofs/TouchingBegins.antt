@@ -43,9 +43,10 @@ use Rattle.ada_sound.proofs.Bodies.{IsBody, seen_is}
 use Rattle.ada_sound.proofs.BodyRuns.{body_runs}
 use Rattle.ada_sound.proofs.Calls.{home_low, relied_says}
 use Rattle.ada_sound.proofs.Callers.{Suspension, caller_of, known_in, Stands, callers_of}
-use Rattle.ada_sound.proofs.Touching.{Enters, under_way, Touching, resting}
+use Rattle.ada_sound.proofs.Touching.{Enters, under_way, Touching, holding}
 use Rattle.ada_sound.proofs.Fits.{Fit, IsPlace, IsReferred, IsSaid, IsWithin, NoOuterAlias, none_spared, outer_access, outer_hold, place_at, IsRelied, there_by, Reference}
 use Rattle.ada_sound.proofs.FrugalControl.{frugal_starts}
+use Rattle.ada_sound.proofs.Held.{fit_held, held_borrows, held_lies, holder_if, with_held}
 use Rattle.ada_sound.proofs.Invariant.{Control, CoveredIn, Known, RunsOn, Spares, outer_of, outers, body_among, IsAwaited, under_in}
 use Rattle.ada_sound.proofs.Operating.{IsCalm, WaitsFor, behind_operation, lets_out}
 use Rattle.ada_sound.proofs.Orderings.{as_good}
@@ -107,7 +108,7 @@ module _ (program : Program) (well : IsWellFormed (program_form program)) (obeys
   own = seen_in (Some number) p
 
   abbrev waiting : Suspension
-  waiting = resting a.procedure a.places treatment o x.cell.access at.also place behind s.masters (body_keeps own.types (effects_of (implicit_of p) own) (keeping_of (implicit_of p) own) no_tracks (main_body own)) at.rooms at.holds
+  waiting = holding at.held a.procedure a.places treatment o x.cell.access at.also place behind s.masters (body_keeps own.types (effects_of (implicit_of p) own) (keeping_of (implicit_of p) own) no_tracks (main_body own)) at.rooms at.holds
 
   abbrev body : Known
   body = known_in program (Some number) (waiting ∷ gs)
@@ -136,11 +137,11 @@ module _ (program : Program) (well : IsWellFormed (program_form program)) (obeys
 
   refers : (p' : Id) (t : ℕ) → IsReferred (record { object = o; access = x.cell.access } ∷ at.also) p' t → access_at heap p' ≡ Some t
   refers p' t (inl (same, of)) = rw (← same, ← of) (rw (found, exists) refl)
-  refers p' t (inr other) = (at.there p' t other).0
+  refers p' t (inr other) = at.there p' t other
 
   begun_fit : Fit known.program.types b.variables (outers body) none_spared heap begins first
   begun_fit =
-      called_fit known.program.types (outers known) (outer_of (caller_of program waiting gs)) (Part o place ∷ []) (record { object = o; access = x.cell.access } ∷ at.also) (under_way treatment o) none_spared heap b.variables begins first at.holds at.fit
+      called_fit known.program.types (with_held (holder_if at.held o x.cell.access) (outers known)) (outer_of (caller_of program waiting gs)) (Part o place ∷ []) (record { object = o; access = x.cell.access } ∷ at.also) (under_way treatment o) none_spared heap b.variables begins first at.holds (fit_held at.held o x.cell.access at.hand at.fit)
       (as_good at.holds) (λ y own'. own') (λ i own'. absurd (none_own i own')) (λ i j own' other same. absurd (none_own i own')) right said objects refers
 
   body_fit : Fit own.types own.variables (outers body) none_spared heap begins first
@@ -162,9 +163,9 @@ module _ (program : Program) (well : IsWellFormed (program_form program)) (obeys
 
         by_depth : (d y : ℕ) → outer_access (slice_get (outers body).suspended d) y ≡ Some t → Borrows (outer_hold (slice_get (outers body).suspended d) y) → ⊥
         by_depth zero y of b' = at.unaliased y t of ends b'
-        by_depth (suc d) y of b' = (at.spares t ends).0.0 d y of b'
+        by_depth (suc d) y of b' = held_borrows at.held o x.cell.access (outers known).suspended t (at.spares t ends).0.0 d y of b'
 
-        -- What the body may free has no controlled parts, and what the treatment refers to does.
+        -- What the body may free has no controlled parts, and the object that is treated has some.
         bare : has_bare_objects known.program.types t ≡ true
         bare = subst (λ (types : List TypeForm). has_bare_objects types t ≡ true) (sym (same_types a.procedure p)) (frugal_frees_bare program well number b there frugal t may')
 
@@ -173,7 +174,7 @@ module _ (program : Program) (well : IsWellFormed (program_form program)) (obeys
         by_reference p' (inr is) access = by (referred_split at.also (outers known).referenced p' t is)
           where
             by : IsReferred at.also p' t ⊎ IsReferred (outers known).referenced p' t → ⊥
-            by (inl other) = let parted = (at.there p' t other).1 in cc (parted, bare)
+            by (inl other) = at.kept p' t other ends access bare
             by (inr outer) = (at.spares t ends).0.1 p' outer access
 
     spares : Spares body (body_frees own.types (effects_of (implicit_of p) own) (main_body own))
@@ -203,7 +204,7 @@ module _ (program : Program) (well : IsWellFormed (program_form program)) (obeys
 
     referred_low : (q : Id) (t : ℕ) → IsReferred (record { object = o; access = x.cell.access } ∷ at.also) q t → (object : Object) × (object_at heap q ≡ Some object) × (suc object.cell.home.item ≤ height s.masters)
     referred_low q t (inl (same, of)) = rw (← same) object_low
-    referred_low q t (inr other) = home_low heap s.masters q at.stored (there_by heap (Some t) q (at.there q t other).0)
+    referred_low q t (inr other) = home_low heap s.masters q at.stored (there_by heap (Some t) q (at.there q t other))
 
     under_low : (by : Treatment) (q : Id) → IsUnder (under_way by o) q → (object : Object) × (object_at heap q ≡ Some object) × (suc object.cell.home.item ≤ height s.masters)
     under_low (frame.begins by done) q none = absurd none
@@ -251,6 +252,7 @@ module _ (program : Program) (well : IsWellFormed (program_form program)) (obeys
           also = at.also;
           operands = a.operands;
           computed = refl;
+          held = at.held;
           rests = at.rests;
           calls = tt;
           stands = record {
@@ -260,7 +262,7 @@ module _ (program : Program) (well : IsWellFormed (program_form program)) (obeys
             standing = record {
               suspended = (refl, stands.standing.suspended);
               waiting = (inr (record { roomed = at.waits.roomed; covers = covers; operated = waited }), stands.standing.waiting);
-              low = (variables_low, referred_low, under_low treatment, still.standing.low);
+              low = (variables_low, referred_low, under_low treatment, still.standing.low, held_lies at.held o x.cell.access heap (height s.masters) object_low);
             };
           };
           calm = calm;

@@ -3,14 +3,13 @@
 
 use Rattle.ada_sound.proofs.Leavings.{owns_relied, borrows_relied, component_borrows}
 use Rattle.ada_meaning.specs.Heap.{Home}
-use Rattle.std.proofs.Common.{◌≡◌, ℕ, Bool, true, false, List, [], ◌∷◌, ◌++◌, refl, sym, ap, ◌∙◌, subst, inl, inr, slice_set, drop, length, suc}
+use Rattle.std.proofs.Common.{◌≡◌, ℕ, Bool, true, false, List, [], ◌∷◌, ◌++◌, refl, sym, ap, ◌∙◌, ◌⊎◌, subst, inl, inr, slice_set, drop, length, suc}
 use Rattle.std.specs.Prelude.{Option, Some, None}
 use Rattle.std.specs.List.{slice_get}
 use Rattle.ada_program.specs.declared.program.Exception.{Exception}
 use Rattle.ada_program.specs.declared.program.Program.{Program}
 use Rattle.ada_program.specs.ProgramForm.{TypeForm, program_form, body_forms, seen_in}
-use Rattle.ada_program.specs.WellFormed.{IsWellFormed, access_of, kind_among, reached_components}
-use Rattle.ada_quiet.specs.Bare.{has_bare_objects}
+use Rattle.ada_program.specs.WellFormed.{IsWellFormed}
 use Rattle.ada_deeds.specs.Implicit.{implicit_of}
 use Rattle.ada_flow.specs.Flow.{Holds, hold_at, variable_access}
 use Rattle.ada_meaning.specs.declared.event.Cause.{Cause}
@@ -24,54 +23,42 @@ use Rattle.ada_meaning.specs.declared.state.Mode.{Mode}
 use Rattle.ada_meaning.specs.declared.state.Mode.TheVariants.{Running, Raising, Exiting, Returning}
 use Rattle.ada_meaning.specs.declared.state.Stage.TheVariants.{Existing}
 use Rattle.ada_meaning.specs.declared.state.Value.{Value}
-use Rattle.ada_meaning.specs.declared.state.Value.TheVariants.{Names, Null}
+use Rattle.ada_meaning.specs.declared.state.Value.TheVariants.{Names, Null, Scalar, Part}
 use Rattle.ada_meaning.specs.Event.{Quiet}
 use Rattle.ada_parts.specs.Part as parts
 use Rattle.ada_meaning.specs.Frame.{Returns, Ends, ends, begins, Treatment, Stores, Declares, StoresIn, StoresRecord}
 use Rattle.ada_meaning.specs.Frame as frame
 use Rattle.ada_meaning.specs.State.{Activation, Master}
 use Rattle.ada_meaning.specs.Step.{moves, operands, places, mode_next, procedure_of, places_of, operands_of, older, first_or}
-use Rattle.ada_meaning.specs.Named.{Object, State, named, next}
+use Rattle.ada_meaning.specs.Named.{Object, State, named, next, store}
 use Rattle.ada_owners.specs.Places.{Place, variable, component, elsewhere, value_at, access_at}
-use Rattle.ada_owners.specs.Reliance.{Owns, Borrows, IsOf, component_kind}
+use Rattle.ada_owners.specs.Reliance.{Owns, Borrows}
 use Rattle.ada_owners.proofs.Ends.{IsUnnamed}
-use Rattle.ada_owners.proofs.Kernel as kernel
 use Rattle.ada_owners.proofs.Objects.{present_at}
 use Rattle.ada_sound.proofs.Activations.{returned_fit}
+use Rattle.ada_sound.proofs.Awaiting.{goes_along}
 use Rattle.ada_sound.proofs.Callers.{rest_of, Suspension, caller_of, known_in, Stands, AreOf, callers_of}
-use Rattle.ada_sound.proofs.BareObjects.{components_are_bare}
 use Rattle.ada_sound.proofs.Emptying.{null_again}
-use Rattle.ada_sound.proofs.Touching.{IsNamedNowhere, Touching, Empties, Resting, Rests, RestsAtEnd, Starting, Naming, under_way, Undoes, origin, called_by, Overwrites, RestsBy, StoresInto}
-use Rattle.ada_sound.proofs.Fits.{Fit, Hand, kinds_of, hold_in, is_object, stacked, none_spared, plain_place, put_owner, sparing, outer_hold, outer_value_at, spare_fit, weaker_fit, IsReferred, Reference}
-use Rattle.ada_sound.proofs.Invariant.{AllWait, Control, Known, Rooms, GoesOn, Working, Ending, EndsTo, ReadyIn, TreatsBy, innermost, outer_of, outers, IsLive, Beginning, StartsTo, BeginsWell, Ready, IsActive, AreSuspended, CopiesBehind, EndsBy, LiesIn, StoresBehind, FreesWell, IsCovered, Spares, Unaliased, GoesTo, HasRoom, IsMade, Making, NamesTo, RoomFor, To, RunsOn}
+use Rattle.ada_sound.proofs.Held.{fit_unheld, held_alone, holder_if, unnamed_hand, with_held}
+use Rattle.ada_sound.proofs.Touching.{AwaitsAmong, IsNamedNowhere, Touching, Empties, Resting, Rests, RestsAtEnd, Starting, Naming, under_way, Undoes, origin, called_by, Overwrites, RestsBy, StoresInto}
+use Rattle.ada_sound.proofs.Fits.{Fit, Hand, hold_in, place_at, is_object, stacked, none_spared, plain_place, put_owner, sparing, outer_hold, outer_value_at, spare_fit, weaker_fit, IsReferred, Reference, component_access, referred_first, store_owner}
+use Rattle.ada_sound.proofs.Invariant.{AllWait, Control, Known, Rooms, GoesOn, Working, Ending, EndsTo, ReadyIn, TreatsBy, innermost, outer_of, outers, IsLive, Beginning, StartsTo, BeginsWell, Ready, IsActive, AreSuspended, CopiesBehind, EndsBy, LiesIn, StoresBehind, FreesWell, IsCovered, Spares, Unaliased, AwaitsIn, GoesTo, HasRoom, IsHolder, IsMade, Making, NamesTo, RoomFor, To, RunsOn}
 use Rattle.ada_sound.proofs.Operating.{behind_operation, lets_out, WaitsFor}
 use Rattle.ada_sound.proofs.Waiting.{stands_behind}
 use Rattle.ada_sound.proofs.Returns.{CrossesTo, same_types}
 use Rattle.ada_sound.proofs.Stored.{Stored}
-use Rattle.ada_sound.proofs.Orderings.{AsGood, good_to_lost, as_good}
+use Rattle.ada_sound.proofs.Taken.{stored_after}
 use Rattle.ada_sound.proofs.Undone.{beginning_undone, making_undone}
 use Rattle.ada_sound.proofs.Alters.{Alters, alters_same}
 use Rattle.ada_sound.specs.Agreement.{running_procedure, IsBehind}
 use Rattle.ada_sound.proofs.Bodies.{IsBody}
 use Rattle.ada_sound.proofs.TouchingRests.{IsEnd}
 
--- No place names an object of a type of which no component is, as it has controlled parts, where no variable is relied on to name it.
-module _ (known : Known) (heap : List Object) (held : List Value) (holds : Holds) (spared : Id → Bool) (fit : Fit known.program.types known.program.variables (outers known) spared heap held holds) (bare : (holder c access : ℕ) → access_of (kind_among (reached_components known.program.types holder) c) ≡ Some access → has_bare_objects known.program.types access ≡ true) (o : Id) (access : ℕ) (there : access_at heap o ≡ Some access) (not_bare : has_bare_objects known.program.types access ≡ false) (nowhere : IsNamedNowhere (outers known) held holds o) where
-  of_no_component : (holder kind : Option ℕ) (c : ℕ) → component_kind (kinds_of known.program.types known.program.variables (outers known)) holder c ≡ kind → IsOf (access_at heap) kind o → ⊥
-  of_no_component None None c is of = of
-  of_no_component None (Some t) c is of = cc is
-  of_no_component (Some u) None c is of = of
-  of_no_component (Some u) (Some t) c is of =
-      let one = bare u c t is in
-      let same : t ≡ access = cc (of, there) in
-      let none : has_bare_objects known.program.types t ≡ false = rw same not_bare in
-      cc (one, none)
-
+-- No place names an object that no component owns, where no variable is relied on to name it.
+module _ (known : Known) (heap : List Object) (held : List Value) (holds : Holds) (spared : Id → Bool) (o : Id) (alone : (p : Id) (c : ℕ) → value_at heap (stacked held (outers known)) (component p c) ≡ Names o → ⊥) (nowhere : IsNamedNowhere (outers known) held holds o) where
   no_owner : (q : Place) → Owns (hold_in (outers known) spared holds q) → value_at heap (stacked held (outers known)) q ≡ Names o → ⊥
   no_owner (variable x) own names = nowhere.here x (owns_relied (hold_at holds x) own) names
-  no_owner (component p c) own names =
-      of_no_component (access_at heap p) (component_kind (kinds_of known.program.types known.program.variables (outers known)) (access_at heap p) c) c refl
-      (kernel.owned_at fit.owners.fit (component p c) own o names)
+  no_owner (component p c) own names = alone p c names
   no_owner (elsewhere d x) own names =
       nowhere.elsewhere d x (owns_relied (outer_hold (slice_get (outers known).suspended d) x) own) (sym (outer_value_at heap held (outers known) d x) ∙ names)
 
@@ -172,16 +159,25 @@ module _ (program : Program) (well : IsWellFormed (program_form program)) (s : S
   same_here : running.program.types ≡ own.program.types
   same_here = same_types (Some f.number) (program_form program) ∙ sym (same_types f.procedure (program_form program))
 
-  own_fit : Fit own.program.types own.program.variables (outers own) none_spared s.heap f.places f.holds
-  own_fit =
-      returned_fit (outer_of (caller_of program waiting f.suspensions)) running.program.variables (places s) works.holds (λ i. None) f.places f.holds own.program.types (outers own) waiting.passed waiting.referenced waiting.under none_spared s.heap
+  held_own_fit : Fit own.program.types own.program.variables (with_held (holder_if f.held f.object f.access) (outers own)) none_spared s.heap f.places f.holds
+  held_own_fit =
+      returned_fit (outer_of (caller_of program waiting f.suspensions)) running.program.variables (places s) works.holds (λ i. None) f.places f.holds own.program.types (with_held (holder_if f.held f.object f.access) (outers own)) waiting.passed waiting.referenced waiting.under none_spared s.heap
       (λ x. inr (inl (refl, refl))) (subst (λ (types : List TypeForm). Fit types running.program.variables (outers running) none_spared s.heap (places s) works.holds) same_here works.fit)
       f.waits.said f.waits.objects
 
-  own_bare : (holder c access : ℕ) → access_of (kind_among (reached_components own.program.types holder) c) ≡ Some access → has_bare_objects own.program.types access ≡ true
-  own_bare =
-      subst (λ (types : List TypeForm). (holder c access : ℕ) → access_of (kind_among (reached_components types holder) c) ≡ Some access → has_bare_objects types access ≡ true)
-      (sym (same_types f.procedure (program_form program))) (components_are_bare program well f.may)
+  own_fit : Fit own.program.types own.program.variables (outers own) none_spared s.heap f.places f.holds
+  own_fit = fit_unheld f.held f.object f.access held_own_fit
+
+  -- No component owns the object, where it is held, or a variable owns it.
+  abbrev IsAlone : Type 0
+  IsAlone = (p : Id) (c : ℕ) → value_at s.heap (stacked f.places (outers own)) (component p c) ≡ Names f.object → ⊥
+
+  held_is_alone : f.held ≡ true → IsAlone
+  held_is_alone is p c names = held_alone (outers own) f.held f.object f.access is held_own_fit p c names
+
+  owned_is_alone : (x : ℕ) → (f.held ≡ true) ⊎ (Owns (hold_at f.holds x) × (place_at f.places x ≡ Names f.object)) → IsAlone
+  owned_is_alone x (inl is) p c names = held_is_alone is p c names
+  owned_is_alone x (inr owner) p c names = let same = own_fit.owners.fit.apart (variable x) (component p c) f.object owner.0 tt owner.1 names in cc same
 
   there : access_at s.heap f.object ≡ Some f.access
   there = works.fit.referred f.object f.access (inl (refl, refl))
@@ -193,8 +189,8 @@ module _ (program : Program) (well : IsWellFormed (program_form program)) (s : S
       (works.stored.sane f.object f.x f.found).there_exists (rw same at present.there)
 
   -- No place names the object, where nothing is relied on to name it.
-  unnamed_by : (held : List Value) (holds : Holds) (spared : Id → Bool) → Fit own.program.types own.program.variables (outers own) spared s.heap held holds → IsNamedNowhere (outers own) held holds f.object → IsUnnamed s.heap (stacked held (outers own)) (hold_in (outers own) spared holds) f.object
-  unnamed_by held holds spared fit nowhere = unnamed_here own s.heap held holds spared fit own_bare f.object f.access there f.waits.parted nowhere
+  unnamed_by : (held : List Value) (holds : Holds) (spared : Id → Bool) → IsAlone → IsNamedNowhere (outers own) held holds f.object → IsUnnamed s.heap (stacked held (outers own)) (hold_in (outers own) spared holds) f.object
+  unnamed_by held holds spared alone nowhere = unnamed_here own s.heap held holds spared f.object alone nowhere
 
   own_stored : (treatment : Treatment) → f.treatment ≡ treatment → Stored (under_way treatment f.object ++ (outers own).under) s.heap f.lower
   own_stored treatment is = subst (λ (by : Treatment). Stored (under_way by f.object ++ (outers own).under) s.heap f.lower) is works.stored
@@ -206,8 +202,8 @@ module _ (program : Program) (well : IsWellFormed (program_form program)) (s : S
   end_stored (Undoing number) end is = own_stored (ends (Undoing number)) is
 
   -- The object is to cease to exist, and its words go back, before what is left of its master.
-  resting_ends : (cause : Cause) → IsEnd cause → f.treatment ≡ ends cause → (r : Resting own f.object f.home f.places f.after f.lower f.rooms f.holds) → Ending own f.object (frame.GivesBack (Names f.object) (Leaving r.master r.item) f.home.pool ∷ frame.Leaves r.mode ∷ r.rest) s.heap f.places f.lower
-  resting_ends cause end is r =
+  resting_ends : (cause : Cause) → IsEnd cause → f.treatment ≡ ends cause → f.held ≡ true → (r : Resting own f.object f.home f.places f.after f.lower f.rooms f.holds) → Ending own f.object (frame.GivesBack (Names f.object) (Leaving r.master r.item) f.home.pool ∷ frame.Leaves r.mode ∷ r.rest) s.heap f.places f.lower
+  resting_ends cause end is held r =
       let fit = spare_fit (sparing own.ahead s.heap (innermost f.lower)) own_fit in
       record {
         object = f.x;
@@ -227,7 +223,7 @@ module _ (program : Program) (well : IsWellFormed (program_form program)) (s : S
               holds = f.holds;
               roomed = f.waits.roomed;
               fit = fit;
-              aside = (unnamed_by f.places f.holds (sparing own.ahead s.heap (innermost f.lower)) fit r.nowhere, r.unreferred);
+              aside = (unnamed_by f.places f.holds (sparing own.ahead s.heap (innermost f.lower)) (held_is_alone held) r.nowhere, r.unreferred);
               rest = r.runs;
             },
           ),
@@ -235,8 +231,8 @@ module _ (program : Program) (well : IsWellFormed (program_form program)) (s : S
       }
 
   -- So it is, before the exception goes on that came out of its initialization.
-  undoing_ends : (cause : Cause) → IsEnd cause → f.treatment ≡ ends cause → (r : Undoes own f.object f.access f.home f.places f.after f.rooms f.holds) → Ending own f.object (frame.GivesBack (Names f.object) (Undoing r.number) f.home.pool ∷ frame.Resumes r.mode ∷ r.rest) s.heap f.places f.lower
-  undoing_ends cause end is r = record {
+  undoing_ends : (cause : Cause) → IsEnd cause → f.treatment ≡ ends cause → f.held ≡ true → (r : Undoes own f.object f.access f.home f.places f.after f.rooms f.holds) → Ending own f.object (frame.GivesBack (Names f.object) (Undoing r.number) f.home.pool ∷ frame.Resumes r.mode ∷ r.rest) s.heap f.places f.lower
+  undoing_ends cause end is held r = record {
     object = f.x;
     found = f.found;
     exists = exists_still;
@@ -255,7 +251,7 @@ module _ (program : Program) (well : IsWellFormed (program_form program)) (s : S
           holds = f.holds;
           roomed = f.waits.roomed;
           fit = own_fit;
-          aside = (unnamed_by f.places f.holds none_spared own_fit r.nowhere, r.unreferred);
+          aside = (unnamed_by f.places f.holds none_spared (held_is_alone held) r.nowhere, r.unreferred);
           rest = (r.runs, r.well);
         }),
       ),
@@ -263,8 +259,8 @@ module _ (program : Program) (well : IsWellFormed (program_form program)) (s : S
   }
 
   -- So it is, before the variable becomes null that is freed.
-  emptying_ends : (cause : Cause) → IsEnd cause → f.treatment ≡ ends cause → (r : Empties own f.object f.access f.home f.places f.after f.rooms f.holds) → Ending own f.object (frame.GivesBack (Names f.object) (Freeing r.number) f.home.pool ∷ frame.Clears r.x ∷ r.rest) s.heap f.places f.lower
-  emptying_ends cause end is r =
+  emptying_ends : (cause : Cause) → IsEnd cause → f.treatment ≡ ends cause → f.held ≡ true → (r : Empties own f.object f.access f.home f.places f.after f.rooms f.holds) → Ending own f.object (frame.GivesBack (Names f.object) (Freeing r.number) f.home.pool ∷ frame.Clears r.x ∷ r.rest) s.heap f.places f.lower
+  emptying_ends cause end is held r =
       let lost = subst (λ (holds : Holds). Fit own.program.types own.program.variables (outers own) none_spared s.heap f.places holds) r.lost own_fit in
       let fit = null_again r.x lost r.said r.fits in
       record {
@@ -282,7 +278,7 @@ module _ (program : Program) (well : IsWellFormed (program_form program)) (s : S
             holds = r.before;
             roomed = f.waits.roomed;
             fit = fit;
-            aside = (unnamed_by (slice_set f.places r.x Null) r.before none_spared fit r.nowhere, r.unreferred);
+            aside = (unnamed_by (slice_set f.places r.x Null) r.before none_spared (held_is_alone held) r.nowhere, r.unreferred);
             rest = (r.runs, frees_well r.before r.well);
           },
         );
@@ -295,9 +291,8 @@ module _ (program : Program) (well : IsWellFormed (program_form program)) (s : S
           subst (λ (t : ℕ). Spares own (own.implicit.end_frees t) × Unaliased own.program.variables (own.implicit.end_frees t) holds) of well
 
   -- Its initialization goes on, or what is left does.
-  beginning : (done : List parts.Part) → f.treatment ≡ begins Creation done → Starting own f.object f.access f.places f.after f.rooms f.holds → Beginning own (Names f.object) f.after s.heap f.places f.lower
+  beginning : (done : List parts.Part) → f.treatment ≡ begins Creation done → Starting own f.held f.object f.access f.places f.after f.rooms f.holds → Beginning own (Names f.object) f.after s.heap f.places f.lower
   beginning done is r =
-      let less : AsGood f.holds (slice_set f.holds r.x hold.Lost) = good_to_lost r.x f.holds f.holds (as_good f.holds) in
       record {
         o = f.object;
         object = f.x;
@@ -309,18 +304,18 @@ module _ (program : Program) (well : IsWellFormed (program_form program)) (s : S
         stored = own_stored (begins Creation done) is;
         roomed = f.waits.roomed;
         fit = own_fit;
-        aside = (unnamed_by f.places (slice_set f.holds r.x hold.Lost) none_spared (weaker_fit (slice_set f.holds r.x hold.Lost) less own_fit) r.nowhere, r.unreferred);
+        aside = (unnamed_by f.places (slice_set f.holds r.x hold.Lost) none_spared (owned_is_alone r.x r.owner) r.nowhere, r.unreferred);
         runs = r.runs;
         undone = subst (λ (t : ℕ). StartsTo own t f.after f.rooms (slice_set f.holds r.x hold.Lost)) (sym f.of_access) r.undone;
         well = subst (λ (t : ℕ). BeginsWell own t f.holds) (sym f.of_access) r.well;
       }
 
   -- The end of the object is next behind its finalization.
-  ends_next : (cause : Cause) → IsEnd cause → f.treatment ≡ ends cause → RestsAtEnd own f.object f.access f.home f.places f.after f.lower f.rooms f.holds
+  ends_next : (cause : Cause) → IsEnd cause → f.treatment ≡ ends cause → f.held ≡ true → RestsAtEnd own f.object f.access f.home f.places f.after f.lower f.rooms f.holds
       → EndsTo own (Names f.object) f.after s.heap f.places f.lower
-  ends_next cause end is (inl r) = ends_first own f.object f.after _ s.heap f.places f.lower r.is (resting_ends cause end is r)
-  ends_next cause end is (inr (inl r)) = ends_first own f.object f.after _ s.heap f.places f.lower r.is (undoing_ends cause end is r)
-  ends_next cause end is (inr (inr r)) = ends_first own f.object f.after _ s.heap f.places f.lower r.is (emptying_ends cause end is r)
+  ends_next cause end is held (inl r) = ends_first own f.object f.after _ s.heap f.places f.lower r.is (resting_ends cause end is held r)
+  ends_next cause end is held (inr (inl r)) = ends_first own f.object f.after _ s.heap f.places f.lower r.is (undoing_ends cause end is held r)
+  ends_next cause end is held (inr (inr r)) = ends_first own f.object f.after _ s.heap f.places f.lower r.is (emptying_ends cause end is held r)
 
   -- The copy is next, where a record in the object is assigned to.
   operands_are : f.operands ≡ b.operands
@@ -330,26 +325,25 @@ module _ (program : Program) (well : IsWellFormed (program_form program)) (s : S
       ∙ ap (λ (all : List (Activation Value)). operands_of (drop 1 all)) acts_so)
 
   -- The object is in hand, where nothing is relied on to name it.
-  in_hand : IsNamedNowhere (outers own) f.places f.holds f.object → Hand own.program.types own.program.variables (outers own) none_spared s.heap f.places f.holds (Some f.access) (Names f.object)
-  in_hand nowhere = record {
-    hand = record {
-      right = λ p e. let same : f.object ≡ p = name_is p e in rw (← same) there;
-      free = λ p e q owns names. let same : f.object ≡ p = name_is p e in unnamed.unowned q owns (rw (← same) at names);
-    };
-  }
-    where
-      unnamed : IsUnnamed s.heap (stacked f.places (outers own)) (hold_in (outers own) none_spared f.holds) f.object
-      unnamed = unnamed_by f.places f.holds none_spared own_fit nowhere
-
-      name_is : (p : Id) → Names f.object ≡ Names p → f.object ≡ p
-      name_is p e = cc e
+  in_hand : f.held ≡ true → IsNamedNowhere (outers own) f.places f.holds f.object → Hand own.program.types own.program.variables (outers own) none_spared s.heap f.places f.holds (Some f.access) (Names f.object)
+  in_hand held nowhere = unnamed_hand (outers own) s.heap f.object f.access there none_spared f.places f.holds (λ p. refl) (unnamed_by f.places f.holds none_spared (held_is_alone held) nowhere)
 
   -- The activation that goes on has the operands that it had.
   named_here : first_or Null f.operands ≡ Names f.object → first_or Null b.operands ≡ Names f.object
   named_here named = ap (first_or Null) (sym operands_are) ∙ named
 
+  -- Other objects to which the activation refers that goes on are there still; so is the one whose component waits for a name.
+  referred_still : (p : Id) (t : ℕ) → IsReferred f.also p t → access_at s.heap p ≡ Some t
+  referred_still p t is = works.fit.referred p t (inr (referred_first f.also (outers own).referenced p t is))
+
+  awaits_still : (v : Value) (c : ℕ) → AwaitsAmong own f.also f.access v c → AwaitsIn own s.heap f.access v c
+  awaits_still Null c awaits = absurd awaits
+  awaits_still (Names p) c (t, refers, may) = (t, referred_still p t refers, may)
+  awaits_still (Scalar n) c awaits = absurd awaits
+  awaits_still (Part p place) c awaits = absurd awaits
+
   -- The object is one that an allocator made: what gets its name goes on behind its initialization.
-  module _ (done : List parts.Part) (is : f.treatment ≡ begins Creation done) (r : Naming own f.object f.access f.places f.operands f.after f.rooms f.holds) where
+  module _ (done : List parts.Part) (is : f.treatment ≡ begins Creation done) (r : Naming own f.held f.object f.access f.places f.operands f.also f.after f.rooms f.holds) where
     making : Making own f.object f.access f.after s.heap f.places f.lower
     making = record {
       rooms = f.rooms;
@@ -357,9 +351,9 @@ module _ (program : Program) (well : IsWellFormed (program_form program)) (s : S
       stored = own_stored (begins Creation done) is;
       roomed = f.waits.roomed;
       fit = own_fit;
-      aside = (unnamed_by f.places f.holds none_spared own_fit r.nowhere, r.unreferred);
+      aside = (unnamed_by f.places f.holds none_spared (held_is_alone r.is_held) r.nowhere, r.unreferred);
       room = r.room;
-      to = r.to;
+      to = goes_along own (AwaitsAmong own f.also f.access) (AwaitsIn own s.heap f.access) awaits_still f.access f.after f.rooms f.holds r.to;
       undone = r.undone;
       well = r.well;
     }
@@ -381,15 +375,36 @@ module _ (program : Program) (well : IsWellFormed (program_form program)) (s : S
           holds = goes.0;
           stored = own_stored (begins Creation done) is;
           roomed = f.waits.roomed;
-          fit = weaker_fit goes.0 goes.1 (put_owner x (Names f.object) Whole (plain_place own.program.types (outers own).referenced own.program.variables f.places x (Names f.object) other tt) (rw access (in_hand r.nowhere)) own_fit);
+          fit = weaker_fit goes.0 goes.1 (put_owner x (Names f.object) Whole (plain_place own.program.types (outers own).referenced own.program.variables f.places x (Names f.object) other tt) (rw access (in_hand r.is_held r.nowhere)) own_fit);
           rest = goes.2;
         })
 
-    names_by : (k : Control) → RoomFor k f.rooms → GoesTo own f.access k f.rooms f.holds → NamesTo own k s.heap f.places b.operands f.lower
+    -- Or a component does.
+    stored_by : (v : Value) (c : ℕ) (k : Control) → AwaitsIn own s.heap f.access v c → To (RunsOn own k f.rooms) f.holds
+        → IsHolder s.heap v × Working own (store s.heap v c (first_or Null b.operands)) f.places f.lower (RunsOn own k)
+    stored_by Null c k awaits goes = absurd awaits
+    stored_by (Names h) c k (t, there', (accepts, spared)) goes =
+        let holder = present_at s.heap h t there' in
+        let of : component_access own.program.types holder.object c ≡ Some f.access = rw (holder.access) accepts in
+        let fit = store_owner h holder.object c (Names f.object) holder.found holder.there (rw of (in_hand r.is_held r.nowhere)) own_fit in (
+          (holder.object, holder.found, holder.there),
+          subst (λ (w : Value). Working own (store s.heap (Names h) c w) f.places f.lower (RunsOn own k)) (sym (named_here r.named)) (record {
+            rooms = f.rooms;
+            holds = goes.0;
+            stored = stored_after s.heap h c (Names f.object) (own_stored (begins Creation done) is);
+            roomed = f.waits.roomed;
+            fit = weaker_fit goes.0 goes.1 fit;
+            rest = goes.2;
+          }),
+        )
+    stored_by (Scalar n) c k awaits goes = absurd awaits
+    stored_by (Part h place) c k awaits goes = absurd awaits
+
+    names_by : (k : Control) → RoomFor k f.rooms → GoesTo own (AwaitsAmong own f.also f.access) f.access k f.rooms f.holds → NamesTo own k s.heap f.places b.operands f.lower
     names_by [] room to = absurd to
     names_by (Stores x ∷ k) room to = owned_by x (RunsOn own k) to.0.0 to.0.1 to.1
     names_by (Declares x ∷ k) room to = owned_by x (λ rooms holds. HasRoom rooms × RunsOn own k rooms holds) to.0.0 to.0.1 (to.1.0, to.1.1, (room, to.1.2))
-    names_by (StoresIn v c ∷ k) room to = absurd to
+    names_by (StoresIn v c ∷ k) room to = stored_by v c k (awaits_still v c to.0) to.1
     names_by (g ∷ k) room to = absurd to
 
     making_treats : TreatsBy own (Names f.object) (begins Creation done) f.tasks f.after s.heap f.places b.operands f.lower
@@ -424,21 +439,21 @@ module _ (program : Program) (well : IsWellFormed (program_form program)) (s : S
         },
       )
 
-  ends_by : (cause : Cause) → f.treatment ≡ ends cause → RestsBy own cause f.object f.access f.home f.places f.operands f.also f.after f.lower f.rooms f.holds → EndsBy own (Names f.object) cause f.after s.heap f.places b.operands f.lower
-  ends_by (Leaving m item) is (none_also, r) = ends_next (Leaving m item) tt is r
-  ends_by (Freeing number) is (none_also, r) = ends_next (Freeing number) tt is r
+  ends_by : (cause : Cause) → f.treatment ≡ ends cause → RestsBy own cause f.held f.object f.access f.home f.places f.operands f.also f.after f.lower f.rooms f.holds → EndsBy own (Names f.object) cause f.after s.heap f.places b.operands f.lower
+  ends_by (Leaving m item) is (held, none_also, r) = ends_next (Leaving m item) tt is held r
+  ends_by (Freeing number) is (held, none_also, r) = ends_next (Freeing number) tt is held r
   ends_by (Assigning number) is r = copies_next number is r
-  ends_by (Undoing number) is (none_also, r) = ends_next (Undoing number) tt is r
+  ends_by (Undoing number) is (held, none_also, r) = ends_next (Undoing number) tt is held r
 
-  treats_by : (treatment : Treatment) → f.treatment ≡ treatment → Rests own treatment f.object f.access f.home f.places f.operands f.also f.after f.lower f.rooms f.holds → TreatsBy own (Names f.object) treatment f.tasks f.after s.heap f.places b.operands f.lower
-  treats_by (begins Creation done) is (creation, none_also, inl r) =
+  treats_by : (treatment : Treatment) → f.treatment ≡ treatment → Rests own treatment f.held f.object f.access f.home f.places f.operands f.also f.after f.lower f.rooms f.holds → TreatsBy own (Names f.object) treatment f.tasks f.after s.heap f.places b.operands f.lower
+  treats_by (begins Creation done) is (creation, inl (none_also, r)) =
       let b = beginning done is r in (
         inl b,
         (own_stored (begins Creation done) is, λ e raises. beginning_undone own (Names f.object) f.after s.heap f.places f.lower b e raises),
       )
-  treats_by (begins Creation done) is (creation, none_also, inr r) = making_treats done is r
-  treats_by (begins Copy done) is (creation, none_also, r) = absurd (cc creation)
-  treats_by (begins (Adjustment number) done) is (creation, none_also, r) = absurd (cc creation)
+  treats_by (begins Creation done) is (creation, inr r) = making_treats done is r
+  treats_by (begins Copy done) is (creation, r) = absurd (cc creation)
+  treats_by (begins (Adjustment number) done) is (creation, r) = absurd (cc creation)
   treats_by (ends cause) is r = ends_by cause is r
 
   live : IsLive s.heap (Names f.object)

@@ -4,7 +4,7 @@
 use Rattle.std.proofs.Common.{◌≡◌, ℕ, Bool, true, false, List, [], ◌∷◌, ◌++◌, refl, sym, subst, ◌∙◌, ◌⊎◌, inl, inr, slice_set, None, ap, ◌≢◌}
 use Rattle.std.specs.Prelude.{Option, Some}
 use Rattle.std.specs.List.{slice_get}
-use Rattle.ada_program.specs.WellFormed.{access_of, kind_among, reached_components}
+use Rattle.ada_program.specs.WellFormed.{is_access}
 use Rattle.ada_quiet.specs.Bare.{has_bare_objects}
 use Rattle.ada_flow.specs.declared.rule.Hold.{Hold}
 use Rattle.ada_flow.specs.declared.rule.Hold.TheVariants as hold
@@ -18,7 +18,7 @@ use Rattle.ada_meaning.specs.declared.state.Value.{Value}
 use Rattle.ada_meaning.specs.declared.state.Value.TheVariants.{Names, Null, Part, Scalar}
 use Rattle.ada_meaning.specs.Finalization.{NothingTreated}
 use Rattle.ada_parts.specs.Part as parts
-use Rattle.ada_meaning.specs.Frame.{Clears, ClearsIn, Copies, Ends, GivesBack, Leaves, Resumes, ends, begins, StoresRecord}
+use Rattle.ada_meaning.specs.Frame.{Clears, ClearsIn, Copies, Ends, GivesBack, Leaves, Resumes, ends, begins, Stores, Declares, StoresIn, StoresRecord}
 use Rattle.ada_meaning.specs.Law.{items_of}
 use Rattle.ada_meaning.specs.State.{Owned, Item, Master}
 use Rattle.ada_meaning.specs.Named.{Object, object_at}
@@ -28,11 +28,12 @@ use Rattle.ada_owners.proofs.Ends.{IsUnnamed}
 use Rattle.ada_scopes.proofs.Homes.{OwnedFits, ItemsFit}
 use Rattle.ada_sound.proofs.Endings.{among_by}
 use Rattle.ada_sound.proofs.Emptying.{lost_fit, lost_unaliased, null_there}
-use Rattle.ada_sound.proofs.Touching.{IsNamedNowhere, Enters, Naming, Paused, Resting, RestsAtEnd, Starting, ended_object, RestsBy, StoresInto, ended_frees}
+use Rattle.ada_sound.proofs.Touching.{AwaitsAmong, IsNamedNowhere, Enters, Naming, Paused, Resting, RestsAtEnd, Starting, ended_object, RestsBy, StoresInto, ended_frees}
 use Rattle.ada_sound.proofs.FrugalUseEnds.{any_end}
+use Rattle.ada_sound.proofs.Held.{FreeIf, emptied_hand, lost_hand, owner_or_not, unnamed_hand}
 use Rattle.ada_effects.specs.Effects.{endings_free, Implicit, assignment_frees}
-use Rattle.ada_sound.proofs.Fits.{Fit, IsRelied, Outsiders, hold_in, none_spared, in_front, lies_nowhere, outer_hold, outer_value_at, respare, sparing, stacked, IsReferred, Reference}
-use Rattle.ada_sound.proofs.Invariant.{Behind, CopiesBehind, Control, Ending, EndingBy, EndsTo, Freed, IsCopied, IsNewest, Known, LeavesTo, Roomed, Rooms, RunsOn, ThenBack, TreatsBy, WillBeCovered, below, innermost, outers, Beginning, CameOut, ResumesTo, BeginsWell, To, By, ways, gone_in, LiesAmong, LiesIn, StoresBehind, ClearsTo, FreesWell, IsCovered, IsNamedIn, Making}
+use Rattle.ada_sound.proofs.Fits.{Fit, IsRelied, Outsiders, hold_in, none_spared, in_front, lies_nowhere, outer_hold, outer_value_at, respare, place_at, sparing, stacked, IsReferred, Reference}
+use Rattle.ada_sound.proofs.Invariant.{Behind, CopiesBehind, Control, Ending, EndingBy, EndsTo, Freed, IsCopied, IsNewest, Known, LeavesTo, Roomed, Rooms, RunsOn, ThenBack, TreatsBy, WillBeCovered, below, innermost, outers, Beginning, CameOut, ResumesTo, BeginsWell, To, By, ways, gone_in, LiesAmong, LiesIn, StoresBehind, ClearsTo, FreesWell, IsCovered, IsNamedIn, AwaitsIn, GoesTo, Making}
 use Rattle.ada_sound.proofs.Items.{Counted, HasItem, Houses, newest_is}
 use Rattle.ada_sound.proofs.Stored.{Stored, exists_out}
 use Rattle.ada_finalized.proofs.Standing.{nothing_begins, AdjustsAlone}
@@ -50,11 +51,11 @@ IsEnd (Assigning number) = ⊥
 IsEnd (Undoing number) = Unit {0}
 
 rests_at_end : (known : Known) (cause : Cause) → IsEnd cause → (o : Id) (access : ℕ) (home : Home) (places operands : List Value) (after : Control) (lower : List Master) (rooms : Rooms) (holds : Holds)
-    → RestsAtEnd known o access home places after lower rooms holds → RestsBy known cause o access home places operands [] after lower rooms holds
-rests_at_end known (Leaving m item) end o access home places operands after lower rooms holds r = (refl, r)
-rests_at_end known (Freeing number) end o access home places operands after lower rooms holds r = (refl, r)
+    → RestsAtEnd known o access home places after lower rooms holds → RestsBy known cause true o access home places operands [] after lower rooms holds
+rests_at_end known (Leaving m item) end o access home places operands after lower rooms holds r = (refl, refl, r)
+rests_at_end known (Freeing number) end o access home places operands after lower rooms holds r = (refl, refl, r)
 rests_at_end known (Assigning number) end o access home places operands after lower rooms holds r = absurd end
-rests_at_end known (Undoing number) end o access home places operands after lower rooms holds r = (refl, r)
+rests_at_end known (Undoing number) end o access home places operands after lower rooms holds r = (refl, refl, r)
 
 stored_at_end : (cause : Cause) → IsEnd cause → (o : Id) (under : List Id) (heap : List Object) (masters : List Master) → Stored (o ∷ under) heap masters → Stored (ended_object cause o ++ under) heap masters
 stored_at_end (Leaving m item) end o under heap masters stored = stored
@@ -108,10 +109,18 @@ module _ (known : Known) (under : List Id) (heap : List Object) (o : Id) (x : Ob
   among_gone below gone rooms roomed (i ∷ is) at newest =
       among_by i.owned x.cell.access x.cell.home.pool gone.types (newest_houses i is at newest) (rw at at (roomed.0)).0
 
-module _ (known : Known) (o : Id) (x : Object) (heap : List Object) (found : object_at heap o ≡ Some x) (places operands : List Value) (masters : List Master) (not_bare : has_bare_objects known.program.types x.cell.access ≡ false) (fits : ItemsFit known.program.types (items_of masters)) where
+module _ (known : Known) (o : Id) (x : Object) (heap : List Object) (found : object_at heap o ≡ Some x) (is_of : access_at heap o ≡ Some x.cell.access) (places operands : List Value) (masters : List Master) (not_bare : has_bare_objects known.program.types x.cell.access ≡ false) (fits : ItemsFit known.program.types (items_of masters)) where
   -- No other object is referred to.
-  none_others : (p : Id) (t : ℕ) → IsReferred [] p t → (access_at heap p ≡ Some t) × (has_bare_objects known.program.types t ≡ false)
+  none_others : (p : Id) (t : ℕ) → IsReferred [] p t → access_at heap p ≡ Some t
   none_others p t none = absurd none
+
+  none_kept : (may : ℕ → Bool) (p : Id) (t : ℕ) → IsReferred [] p t → may t ≡ true → is_access known.program.types t ≡ true → has_bare_objects known.program.types t ≡ true → ⊥
+  none_kept may p t none freed access bare = none
+
+  -- One is.
+  one_other : (source : Reference) → access_at heap source.object ≡ Some source.access → (p : Id) (t : ℕ) → IsReferred (source ∷ []) p t → access_at heap p ≡ Some t
+  one_other source there p t (inl (same, one)) = rw (← same, ← one) there
+  one_other source there p t (inr none) = absurd none
 
   -- The master is left: the home of the object is the newest item, and one for whose objects such an operation may be called.
   module _ (ahead : (owned : Owned) → Houses owned x.cell.access x.cell.home.pool → OwnedFits known.program.types owned → known.ahead owned ≡ true) (mode : Mode) (rest : Control) (master : ℕ) (newest : IsNewest x.cell.home.item (innermost masters)) (untreated : NothingTreated rest) (stored : Stored (o ∷ (outers known).under) heap masters) (out : x.out ≡ true) (r : Freed known (Some o) (sparing known.ahead heap (innermost masters)) heap places masters (RunsOn known (Leaves mode ∷ rest))) where
@@ -162,6 +171,8 @@ module _ (known : Known) (o : Id) (x : Object) (heap : List Object) (found : obj
       also = [];
       there = none_others;
       waits = paused_here;
+      held = true;
+      hand = unnamed_hand (outers known) heap o x.cell.access is_of (sparing known.ahead heap (innermost masters)) places r.holds (λ k. rw left (sym (lies_nowhere (object_at heap k)))) r.aside.0;
       rests = rests_at_end known cause end o x.cell.access x.cell.home places operands behind_it masters r.rooms r.holds (inl resting_here);
       fit = respare (sparing known.ahead heap (innermost masters)) none_spared (λ k c p e. rw left (lies_nowhere (object_at heap k))) r.fit;
       stored = stored_at_end cause end o (outers known).under heap masters stored;
@@ -169,15 +180,15 @@ module _ (known : Known) (o : Id) (x : Object) (heap : List Object) (found : obj
       includes = λ t is. any_end (λ u. known.implicit.end_frees u t) x.cell.access gone.types (among_by_rooms gone inner masters refl roomed) (frees_at_end known.implicit cause end x.cell.access behind_it t is);
       spares = runs.1.0;
       unaliased = runs.1.1;
+      kept = none_kept (endings_free known.implicit gone.types);
     }
 
     at_rest_here : (cause : Cause) → IsEnd cause → Enters known (ends cause) o x behind_it heap places operands masters
     at_rest_here cause end = by_rooms cause end r.rooms refl r.roomed r.rest
 
   -- In a program in which operations may touch storage, an object with controlled parts ends where its master is left, where a variable is freed that names it, and
-  -- where an exception comes out of its initialization: no component names it, and it does not count as gone already.
+  -- where an exception comes out of its initialization: no component is freed that names it, and it does not count as gone already.
   module _ (ahead : (owned : Owned) → Houses owned x.cell.access x.cell.home.pool → OwnedFits known.program.types owned → known.ahead owned ≡ true)
-      (bare : (holder c access : ℕ) → access_of (kind_among (reached_components known.program.types holder) c) ≡ Some access → has_bare_objects known.program.types access ≡ true)
       (touches : known.touches x.cell.access ≡ true)
       (starts : (access t : ℕ) → known.implicit.end_frees access t ≡ true → known.implicit.start_frees access t ≡ true) (way : Cause) (end : IsEnd way) where
     leaving : (m item : ℕ) (pool : Option ℕ) (k : Control) → item ≡ x.cell.home.item → pool ≡ x.cell.home.pool → IsNewest x.cell.home.item (innermost masters) → Stored (o ∷ (outers known).under) heap masters → x.out ≡ true → NothingTreated k → LeavesTo known (Some o) heap places masters k → Enters known (ends way) o x (Ends (Names o) ∷ GivesBack (Names o) (Leaving m item) pool ∷ k) heap places operands masters
@@ -200,6 +211,8 @@ module _ (known : Known) (o : Id) (x : Object) (heap : List Object) (found : obj
         said = r.fit.said;
         objects = r.fit.objects;
       };
+      held = true;
+      hand = unnamed_hand (outers known) heap o x.cell.access is_of none_spared places r.holds (λ k. refl) r.aside.0;
       rests = rests_at_end known way end o x.cell.access x.cell.home places operands (Ends (Names o) ∷ GivesBack (Names o) (Undoing number) x.cell.home.pool ∷ Resumes mode ∷ rest) masters r.rooms r.holds (inr (inl (record {
         number = number;
         mode = mode;
@@ -218,6 +231,7 @@ module _ (known : Known) (o : Id) (x : Object) (heap : List Object) (found : obj
       includes = λ t is. starts x.cell.access t (frees_at_end known.implicit way end x.cell.access (Ends (Names o) ∷ GivesBack (Names o) (Undoing number) x.cell.home.pool ∷ Resumes mode ∷ rest) t is);
       spares = r.rest.1.0;
       unaliased = r.rest.1.1;
+      kept = none_kept (known.implicit.start_frees x.cell.access);
     }
 
     undoing : (number : ℕ) (pool : Option ℕ) (k : Control) → pool ≡ x.cell.home.pool → NothingTreated k → Stored (o ∷ (outers known).under) heap masters → ResumesTo known (Some o) heap places masters k
@@ -255,6 +269,8 @@ module _ (known : Known) (o : Id) (x : Object) (heap : List Object) (found : obj
             said = fit.said;
             objects = fit.objects;
           };
+          held = true;
+          hand = emptied_hand (outers known) heap o x.cell.access is_of places r.holds y r.aside.0;
           rests = rests_at_end known way end o x.cell.access x.cell.home places operands (Ends (Names o) ∷ GivesBack (Names o) (Freeing number) x.cell.home.pool ∷ Clears y ∷ k) masters r.rooms (slice_set r.holds y hold.Lost) (inr (inr (record {
             number = number;
             x = y;
@@ -277,15 +293,16 @@ module _ (known : Known) (o : Id) (x : Object) (heap : List Object) (found : obj
           includes = λ t is. frees_at_end known.implicit way end x.cell.access (Ends (Names o) ∷ GivesBack (Names o) (Freeing number) x.cell.home.pool ∷ Clears y ∷ k) t is;
           spares = well.0;
           unaliased = lost_unaliased known.program.variables (known.implicit.end_frees x.cell.access) r.holds y well.1;
+          kept = none_kept (known.implicit.end_frees x.cell.access);
         }
 
-    -- No component names it.
+    -- No component is freed that names it.
     never_named : (v : Value) (c : ℕ) → IsNamedIn known heap v c (Some o) → ⊥
     never_named Null c r = r
-    never_named (Names p) c (holder, object, at, there, is) =
+    never_named (Names p) c (holder, object, at, there, is, never) =
         let one : object ≡ x = cc (there, found) in
-        let none : has_bare_objects known.program.types x.cell.access ≡ true = rw one at (bare holder.cell.access c object.cell.access is) in
-        cc (none, not_bare)
+        let untouched : known.touches x.cell.access ≡ false = rw one at never in
+        cc (untouched, touches)
     never_named (Scalar n) c r = r
     never_named (Part p place) c r = r
 
@@ -322,10 +339,9 @@ module _ (known : Known) (o : Id) (x : Object) (heap : List Object) (found : obj
 
   -- A record in the object is assigned to (5.2, 7.6): another record of its type lies in an object that has controlled parts, too.
   module _ (number : ℕ) (lies : (access t : ℕ) → IsCopied known t → LiesAmong known access t → has_bare_objects known.program.types access ≡ false) where
-    one_other : (source : Reference) → access_at heap source.object ≡ Some source.access → has_bare_objects known.program.types source.access ≡ false
-        → (p : Id) (t : ℕ) → IsReferred (source ∷ []) p t → (access_at heap p ≡ Some t) × (has_bare_objects known.program.types t ≡ false)
-    one_other source there of p t (inl (same, one)) = (rw (← same, ← one) there, rw (← one) of)
-    one_other source there of p t (inr none) = absurd none
+    one_parted : (source : Reference) → has_bare_objects known.program.types source.access ≡ false → (p : Id) (t : ℕ) → IsReferred (source ∷ []) p t → has_bare_objects known.program.types t ≡ true → ⊥
+    one_parted source of p t (inl (same, one)) bare = let parted : has_bare_objects known.program.types t ≡ false = rw (← one) of in cc (parted, bare)
+    one_parted source of p t (inr none) bare = none
 
     -- Where the copy goes.
     into_here : (t first count : ℕ) (k : Control) (rooms : Rooms) (holds : Holds) → StoresBehind known heap t (StoresRecord (Names o) first count ∷ k) rooms holds → StoresInto known o x.cell.access t (StoresRecord (Names o) first count ∷ k) rooms holds
@@ -363,7 +379,7 @@ module _ (known : Known) (o : Id) (x : Object) (heap : List Object) (found : obj
               rooms = w.rooms;
               holds = w.holds;
               also = source ∷ [];
-              there = one_other source there (lies y.cell.access t copied among);
+              there = one_other source there;
               waits = record {
                 parted = not_bare;
                 untreated = others;
@@ -371,6 +387,8 @@ module _ (known : Known) (o : Id) (x : Object) (heap : List Object) (found : obj
                 said = w.fit.said;
                 objects = w.fit.objects;
               };
+              held = false;
+              hand = tt;
               rests = record {
                 first = first;
                 record_type = t;
@@ -390,6 +408,7 @@ module _ (known : Known) (o : Id) (x : Object) (heap : List Object) (found : obj
               includes = λ access is. is;
               spares = w.rest.2.0;
               unaliased = w.rest.2.1;
+              kept = λ q of refers freed access bare. one_parted source (lies y.cell.access t copied among) q of refers bare;
             }
 
     pub assigns_by : (k : Control) → CopiesBehind known k heap places operands masters → ((first t : ℕ) (rest : Control) → k ≡ Copies first t ∷ rest → AdjustsAlone (Names o) rest)
@@ -399,15 +418,17 @@ module _ (known : Known) (o : Id) (x : Object) (heap : List Object) (found : obj
     assigns_by (f ∷ k) r alone = absurd r
 
   -- Where the initialization of the object begins, and what is behind it is known.
-  starts_here : (done : List parts.Part) (k : Control) → NothingTreated k → (rooms : Rooms) (holds : Holds) → Stored (outers known).under heap masters → Roomed (below known) masters rooms
+  starts_here : (held : Bool) (also : List Reference) → ((p : Id) (t : ℕ) → IsReferred also p t → (access_at heap p ≡ Some t) × ((known.implicit.start_frees x.cell.access t ≡ false) ⊎ IsReferred (outers known).referenced p t))
+      → (done : List parts.Part) (k : Control) → NothingTreated k → (rooms : Rooms) (holds : Holds) → Stored (outers known).under heap masters → Roomed (below known) masters rooms
       → Fit known.program.types known.program.variables (outers known) none_spared heap places holds → BeginsWell known x.cell.access holds
-      → Starting known o x.cell.access places k rooms holds ⊎ Naming known o x.cell.access places operands k rooms holds
+      → FreeIf held (outers known) heap places holds x.cell.access o
+      → ((also ≡ []) × Starting known held o x.cell.access places k rooms holds) ⊎ Naming known held o x.cell.access places operands also k rooms holds
       → Enters known (begins Creation done) o x k heap places operands masters
-  starts_here done k untreated rooms holds stored roomed fit well behind = record {
+  starts_here held also others done k untreated rooms holds stored roomed fit well hand behind = record {
     rooms = rooms;
     holds = holds;
-    also = [];
-    there = none_others;
+    also = also;
+    there = λ p t is. (others p t is).0;
     waits = record {
       parted = not_bare;
       untreated = λ v ne. nothing_begins v k untreated;
@@ -415,38 +436,79 @@ module _ (known : Known) (o : Id) (x : Object) (heap : List Object) (found : obj
       said = fit.said;
       objects = fit.objects;
     };
-    rests = (refl, refl, behind);
+    held = held;
+    hand = hand;
+    rests = (refl, behind);
     fit = fit;
     stored = stored;
     may = known.implicit.start_frees x.cell.access;
     includes = λ t is. is;
     spares = well.0;
     unaliased = well.1;
+    kept = λ p t is freed access bare. elim ((others p t is).1) [ inl static ↦ cc (static, freed) | inr refers ↦ (well.0 t freed).0.1 p refers access ];
   }
 
-  -- A record object is initialized that a declaration creates.
+  -- Nothing waits for a name but variables.
+  none_wait : (p : Id) (t : ℕ) → IsReferred [] p t → (access_at heap p ≡ Some t) × ((known.implicit.start_frees x.cell.access t ≡ false) ⊎ IsReferred (outers known).referenced p t)
+  none_wait p t none = absurd none
+
+  -- A record object is initialized that a declaration creates: it is held, unless its variable owns it.
   begins_here : (done : List parts.Part) (k : Control) → NothingTreated k → Beginning known (Names o) k heap places masters → Enters known (begins Creation done) o x k heap places operands masters
   begins_here done k untreated b =
       let same : b.o ≡ o = let is = b.is in cc is in
       let one : b.object ≡ x = let at = b.found in cc (rw same at at, found) in
       let aside = rw same at b.aside in
       let well : BeginsWell known x.cell.access b.holds = rw one at b.well in
-      starts_here done k untreated b.rooms b.holds b.stored b.roomed b.fit well (inl (record {
+      let starting : (held : Bool) → (held ≡ true) ⊎ (Owns (hold_at b.holds b.x) × (place_at places b.x ≡ Names o)) → Starting known held o x.cell.access places k b.rooms b.holds = λ held owner. record {
         x = b.x;
+        owner = owner;
         runs = b.runs;
         undone = rw one at b.undone;
         well = well;
         nowhere = named_nowhere (outers known) none_spared heap places (slice_set b.holds b.x hold.Lost) o aside.0;
         unreferred = aside.1;
-      }))
+      } in
+      elim (owner_or_not (hold_at b.holds b.x) (place_at places b.x) o) [
+        | inl owner ↦ starts_here false [] none_wait done k untreated b.rooms b.holds b.stored b.roomed b.fit well tt (inl (refl, starting false (inr owner)))
+        | inr none ↦ starts_here true [] none_wait done k untreated b.rooms b.holds b.stored b.roomed b.fit well (lost_hand (outers known) heap o x.cell.access is_of places b.holds b.x none aside.0) (inl (refl, starting true (inl refl)))
+      ]
 
-  -- An object is initialized that an allocator made, and a variable gets its name.
+  -- Where a component waits for the name of a new object, its object is referred to while that is initialized.
+  abbrev Waiting : Control → Rooms → Holds → Type 0
+  Waiting k rooms holds =
+      (also : List Reference)
+      × ((p : Id) (t : ℕ) → IsReferred also p t → (access_at heap p ≡ Some t) × ((known.implicit.start_frees x.cell.access t ≡ false) ⊎ IsReferred (outers known).referenced p t))
+      × GoesTo known (AwaitsAmong known also x.cell.access) x.cell.access k rooms holds
+
+  one_waits : (one : Reference) → access_at heap one.object ≡ Some one.access → (known.implicit.start_frees x.cell.access one.access ≡ false) ⊎ IsReferred (outers known).referenced one.object one.access
+      → (p : Id) (t : ℕ) → IsReferred (one ∷ []) p t → (access_at heap p ≡ Some t) × ((known.implicit.start_frees x.cell.access t ≡ false) ⊎ IsReferred (outers known).referenced p t)
+  one_waits one there spared p t (inl (same, of)) = rw (← same, ← of) (there, spared)
+  one_waits one there spared p t (inr none) = absurd none
+
+  waiting : (k : Control) (rooms : Rooms) (holds : Holds) → GoesTo known (AwaitsIn known heap x.cell.access) x.cell.access k rooms holds → Waiting k rooms holds
+  waiting [] rooms holds to = absurd to
+  waiting (Stores y ∷ k) rooms holds to = ([], none_wait, to)
+  waiting (Declares y ∷ k) rooms holds to = ([], none_wait, to)
+  waiting (StoresIn v c ∷ k) rooms holds to = by v to.0
+    where
+      by : (w : Value) → AwaitsIn known heap x.cell.access w c → Waiting (StoresIn w c ∷ k) rooms holds
+      by Null awaits = absurd awaits
+      by (Names h) (t, there, (accepts, spared)) =
+          let one : Reference = record { object = h; access = t } in
+          (one ∷ [], one_waits one there spared, ((t, inl (refl, refl), (accepts, spared)), to.1))
+      by (Scalar n) awaits = absurd awaits
+      by (Part h place) awaits = absurd awaits
+  waiting (f ∷ k) rooms holds to = absurd to
+
+  -- An object is initialized that an allocator made, and a variable or a component gets its name.
   made_here : (done : List parts.Part) (k : Control) → NothingTreated k → first_or Null operands ≡ Names o → Making known o x.cell.access k heap places masters → Enters known (begins Creation done) o x k heap places operands masters
   made_here done k untreated named m =
-      starts_here done k untreated m.rooms m.holds m.stored m.roomed m.fit m.well (inr (record {
+      let others = waiting k m.rooms m.holds m.to in
+      starts_here true others.0 others.1 done k untreated m.rooms m.holds m.stored m.roomed m.fit m.well (unnamed_hand (outers known) heap o x.cell.access is_of none_spared places m.holds (λ q. refl) m.aside.0) (inr (record {
+        is_held = refl;
         named = named;
         room = m.room;
-        to = m.to;
+        to = others.2;
         undone = m.undone;
         well = m.well;
         nowhere = named_nowhere (outers known) none_spared heap places m.holds o m.aside.0;

@@ -164,11 +164,11 @@ touching_unlisted program s reached f ends_next cause end is = go f.x.listed ref
     before_by (inr (inl undoes)) = rw (undoes.is) (refl, undoes.untreated)
     before_by (inr (inr empties)) = rw (empties.is) (refl, empties.untreated)
 
-    before_end : (by : Cause) → IsEnd by → RestsBy (known_in program f.procedure f.suspensions) by f.object f.access f.home f.places f.operands f.also f.after f.lower f.rooms f.holds → EndsObject
-    before_end (Leaving m item) e r = before_by r.1
-    before_end (Freeing number) e r = before_by r.1
+    before_end : (by : Cause) → IsEnd by → RestsBy (known_in program f.procedure f.suspensions) by f.held f.object f.access f.home f.places f.operands f.also f.after f.lower f.rooms f.holds → EndsObject
+    before_end (Leaving m item) e r = before_by r.2
+    before_end (Freeing number) e r = before_by r.2
     before_end (Assigning number) e r = absurd e
-    before_end (Undoing number) e r = before_by r.1
+    before_end (Undoing number) e r = before_by r.2
 
     before : EndsObject
     before = before_end cause end (rw is at f.rests)

@@ -11,7 +11,7 @@ use Rattle.ada_parts.specs.Task.{Task}
 use Rattle.ada_program.specs.declared.program.Program.{Program}
 use Rattle.ada_program.specs.Controlled.{operations_of}
 use Rattle.ada_program.specs.ProgramForm.{TypeForm, ProgramForm, program_form, body_forms, seen_by, seen_in}
-use Rattle.ada_program.specs.WellFormed.{access_of, finalization_of, is_access, kind_among, variable_kind, object_named, reached_components, IsWellFormed}
+use Rattle.ada_program.specs.WellFormed.{finalization_of, is_access, variable_kind, object_named, IsWellFormed}
 use Rattle.ada_quiet.specs.Bare.{has_bare_objects}
 use Rattle.ada_quiet.specs.Frugal.{is_frugal_body, thrift_of}
 use Rattle.ada_quiet.specs.InUse.{may_allocate_parts, may_be_frugal}
@@ -27,6 +27,7 @@ use Rattle.ada_meaning.specs.Law.{items_of}
 use Rattle.ada_meaning.specs.State.{Activation, Owned, declared, collection, record_object, storage_pool}
 use Rattle.ada_meaning.specs.Step.{operating}
 use Rattle.ada_meaning.specs.Named.{Object, State, object_at, named}
+use Rattle.ada_owners.specs.Places.{access_at}
 use Rattle.ada_meaning.specs.Run.{Event}
 use Rattle.ada_scopes.proofs.Components.{items_fit}
 use Rattle.ada_scopes.proofs.Homes.{ItemsFit, OwnedFits}
@@ -41,9 +42,9 @@ use Rattle.ada_sound.proofs.Touching.{Enters, Touching}
 use Rattle.ada_sound.proofs.Trackers.{touches_apart}
 use Rattle.ada_sound.proofs.TouchingBegins.{IsAlone, alone, touching_begins}
 use Rattle.ada_sound.proofs.TouchingRests.{IsEnd, assigns_by, at_start, ends_by}
-use Rattle.ada_sound.proofs.Fits.{IsWithin}
+use Rattle.ada_sound.proofs.Fits.{IsWithin, access_is}
 use Rattle.ada_sound.proofs.AssignedParts.{treated_frees_of, IsAssignedBehind}
-use Rattle.ada_sound.proofs.BareObjects.{allocated_is_bare, components_are_bare, holder_is_not_bare, operable_is_not_bare}
+use Rattle.ada_sound.proofs.BareObjects.{allocated_is_bare, holder_is_not_bare, operable_is_not_bare}
 use Rattle.ada_sound.proofs.QuietOperations.{LetsNone, MayTouch}
 use Rattle.ada_sound.proofs.Items.{Houses}
 use Rattle.ada_sound.proofs.FrugalUseEnds.{ends_in_starts}
@@ -125,7 +126,7 @@ module _ (program : Program) (a : Activation Value) (rest : List (Activation Val
         subst (λ (types : List TypeForm). ItemsFit types (items_of s.masters)) (sym (same_types a.procedure p)) (rw same at fits)
 
     -- What waits for it, by what is treated.
-    module _ (may : may_be_frugal p ≡ true) (o : Id) (x : Object) (heap : List Object) (named : v ≡ Names o) (found : object_at heap o ≡ Some x) (not_bare : has_bare_objects known.program.types x.cell.access ≡ false) where
+    module _ (may : may_be_frugal p ≡ true) (o : Id) (x : Object) (heap : List Object) (named : v ≡ Names o) (found : object_at heap o ≡ Some x) (is_of : access_at heap o ≡ Some x.cell.access) (not_bare : has_bare_objects known.program.types x.cell.access ≡ false) where
       -- The home of the object is an item for whose objects an operation may be called that touches storage.
       goes_ahead : (owned : Owned) → Houses owned x.cell.access x.cell.home.pool → OwnedFits known.program.types owned → known.ahead owned ≡ true
       goes_ahead (declared y) houses fits = absurd houses
@@ -145,30 +146,24 @@ module _ (program : Program) (a : Activation Value) (rest : List (Activation Val
           by true allocates = rw (allocates, parted) refl
           by false none = let bare = allocated_is_bare program sound.well may none t of_access in absurd (cc (bare, parted))
 
-      -- No component is of its type.
-      bare_components : (holder c access : ℕ) → access_of (kind_among (reached_components known.program.types holder) c) ≡ Some access → has_bare_objects known.program.types access ≡ true
-      bare_components =
-          subst (λ (types : List TypeForm). (holder c access : ℕ) → access_of (kind_among (reached_components types holder) c) ≡ Some access → has_bare_objects types access ≡ true)
-          (sym (same_types a.procedure p)) (components_are_bare program sound.well may)
-
       -- An operation may be called for it that touches storage.
       touches : known.touches x.cell.access ≡ true
       touches = let parted = not_bare in let bare : has_bare_objects p.types x.cell.access ≡ false = rw (same_types a.procedure p) at parted in rw (may, bare) refl
 
       ends_for : (cause : Cause) → IsEnd cause → ends cause ≡ treatment → EndsTo known (Names o) k heap a.places s.masters → Enters known (ends cause) o x k heap a.places a.operands s.masters
       ends_for cause end one treats =
-          ends_by known o x heap found a.places a.operands s.masters not_bare fits_here goes_ahead bare_components touches (ends_in_starts p) cause end k treats (ended_untreated cause one)
+          ends_by known o x heap found is_of a.places a.operands s.masters not_bare fits_here goes_ahead touches (ends_in_starts p) cause end k treats (ended_untreated cause one)
 
       enters : (by : Treatment) (left : List Task) → by ≡ treatment → MayTouch by → TreatsBy known (Names o) by left k heap a.places a.operands s.masters → Enters known by o x k heap a.places a.operands s.masters
       enters (begins Creation done) left one may' treats =
-          at_start known o x heap found a.places a.operands s.masters not_bare fits_here touches done left k treats
+          at_start known o x heap found is_of a.places a.operands s.masters not_bare fits_here touches done left k treats
           (untreated_start program sound.reached.0 sound.reached.1 whole still sound.reached.2 v Creation done tasks k (control_by (begins Creation done) one))
       enters (begins Copy done) left one may' treats = absurd may'
       enters (begins (Adjustment n) done) left one may' treats = absurd may'
       enters (ends (Leaving m item)) left one may' treats = ends_for (Leaving m item) tt one treats
       enters (ends (Freeing number)) left one may' treats = ends_for (Freeing number) tt one treats
       enters (ends (Assigning number)) left one may' treats =
-          assigns_by known o x heap found a.places a.operands s.masters not_bare fits_here number lies_parted k treats
+          assigns_by known o x heap found is_of a.places a.operands s.masters not_bare fits_here number lies_parted k treats
           (λ first t behind at. subst (λ (u : Value). AdjustsAlone u behind) named
           (adjusts_alone program sound.reached.0 sound.reached.1 whole still sound.reached.2 v (Assigning number) tasks first t behind
           (control_by (ends (Assigning number)) one ∙ ap (λ (j : Control). Treats v (ends (Assigning number)) tasks ∷ j) at)))
@@ -180,7 +175,7 @@ module _ (program : Program) (a : Activation Value) (rest : List (Activation Val
         let of_type : c.x.cell.access ≡ operated.0 = kept_type s.heap c.heap e c.o c.x operated.0 c.alters c.found operated.2 in
         let parted : has_bare_objects p.types c.x.cell.access ≡ false = rw of_type (operable_is_not_bare program sound.well operated.0 c.of operated.1 operated.3) in
         let at : Enters known c.treatment c.o c.x k c.heap a.places a.operands s.masters =
-        enters may c.o c.x c.heap c.operated.3 c.found (subst (λ (types : List TypeForm). has_bare_objects types c.x.cell.access ≡ false) (sym (same_types a.procedure p)) parted) c.treatment c.tasks c.operated.0 touches c.treats in
+        enters may c.o c.x c.heap c.operated.3 c.found (access_is c.heap c.o c.x c.found (live_there c.x.stage c.live)) (subst (λ (types : List TypeForm). has_bare_objects types c.x.cell.access ≡ false) (sym (same_types a.procedure p)) parted) c.treatment c.tasks c.operated.0 touches c.treats in
         let operation = operation_for program sound.well c.of c.number c.treatment touches c.called in
         let body : operation.body ≡ c.b = let found = operation.there in let there = c.there in cc (found, there) in
         let lone : IsAlone c.b = alone c.b operation.object (rw body at operation.formals) in

@@ -130,6 +130,7 @@ module _ (program : Program) (s : State) (f : Touching program s) where
           also = f.also;
           operands = f.operands;
           computed = computed;
+          held = f.held;
           rests = f.rests;
           stands = c.stands;
           calm = f.calm;

@@ -23,9 +23,9 @@ use Rattle.ada_program.specs.ProgramForm.{PartForm, TypeForm, record_of, access_
 use Rattle.ada_program.specs.WellFormed.{IsWellFormed, finalization_in, has_operations, have_operations, overrides_rightly, is_operation, callable_in, profile_of, is_inherited, variable_kind}
 use Rattle.ada_flow.specs.Flow.{is_owning_part, object_record, is_procedure, tracked_of, tracked_by_adjust, tracks_of}
 use Rattle.ada_flow.specs.Tracking.{no_tracks, tracks_behind, access_numbers, number_within}
-use Rattle.ada_quiet.specs.Apart.{is_this_one, is_adjust_of, is_tracker, body_calls_apart, overrides_apart, operations_apart, operations_stand_apart}
+use Rattle.ada_quiet.specs.Apart.{is_this_one, is_adjust_of, is_tracker, body_calls_apart, overrides_apart, operations_apart, stand_apart, operations_stand_apart}
 use Rattle.ada_quiet.specs.Idle.{makes_parts, copies_parts}
-use Rattle.ada_quiet.specs.InUse.{uses_adjust, allocates_no_parts, may_allocate_parts, may_be_frugal, uses_operations, operations_are_idle, operations_may_be_called, operations_are_in_use, is_copied_in_order, may_track, adjusts_nothing, operations_stand_in_order}
+use Rattle.ada_quiet.specs.InUse.{uses_adjust, allocates_no_parts, may_allocate_parts, may_be_frugal, names_no_parts, uses_operations, operations_are_idle, operations_may_be_called, operations_are_in_use, is_copied_in_order, may_track, adjusts_nothing, operations_stand_in_order}
 use Rattle.ada_quiet.specs.Quiet.{has_access, is_of_access, operation_body}
 use Rattle.ada_sound.proofs.OperationStarts.{apart}
 use Rattle.ada_sound.specs.Untracked.{AdjustsNoOwners}
@@ -71,7 +71,9 @@ module _ (p : ProgramForm) where
 
   -- Where components may be tracked, operations may be frugal, and the components of each record stand in order.
   frugal_and_order : may_track p ≡ true → (may_be_frugal p ≡ true) × (list_all (is_copied_in_order p.types) p.types ≡ true)
-  frugal_and_order may = apart (may_be_frugal p) (list_all (is_copied_in_order p.types) p.types) may
+  frugal_and_order may =
+      let two = apart (may_be_frugal p && names_no_parts p) (list_all (is_copied_in_order p.types) p.types) may in
+      ((apart (may_be_frugal p) (names_no_parts p) two.0).0, two.1)
 
   pub frugal_too : may_track p ≡ true → may_be_frugal p ≡ true
   frugal_too may = (frugal_and_order may).0
@@ -79,12 +81,17 @@ module _ (p : ProgramForm) where
   pub order_too : may_track p ≡ true → list_all (is_copied_in_order p.types) p.types ≡ true
   order_too may = (frugal_and_order may).1
 
+  -- And no component names an object with controlled parts.
+  pub names_none_too : may_track p ≡ true → names_no_parts p ≡ true
+  names_none_too may =
+      (apart (may_be_frugal p) (names_no_parts p) (apart (may_be_frugal p && names_no_parts p) (list_all (is_copied_in_order p.types) p.types) may).0).1
+
   -- Where operations may be frugal, they stand apart.
   pub apart_too : may_be_frugal p ≡ true → operations_stand_apart p ≡ true
   apart_too may = (apart (allocates_no_parts p || may_allocate_parts p) (operations_stand_apart p) may).1
 
-  pub stand_apart : may_track p ≡ true → operations_stand_apart p ≡ true
-  stand_apart may = apart_too (frugal_too may)
+  pub stands_apart : may_track p ≡ true → operations_stand_apart p ≡ true
+  stands_apart may = apart_too (frugal_too may)
 
   -- What tracks components stands apart, and the components of each record stand in order.
   abbrev pub TracksApart : Type 0
@@ -92,7 +99,7 @@ module _ (p : ProgramForm) where
 
   -- So it is where components may be tracked, and where operations are idle.
   pub tracks_apart : may_track p ≡ true → TracksApart
-  tracks_apart may = (stand_apart may, order_too may)
+  tracks_apart may = (stands_apart may, order_too may)
 
   idle_apart : operations_are_idle p ≡ true → TracksApart
   idle_apart idle = apart (operations_stand_apart p) (list_all (is_copied_in_order p.types) p.types) (apart (not (makes_parts p)) (operations_stand_in_order p) idle).1
@@ -121,8 +128,8 @@ module _ (p : ProgramForm) where
       by false never uses' = called_safely well uses'
 
   -- Where operations stand apart, no body calls what tracks.
-  pub calls_stand_apart : operations_stand_apart p ≡ true → (body_calls_apart p.types (is_tracker p) (main_body p) ≡ true) × (list_all (body_calls_apart p.types (is_tracker p)) p.bodies ≡ true)
-  calls_stand_apart stand = apart _ _ (apart (body_calls_apart p.types (is_tracker p) (main_body p) && list_all (body_calls_apart p.types (is_tracker p)) p.bodies) _ stand).0
+  pub calls_stand_apart : (alone : Bool) → stand_apart p alone ≡ true → (body_calls_apart p.types (is_tracker p) alone (main_body p) ≡ true) × (list_all (body_calls_apart p.types (is_tracker p) alone) p.bodies ≡ true)
+  calls_stand_apart alone stand = apart _ _ (apart (body_calls_apart p.types (is_tracker p) alone (main_body p) && list_all (body_calls_apart p.types (is_tracker p) alone) p.bodies) _ stand).0
 
   -- What does not track has a body that tracks nothing.
   none_number : (first : ℕ) (kind : PartKind) → is_of_access kind ≡ false → number_within first kind ≡ []
@@ -222,7 +229,7 @@ touches_apart program (inr tracks) of number treatment may called = by treatment
     plainly : ArePlainlyCalled (is_tracker (program_form program)) (operations_of program.types.items of)
     plainly =
         plainly_found (is_tracker (program_form program)) (λ t. is_number of (number_by (Some t))) program.types.items
-        (apart (body_calls_apart (program_form program).types (is_tracker (program_form program)) (main_body (program_form program)) && list_all (body_calls_apart (program_form program).types (is_tracker (program_form program))) (program_form program).bodies) _
+        (apart (body_calls_apart (program_form program).types (is_tracker (program_form program)) false (main_body (program_form program)) && list_all (body_calls_apart (program_form program).types (is_tracker (program_form program)) false) (program_form program).bodies) _
         tracks.0).1
 
     by : (treatment' : Treatment) → MayTouch treatment' → IsCalled (operations_of program.types.items of) treatment' number → is_tracker (program_form program) number ≡ false

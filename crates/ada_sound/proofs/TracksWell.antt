@@ -12,12 +12,12 @@ use Rattle.ada_program.specs.WellFormed.{IsWellFormed}
 use Rattle.std.proofs.lemmas.Bool.{and_parts}
 use Rattle.ada_meaning.specs.Frame.{Calls, Evaluates}
 use Rattle.ada_meaning.specs.Named.{State}
-use Rattle.ada_quiet.specs.Apart.{is_bare_item, is_tracker, operations_stand_apart}
-use Rattle.ada_quiet.specs.Bare.{has_bare_objects}
-use Rattle.ada_quiet.specs.InUse.{may_be_frugal, is_copied_in_order}
+use Rattle.ada_quiet.specs.Apart.{is_bare_item, is_tracker, stand_apart, operations_stand_apart, parts_stand_alone}
+use Rattle.ada_quiet.specs.Bare.{collections_in_order, has_bare_objects}
+use Rattle.ada_quiet.specs.InUse.{may_allocate_parts, may_be_frugal, is_copied_in_order}
 use Rattle.ada_sound.proofs.Callers.{Suspension, known_in}
 use Rattle.ada_sound.proofs.CallsApart.{CallApart}
-use Rattle.ada_sound.proofs.CallsApartRuns.{no_record_allocated, no_tracker_called}
+use Rattle.ada_sound.proofs.CallsApartRuns.{components_bare, no_record_allocated, no_tracker_called}
 use Rattle.ada_sound.proofs.CopiedOwners.{CopiesWell}
 use Rattle.ada_sound.proofs.Gathered.{AllocatesApart, AllocatesBare, allocates_bare}
 use Rattle.ada_sound.proofs.Invariant.{Control}
@@ -26,7 +26,8 @@ use Rattle.ada_sound.proofs.CoveredOwners.{covered_there}
 use Rattle.ada_sound.proofs.SeenOwners.{copies_well}
 use Rattle.ada_sound.proofs.Returns.{same_types}
 use Rattle.ada_sound.proofs.Sees.{copies_in, allocates_in}
-use Rattle.ada_sound.proofs.BareObjects.{components_untouched}
+use Rattle.ada_sound.proofs.BareObjects.{allocated_is_bare}
+use Rattle.ada_sound.proofs.FrugalFrees.{accepted_access}
 use Rattle.ada_sound.proofs.Touched.{ComponentsUntouched, touches_in}
 use Rattle.ada_sound.proofs.Trackers.{TracksApart, TracksSafely, apart_too, nothing_adjusts}
 
@@ -53,18 +54,40 @@ copies_at program procedure gs well (inr stand) = subst CopiesWell (sym (same_ty
 
 -- Where operations stand apart, what is left to do calls nothing that tracks, and no allocator in it makes an object with controlled parts from items, or copies a
 -- record with some.
-abbrev pub StaysApart : ProgramForm → Control → Type 0
-StaysApart p k = operations_stand_apart p ≡ true → CallApart p.types (is_tracker p) k
+abbrev pub CallsApartIn : ProgramForm → Control → Type 0
+CallsApartIn p k = operations_stand_apart p ≡ true → CallApart p.types (is_tracker p) false k
 
--- So no record with controlled parts is among the items of an allocator that is evaluated next, and its object has none.
-bare_next : (p : ProgramForm) (s : State) → operations_stand_apart p ≡ true → StaysApart p s.control → (access : ℕ) (items : List ItemForm) (behind : Control)
+-- So it is, and where objects with controlled parts are freed by variables alone, it frees none by a component.
+abbrev pub StaysApart : ProgramForm → Control → Type 0
+StaysApart p k = (alone : Bool) → stand_apart p alone ≡ true → CallApart p.types (is_tracker p) alone k
+
+-- So what is freed next by a component is no object for which an operation is called that touches storage: none of these may be allocated, or they are freed by
+-- variables alone.
+pub components_untouched : (program : Program) → IsWellFormed (program_form program) → (k : Control) → StaysApart (program_form program) k
+    → ComponentsUntouched (program_form program).types (touches_in (program_form program)) k
+components_untouched program well k apart' holder c access is goes = by (may_be_frugal p) refl
+  where
+    p : ProgramForm
+    p = program_form program
+
+    bare : may_be_frugal p ≡ true → (parts : Bool) → may_allocate_parts p ≡ parts → has_bare_objects p.types access ≡ true
+    bare may true parts =
+        components_bare p.types (is_tracker p) access k goes (apart' true (and_parts (collections_in_order p) (parts_stand_alone p) parts).1)
+    bare may false none = allocated_is_bare program well may none access (accepted_access p.types well.types_fit holder c access is)
+
+    by : (may : Bool) → may_be_frugal p ≡ may → (may && not (has_bare_objects p.types access)) ≡ false
+    by false never = refl
+    by true may = rw (bare may (may_allocate_parts p) refl) refl
+
+-- No record with controlled parts is among the items of an allocator that is evaluated next, and its object has none.
+bare_next : (p : ProgramForm) (s : State) → operations_stand_apart p ≡ true → CallsApartIn p s.control → (access : ℕ) (items : List ItemForm) (behind : Control)
     → s.control ≡ Evaluates (allocates access items) ∷ behind → (has_bare_objects p.types access ≡ true) × (list_all (is_bare_item p.types) items ≡ true)
 bare_next p s stand apart' access items behind is =
     and_parts (has_bare_objects p.types access) (list_all (is_bare_item p.types) items)
-    (no_record_allocated p.types (is_tracker p) s (allocates access items) behind is (apart' stand))
+    (no_record_allocated p.types (is_tracker p) false s (allocates access items) behind is (apart' stand))
 
 -- So no operation is called for that object that touches storage.
-pub makes_apart : (p : ProgramForm) (s : State) → StaysApart p s.control → AllocatesApart (touches_in p) s.control
+pub makes_apart : (p : ProgramForm) (s : State) → CallsApartIn p s.control → AllocatesApart (touches_in p) s.control
 makes_apart p s apart' access items behind is = by (may_be_frugal p) refl
   where
     by : (may : Bool) → may_be_frugal p ≡ may → (may && not (has_bare_objects p.types access)) ≡ false
@@ -74,9 +97,9 @@ makes_apart p s apart' access items behind is = by (may_be_frugal p) refl
 -- And the records among those items own nothing.
 pub tracked_bare :
     (program : Program) → IsWellFormed (program_form program) → TracksApart (program_form program)
-    → ComponentsUntouched (program_form program).types (touches_in (program_form program)) → (s : State) → StaysApart (program_form program) s.control
+    → (s : State) → ComponentsUntouched (program_form program).types (touches_in (program_form program)) s.control → CallsApartIn (program_form program) s.control
     → AllocatesBare (program_form program).types (touches_in (program_form program)) s.control
-tracked_bare program well stand untouched s apart' =
+tracked_bare program well stand s untouched apart' =
     let p = program_form program in
     allocates_bare p.types (tracked_well program well stand.1) s.control
     (λ access items behind is. (bare_next p s stand.0 apart' access items behind is).1) untouched (makes_apart p s apart')
@@ -85,10 +108,10 @@ tracked_bare program well stand untouched s apart' =
 pub allocates_at : (program : Program) (procedure : Option ℕ) (gs : List Suspension) (s : State) → IsWellFormed (program_form program) → TracksSafely (program_form program) → StaysApart (program_form program) s.control
     → AllocatesBare (known_in program procedure gs).program.types (known_in program procedure gs).touches s.control
 allocates_at program procedure gs s well (inl none) apart' =
-    allocates_in program procedure gs s.control (nothing_adjusts (program_form program) none) (components_untouched program well) (makes_apart (program_form program) s apart')
+    allocates_in program procedure gs s.control (nothing_adjusts (program_form program) none) (components_untouched program well s.control apart') (makes_apart (program_form program) s (apart' false))
 allocates_at program procedure gs s well (inr stand) apart' =
     let p = program_form program in
-    subst (λ (types : List TypeForm). AllocatesBare types (touches_in p) s.control) (sym (same_types procedure p)) (tracked_bare program well stand (components_untouched program well) s apart')
+    subst (λ (types : List TypeForm). AllocatesBare types (touches_in p) s.control) (sym (same_types procedure p)) (tracked_bare program well stand s (components_untouched program well s.control apart') (apart' false))
 
 -- What is called next tracks nothing.
 pub called_apart : (program : Program) (s : State) (number : ℕ) (b : BodyForm) (actuals : List ActualForm) (k : Control) → s.control ≡ Calls number b actuals ∷ k → TracksSafely (program_form program)
@@ -96,4 +119,4 @@ pub called_apart : (program : Program) (s : State) (number : ℕ) (b : BodyForm)
 called_apart program s number b actuals k is (inl none) apart' = none number
 called_apart program s number b actuals k is (inr stand) apart' =
     let p = program_form program in
-    no_tracker_called p.types (is_tracker p) s number b actuals k is (apart' stand.0)
+    no_tracker_called p.types (is_tracker p) false s number b actuals k is (apart' false stand.0)

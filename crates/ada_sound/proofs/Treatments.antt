@@ -179,14 +179,14 @@ module _ (change : PartState → PartState) (part : ℕ) where
 
     begins_set : (v : Value) (places : List Value) (k : Control) → v ≡ Names o → Beginning known v k heap places ms → Beginning known v k (slice_set heap o.0 (treated change part x)) places ms
     begins_set v places k is b =
-        beginning_set known heap places ms o x (treated change part x) found refl (stored_treated change part o x found) (λ holds f. treated_fit change part o x found f)
+        beginning_set known heap places ms o x (treated change part x) found refl refl (stored_treated change part o x found) (λ holds f. treated_fit change part o x found f)
         (λ holds aside. (same_unnamed heap o x found o aside.0 (treated change part x) refl (λ c. refl), aside.1)) v k is b
 
     begun_set : (v : Value) (places operands : List Value) (k : Control) → v ≡ Names o → BegunTo known v k heap places operands ms → BegunTo known v k (slice_set heap o.0 (treated change part x)) places operands ms
     begun_set v places operands k is (inl b) = inl (begins_set v places k is b)
     begun_set v places operands k is (inr r) = inr (
       r.0,
-      made_set known heap places ms o x (treated change part x) found refl (stored_treated change part o x found) (λ holds f. treated_fit change part o x found f)
+      made_set known heap places ms o x (treated change part x) found refl refl (stored_treated change part o x found) (λ holds f. treated_fit change part o x found f)
           (λ holds aside. (same_unnamed heap o x found o aside.0 (treated change part x) refl (λ c. refl), aside.1)) v k is r.1,
       names_set places operands k r.2,
     )

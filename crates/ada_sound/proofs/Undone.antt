@@ -27,9 +27,11 @@ use Rattle.ada_meaning.specs.Named.{Object, State, object_at, look, named, on_ob
 use Rattle.ada_owners.specs.Reliance.{Borrows}
 use Rattle.ada_sound.proofs.Objects.{get_new, set_here, set_new}
 use Rattle.ada_sound.proofs.Stored.{Stored, stored_part}
-use Rattle.ada_sound.proofs.Fits.{Fit, none_spared, weaker_fit, part_fit, beside_fit, gone_fit, same_unnamed}
+use Rattle.ada_owners.specs.Places.{access_in}
+use Rattle.ada_sound.proofs.Awaiting.{awaits_along, goes_along}
+use Rattle.ada_sound.proofs.Fits.{Fit, none_spared, weaker_fit, part_fit, beside_fit, gone_fit, same_access, same_unnamed}
 use Rattle.ada_sound.proofs.Alters.{alters_set}
-use Rattle.ada_sound.proofs.Invariant.{outers, below, Known, Control, Rooms, Roomed, To, By, Unaliased, IsAside, Freed, gone_in, Beginning, BeginsWell, IsMade, Making, UnderIs, ResumesTo, Ending, StartsTo, StartsRaise, UndoneTo, MayUndo, IsLive, Stepped, Fine, ways}
+use Rattle.ada_sound.proofs.Invariant.{AwaitsIn, outers, below, Known, Control, Rooms, Roomed, To, By, Unaliased, IsAside, Freed, gone_in, Beginning, BeginsWell, IsMade, Making, UnderIs, ResumesTo, Ending, StartsTo, StartsRaise, UndoneTo, MayUndo, IsLive, Stepped, Fine, ways}
 use Rattle.ada_sound.proofs.Ready.{in_mode, treats_ready}
 use Rattle.ada_sound.proofs.Endings.{gone_still, under_set}
 use Rattle.ada_sound.proofs.Orderings.{as_good, good_to_lost}
@@ -81,7 +83,7 @@ module _ (known : Known) (heap : List Object) (places : List Value) (ms : List M
   undo_set k may = (kept may.0, λ e raises. undone_set k e (may.1 e (raises_before e raises)))
 
 -- It is initialized still: what is behind goes on.
-module _ (known : Known) (heap : List Object) (places : List Value) (ms : List Master) (o : Id) (x y : Object) (found : object_at heap o ≡ Some x) (same : y.cell.access ≡ x.cell.access) (kept : Stored (outers known).under heap ms → Stored (outers known).under (slice_set heap o.0 y) ms)
+module _ (known : Known) (heap : List Object) (places : List Value) (ms : List Master) (o : Id) (x y : Object) (found : object_at heap o ≡ Some x) (same : y.cell.access ≡ x.cell.access) (looks : access_in (Some y) ≡ access_in (Some x)) (kept : Stored (outers known).under heap ms → Stored (outers known).under (slice_set heap o.0 y) ms)
     (keeps : (holds : Holds) → Fit known.program.types known.program.variables (outers known) none_spared heap places holds → Fit known.program.types known.program.variables (outers known) none_spared (slice_set heap o.0 y) places holds)
     (apart : (holds : Holds) → IsAside known none_spared heap places holds (Some o) → IsAside known none_spared (slice_set heap o.0 y) places holds (Some o)) where
   pub beginning_set : (v : Value) (k : Control) → v ≡ Names o → Beginning known v k heap places ms → Beginning known v k (slice_set heap o.0 y) places ms
@@ -118,7 +120,8 @@ module _ (known : Known) (heap : List Object) (places : List Value) (ms : List M
     fit = keeps m.holds m.fit;
     aside = apart m.holds m.aside;
     room = m.room;
-    to = m.to;
+    to = goes_along known (AwaitsIn known heap access) (AwaitsIn known (slice_set heap o.0 y) access)
+        (awaits_along known heap (slice_set heap o.0 y) (λ p t there. same_access heap o x y found looks p ∙ there) access) access k m.rooms m.holds m.to;
     undone = m.undone;
     well = m.well;
   }

@@ -41,6 +41,10 @@ low_by before after home (w ∷ ws) low = (
       let y = home o lies.0 lies.1 in
       (y.0, y.1, rw y.2 lies.2)),
   low_by before after home ws low.3,
+  (λ x o relied names.
+      let lies = low.4 x o relied names in
+      let y = home o lies.0 lies.1 in
+      (y.0, y.1, rw y.2 lies.2)),
 )
 
 -- So it does behind a step.

@@ -170,7 +170,7 @@ module _ (known : Known) (heap : List Object) (places : List Value) where
   finds_next (Targets d right ∷ k) v below c cs o object w rooms holds is found listed exists at fit f =
       let on : behind heap v c ≡ finds w = rw is (behind_is heap o object c w found exists at) in
       let g = f.1 in
-      (raises_next known v w c cs k rooms holds f.0, (g.0, g.1, g.2, g.3, (g.4.0 ∙ walk_behind heap v c cs w on, g.4.1)))
+      (raises_next known v w c cs k rooms holds f.0, (g.0, g.1, g.2, g.3, (g.4.0 ∙ walk_behind heap v c cs w on, g.4.1), g.5))
   finds_next (TargetsRecord first t items ∷ k) v below c cs o object w rooms holds is found listed exists at fit f = (raises_next known v w c cs k rooms holds f.0, f.1)
   finds_next (Copies first t ∷ k) v below c cs o object w rooms holds is found listed exists at fit f = (raises_next known v w c cs k rooms holds f.0, f.1)
   finds_next (RefersIn place t ∷ k) v below c cs o object w rooms holds is found listed exists at fit f =

@@ -163,14 +163,14 @@ module _ (c : ℕ) (v : Value) (nameless : (p : Id) → v ≡ Names p → ⊥) w
 
     begins_set : (places : List Value) (k : Control) → Beginning known (Names o) k heap places ms → Beginning known (Names o) k (slice_set heap o.0 (wrote x)) places ms
     begins_set places k b =
-        beginning_set known heap places ms o x (wrote x) found refl (stored_filled o x c v found) (λ holds f. wrote_fit known heap places o x found none_spared holds f)
+        beginning_set known heap places ms o x (wrote x) found refl refl (stored_filled o x c v found) (λ holds f. wrote_fit known heap places o x found none_spared holds f)
         (λ holds aside. (wrote_unnamed heap o x found o aside.0 c v nameless, aside.1)) (Names o) k refl b
 
     begun_set : (places operands : List Value) (k : Control) → BegunTo known (Names o) k heap places operands ms → BegunTo known (Names o) k (slice_set heap o.0 (wrote x)) places operands ms
     begun_set places operands k (inl b) = inl (begins_set places k b)
     begun_set places operands k (inr r) = inr (
       r.0,
-      made_set known heap places ms o x (wrote x) found refl (stored_filled o x c v found) (λ holds f. wrote_fit known heap places o x found none_spared holds f)
+      made_set known heap places ms o x (wrote x) found refl refl (stored_filled o x c v found) (λ holds f. wrote_fit known heap places o x found none_spared holds f)
           (λ holds aside. (wrote_unnamed heap o x found o aside.0 c v nameless, aside.1)) (Names o) k refl r.1,
       names_set places operands k r.2,
     )

@@ -1,5 +1,0 @@
-use Rattle.ada_avoiding.proofs.Example as example
-use Rattle.ada_avoiding.proofs.laws.premise_is_met.Goals as goal
-
-pub returns : goal.returns
-returns c = example.premise_is_met

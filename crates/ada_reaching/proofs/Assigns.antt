@@ -1,0 +1,95 @@
+-- What a body assigns that shuns some access types, and what it reads to (5.2).
+
+use Rattle.std.proofs.Common.{◌≡◌, ℕ, true, ℤ, List, [], ◌∷◌, Option, Some, None, refl}
+use Rattle.std.specs.List.{slice_get}
+use Rattle.ada_program.specs.declared.program.Exception.TheVariants.{ConstraintError, EndError}
+use Rattle.ada_program.specs.declared.program.VariableKind.{VariableKind}
+use Rattle.ada_program.specs.Form.{RightForm}
+use Rattle.ada_program.specs.WellFormed.{variable_kind}
+use Rattle.ada_meaning.specs.declared.state.Mode.TheVariants.{Raising}
+use Rattle.ada_meaning.specs.declared.state.Value.{Value}
+use Rattle.ada_meaning.specs.Event.{Quiet}
+use Rattle.ada_meaning.specs.Frame as frame
+use Rattle.ada_meaning.specs.Heap.{Cell, Found, on_null, on_gone, on_other, finds}
+use Rattle.ada_meaning.specs.Step.{moves, at, assign_next, target_next, stored_next, store_next, gets_next, received_next, receive_next, put}
+use Rattle.ada_meaning.specs.Named.{State, named, look, filled, store, an_integer}
+use Rattle.ada_untouched.specs.Untouched.{IsInSight}
+use Rattle.ada_reaching.specs.Reaching.{IsElsewhere}
+use Rattle.ada_reaching.specs.Forms.{selectors_shun, right_shuns}
+use Rattle.ada_reaching.proofs.Going.{World, variables_in, Goes, ValueSeeks, changed_run, stays, jumps, put_runs}
+use Rattle.ada_reaching.proofs.Paths.{Sound, in_sight, holder_goes}
+use Rattle.ada_reaching.proofs.Selections.{IsRooted}
+
+module _ (w : World) where
+  -- The bodies go on once a variable has a value.
+  pub put_goes : (x : ℕ) (v : Value) (s : State) → IsElsewhere w.ghosts v → Goes w s (moves Quiet (put x v s))
+  put_goes x v s other r h anew = stays w (put x v s) (put_runs w x v s other r) h anew
+
+  -- The bodies go on as an assignment begins.
+  pub assign_goes :
+      (cs : List ℕ) (x : ℕ) (to : VariableKind) (right : RightForm) (s : State) → Sound w s → IsRooted w.p.types (variables_in w) x cs to
+      → selectors_shun w.p.types w.shuns (variable_kind (variables_in w) x) cs ≡ true → right_shuns w.p.types w.shuns w.apart (variables_in w) right ≡ true
+      → Goes w s (assign_next named cs x right s)
+  assign_goes [] x to right s sound root shun one r h anew =
+      stays w (at (frame.Evaluates right ∷ frame.Stores x ∷ s.control) s) r (one, refl, (tt, anew, h)) refl
+  assign_goes (c ∷ cs) x to right s sound root shun one r h anew =
+      holder_goes w c cs x to (λ last. frame.Targets last right) s sound root shun r (λ n. (one, anew, h))
+      (λ may u n is_may is. is_may)
+
+  -- So it does, by what is found of the object.
+  target_found :
+      (v : Value) (c : ℕ) (right : RightForm) (found : Found (Cell Value)) (s : State) → look s.heap v ≡ found
+      → ValueSeeks w s.heap v (frame.Targets c right ∷ s.control) → right_shuns w.p.types w.shuns w.apart (variables_in w) right ≡ true
+      → Goes w s (target_next named v c right found s)
+  target_found v c right on_null s is seeks one r h anew = jumps w (Raising ConstraintError) s r h
+  target_found v c right on_gone s is seeks one r h anew = tt
+  target_found v c right on_other s is seeks one r h anew = tt
+  target_found v c right (finds cell) s is seeks one r h anew =
+      stays w (at (frame.Evaluates right ∷ frame.StoresIn v c ∷ s.control) s) r
+      (one, refl, (in_sight w s.heap r.same v seeks, anew, h)) refl
+
+  -- The bodies go on as the target of an assignment is looked for.
+  pub target_goes :
+      (v : Value) (c : ℕ) (right : RightForm) (s : State) → ValueSeeks w s.heap v (frame.Targets c right ∷ s.control)
+      → right_shuns w.p.types w.shuns w.apart (variables_in w) right ≡ true → Goes w s (target_next named v c right (look s.heap v) s)
+  target_goes v c right s seeks one r h anew = target_found v c right (look s.heap v) s refl seeks one r h anew
+
+  -- The bodies go on as a component gets a value, if there is that component.
+  stored_goes :
+      (o : Value) (c : ℕ) (v : Value) (found : Option Value) (s : State) → IsInSight w.ghosts o → Goes w s (stored_next named o c v found s)
+  stored_goes o c v None s sight r h anew = tt
+  stored_goes o c v (Some before) s sight r h anew =
+      stays w (record s { heap = store s.heap o c v }) (changed_run w (filled c v) o s.activations s.heap sight r) h anew
+
+  -- The bodies go on as a component gets a value of an object that has been looked for.
+  pub store_goes :
+      (o : Value) (c : ℕ) (v : Value) (found : Found (Cell Value)) (s : State) → IsInSight w.ghosts o → Goes w s (store_next named o c v found s)
+  store_goes o c v on_null s sight r h anew = tt
+  store_goes o c v on_gone s sight r h anew = tt
+  store_goes o c v on_other s sight r h anew = tt
+  store_goes o c v (finds cell) s sight r h anew = stored_goes o c v (slice_get cell.values c) s sight r h anew
+
+  -- The bodies go on as a Get begins.
+  pub gets_goes :
+      (cs : List ℕ) (x : ℕ) (to : VariableKind) (input : List ℤ) (s : State) → Sound w s → IsRooted w.p.types (variables_in w) x cs to
+      → selectors_shun w.p.types w.shuns (variable_kind (variables_in w) x) cs ≡ true → Goes w s (gets_next named cs x input s)
+  gets_goes (c ∷ cs) x to input s sound root shun r h anew =
+      holder_goes w c cs x to (λ last. frame.Receives last) s sound root shun r (λ n. (tt, anew, h))
+      (λ may u n is_may is. is_may)
+  gets_goes [] x to [] s sound root shun r h anew = jumps w (Raising EndError) s r h
+  gets_goes [] x to (i ∷ is) s sound root shun r h anew = put_goes x (an_integer i) (record s { input = is }) tt r h anew
+
+  -- The bodies go on as a component gets the next number of the input, if there is that component.
+  received_goes :
+      (o : Value) (c : ℕ) (input : List ℤ) (found : Option Value) (s : State) → IsInSight w.ghosts o → Goes w s (received_next named o c input found s)
+  received_goes o c input None s sight r h anew = tt
+  received_goes o c [] (Some before) s sight r h anew = jumps w (Raising EndError) s r h
+  received_goes o c (i ∷ is) (Some before) s sight r h anew =
+      stays w (record s { heap = store s.heap o c (an_integer i); input = is }) (changed_run w (filled c (an_integer i)) o s.activations s.heap sight r) h anew
+
+  -- The bodies go on as a component gets the next number of the input.
+  pub receive_goes : (o : Value) (c : ℕ) (found : Found (Cell Value)) (s : State) → IsInSight w.ghosts o → Goes w s (receive_next named o c found s)
+  receive_goes o c on_null s sight r h anew = jumps w (Raising ConstraintError) s r h
+  receive_goes o c on_gone s sight r h anew = tt
+  receive_goes o c on_other s sight r h anew = tt
+  receive_goes o c (finds cell) s sight r h anew = received_goes o c s.input (slice_get cell.values c) s sight r h anew

@@ -1,0 +1,154 @@
+-- Forms of a body that shuns some access types: what is evaluated, and what is allocated.
+
+use Rattle.std.proofs.Common.{◌≡◌, ℕ, Bool, true, false, not, List, [], ◌∷◌, drop, map, Option, Some, None, Result, Ok, Err, refl}
+use Rattle.std.specs.List.{list_all}
+use Rattle.std.proofs.lemmas.Bool.{and_parts}
+use Rattle.ada_values.specs.declared.operator.BinaryOperator.{BinaryOperator}
+use Rattle.ada_values.specs.declared.fault.OperatorFault.{OperatorFault}
+use Rattle.ada_values.specs.declared.fault.OperatorFault.TheVariants.{Overflow, DivisionByZero, WrongType}
+use Rattle.ada_program.specs.declared.program.Exception.TheVariants.{ConstraintError, StorageError}
+use Rattle.ada_program.specs.declared.program.TypeDefinition.{TypeDefinition}
+use Rattle.ada_program.specs.Form.{ExpressionForm, integer, boolean, reads, is_null, applied_to, chained, LinksForm, no_more_links, a_link, ItemForm, null_item, item_of_path, item_of_value, item_of_record, RightForm, nothing, value_of, allocates, allocates_default, computes}
+use Rattle.ada_program.specs.ProgramForm.{type_form}
+use Rattle.ada_program.specs.Typed.{reached_of, words_of}
+use Rattle.ada_parts.specs.declared.tasks.Direction.TheVariants.{PartsFirst}
+use Rattle.ada_parts.specs.Task.{Task}
+use Rattle.ada_meaning.specs.declared.event.Birth.TheVariants.{Creation}
+use Rattle.ada_meaning.specs.declared.state.Mode.TheVariants.{Raising}
+use Rattle.ada_meaning.specs.declared.state.Value.{Value}
+use Rattle.ada_meaning.specs.declared.state.Value.TheVariants.{Null}
+use Rattle.ada_meaning.specs.Frame.{Treatment, begins}
+use Rattle.ada_meaning.specs.Frame as frame
+use Rattle.ada_meaning.specs.State.{Destination, counted}
+use Rattle.ada_meaning.specs.Step.{with_operands, all_tasks, treating, at, operands, set_operands, in_front, newest, expression_next, null_test_next, is_decided, link_next, links_next, outcome_next, items_next, initial_values, initialized, new_cell, answered, new_next, right_next}
+use Rattle.ada_meaning.specs.Named.{State, named, an_integer, a_boolean, created, create, reads_boolean}
+use Rattle.ada_quiet.specs.Bare.{has_bare_objects}
+use Rattle.ada_reaching.specs.Reaching.{IsElsewhere, begins_anew}
+use Rattle.ada_reaching.specs.Forms.{expression_shuns, links_shun, item_shuns, right_shuns}
+use Rattle.ada_reaching.proofs.Elsewhere.{elsewhere_drop, elsewhere_in_front, initial_elsewhere}
+use Rattle.ada_reaching.proofs.Going.{World, variables_in, Runs, Left, On, Goes, operands_run, created_run, stays, gives, jumps}
+use Rattle.ada_reaching.proofs.Paths.{Sound, named_goes}
+use Rattle.ada_reaching.proofs.Rooted.{ExpressionIsRooted, ItemsAreRooted, RightIsRooted}
+use Rattle.ada_reaching.proofs.Selections.{bare_tasks}
+
+module _ (w : World) where
+  -- The bodies go on as an expression is evaluated.
+  pub expression_goes :
+      (e : ExpressionForm) (s : State) → Sound w s → expression_shuns w.p.types w.shuns w.apart (variables_in w) e ≡ true
+      → ExpressionIsRooted w.p.types (variables_in w) e → Goes w s (expression_next named e s)
+  expression_goes (integer i) s sound shun root r h anew = gives w (an_integer i) s tt r h anew
+  expression_goes (boolean v) s sound shun root r h anew = gives w (a_boolean v) s tt r h anew
+  expression_goes (reads path) s sound shun root r h anew =
+      named_goes w path.selectors path.root root.0 s sound root.1 shun r h anew
+  expression_goes (is_null equal path) s sound shun root r h anew =
+      named_goes w path.selectors path.root root.0 (at (frame.TestsNull equal ∷ s.control) s) sound root.1 shun r (tt, anew, h) refl
+  expression_goes (applied_to operator e) s sound shun root r h anew =
+      stays w (at (frame.Computes e ∷ frame.AppliesAlone operator ∷ s.control) s) r (shun, refl, (tt, anew, h)) refl
+  expression_goes (chained e links) s sound shun root r h anew =
+      let both = and_parts _ _ shun in
+      stays w (at (frame.Computes e ∷ frame.Continues links ∷ s.control) s) r (both.0, refl, (both.1, anew, h)) refl
+
+  -- The bodies go on as a value is tested for null.
+  pub null_test_goes : (equal : Bool) (found : Option Bool) (s : State) → Goes w s (null_test_next named equal found s)
+  null_test_goes true None s r h anew = tt
+  null_test_goes false None s r h anew = tt
+  null_test_goes true (Some null) s r h anew = gives w (a_boolean null) s tt r h anew
+  null_test_goes false (Some null) s r h anew = gives w (a_boolean (not null)) s tt r h anew
+
+  -- The bodies go on as an operator of a chain comes next, or what is behind it.
+  link_goes :
+      (decided : Bool) (operator : BinaryOperator) (e : ExpressionForm) (links : LinksForm) (s : State)
+      → expression_shuns w.p.types w.shuns w.apart (variables_in w) e ≡ true → links_shun w.p.types w.shuns w.apart (variables_in w) links ≡ true
+      → Goes w s (link_next named decided operator e links s)
+  link_goes true operator e links s one more r h anew = stays w (at (frame.Continues links ∷ s.control) s) r (more, anew, h) refl
+  link_goes false operator e links s one more r h anew =
+      stays w (at (frame.Computes e ∷ frame.Applies operator ∷ frame.Continues links ∷ s.control) s) r
+      (one, refl, (tt, refl, (more, anew, h))) refl
+
+  -- The bodies go on as what is left of a chain comes next.
+  pub links_go :
+      (links : LinksForm) (s : State) → links_shun w.p.types w.shuns w.apart (variables_in w) links ≡ true → Goes w s (links_next named links s)
+  links_go no_more_links s shun r h anew = stays w s r h anew
+  links_go (a_link operator e links) s shun r h anew =
+      let both = and_parts _ _ shun in
+      link_goes (is_decided named operator (reads_boolean (newest named s))) operator e links s both.0 both.1 r h anew
+
+  -- The bodies go on as an operator gives a value or raises Constraint_Error.
+  pub outcome_goes :
+      (given : Result Value OperatorFault) (s : State) → ((v : Value) → given ≡ Ok v → IsElsewhere w.ghosts v) → Goes w s (outcome_next named given s)
+  outcome_goes (Ok v) s each r h anew = gives w v s (each v refl) r h anew
+  outcome_goes (Err Overflow) s each r h anew = jumps w (Raising ConstraintError) s r h
+  outcome_goes (Err DivisionByZero) s each r h anew = jumps w (Raising ConstraintError) s r h
+  outcome_goes (Err WrongType) s each r h anew = tt
+
+  -- The first of some items shuns the types, and so do the others.
+  items_apart :
+      (i : ItemForm) (is : List ItemForm) → list_all (item_shuns w.p.types w.shuns w.apart (variables_in w)) (i ∷ is) ≡ true
+      → (item_shuns w.p.types w.shuns w.apart (variables_in w) i ≡ true) × (list_all (item_shuns w.p.types w.shuns w.apart (variables_in w)) is ≡ true)
+  items_apart i is shun =
+      and_parts (item_shuns w.p.types w.shuns w.apart (variables_in w) i) (list_all (item_shuns w.p.types w.shuns w.apart (variables_in w)) is) shun
+
+  -- The bodies go on as an item is evaluated.
+  pub items_go :
+      (items : List ItemForm) (s : State) → Sound w s → list_all (item_shuns w.p.types w.shuns w.apart (variables_in w)) items ≡ true
+      → ItemsAreRooted w.p.types (variables_in w) items → Goes w s (items_next named items s)
+  items_go [] s sound shun root r h anew = stays w s r h anew
+  items_go (null_item ∷ is) s sound shun root r h anew =
+      gives w Null (at (frame.Fills is ∷ s.control) s) tt r ((items_apart null_item is shun).1, anew, h) refl
+  items_go (item_of_path path ∷ is) s sound shun root r h anew =
+      let both = items_apart (item_of_path path) is shun in
+      named_goes w path.selectors path.root root.0 (at (frame.Fills is ∷ s.control) s) sound root.1 both.0 r (both.1, anew, h) refl
+  items_go (item_of_value e ∷ is) s sound shun root r h anew =
+      let both = items_apart (item_of_value e) is shun in
+      stays w (at (frame.Computes e ∷ frame.Fills is ∷ s.control) s) r (both.0, refl, (both.1, anew, h)) refl
+  items_go (item_of_record q ∷ is) s sound shun root r h anew = absurd (cc)
+
+  module _ (tds : List TypeDefinition) where
+    -- The bodies go on as what is assigned is evaluated.
+    pub right_goes :
+        (right : RightForm) (s : State) → Sound w s → right_shuns w.p.types w.shuns w.apart (variables_in w) right ≡ true
+        → RightIsRooted w.p.types (variables_in w) right → Goes w s (right_next named tds right s)
+    right_goes nothing s sound shun root r h anew = gives w Null s tt r h anew
+    right_goes (value_of path) s sound shun root r h anew =
+        named_goes w path.selectors path.root root.0 s sound root.1 shun r h anew
+    right_goes (allocates access items) s sound shun root r h anew =
+        let both = and_parts _ _ shun in
+        stays w (at (frame.Fills items ∷ frame.Creates access (words_of tds access) ∷ s.control) s) r (both.1, refl, (both.0, anew, h)) refl
+    right_goes (allocates_default access) s sound shun root r h anew =
+        stays w (at (frame.Creates access (words_of tds access) ∷ s.control) (initialized named tds access s))
+        (operands_run w (in_front (initial_values named (reached_of tds access)) (operands s)) s.activations s.heap
+        (elsewhere_in_front w.ghosts (initial_values named (reached_of tds access)) (operands s)
+        (initial_elsewhere w.ghosts (reached_of tds access)) r.operands) r)
+        (shun, anew, h) refl
+    right_goes (computes e) s sound shun root r h anew = stays w (at (frame.Computes e ∷ s.control) s) r (shun, anew, h) refl
+
+  -- Where nothing is to be done for an object, no treatment of it comes first.
+  untreated :
+      (v : Value) (treatment : Treatment) (tasks : List Task) (s : State) → tasks ≡ [] → On w s
+      → On w (at (treating v treatment tasks s.control) s)
+  untreated v treatment [] s none avoiding = avoiding
+  untreated v treatment (task ∷ tasks) s none avoiding = absurd (cc)
+
+  module _ (tds : List TypeDefinition) (known : map type_form tds ≡ w.p.types) where
+    -- The bodies go on as the request for the words of an object is granted or refused.
+    answered_goes :
+        (access count words : ℕ) (home : Destination) (s : State) → has_bare_objects w.p.types access ≡ true → Runs w s
+        → Left w s.control → begins_anew s.control ≡ true → (given : Bool) → On w (answered named tds access count words home s given)
+    answered_goes access count words home s bare r h anew true =
+        let v = created s.heap words in
+        let vs = drop count (operands s) in
+        let cell = new_cell named tds access count home s in
+        let after = create s.heap words cell in
+        let t = record (set_operands (v ∷ vs) s) { allocated = counted s.allocated; heap = after } in
+        untreated v (begins Creation []) (all_tasks tds access PartsFirst) t (bare_tasks tds w.p.types access PartsFirst known bare)
+        (stays w t
+        (created_run w words cell (with_operands (v ∷ vs) s.activations) s.heap
+        (operands_run w (v ∷ vs) s.activations s.heap (tt, elsewhere_drop w.ghosts count (operands s) r.operands) r)) h anew)
+    answered_goes access count words home s bare r h anew false = jumps w (Raising StorageError) s r h
+
+    -- The bodies go on as the words of an object are asked for.
+    pub new_goes :
+        (access count words : ℕ) (home : Option Destination) (s : State) → has_bare_objects w.p.types access ≡ true
+        → Goes w s (new_next named tds access count words home s)
+    new_goes access count words None s bare r h anew = jumps w (Raising StorageError) s r h
+    new_goes access count words (Some home) s bare r h anew = answered_goes access count words home s bare r h anew

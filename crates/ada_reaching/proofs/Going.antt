@@ -1,0 +1,224 @@
+-- How states change of bodies that shun some access types: they go on so, and each ghost stays as it is.
+
+use Rattle.std.proofs.Common.{◌≡◌, ℕ, zero, suc, Bool, true, false, not, List, [], ◌∷◌, ◌++◌, Option, Some, None, refl, sym, ap, ◌∙◌, inl, inr, subst}
+use Rattle.std.specs.List.{slice_get, slice_set}
+use Rattle.ada_program.specs.ProgramForm.{VariableForm, ProgramForm, seen_in}
+use Rattle.ada_meaning.specs.declared.state.Id.{Id}
+use Rattle.ada_meaning.specs.declared.state.Mode.{Mode}
+use Rattle.ada_meaning.specs.declared.state.Mode.TheVariants.{Running, Raising, Exiting, Returning}
+use Rattle.ada_meaning.specs.declared.state.Value.{Value}
+use Rattle.ada_meaning.specs.declared.state.Value.TheVariants.{Null, Names, Scalar, Part}
+use Rattle.ada_meaning.specs.Frame.{Frame}
+use Rattle.ada_meaning.specs.Frame as frame
+use Rattle.ada_meaning.specs.Heap.{Cell}
+use Rattle.ada_meaning.specs.State.{Activation}
+use Rattle.ada_meaning.specs.Step.{procedure_of, places_of, operands_of, with_places, with_operands, operands, places, older, computed, popped, jumping, put}
+use Rattle.ada_meaning.specs.Named.{Object, State, Next, object_at, changed, on_object, create, new_object}
+use Rattle.ada_untouched.specs.Untouched.{IsInSight}
+use Rattle.ada_untouched.proofs.Heaps.{set_there, one_or_other}
+use Rattle.ada_reaching.specs.Reaching.{IsOfShunned, IsElsewhere, AreElsewhere, LeftShuns, Seeks, OperandSeeks, begins_anew}
+use Rattle.ada_reaching.specs.Law.{GhostsStay, GoesOn, AllGoOn}
+use Rattle.ada_reaching.proofs.Elsewhere.{elsewhere_older, elsewhere_set}
+
+-- What runs: bodies of a program that shun some access types, while ghosts are there; the procedure of which one runs, and what waits for it.
+pub record World : Type 0 where
+  pub p : ProgramForm
+  pub shuns : ℕ → Bool
+  pub apart : ℕ → Bool
+  pub ghosts : Id → Bool
+  pub behind : List (Frame Value)
+  pub before : List Object
+  pub there : (o : Id) → ghosts o ≡ true → IsOfShunned p.types shuns (object_at before o)
+  pub procedure : Option ℕ
+  pub suspended : List (Activation Value)
+
+-- The variables of the body that runs.
+abbrev pub variables_in : World → List VariableForm
+variables_in w = (seen_in w.procedure w.p).variables
+
+-- An object changes that is no ghost.
+by_name :
+    (ghosts : Id → Bool) (change : Object → Object) (objects : List Object) (o : Id) (found : Option Object) → ghosts o ≡ false
+    → GhostsStay ghosts objects (changed change found objects o)
+by_name ghosts change objects o None none p is = refl
+by_name ghosts change objects o (Some x) none p is = elim (one_or_other p o) [
+  | inl e ↦ let same : ghosts p ≡ ghosts o = ap ghosts e in absurd (cc)
+  | inr ne ↦ set_there objects o.0 p.0 (change x) ne
+]
+
+-- So it is with the object that a value names.
+pub object_stays :
+    (ghosts : Id → Bool) (change : Object → Object) (objects : List Object) (v : Value) → IsInSight ghosts v
+    → GhostsStay ghosts objects (on_object change objects v)
+object_stays ghosts change objects Null sight p is = refl
+object_stays ghosts change objects (Names o) sight p is = by_name ghosts change objects o (object_at objects o) sight p is
+object_stays ghosts change objects (Scalar v) sight p is = refl
+object_stays ghosts change objects (Part o place) sight p is = refl
+
+-- One object more leaves those that are there.
+more_get : (xs : List Object) (y : Object) (i : ℕ) (x : Object) → slice_get xs i ≡ Some x → slice_get (xs ++ y ∷ []) i ≡ Some x
+more_get [] y i x is = absurd (cc)
+more_get (u ∷ xs) y zero x is = is
+more_get (u ∷ xs) y (suc i) x is = more_get xs y i x is
+
+module _ (w : World) where
+  -- Activations of which the first is that of the body that runs, and a heap in which each ghost is as it was: what the activation's variables and operands hold
+  -- refers to no ghost.
+  pub record IsRun (acts : List (Activation Value)) (heap : List Object) : Type 0 where
+    pub runs : procedure_of acts ≡ w.procedure
+    pub waits : older acts ≡ w.suspended
+    pub places : AreElsewhere w.ghosts (places_of acts)
+    pub operands : AreElsewhere w.ghosts (operands_of acts)
+    pub same : GhostsStay w.ghosts w.before heap
+
+  -- So it is in a state.
+  abbrev pub Runs : State → Type 0
+  Runs s = IsRun s.activations s.heap
+
+  -- What is left to do shuns the types.
+  abbrev pub Left : List (Frame Value) → Type 0
+  Left k = LeftShuns w.p w.shuns w.apart w.ghosts w.behind w.procedure k w.suspended
+
+  -- The bodies go on in a state.
+  abbrev pub On : State → Type 0
+  On s = GoesOn w.p w.shuns w.apart w.ghosts w.behind w.before s
+
+  -- They go on, whatever comes next of this state, where nothing is sought behind.
+  abbrev pub Goes : State → Next → Type 0
+  Goes s n = Runs s → Left s.control → begins_anew s.control ≡ true → AllGoOn On n
+
+  -- The ghosts are there still.
+  pub ghosts_there : (heap : List Object) → GhostsStay w.ghosts w.before heap → (o : Id) → w.ghosts o ≡ true → IsOfShunned w.p.types w.shuns (object_at heap o)
+  ghosts_there heap same o is = subst (λ (found : Option Object). IsOfShunned w.p.types w.shuns found) (sym (same o is)) (w.there o is)
+
+  -- Where what is left to do begins anew, nothing is sought.
+  pub anew_seeks : (may : Bool) (k : List (Frame Value)) (u : ℕ) → begins_anew k ≡ true → Seeks w.p.types w.shuns may u k
+  anew_seeks may [] u anew = tt
+  anew_seeks may (frame.Follows cs ∷ k) u anew = absurd (cc)
+  anew_seeks may (frame.RefersIn place t ∷ k) u anew = absurd (cc)
+  anew_seeks may (frame.OpensIn c ∷ k) u anew = absurd (cc)
+  anew_seeks may (frame.Targets c right ∷ k) u anew = absurd (cc)
+  anew_seeks may (frame.Receives c ∷ k) u anew = absurd (cc)
+  anew_seeks may (frame.FreesIn access c ∷ k) u anew = absurd (cc)
+  anew_seeks may (f ∷ k) u anew = tt
+
+  -- From the object that a value names what is left to do seeks nothing that is shunned.
+  abbrev pub ValueSeeks : List Object → Value → List (Frame Value) → Type 0
+  ValueSeeks heap v k = (o : Id) (x : Object) → v ≡ Names o → object_at heap o ≡ Some x → Seeks w.p.types w.shuns (not (w.ghosts o)) x.cell.access k
+
+  -- So it is from the newest operand.
+  abbrev pub OperandsSeek : List Object → Mode → List (Frame Value) → List Value → Type 0
+  OperandsSeek heap m k vs = OperandSeeks w.p.types w.shuns w.ghosts heap m k vs
+
+  -- So it is where no jump is on its way.
+  first_seeks : (heap : List Object) (k : List (Frame Value)) (v : Value) (vs : List Value) → ValueSeeks heap v k → OperandsSeek heap Running k (v ∷ vs)
+  first_seeks heap k Null vs each = tt
+  first_seeks heap k (Names o) vs each = λ x at. each o x refl at
+  first_seeks heap k (Scalar n) vs each = tt
+  first_seeks heap k (Part o place) vs each = tt
+
+  -- So it is in any mode.
+  any_mode : (heap : List Object) (m : Mode) (k : List (Frame Value)) (vs : List Value) → OperandsSeek heap Running k vs → OperandsSeek heap m k vs
+  any_mode heap Running k vs h = h
+  any_mode heap (Raising e) k vs h = tt
+  any_mode heap Exiting k vs h = tt
+  any_mode heap Returning k vs h = tt
+
+  -- The newest operand seeks nothing that is shunned.
+  value_seeks : (heap : List Object) (m : Mode) (k : List (Frame Value)) (v : Value) (vs : List Value) → ValueSeeks heap v k → OperandsSeek heap m k (v ∷ vs)
+  value_seeks heap m k v vs each = any_mode heap m k (v ∷ vs) (first_seeks heap k v vs each)
+
+  -- Without operands nothing is sought.
+  none_seek : (heap : List Object) (m : Mode) (k : List (Frame Value)) → OperandsSeek heap m k []
+  none_seek heap m k = any_mode heap m k [] tt
+
+  -- Nor is anything sought where what is left to do begins anew.
+  operand_seeks : (heap : List Object) (m : Mode) (k : List (Frame Value)) (vs : List Value) → begins_anew k ≡ true → OperandsSeek heap m k vs
+  operand_seeks heap m k [] anew = none_seek heap m k
+  operand_seeks heap m k (v ∷ vs) anew = value_seeks heap m k v vs (λ o x e at. anew_seeks (not (w.ghosts o)) k x.cell.access anew)
+
+  -- So it is with the operands that become these.
+  set_seeks :
+      (heap : List Object) (m : Mode) (k : List (Frame Value)) (vs : List Value) (all : List (Activation Value)) → OperandsSeek heap m k vs
+      → OperandsSeek heap m k (operands_of (with_operands vs all))
+  set_seeks heap m k vs [] h = none_seek heap m k
+  set_seeks heap m k vs (a ∷ suspended) h = h
+
+  -- They run on with other operands that refer to no ghost.
+  pub operands_run :
+      (vs : List Value) (acts : List (Activation Value)) (heap : List Object) → AreElsewhere w.ghosts vs → IsRun acts heap → IsRun (with_operands vs acts) heap
+  operands_run vs [] heap others r = r
+  operands_run vs (a ∷ acts) heap others r = record { runs = r.runs; waits = r.waits; places = r.places; operands = others; same = r.same }
+
+  -- So they do with other values of variables.
+  pub places_run :
+      (vs : List Value) (acts : List (Activation Value)) (heap : List Object) → AreElsewhere w.ghosts vs → IsRun acts heap → IsRun (with_places vs acts) heap
+  places_run vs [] heap others r = r
+  places_run vs (a ∷ acts) heap others r = record { runs = r.runs; waits = r.waits; places = others; operands = r.operands; same = r.same }
+
+  -- They run on once an object has changed that is no ghost.
+  pub changed_run :
+      (change : Object → Object) (v : Value) (acts : List (Activation Value)) (heap : List Object) → IsInSight w.ghosts v → IsRun acts heap
+      → IsRun acts (on_object change heap v)
+  changed_run change v acts heap sight r = record {
+    runs = r.runs;
+    waits = r.waits;
+    places = r.places;
+    operands = r.operands;
+    same = λ o is. object_stays w.ghosts change heap v sight o is ∙ r.same o is;
+  }
+
+  -- So they do once an object is created.
+  pub created_run : (words : ℕ) (cell : Cell Value) (acts : List (Activation Value)) (heap : List Object) → IsRun acts heap → IsRun acts (create heap words cell)
+  created_run words cell acts heap r = record {
+    runs = r.runs;
+    waits = r.waits;
+    places = r.places;
+    operands = r.operands;
+    same = λ o is.
+        let ghost = ghosts_there heap r.same o is in
+        more_get heap (new_object cell) o.0 ghost.object ghost.there ∙ sym ghost.there ∙ r.same o is;
+  }
+
+  -- They go on in a state from whose newest operand nothing is sought that is shunned.
+  pub reaches : (s : State) → Runs s → Left s.control → OperandsSeek s.heap s.mode s.control (operands s) → On s
+  reaches s r h seeks = record {
+    same = r.same;
+    reaching = record {
+      ghosts_there = ghosts_there s.heap r.same;
+      places = r.places;
+      operands = r.operands;
+      control =
+          subst (λ (acts : List (Activation Value)). LeftShuns w.p w.shuns w.apart w.ghosts w.behind (procedure_of s.activations) s.control acts) (sym r.waits)
+          (subst (λ (number : Option ℕ). LeftShuns w.p w.shuns w.apart w.ghosts w.behind number s.control w.suspended) (sym r.runs) h);
+      seeks = seeks;
+    };
+  }
+
+  -- They go on in a state in which nothing is sought.
+  pub stays : (s : State) → Runs s → Left s.control → begins_anew s.control ≡ true → On s
+  stays s r h anew = reaches s r h (operand_seeks s.heap s.mode s.control (operands s) anew)
+
+  -- They go on with one operand more, from which something may be sought.
+  pub sought : (v : Value) (s : State) → IsElsewhere w.ghosts v → Runs s → Left s.control → ValueSeeks s.heap v s.control → On (computed v s)
+  sought v s other r h each =
+      reaches (computed v s) (operands_run (v ∷ operands s) s.activations s.heap (other, r.operands) r) h
+      (set_seeks s.heap s.mode s.control (v ∷ operands s) s.activations (value_seeks s.heap s.mode s.control v (operands s) each))
+
+  -- They go on with one operand more.
+  pub gives : (v : Value) (s : State) → IsElsewhere w.ghosts v → Runs s → Left s.control → begins_anew s.control ≡ true → On (computed v s)
+  gives v s other r h anew = stays (computed v s) (operands_run (v ∷ operands s) s.activations s.heap (other, r.operands) r) h anew
+
+  -- They go on once a jump begins, which drops the operands.
+  pub jumps : (m : Mode) (s : State) → Runs s → Left s.control → On (jumping m s)
+  jumps m s r h =
+      reaches (jumping m s) (operands_run [] s.activations s.heap tt r) h
+      (set_seeks s.heap m s.control [] s.activations (none_seek s.heap m s.control))
+
+  -- They run on without the newest operand.
+  pub popped_runs : (s : State) → Runs s → Runs (popped s)
+  popped_runs s r = operands_run (older (operands s)) s.activations s.heap (elsewhere_older w.ghosts (operands s) r.operands) r
+
+  -- They run on once a variable has a value that refers to no ghost.
+  pub put_runs : (x : ℕ) (v : Value) (s : State) → IsElsewhere w.ghosts v → Runs s → Runs (put x v s)
+  put_runs x v s other r = places_run (slice_set (places s) x v) s.activations s.heap (elsewhere_set w.ghosts (places s) x v other r.places) r

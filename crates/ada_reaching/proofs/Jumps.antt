@@ -1,0 +1,166 @@
+-- Jumps in a body that shuns some access types, and each of its steps.
+
+use Rattle.std.proofs.Common.{◌≡◌, Bool, true, false, List, [], ◌∷◌, map, Some, refl, inl, inr}
+use Rattle.std.specs.Prelude.{if◌then◌else◌}
+use Rattle.std.proofs.lemmas.Bool.{and_parts}
+use Rattle.ada_program.specs.declared.program.Exception.{Exception}
+use Rattle.ada_program.specs.declared.program.TypeDefinition.{TypeDefinition}
+use Rattle.ada_program.specs.Form.{ActualForm, HandlersForm, no_handlers, a_handler, no_stmts, a_stmt}
+use Rattle.ada_program.specs.Handling.{some_takes, handler_of}
+use Rattle.ada_program.specs.ProgramForm.{TypeForm, VariableForm, type_form}
+use Rattle.ada_meaning.specs.declared.state.Mode.{Mode}
+use Rattle.ada_meaning.specs.declared.state.Mode.TheVariants.{Running, Raising, Exiting, Returning}
+use Rattle.ada_meaning.specs.declared.state.Value.{Value}
+use Rattle.ada_meaning.specs.Frame.{Frame, is_loop, is_return, is_master, Landing, passes_on, goes_behind, goes_in, breaks_off, escapes, operation_landing, handler_landing, exception_landing, landing}
+use Rattle.ada_meaning.specs.Frame as frame
+use Rattle.ada_meaning.specs.Step.{operands, landed, unwound, pass_next}
+use Rattle.ada_meaning.specs.Named.{Object, State, named, next}
+use Rattle.ada_reaching.specs.Reaching.{IsLast, FrameShuns, references_at}
+use Rattle.ada_reaching.specs.Forms.{statements_shun, handlers_shun}
+use Rattle.ada_reaching.specs.Law.{AreApart, FirstTakesNone, AllGoOn}
+use Rattle.ada_reaching.proofs.Going.{World, variables_in, Runs, Left, On, Goes, OperandsSeek, reaches, stays}
+use Rattle.ada_reaching.proofs.Paths.{Sound}
+use Rattle.ada_reaching.proofs.Calls.{AreParts, left_goes, returned_goes}
+use Rattle.ada_reaching.proofs.Frames.{newest_seeks, frame_goes}
+use Rattle.ada_reaching.proofs.Rooted.{FrameIsRooted}
+
+-- A jump is on its way in this mode.
+abbrev pub IsJump : Mode → Type 0
+IsJump Running = ⊥
+IsJump (Raising e) = Unit {0}
+IsJump Exiting = Unit {0}
+IsJump Returning = Unit {0}
+
+-- The path of the first frame leads somewhere, where no jump is on its way.
+abbrev pub FirstIsRooted : List TypeForm → List VariableForm → Mode → List (Frame Value) → Type 0
+FirstIsRooted types variables Running (f ∷ k) = FrameIsRooted types variables f
+FirstIsRooted types variables m k = Unit {0}
+
+module _ (w : World) where
+  -- A frame of the body that runs shuns the types.
+  abbrev OneShuns : Frame Value → Type 0
+  OneShuns f = FrameShuns w.p.types w.shuns w.apart w.p.bodies w.ghosts (variables_in w) f
+
+  -- A jump lands in statements that shun the types, if it lands in any, and comes out of no operation.
+  abbrev pub LandsShunning : Landing Value → Type 0
+  LandsShunning (goes_in fs) = statements_shun w.p.types w.shuns w.apart (variables_in w) fs ≡ true
+  LandsShunning (breaks_off v by done) = ⊥
+  LandsShunning l = Unit {0}
+
+  -- A jump comes out of no operation.
+  operation_lands : (f : Frame Value) → OneShuns f → LandsShunning (operation_landing f)
+  operation_lands (frame.Awaits v by done of part tasks) shun = absurd shun
+  operation_lands f shun = tt
+
+  -- A jump lands behind a frame, or where it would land else.
+  tested_lands : (t : Bool) (l : Landing Value) → LandsShunning l → LandsShunning (if t then goes_behind else l)
+  tested_lands true l shun = tt
+  tested_lands false l shun = shun
+
+  -- An exception lands in statements of a handler, or in none.
+  handler_lands :
+      (e : Exception) (hs : HandlersForm) → handlers_shun w.p.types w.shuns w.apart (variables_in w) hs ≡ true
+      → LandsShunning (handler_landing (handler_of e hs))
+  handler_lands e no_handlers shun = tt
+  handler_lands e (a_handler choices fs hs) shun =
+      let two = and_parts (statements_shun w.p.types w.shuns w.apart (variables_in w) fs) (handlers_shun w.p.types w.shuns w.apart (variables_in w) hs) shun in
+      by_test (some_takes e choices) two.0 (handler_lands e hs two.1)
+    where
+      by_test :
+          (takes : Bool) → statements_shun w.p.types w.shuns w.apart (variables_in w) fs ≡ true → LandsShunning (handler_landing (handler_of e hs))
+          → LandsShunning (handler_landing (if takes then Some fs else handler_of e hs))
+      by_test true one more = one
+      by_test false one more = more
+
+  -- An exception lands in statements that shun the types, if it lands in any.
+  exception_lands : (e : Exception) (f : Frame Value) → OneShuns f → LandsShunning (exception_landing e f)
+  exception_lands e (frame.Handles hs) shun = handler_lands e hs shun
+  exception_lands e (frame.Awaits v by done of part tasks) shun = absurd shun
+  exception_lands e f shun = tt
+
+  -- So it is with a jump in any mode.
+  pub landing_shuns : (m : Mode) (f : Frame Value) → OneShuns f → LandsShunning (landing m f)
+  landing_shuns Running f shun = tt
+  landing_shuns (Raising e) f shun = exception_lands e f shun
+  landing_shuns Exiting f shun = tested_lands (is_loop f) (operation_landing f) (operation_lands f shun)
+  landing_shuns Returning f shun = tested_lands (is_return f) (operation_landing f) (operation_lands f shun)
+
+  -- Where a jump is on its way, nothing is sought.
+  jump_seeks : (heap : List Object) (m : Mode) (k : List (Frame Value)) (vs : List Value) → IsJump m → OperandsSeek w heap m k vs
+  jump_seeks heap Running k vs is = absurd is
+  jump_seeks heap (Raising e) k vs is = tt
+  jump_seeks heap Exiting k vs is = tt
+  jump_seeks heap Returning k vs is = tt
+
+  -- The bodies go on as a jump lands.
+  landed_goes : (l : Landing Value) (m : Mode) (s : State) → LandsShunning l → Goes w s (landed named l m s)
+  landed_goes passes_on m s shuns r h anew = stays w s r h anew
+  landed_goes goes_behind m s shuns r h anew = stays w (record s { mode = Running }) r h anew
+  landed_goes (goes_in no_stmts) m s shuns r h anew = tt
+  landed_goes (goes_in (a_stmt f fs)) m s shuns r h anew =
+      stays w (record s { control = frame.Does (a_stmt f fs) ∷ s.control; mode = Running }) r (shuns, anew, h) refl
+  landed_goes (breaks_off v by done) m s shuns r h anew = absurd shuns
+  landed_goes escapes m s shuns r h anew = tt
+
+  -- The bodies go on as a master stops a jump, or the jump lands.
+  pass_goes : (master : Bool) (l : Landing Value) (m : Mode) (s : State) → LandsShunning l → Goes w s (pass_next named master l m s)
+  pass_goes true l m s shuns r h anew = stays w (record s { control = frame.Leaves m ∷ s.control; mode = Running }) r (tt, anew, h) refl
+  pass_goes false l m s shuns r h anew = landed_goes l m s shuns r h anew
+
+  -- The bodies go on as a jump passes selectors that are followed.
+  passing : (s : State) → IsJump s.mode → Runs w s → Left w s.control → On w s
+  passing s is r h = reaches w s r h (jump_seeks s.heap s.mode s.control (operands s) is)
+
+  -- The bodies go on as a jump comes to the end of a call that is not the outermost one (6.5).
+  ends_go :
+      (m : Mode) (actuals : List ActualForm) (references : List Value) (s : State) → IsJump m
+      → (IsLast w.behind (frame.Returns actuals references) s.control → ⊥) → AreParts references → Left w (frame.Returns actuals references ∷ s.control)
+      → Runs w s
+      → AllGoOn (On w) (pass_next named false (landing m (frame.Returns actuals references)) m (unwound named m (frame.Returns actuals references) s))
+  ends_go m actuals references s is on parts (inl ends) r = absurd (on ends)
+  ends_go Running actuals references s is on parts (inr inner) r = absurd is
+  ends_go (Raising e) actuals references s is on parts (inr inner) r = left_goes w s (frame.Returns actuals references) r inner s.mode
+  ends_go Exiting actuals references s is on parts (inr inner) r = left_goes w s (frame.Returns actuals references) r inner s.mode
+  ends_go Returning actuals references s is on parts (inr inner) r =
+      returned_goes w s (frame.Returns actuals references) r inner Running actuals references parts inner.references
+
+  -- The bodies go on as a jump comes to a frame.
+  jump_goes :
+      (m : Mode) (f : Frame Value) (s : State) → IsJump m → IsJump s.mode → (IsLast w.behind f s.control → ⊥) → AreParts (references_at f)
+      → Left w (f ∷ s.control) → Runs w s → AllGoOn (On w) (pass_next named (is_master f) (landing m f) m (unwound named m f s))
+  jump_goes m (frame.Returns actuals references) s own is on parts h r = ends_go m actuals references s own on parts h r
+  jump_goes Running (frame.Follows cs) s own is on parts h r = passing s is r (h.2)
+  jump_goes (Raising e) (frame.Follows cs) s own is on parts h r = passing s is r (h.2)
+  jump_goes Exiting (frame.Follows cs) s own is on parts h r = passing s is r (h.2)
+  jump_goes Returning (frame.Follows cs) s own is on parts h r = passing s is r (h.2)
+  jump_goes m f s own is on parts h r = pass_goes (is_master f) (landing m f) m s (landing_shuns m f (h.0)) r (h.2) (h.1)
+
+  -- The first frame is not the end of the outermost body.
+  abbrev pub GoesFurther : List (Frame Value) → Type 0
+  GoesFurther [] = Unit {0}
+  GoesFurther (f ∷ k) = IsLast w.behind f k → ⊥
+
+  -- What refers to components where the first frame ends a call.
+  abbrev pub FirstRefers : List (Frame Value) → Type 0
+  FirstRefers [] = Unit {0}
+  FirstRefers (f ∷ k) = AreParts (references_at f)
+
+  -- The bodies go on by a step in any mode.
+  pub step_goes :
+      (tds : List TypeDefinition) → map type_form tds ≡ w.p.types → AreApart w.p w.shuns w.apart → (m : Mode) (k : List (Frame Value)) (s : State) → Sound w s
+      → GoesFurther k → FirstTakesNone k s.masters → FirstIsRooted w.p.types (variables_in w) m k → FirstRefers k → Runs w s → Left w k
+      → OperandsSeek w s.heap m k (operands s) → AllGoOn (On w) (next tds w.p.bodies (record s { mode = m; control = k }))
+  unfolding next
+  step_goes tds known are_apart Running [] s sound on none root parts r h seeks = tt
+  step_goes tds known are_apart Running (f ∷ k) s sound on none root parts r h seeks =
+      frame_goes w tds known are_apart f (record s { mode = Running; control = k }) sound on parts h none root
+      (newest_seeks w s.heap (f ∷ k) (operands s) seeks) r
+  step_goes tds known are_apart (Raising e) [] s sound on none root parts r h seeks = tt
+  step_goes tds known are_apart (Raising e) (f ∷ k) s sound on none root parts r h seeks =
+      jump_goes (Raising e) f (record s { mode = Raising e; control = k }) tt tt on parts h r
+  step_goes tds known are_apart Exiting [] s sound on none root parts r h seeks = tt
+  step_goes tds known are_apart Exiting (f ∷ k) s sound on none root parts r h seeks =
+      jump_goes Exiting f (record s { mode = Exiting; control = k }) tt tt on parts h r
+  step_goes tds known are_apart Returning [] s sound on none root parts r h seeks = tt
+  step_goes tds known are_apart Returning (f ∷ k) s sound on none root parts r h seeks =
+      jump_goes Returning f (record s { mode = Returning; control = k }) tt tt on parts h r

@@ -1,0 +1,34 @@
+-- Bodies that shun some access types.
+
+-- what selectors lead to, and what objects hold
+pub mod Selections
+-- values that refer to no ghost
+pub mod Elsewhere
+-- how states change
+pub mod Going
+-- paths
+pub mod Paths
+-- paths that lead somewhere
+pub mod Rooted
+-- forms
+pub mod Forms
+-- frees
+pub mod Frees
+-- assignments, and what is read
+pub mod Assigns
+-- calls
+pub mod Calls
+-- statements
+pub mod Statements
+-- frames
+pub mod Frames
+-- jumps, and each step
+pub mod Jumps
+-- what a step looks at
+pub mod Touched
+-- the law
+pub mod Law
+-- the law by what procedures do
+pub mod Deeds
+-- the premise is met, and needed
+pub mod Example

@@ -1,0 +1,209 @@
+-- What selectors lead to, and what objects hold: facts of kinds.
+
+use Rattle.std.proofs.Common.{◌≡◌, ℕ, zero, suc, Bool, true, List, [], ◌∷◌, map, Option, Some, None, refl, sym, ap, ◌∙◌}
+use Rattle.std.specs.Prelude.{is_some, not}
+use Rattle.std.specs.List.{slice_get}
+use Rattle.std.proofs.lemmas.Bool.{eqb-true}
+use Rattle.ada_program.specs.declared.program.ComponentKind.{ComponentKind}
+use Rattle.ada_program.specs.declared.program.ComponentKind.TheVariants as component
+use Rattle.ada_program.specs.declared.program.Finalization.{Finalization}
+use Rattle.ada_program.specs.declared.program.TypeDefinition.{TypeDefinition}
+use Rattle.ada_program.specs.declared.program.VariableKind.{VariableKind}
+use Rattle.ada_program.specs.declared.program.VariableKind.TheVariants as variable
+use Rattle.ada_program.specs.Controlled.{number_in, number_reached, shapes_of}
+use Rattle.ada_program.specs.Form.{PathForm}
+use Rattle.ada_program.specs.ProgramForm.{TypeForm, record_of, access_to, object_of, VariableForm, type_form}
+use Rattle.ada_program.specs.WellFormed.{value_access, access_of, component_kind, held_kind, kind_among, reached_components, selected_kind, selectors_kind, root_kind, path_kind, variable_kind, finalization_of, named_in, designated_in, same_record, is_freed_by}
+use Rattle.ada_parts.specs.declared.tasks.Direction.{Direction}
+use Rattle.ada_meaning.specs.declared.state.Id.{Id}
+use Rattle.ada_meaning.specs.declared.state.Value.{Value}
+use Rattle.ada_meaning.specs.declared.state.Value.TheVariants.{Names}
+use Rattle.ada_meaning.specs.Frame.{Frame}
+use Rattle.ada_meaning.specs.Frame as frame
+use Rattle.ada_meaning.specs.Step.{all_tasks, tasks_for, before_last, last_of}
+use Rattle.ada_meaning.specs.Named.{Object, object_at}
+use Rattle.ada_quiet.specs.Bare.{has_bare_objects, is_bare_access}
+use Rattle.ada_typed.specs.Holding.{Cells, HasKind, HaveKinds, cells_of}
+use Rattle.ada_typed.proofs.Evaluations.{cell_at, own_access}
+use Rattle.ada_typed.proofs.OfKinds.{and_both}
+use Rattle.ada_typed.proofs.Operators.{and_left, and_right}
+use Rattle.ada_typed.proofs.Parts.{known_number, shown_number}
+use Rattle.ada_typed.proofs.Values.{AreFilled, filled_at, root_same}
+use Rattle.ada_reaching.specs.Reaching.{Seeks}
+use Rattle.ada_reaching.specs.Forms.{may_follow, selectors_shun}
+
+-- A path leads on from a kind of its variable.
+pub record IsRooted (types : List TypeForm) (variables : List VariableForm) (x : ℕ) (cs : List ℕ) (to : VariableKind) : Type 0 where
+  pub from : VariableKind
+  pub held : variable_kind variables x ≡ Some from
+  pub leads : selectors_kind types (Some from) cs ≡ Some to
+
+-- Behind nothing selectors lead nowhere.
+selectors_nowhere : (types : List TypeForm) (cs : List ℕ) → selectors_kind types None cs ≡ None
+selectors_nowhere types [] = refl
+selectors_nowhere types (c ∷ cs) = selectors_nowhere types cs
+
+-- Where selectors lead somewhere, something is held where they begin.
+pub begun_somewhere :
+    (types : List TypeForm) (o : Option VariableKind) (cs : List ℕ) (to : VariableKind) → selectors_kind types o cs ≡ Some to
+    → (from : VariableKind) × (o ≡ Some from)
+begun_somewhere types None cs to leads = let never : None ≡ Some to = sym (selectors_nowhere types cs) ∙ leads in absurd (cc)
+begun_somewhere types (Some from) cs to leads = (from, refl)
+
+-- A path begins with a variable of a kind, if it leads somewhere.
+pub rooted :
+    (types : List TypeForm) (variables : List VariableForm) (path : PathForm) (to : VariableKind) → path_kind types variables path ≡ Some to
+    → IsRooted types variables path.root path.selectors to
+rooted types variables path to leads =
+    let begun = begun_somewhere types (root_kind path.of_record (variable_kind variables path.root)) path.selectors to leads in
+    record {
+      from = begun.0;
+      held = root_same path.of_record (variable_kind variables path.root) begun.0 begun.1;
+      leads = ap (λ (kind : Option VariableKind). selectors_kind types kind path.selectors) (sym begun.1) ∙ leads;
+    }
+
+module _ (types : List TypeForm) (shuns : ℕ → Bool) where
+  -- Where selectors follow nothing that is shunned, the first one does not.
+  pub shun_first : (kind : Option VariableKind) (c : ℕ) (cs : List ℕ) → selectors_shun types shuns kind (c ∷ cs) ≡ true → may_follow shuns kind ≡ true
+  shun_first kind c cs h = and_left (may_follow shuns kind) (selectors_shun types shuns (selected_kind types kind c) cs) h
+
+  -- Those behind it do not.
+  pub shun_behind :
+      (kind : Option VariableKind) (c : ℕ) (cs : List ℕ) → selectors_shun types shuns kind (c ∷ cs) ≡ true
+      → selectors_shun types shuns (selected_kind types kind c) cs ≡ true
+  shun_behind kind c cs h = and_right (may_follow shuns kind) (selectors_shun types shuns (selected_kind types kind c) cs) h
+
+  -- Those before the last one do not.
+  pub shun_before :
+      (kind : Option VariableKind) (c : ℕ) (cs : List ℕ) → selectors_shun types shuns kind (c ∷ cs) ≡ true
+      → selectors_shun types shuns kind (before_last c cs) ≡ true
+  shun_before kind c [] h = refl
+  shun_before kind c (d ∷ cs) h =
+      and_both (may_follow shuns kind) (selectors_shun types shuns (selected_kind types kind c) (before_last d cs)) (shun_first kind c (d ∷ cs) h)
+      (shun_before (selected_kind types kind c) d cs (shun_behind kind c (d ∷ cs) h))
+
+  -- The last one follows what those before it lead to.
+  pub shun_holder :
+      (kind : Option VariableKind) (c : ℕ) (cs : List ℕ) → selectors_shun types shuns kind (c ∷ cs) ≡ true
+      → may_follow shuns (selectors_kind types kind (before_last c cs)) ≡ true
+  shun_holder kind c [] h = shun_first kind c [] h
+  shun_holder kind c (d ∷ cs) h = shun_holder (selected_kind types kind c) d cs (shun_behind kind c (d ∷ cs) h)
+
+  -- Selectors lead to what the last of them selects behind the others.
+  pub last_kind :
+      (kind : Option VariableKind) (c : ℕ) (cs : List ℕ)
+      → selected_kind types (selectors_kind types kind (before_last c cs)) (last_of c cs) ≡ selectors_kind types kind (c ∷ cs)
+  last_kind kind c [] = refl
+  last_kind kind c (d ∷ cs) = last_kind (selected_kind types kind c) d cs
+
+  -- From what is held selectors follow nothing that is shunned, and neither does what is sought behind them.
+  abbrev pub LeadsShunning : Option VariableKind → (selectors : List ℕ) → List (Frame Value) → Type 0
+  LeadsShunning kind cs k =
+      (selectors_shun types shuns kind cs ≡ true)
+      × ((u : ℕ) → value_access (selectors_kind types kind cs) ≡ Some u → Seeks types shuns (not (shuns u)) u k)
+
+  -- What may be sought of an object that may not always be followed may be sought of one that may.
+  pub seeks_weaker :
+      (may more : Bool) (access : ℕ) (k : List (Frame Value)) → (may ≡ true → more ≡ true) → Seeks types shuns may access k → Seeks types shuns more access k
+  seeks_weaker may more access [] weaker h = tt
+  seeks_weaker may more access (frame.Follows [] ∷ k) weaker h = seeks_weaker may more access k weaker h
+  seeks_weaker may more access (frame.Follows (c ∷ cs) ∷ k) weaker h = (weaker h.0, h.1, h.2)
+  seeks_weaker may more access (frame.RefersIn place t ∷ k) weaker h = weaker h
+  seeks_weaker may more access (frame.OpensIn c ∷ k) weaker h = weaker h
+  seeks_weaker may more access (frame.Targets c right ∷ k) weaker h = weaker h
+  seeks_weaker may more access (frame.Receives c ∷ k) weaker h = weaker h
+  seeks_weaker may more access (frame.FreesIn t c ∷ k) weaker h = (weaker h.0, h.1, h.2)
+  seeks_weaker may more access (f ∷ k) weaker h = tt
+
+-- An access value that may be followed is of a type that is not shunned.
+pub followed : (shuns : ℕ → Bool) (kind : Option VariableKind) (u : ℕ) → value_access kind ≡ Some u → may_follow shuns kind ≡ true → not (shuns u) ≡ true
+followed shuns None u is may = absurd (cc)
+followed shuns (Some variable.Integer) u is may = absurd (cc)
+followed shuns (Some variable.Boolean) u is may = absurd (cc)
+followed shuns (Some (variable.Access access)) u is may = let same : access.0 ≡ u = cc in rw (← same) may
+followed shuns (Some (variable.Record object)) u is may = absurd (cc)
+
+-- What access values name is of their type.
+pub valued : (kind : Option VariableKind) (u : ℕ) → value_access kind ≡ Some u → access_of kind ≡ Some u
+valued None u is = absurd (cc)
+valued (Some variable.Integer) u is = absurd (cc)
+valued (Some variable.Boolean) u is = absurd (cc)
+valued (Some (variable.Access access)) u is = is
+valued (Some (variable.Record object)) u is = absurd (cc)
+
+-- What a component holds is of its kind.
+component_of :
+    (types : List TypeForm) (cells : Cells) (cs : List ComponentKind) (vs : List Value) (c : ℕ) (v : Value) → HaveKinds types cells cs vs
+    → slice_get vs c ≡ Some v → (kind : ComponentKind) × (slice_get cs c ≡ Some kind) × HasKind types cells (held_kind kind) v
+component_of types cells [] [] c v h at = absurd (cc)
+component_of types cells [] (u ∷ vs) c v h at = absurd h
+component_of types cells (k ∷ cs) [] c v h at = absurd h
+component_of types cells (k ∷ cs) (u ∷ vs) zero v h at = let same : u ≡ v = cc in (k, refl, rw (← same) h.0)
+component_of types cells (k ∷ cs) (u ∷ vs) (suc c) v h at = component_of types cells cs vs c v h.1 at
+
+module _ (types : List TypeForm) (heap : List Object) (filled : AreFilled types (cells_of heap) (cells_of heap)) where
+  -- What a component of an object holds is of its kind.
+  pub held_in :
+      (o : Id) (x : Object) (c : ℕ) (v : Value) → object_at heap o ≡ Some x → slice_get x.cell.values c ≡ Some v
+      → (kind : ComponentKind) × (kind_among (reached_components types x.cell.access) c ≡ Some (held_kind kind))
+      × HasKind types (cells_of heap) (held_kind kind) v
+  held_in o x c v at there =
+      let own = filled_at types (cells_of heap) (cells_of heap) o.0 x.cell filled (cell_at heap o.0 x at) in
+      let f = component_of types (cells_of heap) own.0 x.cell.values c v own.2 there in
+      (f.0, ap (λ (found : Option (List ComponentKind)). kind_among found c) own.1 ∙ ap component_kind f.1, f.2)
+
+  -- Where a component names an object, it is of the access type of that.
+  pub named_kind :
+      (kind : ComponentKind) (o : Id) (x : Object) → HasKind types (cells_of heap) (held_kind kind) (Names o) → object_at heap o ≡ Some x
+      → held_kind kind ≡ variable.Access (record { 0 = x.cell.access })
+  named_kind (component.Integer initial) o x has at = absurd has
+  named_kind (component.Boolean initial) o x has at = absurd has
+  named_kind (component.Access access) o x has at = ap (λ (i : ℕ). variable.Access (record { 0 = i })) (sym (own_access heap o access.0 x has at))
+
+  -- What names an object is of its access type.
+  pub named_access :
+      (kind : VariableKind) (o : Id) (x : Object) → HasKind types (cells_of heap) kind (Names o) → object_at heap o ≡ Some x
+      → access_of (Some kind) ≡ Some x.cell.access
+  named_access variable.Integer o x has at = absurd has
+  named_access variable.Boolean o x has at = absurd has
+  named_access (variable.Access access) o x has at = ap Some (sym (own_access heap o access.0 x has at))
+  named_access (variable.Record object) o x has at = ap Some (sym (own_access heap o object.0 x has at))
+
+-- A record type has no number among those that have controlled parts, where it has no Finalize.
+none_numbered : (o : Option Finalization) → not (is_some o) ≡ true → number_in o ≡ None
+none_numbered None none = refl
+none_numbered (Some f) none = absurd (cc)
+
+-- What such a type designates has no number among the record types that have controlled parts.
+bare_number : (types : List TypeForm) (found : Option TypeForm) → is_bare_access types found ≡ true → shown_number types (named_in found) ≡ None
+bare_number types None is = absurd (cc)
+bare_number types (Some (record_of name parts components finalization)) is = absurd (cc)
+bare_number types (Some (access_to name designated pool)) is = none_numbered (finalization_of types designated) is
+bare_number types (Some (object_of record_type)) is = absurd (cc)
+
+-- Nothing is to be done for an object without controlled parts, neither to initialize nor to finalize it.
+pub bare_tasks :
+    (tds : List TypeDefinition) (types : List TypeForm) (access : ℕ) (direction : Direction) → map type_form tds ≡ types → has_bare_objects types access ≡ true
+    → all_tasks tds access direction ≡ []
+bare_tasks tds types access direction shown is =
+    let number : number_reached tds access ≡ None = sym (known_number tds types access shown) ∙ bare_number types (slice_get types access) is in
+    ap (tasks_for (shapes_of tds) direction) number
+
+-- Two access types that designate the same record type have objects without controlled parts, or neither has.
+bare_same :
+    (types : List TypeForm) (o q : Option TypeForm) → same_record (designated_in o) (designated_in q) ≡ true → is_bare_access types o ≡ true
+    → is_bare_access types q ≡ true
+bare_same types None q same is = absurd (cc)
+bare_same types (Some (record_of name parts components finalization)) q same is = absurd (cc)
+bare_same types (Some (access_to name designated pool)) None same is = absurd (cc)
+bare_same types (Some (access_to name designated pool)) (Some (record_of other parts components finalization)) same is = absurd (cc)
+bare_same types (Some (access_to name designated pool)) (Some (access_to other own from)) same is =
+    let one : own ≡ designated = eqb-true own designated same in rw one is
+bare_same types (Some (access_to name designated pool)) (Some (object_of record_type)) same is = absurd (cc)
+bare_same types (Some (object_of record_type)) q same is = absurd (cc)
+
+-- What is freed by an instance for a type has no controlled parts, where that type says so (13.11.2).
+pub bare_freed :
+    (types : List TypeForm) (access own : ℕ) → is_freed_by types access (Some own) ≡ true → has_bare_objects types access ≡ true
+    → has_bare_objects types own ≡ true
+bare_freed types access own same is = bare_same types (slice_get types access) (slice_get types own) same is

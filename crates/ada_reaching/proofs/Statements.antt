@@ -1,0 +1,214 @@
+-- Statements of a body that shuns some access types.
+
+use Rattle.std.proofs.Common.{◌≡◌, ℕ, Bool, true, false, ◌&&◌, List, [], ◌∷◌, map, Option, Some, None, refl, sym, ap, ◌∙◌}
+use Rattle.std.specs.Prelude.{ℤ, pos, ◌+ℤ◌, int_le, if◌then◌else◌}
+use Rattle.std.specs.List.{list_all, slice_get}
+use Rattle.std.proofs.lemmas.Bool.{and_from, and_parts}
+use Rattle.ada_program.specs.declared.program.TypeDefinition.{TypeDefinition}
+use Rattle.ada_program.specs.Form.{ExpressionForm, StmtForm, skips, assigns, assigns_record, frees, gets, writes, writes_text, chooses, repeats, counts, exits, calls, returns, raises, encloses, StmtsForm, no_stmts, a_stmt, BranchesForm, otherwise, a_branch, HandlersForm, DeclarationForm, creates_pool, collects, declares, declares_record}
+use Rattle.ada_program.specs.ProgramForm.{type_form}
+use Rattle.ada_meaning.specs.declared.state.Mode.TheVariants.{Raising, Exiting, Returning}
+use Rattle.ada_meaning.specs.Frame as frame
+use Rattle.ada_meaning.specs.Step.{moves, at, entered, put, branches_next, decided_next, turn_next, repeats_next, turned_next, count_turn_next, ranges_next, exit_next, exited_next, stmt_next, stmts_next, line_next, declarations_next}
+use Rattle.ada_meaning.specs.Named.{State, named, an_integer}
+use Rattle.ada_meaning.specs.Event.{Quiet}
+use Rattle.ada_reaching.specs.Forms.{may_follow, expression_shuns, condition_shuns, actual_shuns, declaration_shuns, declarations_shun, statement_shuns, statements_shun, branches_shun, handlers_shun}
+use Rattle.ada_reaching.specs.Law.{AreApart}
+use Rattle.ada_reaching.proofs.Going.{World, variables_in, Goes, stays, jumps, put_runs}
+use Rattle.ada_reaching.proofs.Paths.{Sound}
+use Rattle.ada_reaching.proofs.Assigns.{assign_goes, gets_goes}
+use Rattle.ada_reaching.proofs.Calls.{call_goes}
+use Rattle.ada_reaching.proofs.Frees.{frees_go}
+use Rattle.ada_reaching.proofs.Rooted.{StatementIsRooted, StatementsAreRooted}
+
+module _ (w : World) where
+  -- An expression shuns the types.
+  abbrev One : ExpressionForm → Type 0
+  One e = expression_shuns w.p.types w.shuns w.apart (variables_in w) e ≡ true
+
+  -- So it is with statements.
+  abbrev All : StmtsForm → Type 0
+  All fs = statements_shun w.p.types w.shuns w.apart (variables_in w) fs ≡ true
+
+  -- The bodies go on as a branch comes next.
+  branches_go :
+      (branches : BranchesForm) (s : State) → branches_shun w.p.types w.shuns w.apart (variables_in w) branches ≡ true
+      → Goes w s (branches_next named branches s)
+  branches_go (otherwise fs) s shun r h anew = stays w (at (frame.Does fs ∷ s.control) s) r (shun, anew, h) refl
+  branches_go (a_branch e fs branches) s shun r h anew =
+      let two =
+      and_parts (expression_shuns w.p.types w.shuns w.apart (variables_in w) e && statements_shun w.p.types w.shuns w.apart (variables_in w) fs)
+      (branches_shun w.p.types w.shuns w.apart (variables_in w) branches) shun in
+      let one = and_parts (expression_shuns w.p.types w.shuns w.apart (variables_in w) e) (statements_shun w.p.types w.shuns w.apart (variables_in w) fs) two.0 in
+      stays w (at (frame.Computes e ∷ frame.Decides fs branches ∷ s.control) s) r (
+        one.0,
+        refl,
+        (
+          and_from (statements_shun w.p.types w.shuns w.apart (variables_in w) fs)
+              (branches_shun w.p.types w.shuns w.apart (variables_in w) branches) one.1 two.1,
+          anew,
+          h,
+        ),
+      ) refl
+
+  -- The bodies go on once the condition of a branch is known.
+  pub decided_goes :
+      (fs : StmtsForm) (branches : BranchesForm) (truth : Option Bool) (s : State) → All fs
+      → branches_shun w.p.types w.shuns w.apart (variables_in w) branches ≡ true
+      → Goes w s (decided_next named fs branches truth s)
+  decided_goes fs branches None s one more r h anew = tt
+  decided_goes fs branches (Some true) s one more r h anew = stays w (at (frame.Does fs ∷ s.control) s) r (one, anew, h) refl
+  decided_goes fs branches (Some false) s one more r h anew = branches_go branches s more r h anew
+
+  -- The bodies go on as a turn of a loop begins.
+  turn_goes :
+      (condition : Option ExpressionForm) (fs : StmtsForm) (s : State) → condition_shuns w.p.types w.shuns w.apart (variables_in w) condition ≡ true → All fs
+      → Goes w s (turn_next named condition fs s)
+  turn_goes condition no_stmts s one more r h anew = tt
+  turn_goes condition (a_stmt f fs) s one more r h anew =
+      stays w (at (frame.Does (a_stmt f fs) ∷ frame.Repeats condition (a_stmt f fs) ∷ s.control) s) r (
+        more,
+        refl,
+        (
+          and_from (condition_shuns w.p.types w.shuns w.apart (variables_in w) condition)
+              (statements_shun w.p.types w.shuns w.apart (variables_in w) (a_stmt f fs)) one more,
+          anew,
+          h,
+        ),
+      ) refl
+
+  -- The bodies go on as a loop comes to its next turn.
+  pub repeats_go :
+      (condition : Option ExpressionForm) (fs : StmtsForm) (s : State) → condition_shuns w.p.types w.shuns w.apart (variables_in w) condition ≡ true → All fs
+      → Goes w s (repeats_next named condition fs s)
+  repeats_go None fs s one more r h anew = turn_goes None fs s one more r h anew
+  repeats_go (Some e) fs s one more r h anew =
+      stays w (at (frame.Computes e ∷ frame.Turns e fs ∷ s.control) s) r (
+        one,
+        refl,
+        (
+          and_from (expression_shuns w.p.types w.shuns w.apart (variables_in w) e)
+              (statements_shun w.p.types w.shuns w.apart (variables_in w) fs) one more,
+          anew,
+          h,
+        ),
+      ) refl
+
+  -- The bodies go on once the condition of a loop is known.
+  pub turned_goes :
+      (e : ExpressionForm) (fs : StmtsForm) (truth : Option Bool) (s : State) → One e → All fs → Goes w s (turned_next named e fs truth s)
+  turned_goes e fs None s one more r h anew = tt
+  turned_goes e fs (Some true) s one more r h anew = turn_goes (Some e) fs s one more r h anew
+  turned_goes e fs (Some false) s one more r h anew = stays w s r h anew
+
+  -- The bodies go on as a turn of a counting loop begins.
+  count_turn_goes : (x : ℕ) (value last : ℤ) (fs : StmtsForm) (s : State) → All fs → Goes w s (count_turn_next named x value last fs s)
+  count_turn_goes x value last no_stmts s all r h anew = tt
+  count_turn_goes x value last (a_stmt f fs) s all r h anew =
+      stays w
+      (at (frame.Does (a_stmt f fs) ∷ frame.Counts x (value +ℤ pos 1) last (a_stmt f fs) ∷ s.control) (put x (an_integer value) s))
+      (put_runs w x (an_integer value) s tt r) (all, refl, (all, anew, h)) refl
+
+  -- The bodies go on as a counting loop comes to its next turn, or ends.
+  pub counting_goes :
+      (goes : Bool) (x : ℕ) (value last : ℤ) (fs : StmtsForm) (s : State) → All fs
+      → Goes w s (if goes then count_turn_next named x value last fs s else moves Quiet s)
+  counting_goes true x value last fs s all r h anew = count_turn_goes x value last fs s all r h anew
+  counting_goes false x value last fs s all r h anew = stays w s r h anew
+
+  -- The bodies go on once the bounds of a counting loop are known.
+  pub ranges_go : (x : ℕ) (fs : StmtsForm) (low high : Option ℤ) (s : State) → All fs → Goes w s (ranges_next named x fs low high s)
+  ranges_go x fs None high s all r h anew = tt
+  ranges_go x fs (Some low) None s all r h anew = tt
+  ranges_go x fs (Some low) (Some high) s all r h anew = counting_goes (int_le low high) x low high fs s all r h anew
+
+  -- The bodies go on as an exit begins.
+  exit_goes :
+      (condition : Option ExpressionForm) (s : State) → condition_shuns w.p.types w.shuns w.apart (variables_in w) condition ≡ true
+      → Goes w s (exit_next named condition s)
+  exit_goes None s shun r h anew = jumps w Exiting s r h
+  exit_goes (Some e) s shun r h anew = stays w (at (frame.Computes e ∷ frame.Exits ∷ s.control) s) r (shun, refl, (tt, anew, h)) refl
+
+  -- The bodies go on once the condition of an exit is known.
+  pub exited_goes : (truth : Option Bool) (s : State) → Goes w s (exited_next named truth s)
+  exited_goes None s r h anew = tt
+  exited_goes (Some true) s r h anew = jumps w Exiting s r h
+  exited_goes (Some false) s r h anew = stays w s r h anew
+
+  -- The bodies go on as a line is written.
+  pub line_goes : (found : Option ℤ) (s : State) → Goes w s (line_next named found s)
+  line_goes None s r h anew = tt
+  line_goes (Some i) s r h anew = stays w s r h anew
+
+  module _ (tds : List TypeDefinition) (known : map type_form tds ≡ w.p.types) (are_apart : AreApart w.p w.shuns w.apart) where
+    -- The bodies go on as a statement begins.
+    stmt_goes :
+        (f : StmtForm) (s : State) → Sound w s → statement_shuns w.p.types w.shuns w.apart (variables_in w) f ≡ true
+        → StatementIsRooted w.p.types (variables_in w) f → Goes w s (stmt_next named tds w.p.bodies f s)
+    stmt_goes skips s sound shun root r h anew = stays w s r h anew
+    stmt_goes (assigns target right) s sound shun root r h anew =
+        let two = and_parts _ _ shun in
+        assign_goes w target.selectors target.root root.0 right s sound root.1 two.0 two.1 r h anew
+    stmt_goes (assigns_record target items) s sound shun root r h anew = absurd (cc)
+    stmt_goes (frees access path) s sound shun root r h anew =
+        let two = and_parts _ _ shun in
+        let one = and_parts _ _ two.0 in
+        frees_go w tds known path.selectors access path.root root.0 s sound root.1 root.2 two.1 (ap (may_follow w.shuns) (sym root.3) ∙ one.1) one.0 r h anew
+    stmt_goes (gets target) s sound shun root r h anew =
+        gets_goes w target.selectors target.root root.0 s.input s sound root.1 shun r h anew
+    stmt_goes (writes e) s sound shun root r h anew =
+        stays w (at (frame.Computes e ∷ frame.Writes ∷ s.control) s) r (shun, refl, (tt, anew, h)) refl
+    stmt_goes (writes_text text) s sound shun root r h anew = stays w s r h anew
+    stmt_goes (chooses branches) s sound shun root r h anew = branches_go branches s shun r h anew
+    stmt_goes (repeats condition fs spot) s sound shun root r h anew =
+        stays w (at (frame.Repeats condition fs ∷ s.control) s) r (shun, anew, h) refl
+    stmt_goes (counts x low high fs spot) s sound shun root r h anew =
+        let three =
+        and_parts (expression_shuns w.p.types w.shuns w.apart (variables_in w) low && expression_shuns w.p.types w.shuns w.apart (variables_in w) high)
+        (statements_shun w.p.types w.shuns w.apart (variables_in w) fs) shun in
+        let two = and_parts (expression_shuns w.p.types w.shuns w.apart (variables_in w) low)
+        (expression_shuns w.p.types w.shuns w.apart (variables_in w) high) three.0 in
+        stays w (at (frame.Computes low ∷ frame.Computes high ∷ frame.Ranges x fs ∷ s.control) s) r
+        (two.0, refl, (two.1, refl, (three.1, anew, h))) refl
+    stmt_goes (exits condition spot) s sound shun root r h anew = exit_goes condition s shun r h anew
+    stmt_goes (calls procedure actuals) s sound shun root r h anew =
+        let two = and_parts (list_all (actual_shuns w.p.types w.shuns w.apart (variables_in w)) actuals) (w.apart procedure) shun in
+        call_goes w are_apart procedure actuals (slice_get w.p.bodies procedure) s refl two.0 two.1 r h anew
+    stmt_goes (returns spot) s sound shun root r h anew = jumps w Returning s r h
+    stmt_goes (raises e) s sound shun root r h anew = jumps w (Raising e) s r h
+    stmt_goes (encloses ds fs hs) s sound shun root r h anew =
+        stays w (entered (at (frame.Elaborates ds fs hs ∷ s.control) s)) r (shun, anew, h) refl
+
+    -- The bodies go on as the first of some statements begins.
+    pub stmts_go :
+        (fs : StmtsForm) (s : State) → Sound w s → All fs → StatementsAreRooted w.p.types (variables_in w) fs
+        → Goes w s (stmts_next named tds w.p.bodies fs s)
+    stmts_go no_stmts s sound all root r h anew = stays w s r h anew
+    stmts_go (a_stmt f fs) s sound all root r h anew =
+        let two = and_parts (statement_shuns w.p.types w.shuns w.apart (variables_in w) f) (statements_shun w.p.types w.shuns w.apart (variables_in w) fs) all in
+        stmt_goes f (at (frame.Does fs ∷ s.control) s) sound two.0 root r (two.1, anew, h) refl
+
+  -- The bodies go on as a declaration is elaborated, or the statements behind the last one come.
+  pub declarations_go :
+      (tds : List TypeDefinition) (ds : List DeclarationForm) (fs : StmtsForm) (hs : HandlersForm) (s : State)
+      → (declarations_shun w.p.types w.shuns w.apart (variables_in w) ds && statements_shun w.p.types w.shuns w.apart (variables_in w) fs
+      && handlers_shun w.p.types w.shuns w.apart (variables_in w) hs) ≡ true
+      → Goes w s (declarations_next named tds ds fs hs s)
+  declarations_go tds [] fs hs s shun r h anew =
+      let three = and_parts (true && statements_shun w.p.types w.shuns w.apart (variables_in w) fs)
+      (handlers_shun w.p.types w.shuns w.apart (variables_in w) hs) shun in
+      stays w (at (frame.Does fs ∷ frame.Handles hs ∷ frame.Closes ∷ s.control) s) r
+      ((and_parts true (statements_shun w.p.types w.shuns w.apart (variables_in w) fs) three.0).1, refl, (three.1, refl, (tt, anew, h))) refl
+  declarations_go tds (creates_pool pool ∷ ds) fs hs s shun r h anew = absurd (cc)
+  declarations_go tds (collects access ∷ ds) fs hs s shun r h anew = absurd (cc)
+  declarations_go tds (declares x right ∷ ds) fs hs s shun r h anew =
+      let one = declaration_shuns w.p.types w.shuns w.apart (variables_in w) (declares x right) in
+      let others = declarations_shun w.p.types w.shuns w.apart (variables_in w) ds in
+      let inner = statements_shun w.p.types w.shuns w.apart (variables_in w) fs in
+      let handled = handlers_shun w.p.types w.shuns w.apart (variables_in w) hs in
+      let three = and_parts ((one && others) && inner) handled shun in
+      let two = and_parts (one && others) inner three.0 in
+      let declared = and_parts one others two.0 in
+      stays w (at (frame.Evaluates right ∷ frame.Declares x ∷ frame.Elaborates ds fs hs ∷ s.control) s) r
+      (declared.0, refl, (tt, refl, (and_from (others && inner) handled (and_from others inner declared.1 two.1) three.1, anew, h))) refl
+  declarations_go tds (declares_record x object_type initial ∷ ds) fs hs s shun r h anew = absurd (cc)

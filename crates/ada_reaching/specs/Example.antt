@@ -1,0 +1,71 @@
+-- The premise is met: a body stores a value of an access type that it shuns, while the object is there. And it is needed: one that follows such a value
+-- changes the object.
+
+use Rattle.std.specs.Prelude.{◌≡◌, ◌≢◌, ℕ, ℤ, Bool, true, false, List, Some}
+use Rattle.std.specs.List.{slice_get}
+use Rattle.ada_program.specs.declared.program.Program.{Program}
+use Rattle.ada_program.specs.ProgramForm.{BodyForm, program_form, body_forms}
+use Rattle.ada_program.specs.WellFormed.{IsWellFormed}
+use Rattle.ada_meaning.specs.declared.state.Id.{Id}
+use Rattle.ada_meaning.specs.declared.state.Value.{Value}
+use Rattle.ada_meaning.specs.declared.state.Value.TheVariants.{Names}
+use Rattle.ada_meaning.specs.Frame.{Frame}
+use Rattle.ada_meaning.specs.Step.{moves, procedure_of}
+use Rattle.ada_meaning.specs.Named.{State, object_at, next}
+use Rattle.ada_meaning.specs.Records.{component_at}
+use Rattle.ada_meaning.specs.Run.{Event, Run, first_state}
+use Rattle.ada_untouched.specs.Untouched.{Untouched}
+use Rattle.ada_reaching.specs.Forms.{body_shuns}
+use Rattle.ada_reaching.specs.Reaching.{IsOfShunned, IsReaching}
+use Rattle.ada_reaching.specs.Law.{AreApart, IsWithin, none_hidden}
+use Rattle.ada_reaching.specs.Deeds.{AreShaped, UseNone}
+
+-- The body of a procedure runs, and a step leads on.
+pub record RunsOn (program : Program) (b : BodyForm) (s after : State) : Type 0 where
+  pub procedure : ℕ
+  pub runs : procedure_of s.activations ≡ Some procedure
+  pub body : slice_get (program_form program).bodies procedure ≡ Some b
+  pub steps : (e : Event) × (next program.types.items (body_forms program) s ≡ moves e after)
+
+-- A body that shuns some access types stores the name of a ghost in a component of an object. What it may call is of that shape, and follows and frees no
+-- value of these types by what procedures do, too.
+pub record StoresGhost (program : Program) (shuns apart : ℕ → Bool) (ghosts : Id → Bool) (behind : List (Frame Value)) (b : BodyForm) (s after : State) : Type 0 where
+  pub are_apart : AreApart (program_form program) shuns apart
+  pub shaped : AreShaped (program_form program) apart
+  pub unused : UseNone (program_form program) shuns apart
+  pub runs_on : RunsOn program b s after
+  pub shuns_all : body_shuns (program_form program).types shuns apart b ≡ true
+  pub reaching : IsReaching (program_form program) shuns apart ghosts behind s
+  pub within : IsWithin behind s.control s.masters
+  pub ghost : Id
+  pub is_ghost : ghosts ghost ≡ true
+  pub holder : Id
+  pub component : ℕ
+  pub holds_other : component_at s.heap holder component ≢ Some (Names ghost)
+  pub stores : component_at after.heap holder component ≡ Some (Names ghost)
+
+-- A body that does not shun these types follows a value of one: the step looks at the object that it names, and changes it.
+pub record FollowsGhost (program : Program) (shuns apart : ℕ → Bool) (ghosts : Id → Bool) (b : BodyForm) (s after : State) : Type 0 where
+  pub runs_on : RunsOn program b s after
+  pub shuns_not_all : body_shuns (program_form program).types shuns apart b ≡ false
+  pub ghosts_there : (o : Id) → ghosts o ≡ true → IsOfShunned (program_form program).types shuns (object_at s.heap o)
+  pub looks : Untouched none_hidden ghosts s → ⊥
+  pub ghost : Id
+  pub is_ghost : ghosts ghost ≡ true
+  pub changes : object_at after.heap ghost ≢ object_at s.heap ghost
+
+-- The one is so in a run of a well-formed program,
+abbrev pub PremiseIsMet : Type 0
+PremiseIsMet =
+    (program : Program) × IsWellFormed (program_form program)
+    × ((input : List ℤ) × (events : List Event) × (s : State) × Run program (first_state program input) events s
+    × ((shuns : (ℕ → Bool)) × (apart : (ℕ → Bool)) × (ghosts : (Id → Bool)) × (behind : List (Frame Value)) × (b : BodyForm) × (after : State)
+    × StoresGhost program shuns apart ghosts behind b s after))
+
+-- and so is the other.
+abbrev pub PremiseIsNeeded : Type 0
+PremiseIsNeeded =
+    (program : Program) × IsWellFormed (program_form program)
+    × ((input : List ℤ) × (events : List Event) × (s : State) × Run program (first_state program input) events s
+    × ((shuns : (ℕ → Bool)) × (apart : (ℕ → Bool)) × (ghosts : (Id → Bool)) × (b : BodyForm) × (after : State)
+    × FollowsGhost program shuns apart ghosts b s after))

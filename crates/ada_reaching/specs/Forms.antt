@@ -1,0 +1,132 @@
+-- Bodies that shun some access types (3.10): they follow no value of one (4.1) and free none (13.11.2), and call procedures alone whose bodies do so. They
+-- may move such values, store them, compare them with null, and pass them. They assign, declare and copy no record as a whole, create no collection and no
+-- pool, and allocate and free objects without controlled parts alone (7.6).
+
+use Rattle.std.specs.Prelude.{ℕ, Bool, true, false, not, ◌&&◌, List, [], ◌∷◌, Option, Some, None}
+use Rattle.std.specs.List.{list_all}
+use Rattle.ada_program.specs.Form.{PathForm, RecordPathForm, ActualForm, in_value, in_null, in_access, in_record, in_out_path, in_out_access, in_out_component, in_out_record, ExpressionForm, integer, boolean, reads, is_null, applied_to, chained, LinksForm, no_more_links, a_link, ItemForm, null_item, item_of_path, item_of_value, item_of_record, RightForm, nothing, value_of, allocates, allocates_default, computes, DeclarationForm, creates_pool, collects, declares, declares_record, StmtForm, skips, assigns, assigns_record, frees, gets, writes, writes_text, chooses, repeats, counts, exits, calls, returns, raises, encloses, StmtsForm, no_stmts, a_stmt, BranchesForm, otherwise, a_branch, HandlersForm, no_handlers, a_handler}
+use Rattle.ada_program.specs.declared.program.VariableKind.{VariableKind}
+use Rattle.ada_program.specs.declared.program.VariableKind.TheVariants as variable
+use Rattle.ada_program.specs.ProgramForm.{TypeForm, VariableForm, BodyForm}
+use Rattle.ada_program.specs.WellFormed.{path_kind, selected_kind, variable_kind}
+use Rattle.ada_quiet.specs.Bare.{has_bare_objects}
+
+-- What is held may be followed, and freed: it is no value of an access type that is shunned.
+abbrev pub may_follow : (shuns : ℕ → Bool) → Option VariableKind → Bool
+may_follow shuns None = true
+may_follow shuns (Some variable.Integer) = true
+may_follow shuns (Some variable.Boolean) = true
+may_follow shuns (Some (variable.Access access)) = not (shuns access.0)
+may_follow shuns (Some (variable.Record object)) = true
+
+-- Selectors follow no value that is shunned: each follows the value in front of it, and the last value is not followed (4.1.3).
+abbrev pub selectors_shun : List TypeForm → (shuns : ℕ → Bool) → Option VariableKind → (selectors : List ℕ) → Bool
+selectors_shun types shuns kind [] = true
+selectors_shun types shuns kind (c ∷ cs) = may_follow shuns kind && selectors_shun types shuns (selected_kind types kind c) cs
+
+-- In a body with these variables, which calls procedures of these alone.
+module _ (types : List TypeForm) (shuns apart : ℕ → Bool) (variables : List VariableForm) where
+  -- A path follows no value that is shunned (4.1).
+  abbrev pub path_shuns : PathForm → Bool
+  path_shuns path = selectors_shun types shuns (variable_kind variables path.root) path.selectors
+
+  -- The way to a record does not, and it follows the access value to the record's object, too (4.1).
+  abbrev pub record_path_shuns : RecordPathForm → Bool
+  record_path_shuns q = path_shuns q.object && may_follow shuns (path_kind types variables q.object)
+
+  abbrev mutual
+    -- The paths of an expression do not (4.4).
+    pub expression_shuns : ExpressionForm → Bool
+    expression_shuns (integer i) = true
+    expression_shuns (boolean b) = true
+    expression_shuns (reads path) = path_shuns path
+    expression_shuns (is_null equal path) = path_shuns path
+    expression_shuns (applied_to operator e) = expression_shuns e
+    expression_shuns (chained e links) = expression_shuns e && links_shun links
+
+    -- Those of right operands do not.
+    pub links_shun : LinksForm → Bool
+    links_shun no_more_links = true
+    links_shun (a_link operator e links) = expression_shuns e && links_shun links
+
+  -- Those of a condition do not, where there is one.
+  abbrev pub condition_shuns : Option ExpressionForm → Bool
+  condition_shuns None = true
+  condition_shuns (Some e) = expression_shuns e
+
+  -- Those of an item do not, and it is no record (4.3.1).
+  abbrev pub item_shuns : ItemForm → Bool
+  item_shuns null_item = true
+  item_shuns (item_of_path path) = path_shuns path
+  item_shuns (item_of_value e) = expression_shuns e
+  item_shuns (item_of_record q) = false
+
+  -- Those of what is assigned do not, and a new object has no controlled parts (5.2, 4.8).
+  abbrev pub right_shuns : RightForm → Bool
+  right_shuns nothing = true
+  right_shuns (value_of path) = path_shuns path
+  right_shuns (allocates access items) = has_bare_objects types access && list_all item_shuns items
+  right_shuns (allocates_default access) = has_bare_objects types access
+  right_shuns (computes e) = expression_shuns e
+
+  -- Those of an actual parameter do not (6.4.1).
+  abbrev pub actual_shuns : ActualForm → Bool
+  actual_shuns (in_value e) = expression_shuns e
+  actual_shuns in_null = true
+  actual_shuns (in_access path) = path_shuns path
+  actual_shuns (in_record q) = record_path_shuns q
+  actual_shuns (in_out_path path) = path_shuns path
+  actual_shuns (in_out_access path) = path_shuns path
+  actual_shuns (in_out_component path) = path_shuns path
+  actual_shuns (in_out_record q) = record_path_shuns q
+
+  -- A declaration is that of a variable, of whatever type (3.3.1).
+  abbrev pub declaration_shuns : DeclarationForm → Bool
+  declaration_shuns (creates_pool p) = false
+  declaration_shuns (collects access) = false
+  declaration_shuns (declares x right) = right_shuns right
+  declaration_shuns (declares_record x t initial) = false
+
+  -- So is each of these.
+  abbrev pub declarations_shun : List DeclarationForm → Bool
+  declarations_shun ds = list_all declaration_shuns ds
+
+  abbrev mutual
+    -- The paths of a statement follow no value that is shunned, and so it is inside it (5.1). No such value is freed (13.11.2).
+    pub statement_shuns : StmtForm → Bool
+    statement_shuns skips = true
+    statement_shuns (assigns target right) = path_shuns target && right_shuns right
+    statement_shuns (assigns_record target items) = false
+    statement_shuns (frees access path) = path_shuns path && may_follow shuns (path_kind types variables path) && has_bare_objects types access
+    statement_shuns (gets target) = path_shuns target
+    statement_shuns (writes e) = expression_shuns e
+    statement_shuns (writes_text text) = true
+    statement_shuns (chooses branches) = branches_shun branches
+    statement_shuns (repeats condition fs spot) = condition_shuns condition && statements_shun fs
+    statement_shuns (counts x low high fs spot) = expression_shuns low && expression_shuns high && statements_shun fs
+    statement_shuns (exits condition spot) = condition_shuns condition
+    statement_shuns (calls procedure actuals) = list_all actual_shuns actuals && apart procedure
+    statement_shuns (returns spot) = true
+    statement_shuns (raises e) = true
+    statement_shuns (encloses ds fs hs) = declarations_shun ds && statements_shun fs && handlers_shun hs
+
+    -- So it is with statements.
+    pub statements_shun : StmtsForm → Bool
+    statements_shun no_stmts = true
+    statements_shun (a_stmt f fs) = statement_shuns f && statements_shun fs
+
+    -- So it is with branches (5.3).
+    pub branches_shun : BranchesForm → Bool
+    branches_shun (otherwise fs) = statements_shun fs
+    branches_shun (a_branch e fs branches) = expression_shuns e && statements_shun fs && branches_shun branches
+
+    -- So it is with handlers (11.2).
+    pub handlers_shun : HandlersForm → Bool
+    handlers_shun no_handlers = true
+    handlers_shun (a_handler choices fs hs) = statements_shun fs && handlers_shun hs
+
+-- All of a body does.
+abbrev pub body_shuns : List TypeForm → (shuns apart : ℕ → Bool) → BodyForm → Bool
+body_shuns types shuns apart b =
+    declarations_shun types shuns apart b.variables b.declarations && statements_shun types shuns apart b.variables b.statements
+    && handlers_shun types shuns apart b.variables b.handlers

@@ -1,0 +1,12 @@
+-- Bodies that follow and free no value of some access types.
+
+-- their forms
+pub mod Forms
+-- such bodies run
+pub mod Reaching
+-- the law
+pub mod Law
+-- the law by what procedures do
+pub mod Deeds
+-- the premise is met, and needed
+pub mod Example

@@ -1,0 +1,168 @@
+-- Bodies run that shun some access types, while some objects of these types are there, the ghosts: what is left of the bodies shuns the types, and refers to
+-- no ghost.
+
+use Rattle.std.specs.Prelude.{◌≡◌, ◌⊎◌, ℕ, Bool, true, false, not, ◌&&◌, List, [], ◌∷◌, Option, Some}
+use Rattle.std.specs.List.{list_all, slice_get}
+use Rattle.ada_program.specs.declared.program.VariableKind.TheVariants as variable
+use Rattle.ada_program.specs.ProgramForm.{TypeForm, VariableForm, BodyForm, ProgramForm, seen_in}
+use Rattle.ada_program.specs.WellFormed.{is_access, selected_kind, selectors_kind, value_access}
+use Rattle.ada_meaning.specs.declared.state.Id.{Id}
+use Rattle.ada_meaning.specs.declared.state.Mode.{Mode}
+use Rattle.ada_meaning.specs.declared.state.Mode.TheVariants.{Running}
+use Rattle.ada_meaning.specs.declared.state.Value.{Value}
+use Rattle.ada_meaning.specs.declared.state.Value.TheVariants.{Null, Names, Scalar, Part}
+use Rattle.ada_meaning.specs.Frame.{Frame, is_return}
+use Rattle.ada_meaning.specs.Frame as frame
+use Rattle.ada_meaning.specs.State.{Activation}
+use Rattle.ada_meaning.specs.Step.{operands_of, older, places_of, procedure_of}
+use Rattle.ada_meaning.specs.Named.{Object, State, object_at}
+use Rattle.ada_quiet.specs.Bare.{has_bare_objects}
+use Rattle.ada_untouched.specs.Untouched.{IsInSight}
+use Rattle.ada_reaching.specs.Forms.{may_follow, selectors_shun, record_path_shuns, path_shuns, expression_shuns, links_shun, condition_shuns, item_shuns, right_shuns, declarations_shun, statements_shun, branches_shun, handlers_shun, body_shuns}
+
+-- An object is there, and is of an access type that is shunned (3.10).
+pub record IsOfShunned (types : List TypeForm) (shuns : ℕ → Bool) (found : Option Object) : Type 0 where
+  pub object : Object
+  pub there : found ≡ Some object
+  pub shunned : shuns object.cell.access ≡ true
+  pub accessed : is_access types object.cell.access ≡ true
+
+-- Where a value refers to a record or to a component of an object (6.2, 6.4.1), that is no ghost. It may name one.
+abbrev pub IsElsewhere : (ghosts : Id → Bool) → Value → Type 0
+IsElsewhere ghosts Null = Unit {0}
+IsElsewhere ghosts (Names o) = Unit {0}
+IsElsewhere ghosts (Scalar v) = Unit {0}
+IsElsewhere ghosts (Part o place) = (ghosts o ≡ false)
+
+-- So it is with each of these.
+abbrev pub AreElsewhere : (ghosts : Id → Bool) → List Value → Type 0
+AreElsewhere ghosts [] = Unit {0}
+AreElsewhere ghosts (v ∷ vs) = IsElsewhere ghosts v × AreElsewhere ghosts vs
+
+-- A frame looks for the object that the newest operand names: to follow selectors (4.1.3), to assign or read to a component (5.2), to free what that holds
+-- (13.11.2), or to refer to a record or a component (6.2, 6.4.1).
+abbrev pub is_seeking : Frame Value → Bool
+is_seeking (frame.Follows cs) = true
+is_seeking (frame.RefersIn place t) = true
+is_seeking (frame.OpensIn c) = true
+is_seeking (frame.Targets c right) = true
+is_seeking (frame.Receives c) = true
+is_seeking (frame.FreesIn access c) = true
+is_seeking f = false
+
+-- What is left to do begins with no such frame.
+abbrev pub begins_anew : List (Frame Value) → Bool
+begins_anew [] = true
+begins_anew (f ∷ k) = not (is_seeking f)
+
+-- Such a frame waits behind one alone that follows selectors.
+abbrev pub IsInFront : Frame Value → (behind : List (Frame Value)) → Type 0
+IsInFront (frame.Follows cs) k = Unit {0}
+IsInFront f k = begins_anew k ≡ true
+
+-- What a frame holds of a body with these variables shuns the types, and names no ghost where it stores, clears, ends or gives back. Nothing copies a record or
+-- treats one, and what is created or freed has no controlled parts.
+module _ (types : List TypeForm) (shuns apart : ℕ → Bool) (bodies : List BodyForm) (ghosts : Id → Bool) (variables : List VariableForm) where
+  abbrev pub FrameShuns : Frame Value → Type 0
+  FrameShuns (frame.Elaborates ds fs hs) =
+      (declarations_shun types shuns apart variables ds && statements_shun types shuns apart variables fs && handlers_shun types shuns apart variables hs) ≡ true
+  FrameShuns (frame.Does fs) = statements_shun types shuns apart variables fs ≡ true
+  FrameShuns (frame.Decides fs branches) = (statements_shun types shuns apart variables fs && branches_shun types shuns apart variables branches) ≡ true
+  FrameShuns (frame.Repeats condition fs) = (condition_shuns types shuns apart variables condition && statements_shun types shuns apart variables fs) ≡ true
+  FrameShuns (frame.Turns condition fs) = (expression_shuns types shuns apart variables condition && statements_shun types shuns apart variables fs) ≡ true
+  FrameShuns (frame.Ranges x fs) = statements_shun types shuns apart variables fs ≡ true
+  FrameShuns (frame.Counts x value last fs) = statements_shun types shuns apart variables fs ≡ true
+  FrameShuns (frame.Handles hs) = handlers_shun types shuns apart variables hs ≡ true
+  FrameShuns (frame.Calls procedure b actuals) = (slice_get bodies procedure ≡ Some b) × (body_shuns types shuns apart b ≡ true)
+  FrameShuns (frame.Returns actuals references) = ⊥
+  FrameShuns (frame.Evaluates right) = right_shuns types shuns apart variables right ≡ true
+  FrameShuns (frame.Computes e) = expression_shuns types shuns apart variables e ≡ true
+  FrameShuns (frame.Refers q) = record_path_shuns types shuns apart variables q ≡ true
+  FrameShuns (frame.Opens path) = path_shuns types shuns apart variables path ≡ true
+  FrameShuns (frame.Continues links) = links_shun types shuns apart variables links ≡ true
+  FrameShuns (frame.Fills items) = list_all (item_shuns types shuns apart variables) items ≡ true
+  FrameShuns (frame.Copies c t) = ⊥
+  FrameShuns (frame.Creates access count) = has_bare_objects types access ≡ true
+  FrameShuns (frame.Targets c right) = right_shuns types shuns apart variables right ≡ true
+  FrameShuns (frame.StoresIn v c) = IsInSight ghosts v
+  FrameShuns (frame.TargetsRecord c t items) = ⊥
+  FrameShuns (frame.StoresRecord v c count) = ⊥
+  FrameShuns (frame.FreesIn access c) = has_bare_objects types access ≡ true
+  FrameShuns (frame.Assigns t) = ⊥
+  FrameShuns (frame.DeclaresRecord x t) = ⊥
+  FrameShuns (frame.Treats v treatment tasks) = ⊥
+  FrameShuns (frame.Awaits v by done of part tasks) = ⊥
+  FrameShuns frame.Confines = ⊥
+  FrameShuns (frame.Resumes mode) = ⊥
+  FrameShuns (frame.Ends v) = IsInSight ghosts v
+  FrameShuns (frame.GivesBack v cause pool) = IsInSight ghosts v
+  FrameShuns (frame.ClearsIn v c) = IsInSight ghosts v
+  FrameShuns f = Unit {0}
+
+-- What refers, where the call of a body ends, to the components that are given for its formal parameters of mode `in out` (6.4.1).
+abbrev pub references_at : Frame Value → List Value
+references_at (frame.Returns actuals references) = references
+references_at f = []
+
+-- The outermost of the bodies ends, and with it the run of an operation (7.6): what is behind comes next.
+abbrev pub IsLast : (behind : List (Frame Value)) → Frame Value → List (Frame Value) → Type 0
+IsLast behind f k = (f ∷ k ≡ frame.Returns [] [] ∷ behind)
+
+-- The call of an inner one ends: what its caller's variables and operands hold, and the references to components, lead elsewhere, and what is left of the
+-- caller is so.
+pub record IsInner (ghosts : Id → Bool) (f : Frame Value) (k : List (Frame Value)) (suspended : List (Activation Value)) (left : Type 0) : Type 0 where
+  pub references : AreElsewhere ghosts (references_at f)
+  pub places : AreElsewhere ghosts (places_of suspended)
+  pub operands : AreElsewhere ghosts (operands_of suspended)
+  pub anew : begins_anew k ≡ true
+  pub others : left
+
+-- What holds where the call of a body ends (6.5), and at each other frame.
+abbrev pub AtEnd : (ends : Bool) → (end further : Type 0) → Type 0
+AtEnd true end further = end
+AtEnd false end further = further
+
+-- What is left of the body of a procedure, which runs, and of those that wait for it: each frame is read with the variables of its body, up to the end of the
+-- outermost one.
+abbrev pub LeftShuns :
+    ProgramForm → (shuns apart : ℕ → Bool) → (ghosts : Id → Bool) → (behind : List (Frame Value)) → (procedure : Option ℕ) → List (Frame Value)
+    → (suspended : List (Activation Value)) → Type 0
+LeftShuns p shuns apart ghosts behind procedure [] suspended = ⊥
+LeftShuns p shuns apart ghosts behind procedure (f ∷ k) suspended =
+    AtEnd (is_return f)
+    (IsLast behind f k ⊎ IsInner ghosts f k suspended (LeftShuns p shuns apart ghosts behind (procedure_of suspended) k (older suspended)))
+    (FrameShuns p.types shuns apart p.bodies ghosts (seen_in procedure p).variables f × IsInFront f k
+    × LeftShuns p shuns apart ghosts behind procedure k suspended)
+
+-- What is sought next from an object of an access type: it may be followed then, and from what is selected of it on no value is followed or freed that is
+-- shunned.
+abbrev pub Seeks : List TypeForm → (shuns : ℕ → Bool) → (may : Bool) → (access : ℕ) → List (Frame Value) → Type 0
+Seeks types shuns may access [] = Unit {0}
+Seeks types shuns may access (frame.Follows [] ∷ k) = Seeks types shuns may access k
+Seeks types shuns may access (frame.Follows (c ∷ cs) ∷ k) =
+    (may ≡ true)
+    × (selectors_shun types shuns (selected_kind types (Some (variable.Access (record { 0 = access }))) c) cs ≡ true)
+    × ((u : ℕ) → value_access (selectors_kind types (selected_kind types (Some (variable.Access (record { 0 = access }))) c) cs) ≡ Some u
+    → Seeks types shuns (not (shuns u)) u k)
+Seeks types shuns may access (frame.RefersIn place t ∷ k) = (may ≡ true)
+Seeks types shuns may access (frame.OpensIn c ∷ k) = (may ≡ true)
+Seeks types shuns may access (frame.Targets c right ∷ k) = (may ≡ true)
+Seeks types shuns may access (frame.Receives c ∷ k) = (may ≡ true)
+Seeks types shuns may access (frame.FreesIn t c ∷ k) =
+    (may ≡ true)
+    × (may_follow shuns (selected_kind types (Some (variable.Access (record { 0 = access }))) c) ≡ true)
+    × ((own : ℕ) → value_access (selected_kind types (Some (variable.Access (record { 0 = access }))) c) ≡ Some own → has_bare_objects types own ≡ true)
+Seeks types shuns may access (f ∷ k) = Unit {0}
+
+-- So it is from the newest operand, where it names an object and no jump is on its way: no ghost is followed.
+abbrev pub OperandSeeks : List TypeForm → (shuns : ℕ → Bool) → (ghosts : Id → Bool) → List Object → Mode → List (Frame Value) → (operands : List Value) → Type 0
+OperandSeeks types shuns ghosts heap Running k (Names o ∷ vs) = (x : Object) → object_at heap o ≡ Some x → Seeks types shuns (not (ghosts o)) x.cell.access k
+OperandSeeks types shuns ghosts heap mode k vs = Unit {0}
+
+-- Such bodies run, while the ghosts are there.
+pub record IsReaching (p : ProgramForm) (shuns apart : ℕ → Bool) (ghosts : Id → Bool) (behind : List (Frame Value)) (s : State) : Type 0 where
+  pub ghosts_there : (o : Id) → ghosts o ≡ true → IsOfShunned p.types shuns (object_at s.heap o)
+  pub places : AreElsewhere ghosts (places_of s.activations)
+  pub operands : AreElsewhere ghosts (operands_of s.activations)
+  pub control : LeftShuns p shuns apart ghosts behind (procedure_of s.activations) s.control (older s.activations)
+  pub seeks : OperandSeeks p.types shuns ghosts s.heap s.mode s.control (operands_of s.activations)

@@ -1,0 +1,31 @@
+//! The laws of bodies that follow and free no value of some access types. Each is a function that does nothing, and whose contract is the
+//! theorem.
+
+ghost use Rattle.ada_reaching.specs.Deeds.{UnusedObjectsAreUntouched};
+ghost use Rattle.ada_reaching.specs.Example.{PremiseIsMet, PremiseIsNeeded};
+ghost use Rattle.ada_reaching.specs.Law.{ShunnedObjectsAreUntouched};
+
+/// While a body runs, or a procedure that it calls, that follows and frees no value of some access types, no step looks at objects of
+/// these types into which no reference of theirs to a record or a component leads; each of them stays as it is, and what is left of
+/// the bodies is so still.
+pub fn shunned_objects_are_untouched()
+    ensures { ShunnedObjectsAreUntouched }
+{}
+
+/// So it is where the procedures that such a body calls are of that shape, and follow and free no value of these access types by what
+/// procedures do (`Does` of `ada_deeds`): what they do covers what their runs look at.
+pub fn unused_objects_are_untouched()
+    ensures { UnusedObjectsAreUntouched }
+{}
+
+/// The premises of both are met: in a run of a well-formed program a procedure that such a body calls stores the name of an object of
+/// an access type that both shun, and of which the procedure does nothing.
+pub fn premise_is_met()
+    ensures { PremiseIsMet }
+{}
+
+/// And it is needed: in a run of a well-formed program a body follows a value of such a type, and the step looks at the object and
+/// changes it.
+pub fn premise_is_needed()
+    ensures { PremiseIsNeeded }
+{}
