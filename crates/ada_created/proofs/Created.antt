@@ -76,7 +76,7 @@ module _ (parts : List (List ℕ)) where
       All-cons (λ m. AllPairs (CreatedInOrder parts) m.items) m ms (items_in_order part falls.0 m.items falls.2) (masters_in_order ms rest)
 
 -- The parts of a body of the program are among those of the program.
-body_fits_in : (P : List ℕ → Type 0) (bodies : List BodyForm) → Each P (flat_map body_collections bodies) → BodiesFit P bodies
+pub body_fits_in : (P : List ℕ → Type 0) (bodies : List BodyForm) → Each P (flat_map body_collections bodies) → BodiesFit P bodies
 body_fits_in P [] each procedure b found = absurd (cc found)
 body_fits_in P (c ∷ bodies) each zero b found =
     let same : c ≡ b = cc found in

@@ -3,7 +3,8 @@
 //! they use is there while a master is left. Nothing here runs: each function of [`laws`] is a theorem on the definitions of meaning, and
 //! its contract is the statement.
 //!
-//! What a crate above takes from here: `in_order` and `none_first` of `proofs::Created`.
+//! What a crate above takes from here: `in_order`, `none_first` and `body_fits_in` of `proofs::Created`, and `begun_in_runs` of
+//! `proofs::Runs`: in each state of a run the collections of a master are the first ones of a declarative part, whatever is said of these.
 #![tactic(auto)]
 
 pub mod laws;

@@ -16,12 +16,16 @@ pub mod Steps
 pub mod Runs
 -- programs that meet the premises, and some that do not
 pub mod Example
+-- what holds of each frame of what is left to do, and where it holds on
+pub mod Frames
+-- it does behind paths, expressions, values, allocators and Free
+pub mod FrameForms
+-- treatments keep it, and so does leaving a master
+pub mod FrameTreatments
+-- each step keeps it
+pub mod FrameSteps
 -- nothing that is left to do copies a record with controlled parts
 pub mod Unadjusted
--- paths, expressions, values, allocators and Free keep that
-pub mod UnadjustedForms
--- treatments keep that, and so does leaving a master
-pub mod UnadjustedTreatments
 -- each step keeps that
 pub mod UnadjustedSteps
 -- each state of a run is so

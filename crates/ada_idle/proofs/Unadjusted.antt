@@ -1,14 +1,14 @@
 -- Nothing in what is left to do copies a record with controlled parts (7.6), and no copy is adjusted: so no Adjust is called.
 
-use Rattle.std.proofs.Common.{◌≡◌, true, false, List, [], ◌∷◌}
+use Rattle.std.proofs.Common.{◌≡◌, true, false, List}
 use Rattle.ada_program.specs.ProgramForm.{TypeForm}
 use Rattle.ada_quiet.specs.Idle.{holds_parts, stmts_make_parts, branches_make_parts, handlers_make_parts, body_makes_parts}
 use Rattle.ada_meaning.specs.declared.state.Value.{Value}
 use Rattle.ada_meaning.specs.Frame.{Frame}
 use Rattle.ada_meaning.specs.Frame as frame
-use Rattle.ada_meaning.specs.Named.{State, Next}
+use Rattle.ada_meaning.specs.Named.{Next}
 use Rattle.ada_idle.specs.Law.{begins_copy, adjusts_copy}
-use Rattle.ada_idle.proofs.Coming.{AllNext}
+use Rattle.ada_idle.proofs.Frames.{AllFrames, AllFramesNext}
 use Rattle.ada_idle.proofs.MakesNone.{MakeNone}
 
 module _ (types : List TypeForm) where
@@ -32,9 +32,8 @@ module _ (types : List TypeForm) where
 
   -- So it is with all that is left to do.
   abbrev pub AdjustsNone : List (Frame Value) → Type 0
-  AdjustsNone [] = Unit {0}
-  AdjustsNone (f ∷ k) = FrameAdjustsNone f × AdjustsNone k
+  AdjustsNone = AllFrames FrameAdjustsNone
 
   -- So it is whatever comes next, and whatever is answered.
   abbrev pub AllAdjustNone : Next → Type 0
-  AllAdjustNone = AllNext (λ (s : State). AdjustsNone s.control)
+  AllAdjustNone = AllFramesNext FrameAdjustsNone

@@ -4,7 +4,9 @@
 //! statement.
 //!
 //! What a crate above takes from here: `IsIdle` of `proofs::Idle`, and `step_idle` and `first_idle` of `proofs::Runs`; `AdjustsNone` of
-//! `proofs::Unadjusted`, and `step_adjusts_none` and `first_adjusts_none` of `proofs::UnadjustedRuns`.
+//! `proofs::Unadjusted`, and `step_adjusts_none` and `first_adjusts_none` of `proofs::UnadjustedRuns`; and `IsClosed` of
+//! `proofs::Frames` with `next_keeps` of `proofs::FrameSteps`: what holds of each frame that is left to do holds on, if it holds of those to
+//! which each leads.
 #![tactic(auto)]
 
 pub mod laws;

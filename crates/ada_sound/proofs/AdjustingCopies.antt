@@ -58,7 +58,7 @@ use Rattle.ada_sound.proofs.AdjustingGoes.{adjusting_goes, adjusting_returns, ad
 use Rattle.ada_sound.proofs.AdjustingSeen.{simple_begins}
 use Rattle.ada_sound.proofs.AdjustingSteps.{GoesAdjusting, InAdjusting, IsOrderly, houses_none}
 use Rattle.ada_sound.proofs.Blanked.{alters_unblanked, blanked_at, ends_unblanked, says_unblanked, stored_unblanked, unblanked}
-use Rattle.ada_sound.proofs.CollectsApartRuns.{apart_where_reached}
+use Rattle.ada_sound.proofs.CollectsApart.{apart_where_reached}
 use Rattle.ada_sound.proofs.CopiedOwners.{CopyLeft, NameThere, hiding, names_still, owners_left}
 use Rattle.ada_sound.proofs.Finalization.{parts_alive}
 use Rattle.ada_sound.proofs.FrugalControl.{is_return_first}

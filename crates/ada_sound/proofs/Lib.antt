@@ -149,8 +149,6 @@ pub mod Started
 pub mod Uncalled
 -- procedures that track stand apart in what is left to do
 pub mod CallsApart
--- while objects are treated
-pub mod CallsApartTreatments
 -- whatever the next step is
 pub mod CallsApartSteps
 -- in whole runs: what tracks is never called
@@ -268,14 +266,8 @@ pub mod Steps
 pub mod Coming
 -- so are those of each declarative part
 pub mod PartsInOrder
--- collections are created in order
+-- in whole runs: the collections of each master are apart
 pub mod CollectsApart
--- while objects are treated, and masters are left
-pub mod CollectsApartTreatments
--- whatever the next step is
-pub mod CollectsApartSteps
--- in whole runs: the items of each master are apart
-pub mod CollectsApartRuns
 -- what goes where a master is left: no component names it of what an operation that touches storage may be called for later
 pub mod InOrder
 -- of which records a treatment speaks

@@ -1,56 +1,24 @@
 -- Where all collections of a program are created in order, those of each declarative part are among themselves (7.6.1): those of the main procedure, of each other
 -- body, and of each block in these.
 
-use Rattle.std.proofs.Common.{◌≡◌, ℕ, Bool, true, false, not, ◌&&◌, if◌then◌else◌, List, [], ◌∷◌, ◌++◌, refl}
+use Rattle.std.proofs.Common.{◌≡◌, ℕ, Bool, true, false, not, if◌then◌else◌, List, [], ◌∷◌, ◌++◌, flat_map, refl}
 use Rattle.std.specs.List.{list_all}
-use Rattle.std.proofs.lemmas.Bool.{and_from, and_parts}
-use Rattle.ada_program.specs.Form.{StmtForm, skips, assigns, assigns_record, frees, gets, writes, writes_text, chooses, repeats, counts, exits, calls, returns, raises, encloses, StmtsForm, no_stmts, a_stmt, BranchesForm, otherwise, a_branch, HandlersForm, no_handlers, a_handler, DeclarationForm}
+use Rattle.std.proofs.lemmas.Bool.{and_parts}
+use Rattle.ada_program.specs.Form.{StmtForm, skips, assigns, assigns_record, frees, gets, writes, writes_text, chooses, repeats, counts, exits, calls, returns, raises, encloses, StmtsForm, no_stmts, a_stmt, BranchesForm, otherwise, a_branch, HandlersForm, no_handlers, a_handler}
 use Rattle.ada_program.specs.Nested.{collected}
 use Rattle.ada_program.specs.ProgramForm.{TypeForm, BodyForm, ProgramForm, main_body}
+use Rattle.ada_operations.specs.Created as parts
+use Rattle.ada_created.proofs.Control.{Each, join}
 use Rattle.ada_quiet.specs.Bare.{has_bare_objects, holds_component, hold_none, hold_none_from, is_apart_from, collect_in_order, stmt_collections, stmts_collections, branches_collections, handlers_collections, body_collections, bodies_collections, collections_in_order}
 
 module _ (types : List TypeForm) where
   -- The collections of a declarative part are created in order: no others are in front of them.
-  abbrev pub part_in_order : List DeclarationForm → Bool
-  part_in_order ds = collect_in_order types [] (collected ds)
+  abbrev pub InOrder : List ℕ → Type 0
+  InOrder ts = collect_in_order types [] ts ≡ true
 
-  abbrev mutual
-    -- So it is with those of each block in a statement (5.6).
-    pub stmt_in_order : StmtForm → Bool
-    stmt_in_order skips = true
-    stmt_in_order (assigns target right) = true
-    stmt_in_order (assigns_record target items) = true
-    stmt_in_order (frees access path) = true
-    stmt_in_order (gets target) = true
-    stmt_in_order (writes e) = true
-    stmt_in_order (writes_text text) = true
-    stmt_in_order (chooses branches) = branches_in_order branches
-    stmt_in_order (repeats condition fs spot) = stmts_in_order fs
-    stmt_in_order (counts x low high fs spot) = stmts_in_order fs
-    stmt_in_order (exits condition spot) = true
-    stmt_in_order (calls procedure actuals) = true
-    stmt_in_order (returns spot) = true
-    stmt_in_order (raises e) = true
-    stmt_in_order (encloses ds fs hs) = part_in_order ds && stmts_in_order fs && handlers_in_order hs
-
-    -- So it is with statements.
-    pub stmts_in_order : StmtsForm → Bool
-    stmts_in_order no_stmts = true
-    stmts_in_order (a_stmt f fs) = stmt_in_order f && stmts_in_order fs
-
-    -- So it is with branches (5.3).
-    pub branches_in_order : BranchesForm → Bool
-    branches_in_order (otherwise fs) = stmts_in_order fs
-    branches_in_order (a_branch e fs branches) = stmts_in_order fs && branches_in_order branches
-
-    -- So it is with handlers (11.2).
-    pub handlers_in_order : HandlersForm → Bool
-    handlers_in_order no_handlers = true
-    handlers_in_order (a_handler choices fs hs) = stmts_in_order fs && handlers_in_order hs
-
-  -- So it is with those of a body.
-  abbrev pub body_in_order : BodyForm → Bool
-  body_in_order b = part_in_order b.declarations && stmts_in_order b.statements && handlers_in_order b.handlers
+  -- So it is with each of some parts.
+  abbrev pub AllInOrder : List (List ℕ) → Type 0
+  AllInOrder = Each InOrder
 
   -- What holds of each of some things and some more holds of each of the former.
   all_in_front : (f : ℕ → Bool) (vs more : List ℕ) → list_all f (vs ++ more) ≡ true → list_all f vs ≡ true
@@ -102,71 +70,69 @@ module _ (types : List TypeForm) where
       let rest = split_in_order ts more (t ∷ older) both.1 in
       (rw both.0 rest.0, rest.1)
 
-  -- Three things hold.
-  all_three : (b c d : Bool) → b ≡ true → c ≡ true → d ≡ true → b && c && d ≡ true
-  all_three b c d one two three = rw one (rw two three)
+  -- So it is with a body or a block: its own part, and the parts in its statements and its handlers.
+  part_ordered : (own : List ℕ) (fs : StmtsForm) (hs : HandlersForm)
+      → (InOrder (stmts_collections fs) → AllInOrder (parts.stmts_collections fs)) → (InOrder (handlers_collections hs) → AllInOrder (parts.handlers_collections hs))
+      → InOrder (own ++ (stmts_collections fs ++ handlers_collections hs)) → AllInOrder (own ∷ parts.stmts_collections fs ++ parts.handlers_collections hs)
+  part_ordered own fs hs inner handled ordered =
+      let first = split_in_order own (stmts_collections fs ++ handlers_collections hs) [] ordered in
+      let both = split_in_order (stmts_collections fs) (handlers_collections hs) [] first.1 in
+      (first.0, join InOrder (parts.stmts_collections fs) (parts.handlers_collections hs) (inner both.0) (handled both.1))
 
   mutual
     -- So each declarative part creates its own in order: those of blocks in a statement, ...
-    stmt_ordered : (f : StmtForm) → collect_in_order types [] (stmt_collections f) ≡ true → stmt_in_order f ≡ true
-    stmt_ordered skips ordered = refl
-    stmt_ordered (assigns target right) ordered = refl
-    stmt_ordered (assigns_record target items) ordered = refl
-    stmt_ordered (frees access path) ordered = refl
-    stmt_ordered (gets target) ordered = refl
-    stmt_ordered (writes e) ordered = refl
-    stmt_ordered (writes_text text) ordered = refl
+    stmt_ordered : (f : StmtForm) → InOrder (stmt_collections f) → AllInOrder (parts.stmt_collections f)
+    stmt_ordered skips ordered = tt
+    stmt_ordered (assigns target right) ordered = tt
+    stmt_ordered (assigns_record target items) ordered = tt
+    stmt_ordered (frees access path) ordered = tt
+    stmt_ordered (gets target) ordered = tt
+    stmt_ordered (writes e) ordered = tt
+    stmt_ordered (writes_text text) ordered = tt
     stmt_ordered (chooses branches) ordered = branches_ordered branches ordered
     stmt_ordered (repeats condition fs spot) ordered = stmts_ordered fs ordered
     stmt_ordered (counts x low high fs spot) ordered = stmts_ordered fs ordered
-    stmt_ordered (exits condition spot) ordered = refl
-    stmt_ordered (calls procedure actuals) ordered = refl
-    stmt_ordered (returns spot) ordered = refl
-    stmt_ordered (raises e) ordered = refl
-    stmt_ordered (encloses ds fs hs) ordered =
-        let own = split_in_order (collected ds) (stmts_collections fs ++ handlers_collections hs) [] ordered in
-        let inner = split_in_order (stmts_collections fs) (handlers_collections hs) [] own.1 in
-        all_three (part_in_order ds) (stmts_in_order fs) (handlers_in_order hs) own.0 (stmts_ordered fs inner.0) (handlers_ordered hs inner.1)
+    stmt_ordered (exits condition spot) ordered = tt
+    stmt_ordered (calls procedure actuals) ordered = tt
+    stmt_ordered (returns spot) ordered = tt
+    stmt_ordered (raises e) ordered = tt
+    stmt_ordered (encloses ds fs hs) ordered = part_ordered (collected ds) fs hs (stmts_ordered fs) (handlers_ordered hs) ordered
 
     -- ... in statements, ...
-    stmts_ordered : (fs : StmtsForm) → collect_in_order types [] (stmts_collections fs) ≡ true → stmts_in_order fs ≡ true
-    stmts_ordered no_stmts ordered = refl
+    stmts_ordered : (fs : StmtsForm) → InOrder (stmts_collections fs) → AllInOrder (parts.stmts_collections fs)
+    stmts_ordered no_stmts ordered = tt
     stmts_ordered (a_stmt f fs) ordered =
         let both = split_in_order (stmt_collections f) (stmts_collections fs) [] ordered in
-        and_from (stmt_in_order f) (stmts_in_order fs) (stmt_ordered f both.0) (stmts_ordered fs both.1)
+        join InOrder (parts.stmt_collections f) (parts.stmts_collections fs) (stmt_ordered f both.0) (stmts_ordered fs both.1)
 
     -- ... in branches, ...
-    branches_ordered : (branches : BranchesForm) → collect_in_order types [] (branches_collections branches) ≡ true → branches_in_order branches ≡ true
+    branches_ordered : (branches : BranchesForm) → InOrder (branches_collections branches) → AllInOrder (parts.branches_collections branches)
     branches_ordered (otherwise fs) ordered = stmts_ordered fs ordered
     branches_ordered (a_branch e fs branches) ordered =
         let both = split_in_order (stmts_collections fs) (branches_collections branches) [] ordered in
-        and_from (stmts_in_order fs) (branches_in_order branches) (stmts_ordered fs both.0) (branches_ordered branches both.1)
+        join InOrder (parts.stmts_collections fs) (parts.branches_collections branches) (stmts_ordered fs both.0) (branches_ordered branches both.1)
 
     -- ... and in handlers.
-    handlers_ordered : (hs : HandlersForm) → collect_in_order types [] (handlers_collections hs) ≡ true → handlers_in_order hs ≡ true
-    handlers_ordered no_handlers ordered = refl
+    handlers_ordered : (hs : HandlersForm) → InOrder (handlers_collections hs) → AllInOrder (parts.handlers_collections hs)
+    handlers_ordered no_handlers ordered = tt
     handlers_ordered (a_handler choices fs hs) ordered =
         let both = split_in_order (stmts_collections fs) (handlers_collections hs) [] ordered in
-        and_from (stmts_in_order fs) (handlers_in_order hs) (stmts_ordered fs both.0) (handlers_ordered hs both.1)
+        join InOrder (parts.stmts_collections fs) (parts.handlers_collections hs) (stmts_ordered fs both.0) (handlers_ordered hs both.1)
 
   -- So it is with those of a body, ...
-  body_ordered : (b : BodyForm) → collect_in_order types [] (body_collections b) ≡ true → body_in_order b ≡ true
-  body_ordered b ordered =
-      let own = split_in_order (collected b.declarations) (stmts_collections b.statements ++ handlers_collections b.handlers) [] ordered in
-      let inner = split_in_order (stmts_collections b.statements) (handlers_collections b.handlers) [] own.1 in
-      all_three (part_in_order b.declarations) (stmts_in_order b.statements) (handlers_in_order b.handlers) own.0 (stmts_ordered b.statements inner.0)
-      (handlers_ordered b.handlers inner.1)
+  body_ordered : (b : BodyForm) → InOrder (body_collections b) → AllInOrder (parts.body_collections b)
+  body_ordered b ordered = part_ordered (collected b.declarations) b.statements b.handlers (stmts_ordered b.statements) (handlers_ordered b.handlers) ordered
 
   -- ... and with those of each body.
-  bodies_ordered : (bs : List BodyForm) → collect_in_order types [] (bodies_collections bs) ≡ true → list_all body_in_order bs ≡ true
-  bodies_ordered [] ordered = refl
+  bodies_ordered : (bs : List BodyForm) → InOrder (bodies_collections bs) → AllInOrder (flat_map parts.body_collections bs)
+  bodies_ordered [] ordered = tt
   bodies_ordered (b ∷ bs) ordered =
       let both = split_in_order (body_collections b) (bodies_collections bs) [] ordered in
-      and_from (body_in_order b) (list_all body_in_order bs) (body_ordered b both.0) (bodies_ordered bs both.1)
+      join InOrder (parts.body_collections b) (flat_map parts.body_collections bs) (body_ordered b both.0) (bodies_ordered bs both.1)
 
 -- So it is with those of a program.
 pub parts_in_order : (p : ProgramForm) → collections_in_order p ≡ true
-    → (body_in_order p.types (main_body p) ≡ true) × (list_all (body_in_order p.types) p.bodies ≡ true)
+    → AllInOrder p.types (parts.body_collections (main_body p)) × AllInOrder p.types (flat_map parts.body_collections p.bodies)
 parts_in_order p ordered =
     let both = split_in_order p.types (body_collections (main_body p)) (bodies_collections p.bodies) [] ordered in
     (body_ordered p.types (main_body p) both.0, bodies_ordered p.types p.bodies both.1)

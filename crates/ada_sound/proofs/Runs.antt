@@ -59,7 +59,7 @@ use Rattle.ada_quiet.specs.InUse.{operations_are_idle, operations_may_be_called,
 use Rattle.ada_sound.proofs.Items.{NoMaster, HasItem, has_after, items_fall}
 use Rattle.ada_sound.proofs.Stored.{IsUnder, Stored, there_listed}
 use Rattle.ada_sound.proofs.Leavings.{HeldIn}
-use Rattle.ada_sound.proofs.CollectsApartRuns.{apart_where_reached}
+use Rattle.ada_sound.proofs.CollectsApart.{apart_where_reached}
 use Rattle.ada_sound.proofs.InOrder.{in_order}
 use Rattle.ada_sound.proofs.Sees.{reaches_in, may_call}
 use Rattle.ada_sound.proofs.TracksWell.{copies_at, allocates_at, called_apart}

@@ -31,7 +31,7 @@ use Rattle.ada_sound.proofs.Callers.{Suspension, callers_of, known_in, Stands, A
 use Rattle.ada_sound.proofs.Calls.{calls_to, waiting}
 use Rattle.ada_sound.proofs.FrugalControl.{Frugally, GoesFrugally, Frugal, FrugalLeads, is_return_first, frugal_ends, frugal_returns, never_awaited}
 use Rattle.ada_sound.proofs.FrugalSteps.{frugal_goes}
-use Rattle.ada_sound.proofs.CollectsApartRuns.{apart_where_reached}
+use Rattle.ada_sound.proofs.CollectsApart.{apart_where_reached}
 use Rattle.ada_sound.proofs.InOrder.{in_order}
 use Rattle.ada_sound.proofs.Invariant.{CallsOn, Control, Fine, GoesOn, IsAwaited, Stepped, Working, under_in}
 use Rattle.ada_sound.proofs.Operating.{InBody, IsCalm, StepsTo}
