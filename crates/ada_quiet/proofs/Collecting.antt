@@ -6,27 +6,28 @@ use Rattle.std.specs.List.{list_all, list_any, slice_range}
 use Rattle.std.proofs.lemmas.List.{take_more, drop_more, get_or-drop, reverse-append, length-drop}
 use Rattle.std.proofs.lemmas.List.Folds.{list_any-append}
 use Rattle.ada_program.specs.ProgramForm.{TypeForm}
-use Rattle.ada_quiet.specs.Bare.{has_bare_objects, holds_component, hold_none, hold_none_from, is_apart_from, collect_in_order}
+use Rattle.ada_quiet.specs.Bare.{holds_component, hold_none, hold_none_from, is_apart_from, collect_in_order}
+use Rattle.ada_quiet.specs.Calm.{has_calm_objects}
 use Rattle.ada_quiet.specs.Known.{is_marked}
 
--- Behind older collections, the newest one first, those access types are marked of which objects have a component, from the newest collection on whose objects have
--- controlled parts. With the types of the components of the objects of the recent ones, which are still to be marked from, those of all objects are marked.
-pub record IsMarkedBehind (types : List TypeForm) (older recent : List ℕ) (marks : List Bool) : Type 0 where
-  pub none : (n : ℕ) → hold_none_from types n older ≡ not (is_marked marks n)
+-- Behind older collections, the newest one first, those access types are marked of which objects have a component, from the newest collection on whose objects are
+-- not calm. With the types of the components of the objects of the recent ones, which are still to be marked from, those of all objects are marked.
+pub record IsMarkedBehind (types : List TypeForm) (calm : List Bool) (older recent : List ℕ) (marks : List Bool) : Type 0 where
+  pub none : (n : ℕ) → hold_none_from types calm n older ≡ not (is_marked marks n)
   pub held : (n : ℕ) → list_any (holds_component types n) older ≡ (is_marked marks n || list_any (holds_component types n) recent)
 
 -- So it is behind the first ones of some collections, where fewer are marked from. With those that are left, the first ones are in order where all are.
-pub record IsMarkedUpTo (types : List TypeForm) (accesses : List ℕ) (marks : List Bool) (marked index : ℕ) : Type 0 where
+pub record IsMarkedUpTo (types : List TypeForm) (calm : List Bool) (accesses : List ℕ) (marks : List Bool) (marked index : ℕ) : Type 0 where
   pub within : marked ≤ index
-  pub behind : IsMarkedBehind types (reverse (take index accesses)) (slice_range accesses marked index) marks
-  pub left : collect_in_order types (reverse (take index accesses)) (drop index accesses) ≡ collect_in_order types [] accesses
+  pub behind : IsMarkedBehind types calm (reverse (take index accesses)) (slice_range accesses marked index) marks
+  pub left : collect_in_order types calm (reverse (take index accesses)) (drop index accesses) ≡ collect_in_order types calm [] accesses
 
 -- So it is behind one more, the next one, whose type is to be asked for its mark: all are in order where it has none, and those that are left behind it are.
-pub record IsAsked (types : List TypeForm) (accesses : List ℕ) (marks : List Bool) (marked index : ℕ) : Type 0 where
+pub record IsAsked (types : List TypeForm) (calm : List Bool) (accesses : List ℕ) (marks : List Bool) (marked index : ℕ) : Type 0 where
   pub within : marked ≤ index + 1
-  pub behind : IsMarkedBehind types (reverse (take (index + 1) accesses)) (slice_range accesses marked (index + 1)) marks
-  pub left : (not (is_marked marks (get_or accesses index 0)) && collect_in_order types (reverse (take (index + 1) accesses)) (drop (index + 1) accesses))
-      ≡ collect_in_order types [] accesses
+  pub behind : IsMarkedBehind types calm (reverse (take (index + 1) accesses)) (slice_range accesses marked (index + 1)) marks
+  pub left : (not (is_marked marks (get_or accesses index 0)) && collect_in_order types calm (reverse (take (index + 1) accesses)) (drop (index + 1) accesses))
+      ≡ collect_in_order types calm [] accesses
 
 -- What holds of none does not hold of one.
 none_or_one : {X : Type 0} (holds : X → Bool) (xs : List X) → list_all (λ x. not (holds x)) xs ≡ not (list_any holds xs)
@@ -48,7 +49,7 @@ or_nothing : (a : Bool) → a ≡ (a || false)
 or_nothing true = refl
 or_nothing false = refl
 
-module _ (types : List TypeForm) (older recent : List ℕ) (marks : List Bool) (t : ℕ) (before : IsMarkedBehind types older recent marks) where
+module _ (types : List TypeForm) (calm : List Bool) (older recent : List ℕ) (marks : List Bool) (t : ℕ) (before : IsMarkedBehind types calm older recent marks) where
   -- One more collection is there, of which the objects' components are not marked yet.
   held_more : (n : ℕ) → list_any (holds_component types n) (t ∷ older) ≡ (is_marked marks n || list_any (holds_component types n) (recent ++ t ∷ []))
   held_more n =
@@ -56,37 +57,37 @@ module _ (types : List TypeForm) (older recent : List ℕ) (marks : List Bool) (
       ∙ turned (holds_component types n t) (is_marked marks n) (list_any (holds_component types n) recent)
       ∙ ap (λ (b : Bool). is_marked marks n || b) (sym (list_any-append (holds_component types n) recent (t ∷ [])))
 
-  -- Behind one whose objects have no controlled parts as many types are marked.
-  behind_bare : has_bare_objects types t ≡ true → IsMarkedBehind types (t ∷ older) (recent ++ t ∷ []) marks
-  behind_bare bare = record {
-    none = λ n. ap (λ (b : Bool). if b then hold_none_from types n older else hold_none types n (t ∷ older)) bare ∙ before.none n;
+  -- Behind one whose objects are calm as many types are marked.
+  behind_calm : has_calm_objects types calm t ≡ true → IsMarkedBehind types calm (t ∷ older) (recent ++ t ∷ []) marks
+  behind_calm is_calm = record {
+    none = λ n. ap (λ (b : Bool). if b then hold_none_from types calm n older else hold_none types n (t ∷ older)) is_calm ∙ before.none n;
     held = held_more;
   }
 
-  -- Behind one whose objects have some, the types of the components of all objects are marked.
-  behind_parts : (more : List Bool) → has_bare_objects types t ≡ false →
-      ((n : ℕ) → is_marked more n ≡ (is_marked marks n || list_any (holds_component types n) (recent ++ t ∷ []))) → IsMarkedBehind types (t ∷ older) [] more
-  behind_parts more parts grown = record {
+  -- Behind one whose objects are not, the types of the components of all objects are marked.
+  behind_others : (more : List Bool) → has_calm_objects types calm t ≡ false →
+      ((n : ℕ) → is_marked more n ≡ (is_marked marks n || list_any (holds_component types n) (recent ++ t ∷ []))) → IsMarkedBehind types calm (t ∷ older) [] more
+  behind_others more not_calm grown = record {
     none = λ n.
-        ap (λ (b : Bool). if b then hold_none_from types n older else hold_none types n (t ∷ older)) parts
+        ap (λ (b : Bool). if b then hold_none_from types calm n older else hold_none types n (t ∷ older)) not_calm
         ∙ none_or_one (holds_component types n) (t ∷ older) ∙ ap not (held_more n ∙ sym (grown n));
     held = λ n. held_more n ∙ sym (grown n) ∙ or_nothing (is_marked more n);
   }
 
-  -- One whose objects have no controlled parts is in order where its type is not marked before.
-  apart_bare : has_bare_objects types t ≡ true → is_apart_from types t older ≡ not (is_marked marks t)
-  apart_bare bare = ap (λ (b : Bool). if b then hold_none_from types t older else hold_none types t (t ∷ older)) bare ∙ before.none t
+  -- One whose objects are calm is in order where its type is not marked before.
+  apart_calm : has_calm_objects types calm t ≡ true → is_apart_from types calm t older ≡ not (is_marked marks t)
+  apart_calm is_calm = ap (λ (b : Bool). if b then hold_none_from types calm t older else hold_none types t (t ∷ older)) is_calm ∙ before.none t
 
-  -- One whose objects have some is in order where its type is not marked behind it.
-  apart_parts : (more : List Bool) → has_bare_objects types t ≡ false →
+  -- One whose objects are not is in order where its type is not marked behind it.
+  apart_others : (more : List Bool) → has_calm_objects types calm t ≡ false →
       ((n : ℕ) → is_marked more n ≡ (is_marked marks n || list_any (holds_component types n) (recent ++ t ∷ []))) →
-      is_apart_from types t older ≡ not (is_marked more t)
-  apart_parts more parts grown =
-      ap (λ (b : Bool). if b then hold_none_from types t older else hold_none types t (t ∷ older)) parts
+      is_apart_from types calm t older ≡ not (is_marked more t)
+  apart_others more not_calm grown =
+      ap (λ (b : Bool). if b then hold_none_from types calm t older else hold_none types t (t ∷ older)) not_calm
       ∙ none_or_one (holds_component types t) (t ∷ older) ∙ ap not (held_more t ∙ sym (grown t))
 
-module _ (types : List TypeForm) (accesses : List ℕ) (marks : List Bool) (marked index : ℕ) (inside : index < length accesses)
-    (before : IsMarkedUpTo types accesses marks marked index) where
+module _ (types : List TypeForm) (calm : List Bool) (accesses : List ℕ) (marks : List Bool) (marked index : ℕ) (inside : index < length accesses)
+    (before : IsMarkedUpTo types calm accesses marks marked index) where
   -- The next collection is the newest one of those that are passed then.
   newest : reverse (take (index + 1) accesses) ≡ get_or accesses index 0 ∷ reverse (take index accesses)
   newest = ap reverse (take_more accesses index 0 inside) ∙ reverse-append (take index accesses) (get_or accesses index 0 ∷ [])
@@ -104,57 +105,57 @@ module _ (types : List TypeForm) (accesses : List ℕ) (marks : List Bool) (mark
       (get_or-drop marked accesses (index - marked) 0 ∙ ap (λ (n : ℕ). get_or accesses n 0) place)
 
   -- All are in order where it is, and those that are left behind it.
-  one_less : (apart : Bool) → is_apart_from types (get_or accesses index 0) (reverse (take index accesses)) ≡ apart →
-      (apart && collect_in_order types (reverse (take (index + 1) accesses)) (drop (index + 1) accesses)) ≡ collect_in_order types [] accesses
+  one_less : (apart : Bool) → is_apart_from types calm (get_or accesses index 0) (reverse (take index accesses)) ≡ apart →
+      (apart && collect_in_order types calm (reverse (take (index + 1) accesses)) (drop (index + 1) accesses)) ≡ collect_in_order types calm [] accesses
   one_less apart is =
-      ap (λ (ts : List ℕ). apart && collect_in_order types ts (drop (index + 1) accesses)) newest
-      ∙ ap (λ (b : Bool). b && collect_in_order types (get_or accesses index 0 ∷ reverse (take index accesses)) (drop (index + 1) accesses)) (sym is)
-      ∙ sym (ap (collect_in_order types (reverse (take index accesses))) (drop_more accesses index 0 inside))
+      ap (λ (ts : List ℕ). apart && collect_in_order types calm ts (drop (index + 1) accesses)) newest
+      ∙ ap (λ (b : Bool). b && collect_in_order types calm (get_or accesses index 0 ∷ reverse (take index accesses)) (drop (index + 1) accesses)) (sym is)
+      ∙ sym (ap (collect_in_order types calm (reverse (take index accesses))) (drop_more accesses index 0 inside))
       ∙ before.left
 
-  -- What is known of the next collection, whose objects have no controlled parts, before its type is asked for its mark.
-  pub before_bare : has_bare_objects types (get_or accesses index 0) ≡ true → IsAsked types accesses marks marked index
-  before_bare bare =
+  -- What is known of the next collection, whose objects are calm, before its type is asked for its mark.
+  pub before_calm : has_calm_objects types calm (get_or accesses index 0) ≡ true → IsAsked types calm accesses marks marked index
+  before_calm is_calm =
       let older = reverse (take index accesses) in
-      let more = behind_bare types older (slice_range accesses marked index) marks (get_or accesses index 0) before.behind bare in
+      let more = behind_calm types calm older (slice_range accesses marked index) marks (get_or accesses index 0) before.behind is_calm in
       record {
         within = omega (arith, before.within);
-        behind = subst (λ (ts : List ℕ). IsMarkedBehind types ts (slice_range accesses marked (index + 1)) marks) (sym newest)
-            (subst (λ (ts : List ℕ). IsMarkedBehind types (get_or accesses index 0 ∷ older) ts marks) (sym one_more) more);
+        behind = subst (λ (ts : List ℕ). IsMarkedBehind types calm ts (slice_range accesses marked (index + 1)) marks) (sym newest)
+            (subst (λ (ts : List ℕ). IsMarkedBehind types calm (get_or accesses index 0 ∷ older) ts marks) (sym one_more) more);
         left = one_less (not (is_marked marks (get_or accesses index 0)))
-            (apart_bare types older (slice_range accesses marked index) marks (get_or accesses index 0) before.behind bare);
+            (apart_calm types calm older (slice_range accesses marked index) marks (get_or accesses index 0) before.behind is_calm);
       }
 
-  -- So it is with one whose objects have some, where it and the recent ones are marked from.
-  pub before_parts : (more : List Bool) → has_bare_objects types (get_or accesses index 0) ≡ false →
+  -- So it is with one whose objects are not, where it and the recent ones are marked from.
+  pub before_others : (more : List Bool) → has_calm_objects types calm (get_or accesses index 0) ≡ false →
       ((n : ℕ) → is_marked more n ≡ (is_marked marks n || list_any (holds_component types n) (slice_range accesses marked (index + 1)))) →
-      IsAsked types accesses more (index + 1) index
-  before_parts more parts grown =
+      IsAsked types calm accesses more (index + 1) index
+  before_others more not_calm grown =
       let older = reverse (take index accesses) in
       let nothing : index + 1 - (index + 1) ≡ 0 = omega arith in
       let all : (n : ℕ) → is_marked more n ≡ (is_marked marks n || list_any (holds_component types n) (slice_range accesses marked index ++ get_or accesses index 0 ∷ [])) =
       λ n. grown n ∙ ap (λ (ts : List ℕ). is_marked marks n || list_any (holds_component types n) ts) one_more in
-      let behind = behind_parts types older (slice_range accesses marked index) marks (get_or accesses index 0) before.behind more parts all in
+      let behind = behind_others types calm older (slice_range accesses marked index) marks (get_or accesses index 0) before.behind more not_calm all in
       record {
         within = omega arith;
-        behind = subst (λ (ts : List ℕ). IsMarkedBehind types ts (slice_range accesses (index + 1) (index + 1)) more) (sym newest)
-            (subst (λ (k : ℕ). IsMarkedBehind types (get_or accesses index 0 ∷ older) (take k (drop (index + 1) accesses)) more) (sym nothing) behind);
+        behind = subst (λ (ts : List ℕ). IsMarkedBehind types calm ts (slice_range accesses (index + 1) (index + 1)) more) (sym newest)
+            (subst (λ (k : ℕ). IsMarkedBehind types calm (get_or accesses index 0 ∷ older) (take k (drop (index + 1) accesses)) more) (sym nothing) behind);
         left = one_less (not (is_marked more (get_or accesses index 0)))
-            (apart_parts types older (slice_range accesses marked index) marks (get_or accesses index 0) before.behind more parts all);
+            (apart_others types calm older (slice_range accesses marked index) marks (get_or accesses index 0) before.behind more not_calm all);
       }
 
 -- Behind a collection whose type is not marked, as many are marked as where it was asked.
-pub after_unmarked : (types : List TypeForm) (accesses : List ℕ) (marks : List Bool) (marked index : ℕ) → IsAsked types accesses marks marked index →
-    is_marked marks (get_or accesses index 0) ≡ false → IsMarkedUpTo types accesses marks marked (index + 1)
-after_unmarked types accesses marks marked index asked unmarked = record {
+pub after_unmarked : (types : List TypeForm) (calm : List Bool) (accesses : List ℕ) (marks : List Bool) (marked index : ℕ) → IsAsked types calm accesses marks marked index →
+    is_marked marks (get_or accesses index 0) ≡ false → IsMarkedUpTo types calm accesses marks marked (index + 1)
+after_unmarked types calm accesses marks marked index asked unmarked = record {
   within = asked.within;
   behind = asked.behind;
   left =
-      ap (λ (b : Bool). not b && collect_in_order types (reverse (take (index + 1) accesses)) (drop (index + 1) accesses)) (sym unmarked) ∙ asked.left;
+      ap (λ (b : Bool). not b && collect_in_order types calm (reverse (take (index + 1) accesses)) (drop (index + 1) accesses)) (sym unmarked) ∙ asked.left;
 }
 
 -- Where its type is marked, they are not all in order.
-pub not_in_order : (types : List TypeForm) (accesses : List ℕ) (marks : List Bool) (marked index : ℕ) → IsAsked types accesses marks marked index →
-    is_marked marks (get_or accesses index 0) ≡ true → false ≡ collect_in_order types [] accesses
-not_in_order types accesses marks marked index asked marked_too =
-    ap (λ (b : Bool). not b && collect_in_order types (reverse (take (index + 1) accesses)) (drop (index + 1) accesses)) (sym marked_too) ∙ asked.left
+pub not_in_order : (types : List TypeForm) (calm : List Bool) (accesses : List ℕ) (marks : List Bool) (marked index : ℕ) → IsAsked types calm accesses marks marked index →
+    is_marked marks (get_or accesses index 0) ≡ true → false ≡ collect_in_order types calm [] accesses
+not_in_order types calm accesses marks marked index asked marked_too =
+    ap (λ (b : Bool). not b && collect_in_order types calm (reverse (take (index + 1) accesses)) (drop (index + 1) accesses)) (sym marked_too) ∙ asked.left

@@ -1,6 +1,6 @@
 -- Operations of controlled types stand apart: nothing calls a procedure that overrides an Adjust which tracks components, and it overrides no other operation (7.6); and no
 -- allocator gives values to the components of an object with controlled parts, or copies a record with some (4.8): so each such object that is allocated is
--- initialized by default. And where such objects are freed by variables alone (13.11.2).
+-- initialized by default. And paths to such objects that are freed (13.11.2).
 
 use Rattle.std.specs.Prelude.{ℕ, Bool, true, false, ◌&&◌, ◌||◌, not, ◌==◌, List, [], ◌∷◌, Option, Some, None, is_some}
 use Rattle.std.specs.List.{list_all, list_any}
@@ -9,7 +9,9 @@ use Rattle.ada_program.specs.declared.program.ProcedureNo.{ProcedureNo}
 use Rattle.ada_program.specs.Form.{PathForm, ItemForm, null_item, item_of_path, item_of_value, item_of_record, RightForm, nothing, value_of, allocates, allocates_default, computes, StmtForm, skips, assigns, assigns_record, frees, gets, writes, writes_text, chooses, repeats, counts, exits, calls, returns, raises, encloses, StmtsForm, no_stmts, a_stmt, BranchesForm, otherwise, a_branch, HandlersForm, no_handlers, a_handler, DeclarationForm, creates_pool, collects, declares, declares_record}
 use Rattle.ada_program.specs.ProgramForm.{TypeForm, BodyForm, ProgramForm, main_body}
 use Rattle.ada_program.specs.WellFormed.{finalization_in, finalization_of}
+use Rattle.ada_effects.specs.Effects.{path_raises}
 use Rattle.ada_quiet.specs.Bare.{has_bare_objects}
+use Rattle.ada_quiet.specs.Calm.{calm_types, has_calm_objects}
 use Rattle.ada_quiet.specs.Quiet.{has_access}
 
 -- What overrides an operation, if one is overridden, is this procedure.
@@ -57,20 +59,27 @@ abbrev pub is_variable : (selectors : List ℕ) → Bool
 is_variable [] = true
 is_variable (c ∷ cs) = false
 
--- Where objects with controlled parts are freed by variables alone (13.11.2), a path to what is freed is a variable, or the object has no such parts.
-abbrev pub frees_alone : (alone : Bool) → PathForm → (bare : Bool) → Bool
-frees_alone alone path bare = not alone || (is_variable path.selectors || bare)
+-- A path to what is freed is a variable, or follows an access value to the object in which a component lies (4.1): that is no record object, and none that a formal
+-- parameter stands for.
+abbrev pub is_led : PathForm → Bool
+is_led path = is_variable path.selectors || path_raises path
 
--- Of each procedure, by its number, whether it tracks; and whether objects with controlled parts are freed by variables alone.
-module _ (types : List TypeForm) (tracks : ℕ → Bool) (alone : Bool) where
+-- Where paths lead so to all objects that are freed (13.11.2) for which an operation may be called that touches storage, this one does, or none may be called for
+-- its object: that is calm.
+abbrev pub frees_led : (led : Bool) → PathForm → (calm : Bool) → Bool
+frees_led led path calm = not led || (is_led path || calm)
+
+-- Of each record type, by its number, whether it is calm; of each procedure, whether it tracks; and whether objects that are not calm are freed by variables and
+-- followed values alone.
+module _ (types : List TypeForm) (calm : List Bool) (tracks : ℕ → Bool) (led : Bool) where
   abbrev mutual
     -- A statement calls no procedure that tracks (6.4), and its allocator with items makes no object with controlled parts and copies no record with some (4.8). If
-    -- these are freed by variables alone, it frees none by a component (13.11.2).
+    -- objects that are not calm are freed by variables and followed values alone, it frees none by a component of a record object or of a formal parameter (13.11.2).
     pub calls_apart : StmtForm → Bool
     calls_apart skips = true
     calls_apart (assigns target right) = is_bare_right types right
     calls_apart (assigns_record target items) = true
-    calls_apart (frees access path) = frees_alone alone path (has_bare_objects types access)
+    calls_apart (frees access path) = frees_led led path (has_calm_objects types calm access)
     calls_apart (gets target) = true
     calls_apart (writes e) = true
     calls_apart (writes_text text) = true
@@ -99,9 +108,9 @@ module _ (types : List TypeForm) (tracks : ℕ → Bool) (alone : Bool) where
     handlers_call_apart (a_handler choices fs hs) = all_call_apart fs && handlers_call_apart hs
 
 -- So it is with a body.
-abbrev pub body_calls_apart : List TypeForm → (tracks : ℕ → Bool) → (alone : Bool) → BodyForm → Bool
-body_calls_apart types tracks alone b =
-    declare_apart types b.declarations && all_call_apart types tracks alone b.statements && handlers_call_apart types tracks alone b.handlers
+abbrev pub body_calls_apart : List TypeForm → (calm : List Bool) → (tracks : ℕ → Bool) → (led : Bool) → BodyForm → Bool
+body_calls_apart types calm tracks led b =
+    declare_apart types b.declarations && all_call_apart types calm tracks led b.statements && handlers_call_apart types calm tracks led b.handlers
 
 -- What overrides an operation, if one is overridden, does not track.
 abbrev pub overrides_apart : (tracks : ℕ → Bool) → Option ProcedureNo → Bool
@@ -114,17 +123,17 @@ operations_apart tracks owns None = true
 operations_apart tracks owns (Some f) =
     overrides_apart tracks f.operations.initialize && (owns || overrides_apart tracks f.operations.adjust) && overrides_apart tracks f.operations.finalize
 
--- No body calls what tracks, and that overrides nothing else; and no allocator with items makes an object with controlled parts, or copies a record with some. These
--- are freed by variables alone, or not.
-abbrev pub stand_apart : ProgramForm → (alone : Bool) → Bool
-stand_apart p alone =
-    body_calls_apart p.types (is_tracker p) alone (main_body p) && list_all (body_calls_apart p.types (is_tracker p) alone) p.bodies
+-- No body calls what tracks, and that overrides nothing else; and no allocator with items makes an object with controlled parts, or copies a record with some. Those
+-- that are not calm are freed by variables and followed values alone, or not.
+abbrev pub stand_apart : ProgramForm → (led : Bool) → Bool
+stand_apart p led =
+    body_calls_apart p.types (calm_types p) (is_tracker p) led (main_body p) && list_all (body_calls_apart p.types (calm_types p) (is_tracker p) led) p.bodies
     && list_all (λ t. operations_apart (is_tracker p) (has_access (Some t)) (finalization_in (Some t))) p.types
 
 -- Operations stand apart in a program, whatever frees objects with controlled parts.
 abbrev pub operations_stand_apart : ProgramForm → Bool
 operations_stand_apart p = stand_apart p false
 
--- So they do, and these are freed by variables alone.
-abbrev pub parts_stand_alone : ProgramForm → Bool
-parts_stand_alone p = stand_apart p true
+-- So they do, and objects that are not calm are freed by variables and followed values alone.
+abbrev pub parts_are_led : ProgramForm → Bool
+parts_are_led p = stand_apart p true

@@ -8,6 +8,7 @@ use Rattle.ada_program.specs.Form.{RightForm, nothing, value_of, allocates, allo
 use Rattle.ada_program.specs.Nested.{collected}
 use Rattle.ada_program.specs.ProgramForm.{TypeForm, record_of, access_to, object_of, BodyForm, ProgramForm, main_body}
 use Rattle.ada_program.specs.WellFormed.{designated_type, finalization_of}
+use Rattle.ada_quiet.specs.Calm.{calm_types, has_calm_objects}
 
 -- A type is an access type that designates a record type without controlled parts (3.10, 7.6).
 abbrev pub is_bare_access : List TypeForm → Option TypeForm → Bool
@@ -66,21 +67,21 @@ holds_component types t v = record_has_component_of types t (designated_type typ
 abbrev pub hold_none : List TypeForm → (access : ℕ) → List ℕ → Bool
 hold_none types t vs = list_all (λ v. not (holds_component types t v)) vs
 
--- So it is with these, the newest one first, from the newest one on whose objects have controlled parts.
-abbrev pub hold_none_from : List TypeForm → (access : ℕ) → (older : List ℕ) → Bool
-hold_none_from types t [] = true
-hold_none_from types t (v ∷ vs) = if has_bare_objects types v then hold_none_from types t vs else hold_none types t (v ∷ vs)
+-- So it is with these, the newest one first, from the newest one on for whose objects an operation may be called that touches storage.
+abbrev pub hold_none_from : List TypeForm → (calm : List Bool) → (access : ℕ) → (older : List ℕ) → Bool
+hold_none_from types calm t [] = true
+hold_none_from types calm t (v ∷ vs) = if has_calm_objects types calm v then hold_none_from types calm t vs else hold_none types t (v ∷ vs)
 
--- A collection is created (7.6.1) behind others, the newest one first. Where its own objects have controlled parts, neither they nor older ones have a component of
--- its access type; else older ones have none, from the newest collection on whose objects have controlled parts. So, where their master is left, these are finalized
--- while each component still names what is there.
-abbrev pub is_apart_from : List TypeForm → (access : ℕ) → (older : List ℕ) → Bool
-is_apart_from types t older = if has_bare_objects types t then hold_none_from types t older else hold_none types t (t ∷ older)
+-- A collection is created (7.6.1) behind others, the newest one first. Where an operation that touches storage may be called for its own objects, neither they nor
+-- older ones have a component of its access type; else older ones have none, from the newest collection on for whose objects one may be called. So, where their
+-- master is left, these are finalized while each component still names what is there.
+abbrev pub is_apart_from : List TypeForm → (calm : List Bool) → (access : ℕ) → (older : List ℕ) → Bool
+is_apart_from types calm t older = if has_calm_objects types calm t then hold_none_from types calm t older else hold_none types t (t ∷ older)
 
 -- So it is with collections that are created one after the other, behind others.
-abbrev pub collect_in_order : List TypeForm → (older : List ℕ) → List ℕ → Bool
-collect_in_order types older [] = true
-collect_in_order types older (t ∷ ts) = is_apart_from types t older && collect_in_order types (t ∷ older) ts
+abbrev pub collect_in_order : List TypeForm → (calm : List Bool) → (older : List ℕ) → List ℕ → Bool
+collect_in_order types calm older [] = true
+collect_in_order types calm older (t ∷ ts) = is_apart_from types calm t older && collect_in_order types calm (t ∷ older) ts
 
 abbrev mutual
   -- The access types whose collections a statement creates, by the blocks in it (5.6), in the order of the text.
@@ -131,4 +132,4 @@ text_collections p = body_collections (main_body p) ++ bodies_collections p.bodi
 
 -- They are created in order.
 abbrev pub collections_in_order : ProgramForm → Bool
-collections_in_order p = collect_in_order p.types [] (text_collections p)
+collections_in_order p = collect_in_order p.types (calm_types p) [] (text_collections p)

@@ -12,7 +12,7 @@ use Rattle.ada_quiet.specs.Quiet.{is_quiet_operation, is_plain_operation, has_ac
 use Rattle.ada_quiet.specs.Bare.{has_bare_components, collections_in_order}
 use Rattle.ada_quiet.specs.Frugal.{is_frugal_operation, is_silent_operation}
 use Rattle.ada_quiet.specs.Simple.{is_simple_operation}
-use Rattle.ada_quiet.specs.Apart.{operations_stand_apart, parts_stand_alone}
+use Rattle.ada_quiet.specs.Apart.{operations_stand_apart, parts_are_led}
 use Rattle.ada_quiet.specs.Idle.{makes_parts, copies_parts}
 
 -- A type designates no record type with controlled parts (3.10, 7.6), if it is an access type.
@@ -25,10 +25,11 @@ designates_no_parts types (object_of record_type) = true
 abbrev pub allocates_no_parts : ProgramForm → Bool
 allocates_no_parts p = list_all (designates_no_parts p.types) p.types
 
--- Objects with controlled parts may be allocated beside operations that touch storage, where they are freed by variables alone, and collections are created in
--- order: no such object, and none that goes later, has a component that names what goes with it or before it where a master is left (7.6.1).
+-- Objects with controlled parts may be allocated beside operations that touch storage, where those that are not calm are freed by variables and followed values alone,
+-- and collections are created in order: no object that is not calm, and none that goes later, has a component that names what goes with it or before it where a master
+-- is left (7.6.1).
 abbrev pub may_allocate_parts : ProgramForm → Bool
-may_allocate_parts p = collections_in_order p && parts_stand_alone p
+may_allocate_parts p = collections_in_order p && parts_are_led p
 
 -- No component names an object with controlled parts: none is allocated, or each component is of another type.
 abbrev pub names_no_parts : ProgramForm → Bool

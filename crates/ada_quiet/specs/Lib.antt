@@ -2,6 +2,8 @@
 
 -- operations that touch no storage, plain and quiet ones
 pub mod Quiet
+-- types for whose objects no operation is called that touches storage
+pub mod Calm
 -- access types whose objects have no controlled parts, and the collections of others
 pub mod Bare
 -- bodies of Initialize and Finalize that touch storage: frugal ones

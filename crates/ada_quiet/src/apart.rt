@@ -1,11 +1,11 @@
 //! Where the operations of controlled types stand apart (7.6): no body calls the procedures that override an Adjust which tracks
 //! components (6.4), and they override no other operation; and no allocator gives values to the components of an object with
 //! controlled parts, or copies a record with some (4.8): so each such object that is allocated is initialized by default. And where
-//! such objects are freed by variables alone (13.11.2).
+//! those of them that are not calm are freed by variables and followed values alone (13.11.2).
 
 ghost use Rattle.std.specs.Prelude.{◌≡◌, ◌&&◌, ◌||◌, ◌==◌, ℕ, Some, IfOk, OnOk, map};
 ghost use Rattle.std.specs.List.{list_all};
-ghost use Rattle.ada_program.specs.Form.{StmtsForm, branches_form, declaration_form, handlers_form, initial_form, item_form, path_form, right_form, stmt_form, stmts_form};
+ghost use Rattle.ada_program.specs.Form.{StmtsForm, branches_form, declaration_form, handlers_form, initial_form, item_form, right_form, stmt_form, stmts_form};
 ghost use Rattle.ada_program.specs.Kept.{types_in};
 ghost use Rattle.ada_program.specs.ProgramForm.{body_form, main_body, program_form, type_form};
 ghost use Rattle.ada_program.specs.WellFormed.{finalization_in};
@@ -14,11 +14,13 @@ ghost use Rattle.ada_quiet.specs.Known.{is_marked};
 ghost use Rattle.ada_quiet.specs.Quiet.{has_access};
 
 use crate::bare::has_bare_objects;
+use crate::calm::{calm_types, has_calm_objects};
 use crate::marks::{has_mark, mark};
 use crate::operations::have_access;
+use crate::paths::frees_led;
 use ada_program::parts::finalization_of;
 use ada_program::program::{
-    Branch, Declaration, Finalization, Handler, Item, Path, Procedure, Right, TypeDefinition,
+    Branch, Declaration, Finalization, Handler, Item, Procedure, Right, TypeDefinition,
 };
 use ada_program::{ProcedureNo, Program, Stmt};
 use std::alloc::{AllocError, Global};
@@ -145,39 +147,27 @@ fn declare_apart(types: &[TypeDefinition], declarations: &[Declaration]) -> bool
     true
 }
 
-/// Whether a path is a variable (4.1).
-fn is_variable(path: &Path) -> bool
-    ensures { result ≡ rules.is_variable (path_form path.now).selectors }
-{
-    path.selectors.is_empty()
-}
-
-/// Whether a path to what is freed is a variable, or the object has no controlled parts, where objects with some are freed by variables
-/// alone.
-fn frees_alone(alone: bool, path: &Path, bare: bool) -> bool
-    ensures { result ≡ rules.frees_alone alone (path_form path.now) bare }
-{
-    !alone || is_variable(path) || bare
-}
-
 /// What is asked of the statements of a program.
 #[derive(Clone, Copy)]
 struct Asked<'a> {
     /// The types of the program.
     types: &'a [TypeDefinition],
+    /// Of each type, by its number, whether it is a calm record type.
+    calm: &'a [bool],
     /// Of each procedure, by its number, whether it is marked: none that is may be called.
     marks: &'a [bool],
-    /// Whether objects with controlled parts are freed by variables alone (13.11.2).
-    alone: bool,
+    /// Whether objects that are not calm are freed by variables and followed values alone (13.11.2).
+    led: bool,
 }
 
 /// Whether a statement calls no procedure that is marked (6.4), and its allocator with items makes no object with controlled parts and
-/// copies no record with some (4.8). If these are freed by variables alone, it frees none by a component (13.11.2).
+/// copies no record with some (4.8). If objects that are not calm are freed by variables and followed values alone, it frees none by a
+/// component of a record object or of a formal parameter (13.11.2).
 #[cycle(statements)]
 #[tactic(auto, using(std::proofs::lemmas::Grind::common_steps, ada_program::specs::Form::statement_rules))]
 fn calls_apart(asked: Asked<'_>, statement: &Stmt) -> bool
     ensures { result
-        ≡ rules.calls_apart (types_in asked.entry.types.now) (is_marked asked.entry.marks.now) asked.entry.alone (stmt_form statement.now) }
+        ≡ rules.calls_apart (types_in asked.entry.types.now) asked.entry.calm.now (is_marked asked.entry.marks.now) asked.entry.led (stmt_form statement.now) }
 {
     match statement {
         Stmt::Null
@@ -190,8 +180,8 @@ fn calls_apart(asked: Asked<'_>, statement: &Stmt) -> bool
         | Stmt::Raise(_) => true,
         Stmt::Assign { target: _, value } => is_bare_right(asked.types, value),
         Stmt::Free { access, path } => {
-            let bare = has_bare_objects(asked.types, *access);
-            frees_alone(asked.alone, path, bare)
+            let calm = has_calm_objects(asked.types, asked.calm, *access);
+            frees_led(asked.led, path, calm)
         }
         Stmt::Call {
             procedure,
@@ -227,7 +217,7 @@ fn calls_apart(asked: Asked<'_>, statement: &Stmt) -> bool
 #[cycle(statements)]
 fn all_call_apart(asked: Asked<'_>, statements: &[Stmt]) -> bool
     ensures { result
-        ≡ rules.all_call_apart (types_in asked.entry.types.now) (is_marked asked.entry.marks.now) asked.entry.alone (stmts_form statements.now) }
+        ≡ rules.all_call_apart (types_in asked.entry.types.now) asked.entry.calm.now (is_marked asked.entry.marks.now) asked.entry.led (stmts_form statements.now) }
 {
     'statements: for statement in statements {
         if !calls_apart(asked, statement) {
@@ -241,10 +231,11 @@ fn all_call_apart(asked: Asked<'_>, statements: &[Stmt]) -> bool
 #[cycle(statements)]
 fn branches_call_apart(asked: Asked<'_>, branches: &[Branch]) -> bool
     ensures { let types = types_in asked.entry.types.now in
+        let calm = asked.entry.calm.now in
         let tracks = is_marked asked.entry.marks.now in
-        let alone = asked.entry.alone in
-        (others : StmtsForm) → rules.branches_call_apart types tracks alone (branches_form branches.now others)
-        ≡ (result && rules.all_call_apart types tracks alone others) }
+        let led = asked.entry.led in
+        (others : StmtsForm) → rules.branches_call_apart types calm tracks led (branches_form branches.now others)
+        ≡ (result && rules.all_call_apart types calm tracks led others) }
 {
     'branches: for branch in branches {
         if !all_call_apart(asked, &branch.statements) {
@@ -257,7 +248,7 @@ fn branches_call_apart(asked: Asked<'_>, branches: &[Branch]) -> bool
 /// Whether that is so with handlers (11.2).
 #[cycle(statements)]
 fn handlers_call_apart(asked: Asked<'_>, handlers: &[Handler]) -> bool
-    ensures { result ≡ rules.handlers_call_apart (types_in asked.entry.types.now) (is_marked asked.entry.marks.now) asked.entry.alone
+    ensures { result ≡ rules.handlers_call_apart (types_in asked.entry.types.now) asked.entry.calm.now (is_marked asked.entry.marks.now) asked.entry.led
         (handlers_form handlers.now) }
 {
     'handlers: for handler in handlers {
@@ -270,7 +261,7 @@ fn handlers_call_apart(asked: Asked<'_>, handlers: &[Handler]) -> bool
 
 /// Whether that is so with the bodies of these procedures. Linear in the bodies.
 fn bodies_call_apart(asked: Asked<'_>, procedures: &[Procedure]) -> bool
-    ensures { result ≡ list_all (rules.body_calls_apart (types_in asked.entry.types.now) (is_marked asked.entry.marks.now) asked.entry.alone)
+    ensures { result ≡ list_all (rules.body_calls_apart (types_in asked.entry.types.now) asked.entry.calm.now (is_marked asked.entry.marks.now) asked.entry.led)
         (map body_form procedures.now) }
 {
     'procedures: for procedure in procedures {
@@ -289,7 +280,7 @@ fn bodies_call_apart(asked: Asked<'_>, procedures: &[Procedure]) -> bool
 
 /// Whether that is so with the main procedure's body. Linear in the body.
 fn main_calls_apart(asked: Asked<'_>, program: &Program) -> bool
-    ensures { result ≡ rules.body_calls_apart (types_in asked.entry.types.now) (is_marked asked.entry.marks.now) asked.entry.alone
+    ensures { result ≡ rules.body_calls_apart (types_in asked.entry.types.now) asked.entry.calm.now (is_marked asked.entry.marks.now) asked.entry.led
         (main_body (program_form program.now)) }
 {
     declare_apart(asked.types, &program.declarations)
@@ -350,18 +341,20 @@ fn are_apart(marks: &[bool], types: &[TypeDefinition]) -> bool
 }
 
 /// Whether what is marked stands apart in a program: no body calls it, and it overrides nothing but Adjust of types that declare such a
-/// component; and no allocator with items makes an object with controlled parts, or copies a record with some. These are freed by
-/// variables alone, or not.
-fn marked_stand_apart(marks: &[bool], program: &Program, alone: bool) -> bool
+/// component; and no allocator with items makes an object with controlled parts, or copies a record with some. Those that are not calm
+/// are freed by variables and followed values alone, or not.
+fn marked_stand_apart(calm: &[bool], marks: &[bool], program: &Program, led: bool) -> bool
     ensures { let p = program_form program.now in
+        let calls_apart = rules.body_calls_apart p.types calm.now (is_marked marks.now) led in
         let tracks = is_marked marks.now in
-        result ≡ (rules.body_calls_apart p.types tracks alone (main_body p) && list_all (rules.body_calls_apart p.types tracks alone) p.bodies
+        result ≡ (calls_apart (main_body p) && list_all calls_apart p.bodies
         && list_all (λ t. rules.operations_apart tracks (has_access (Some t)) (finalization_in (Some t))) p.types) }
 {
     let asked = Asked {
         types: &program.types,
+        calm,
         marks,
-        alone,
+        led,
     };
     main_calls_apart(asked, program)
         && bodies_call_apart(asked, &program.procedures)
@@ -369,15 +362,17 @@ fn marked_stand_apart(marks: &[bool], program: &Program, alone: bool) -> bool
 }
 
 /// Whether no body calls what tracks, and that overrides nothing else; and no allocator with items makes an object with controlled parts,
-/// or copies a record with some. These are freed by variables alone, or not. Linear in the types, their components, and all bodies.
+/// or copies a record with some. Those that are not calm are freed by variables and followed values alone, or not. Linear in the types,
+/// their components, and all bodies.
 ///
 /// # Errors
 /// `AllocError` where memory was refused.
-fn stand_apart(alloc: Global, program: &Program, alone: bool) -> Result<bool, AllocError>
-    ensures { IfOk result (λ answer. answer ≡ rules.stand_apart (program_form program.now) alone) }
+fn stand_apart(alloc: Global, program: &Program, led: bool) -> Result<bool, AllocError>
+    ensures { IfOk result (λ answer. answer ≡ rules.stand_apart (program_form program.now) led) }
 {
+    let calm = calm_types(alloc, program)?;
     let marks = trackers(alloc, program)?;
-    Ok(marked_stand_apart(&marks, program, alone))
+    Ok(marked_stand_apart(&calm, &marks, program, led))
 }
 
 /// Whether operations stand apart in a program, whatever frees objects with controlled parts. Linear in the types, their components, and
@@ -391,12 +386,13 @@ pub(crate) fn operations_stand_apart(alloc: Global, program: &Program) -> Result
     stand_apart(alloc, program, false)
 }
 
-/// Whether they do, and these are freed by variables alone. Linear in the types, their components, and all bodies.
+/// Whether they do, and objects that are not calm are freed by variables and followed values alone. Linear in the types, their components,
+/// and all bodies.
 ///
 /// # Errors
 /// `AllocError` where memory was refused.
-pub(crate) fn parts_stand_alone(alloc: Global, program: &Program) -> Result<bool, AllocError>
-    ensures { IfOk result (λ answer. answer ≡ rules.parts_stand_alone (program_form program.now)) }
+pub(crate) fn parts_are_led(alloc: Global, program: &Program) -> Result<bool, AllocError>
+    ensures { IfOk result (λ answer. answer ≡ rules.parts_are_led (program_form program.now)) }
 {
     stand_apart(alloc, program, true)
 }

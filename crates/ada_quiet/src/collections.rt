@@ -1,5 +1,5 @@
-//! Collections whose objects have controlled parts (7.6.1): neither these objects nor those of an older collection have a component of
-//! their access type, or of one whose collection is created later in the text.
+//! Collections for whose objects an operation may be called that touches storage, where they begin or end (7.6.1): neither these objects
+//! nor those of an older collection have a component of their access type, or of one whose collection is created later in the text.
 
 ghost use Rattle.std.specs.Prelude.{◌≡◌, ◌++◌, [], map, IfOk, OnOk};
 ghost use Rattle.ada_program.specs.Form.{StmtsForm, branches_form, declaration_form, handlers_form, stmt_form, stmts_form};
@@ -8,7 +8,7 @@ ghost use Rattle.ada_program.specs.Nested.{collected};
 ghost use Rattle.ada_program.specs.ProgramForm.{body_form, main_body, program_form};
 ghost use Rattle.ada_quiet.specs.Bare as rules;
 
-use crate::bare::has_bare_objects;
+use crate::calm::{calm_types, has_calm_objects};
 use crate::components::{Held, hold_all};
 use crate::marks::has_mark;
 use ada_program::program::{Branch, Declaration, Handler, Procedure, TypeDefinition};
@@ -153,20 +153,21 @@ fn text_collections(alloc: Global, program: &Program) -> Result<Vec<usize>, Allo
     Ok(accesses)
 }
 
-/// Whether collections of these access types are created in order, one after the other (7.6.1): where the objects of one have controlled
-/// parts, neither these objects nor those of an older collection have a component of its access type, or of one whose collection is
-/// created behind it. Linear in the types, their components, and the collections.
+/// Whether collections of these access types are created in order, one after the other (7.6.1): where an operation that touches storage
+/// may be called for the objects of one, neither these objects nor those of an older collection have a component of its access type, or of
+/// one whose collection is created behind it. Linear in the types, their components, and the collections.
 ///
 /// # Errors
 /// `AllocError` where memory was refused.
 fn collect_in_order(
     alloc: Global,
     types: &[TypeDefinition],
+    calm: &[bool],
     accesses: &[usize],
 ) -> Result<bool, AllocError>
-    ensures { IfOk result (λ answer. answer ≡ rules.collect_in_order (types_in types.now) [] accesses.now) }
+    ensures { IfOk result (λ answer. answer ≡ rules.collect_in_order (types_in types.now) calm.now [] accesses.now) }
 {
-    // The types of the components of objects, from the newest collection on whose objects have controlled parts.
+    // The types of the components of objects, from the newest collection on whose objects are not calm.
     let mut held = Held {
         accesses: Vec::new(alloc),
         records: Vec::new(alloc),
@@ -174,7 +175,7 @@ fn collect_in_order(
     // How many collections these are, that one and the older ones.
     let mut marked = 0;
     'collections: for (index, access) in accesses.iter().enumerate() {
-        if !has_bare_objects(types, TypeNo(*access)) {
+        if !has_calm_objects(types, calm, TypeNo(*access)) {
             hold_all(&mut held, types, &accesses[marked..=index])?;
             marked = index + 1;
         }
@@ -193,5 +194,6 @@ pub(crate) fn collections_in_order(alloc: Global, program: &Program) -> Result<b
     ensures { IfOk result (λ answer. answer ≡ rules.collections_in_order (program_form program.now)) }
 {
     let accesses = text_collections(alloc, program)?;
-    collect_in_order(alloc, &program.types, &accesses)
+    let calm = calm_types(alloc, program)?;
+    collect_in_order(alloc, &program.types, &calm, &accesses)
 }

@@ -17,19 +17,23 @@
 //! follows, calls nothing, copies no record, and declares variables alone, none of which is of an access type whose objects have controlled
 //! parts.
 //!
-//! An Initialize and a Finalize may be frugal in a program in which no access type designates a record type with controlled parts, so
-//! that these lie in declared objects alone. They may be frugal, too, in one whose access types designate such record types, if objects
-//! with controlled parts are freed by variables alone (13.11.2), though components may own them before: then no component names one that
-//! is finalized; and if, where the objects of a collection have controlled parts, neither they nor the objects of an older collection have
-//! a component of their access type, or of one whose collection is created later in the text (7.6.1): then, where a master is left and
-//! newer collections go before older ones, objects are finalized while each component still names what is there.
+//! An Initialize and a Finalize may be frugal in a program in which no access type designates a record type with controlled parts, so that
+//! these lie in declared objects alone. They may be frugal, too, in one whose access types designate such record types, if two things hold
+//! of the objects that are not calm. An object is calm, if no operation that touches storage may be called for it, or for a part of it,
+//! where it begins or ends: each Initialize is plain, and each Finalize is quiet. The other objects are freed by variables and followed
+//! values alone (13.11.2), so by no component of a record object or of a formal parameter, though components may own them before: then no
+//! component names one that is finalized but the one that is freed, which lies in an object that an access value names. And where the
+//! objects of a collection are not calm, neither they nor the objects of an older collection have a component of their access type, or of
+//! one whose collection is created later in the text (7.6.1): then, where a master is left and newer collections go before older ones,
+//! they are finalized while each component still names what is there. Nothing of this is asked of calm objects: no operation follows a
+//! component while one of them is finalized.
 //!
 //! In all these programs operations are to stand apart. No procedure that overrides an Adjust of a type with a component of an access
 //! type, declared in it directly, is called or overrides another operation: so it runs nowhere else. And no allocator gives values to
 //! the components of an object with controlled parts, or copies a record with some, to which no Adjust would see there (4.8): so each
 //! such object that is allocated is initialized by default. So an Initialize is called where an object is declared or allocated (7.6),
 //! and a Finalize where an object's master is left, an exception comes out of the initialization of one (7.6.1), another record is
-//! assigned to it (7.6), or a variable is freed that names it (13.11.2), and nowhere else.
+//! assigned to it (7.6), or a variable or a component is freed that names it (13.11.2), and nowhere else.
 //!
 //! An Adjust may track where a Finalize may be frugal, if also no component names an object with controlled parts, since no access type
 //! designates such a record type, or no component is of one that does; and if the elementary components of each record type stand in the
@@ -48,6 +52,7 @@
 mod apart;
 mod bare;
 mod bodies;
+mod calm;
 mod collections;
 mod components;
 mod first;
@@ -57,6 +62,7 @@ mod known;
 pub mod laws;
 mod marks;
 mod operations;
+mod paths;
 mod simple;
 mod statements;
 mod tracking;

@@ -6,7 +6,7 @@ ghost use Rattle.ada_quiet.specs.First as first;
 ghost use Rattle.ada_quiet.specs.InUse as rules;
 ghost use Rattle.ada_quiet.specs.Known.{IsKnown};
 
-use crate::apart::{operations_stand_apart, parts_stand_alone};
+use crate::apart::{operations_stand_apart, parts_are_led};
 use crate::bare::have_bare_components;
 use crate::collections::collections_in_order;
 use crate::known::Known;
@@ -45,16 +45,16 @@ fn allocates_no_parts(program: &Program) -> bool
     true
 }
 
-/// Whether objects with controlled parts may be allocated beside operations that touch storage: these are freed by variables alone, and
-/// collections are created in order: neither such objects nor those of an older collection have a component of their access type, or of
-/// one whose collection is created later. Linear in the types, their components, and all bodies.
+/// Whether objects with controlled parts may be allocated beside operations that touch storage: those that are not calm are freed by
+/// variables and followed values alone, and collections are created in order: neither such objects nor those of an older collection have a
+/// component of their access type, or of one whose collection is created later. Linear in the types, their components, and all bodies.
 ///
 /// # Errors
 /// `AllocError` where memory was refused.
 fn may_allocate_parts(alloc: Global, program: &Program) -> Result<bool, AllocError>
     ensures { IfOk result (λ answer. answer ≡ rules.may_allocate_parts (program_form program.now)) }
 {
-    Ok(collections_in_order(alloc, program)? && parts_stand_alone(alloc, program)?)
+    Ok(collections_in_order(alloc, program)? && parts_are_led(alloc, program)?)
 }
 
 /// Whether no component names an object with controlled parts: none is allocated, or each component is of another type. Linear in the

@@ -1,23 +1,24 @@
 -- What a body assigns that shuns some access types, and what it reads to (5.2).
 
-use Rattle.std.proofs.Common.{◌≡◌, ℕ, true, ℤ, List, [], ◌∷◌, Option, Some, None, refl}
-use Rattle.std.specs.List.{slice_get}
+use Rattle.std.proofs.Common.{◌≡◌, ℕ, Bool, true, false, ℤ, List, [], ◌∷◌, drop, Option, Some, None, refl}
+use Rattle.std.specs.List.{list_all, slice_get}
 use Rattle.ada_program.specs.declared.program.Exception.TheVariants.{ConstraintError, EndError}
 use Rattle.ada_program.specs.declared.program.VariableKind.{VariableKind}
-use Rattle.ada_program.specs.Form.{RightForm}
+use Rattle.ada_program.specs.Form.{RecordPathForm, ItemForm, RightForm}
 use Rattle.ada_program.specs.WellFormed.{variable_kind}
 use Rattle.ada_meaning.specs.declared.state.Mode.TheVariants.{Raising}
 use Rattle.ada_meaning.specs.declared.state.Value.{Value}
 use Rattle.ada_meaning.specs.Event.{Quiet}
 use Rattle.ada_meaning.specs.Frame as frame
 use Rattle.ada_meaning.specs.Heap.{Cell, Found, on_null, on_gone, on_other, finds}
-use Rattle.ada_meaning.specs.Step.{moves, at, assign_next, target_next, stored_next, store_next, gets_next, received_next, receive_next, put}
+use Rattle.ada_meaning.specs.Step.{moves, at, operands, newest_ones, without_newest, record_in, assign_next, target_next, stored_next, store_next, record_assign_next, record_target_next, stored_from, record_stored_next, store_record_next, gets_next, received_next, receive_next, put}
 use Rattle.ada_meaning.specs.Named.{State, named, look, filled, store, an_integer}
 use Rattle.ada_untouched.specs.Untouched.{IsInSight}
 use Rattle.ada_reaching.specs.Reaching.{IsElsewhere}
-use Rattle.ada_reaching.specs.Forms.{selectors_shun, right_shuns}
-use Rattle.ada_reaching.proofs.Going.{World, variables_in, Goes, ValueSeeks, changed_run, stays, jumps, put_runs}
-use Rattle.ada_reaching.proofs.Paths.{Sound, in_sight, holder_goes}
+use Rattle.ada_reaching.specs.Forms.{may_follow, selectors_shun, item_shuns, right_shuns}
+use Rattle.ada_reaching.proofs.Elsewhere.{elsewhere_drop}
+use Rattle.ada_reaching.proofs.Going.{World, variables_in, Goes, ValueSeeks, operands_run, changed_run, stored_run, stays, jumps, put_runs}
+use Rattle.ada_reaching.proofs.Paths.{Sound, in_sight, holder_goes, record_goes}
 use Rattle.ada_reaching.proofs.Selections.{IsRooted}
 
 module _ (w : World) where
@@ -68,6 +69,46 @@ module _ (w : World) where
   store_goes o c v on_gone s sight r h anew = tt
   store_goes o c v on_other s sight r h anew = tt
   store_goes o c v (finds cell) s sight r h anew = stored_goes o c v (slice_get cell.values c) s sight r h anew
+
+  -- The bodies go on as an assignment to a record begins that has no controlled parts.
+  pub record_assign_goes :
+      (parts : Bool) (target : RecordPathForm) (to : VariableKind) (items : List ItemForm) (s : State) → parts ≡ false → Sound w s
+      → IsRooted w.p.types (variables_in w) target.object.root target.object.selectors to
+      → selectors_shun w.p.types w.shuns (variable_kind (variables_in w) target.object.root) target.object.selectors ≡ true
+      → may_follow w.shuns (Some to) ≡ true → list_all (item_shuns w.p.types w.shuns w.apart (variables_in w)) items ≡ true
+      → Goes w s (record_assign_next named parts target items s)
+  record_assign_goes true target to items s bare sound root shun may all r h anew = absurd (cc)
+  record_assign_goes false target to items s bare sound root shun may all r h anew =
+      record_goes w target to (λ place. frame.TargetsRecord place.component target.record_type items) s sound root shun may r
+      (λ place. (all, anew, h)) (λ may_seek u place is_may. is_may)
+
+  -- The bodies go on as the object is looked for in which the target lies.
+  pub record_target_goes :
+      (o : Value) (first count : ℕ) (items : List ItemForm) (found : Found (Cell Value)) (s : State) → IsInSight w.ghosts o
+      → list_all (item_shuns w.p.types w.shuns w.apart (variables_in w)) items ≡ true → Goes w s (record_target_next named o first count items found s)
+  record_target_goes o first count items on_null s sight all r h anew = jumps w (Raising ConstraintError) s r h
+  record_target_goes o first count items on_gone s sight all r h anew = tt
+  record_target_goes o first count items on_other s sight all r h anew = tt
+  record_target_goes o first count items (finds cell) s sight all r h anew =
+      stays w (at (frame.Fills items ∷ frame.StoresRecord o first count ∷ s.control) s) r (all, refl, (sight, anew, h)) refl
+
+  -- The bodies go on as the components of a record get these values, if there is that record.
+  record_stored_goes :
+      (o : Value) (first : ℕ) (vs : List Value) (found : Option (List Value)) (s : State) → IsInSight w.ghosts o
+      → Goes w s (record_stored_next named o first vs found s)
+  record_stored_goes o first vs None s sight r h anew = tt
+  record_stored_goes o first vs (Some before) s sight r h anew =
+      stays w (record s { heap = stored_from named s.heap o first vs }) (stored_run w vs o first s.activations s.heap sight r) h anew
+
+  -- The bodies go on as they get the values that were computed for them.
+  pub store_record_goes :
+      (o : Value) (first count : ℕ) (found : Found (Cell Value)) (s : State) → IsInSight w.ghosts o → Goes w s (store_record_next named o first count found s)
+  store_record_goes o first count on_null s sight r h anew = tt
+  store_record_goes o first count on_gone s sight r h anew = tt
+  store_record_goes o first count on_other s sight r h anew = tt
+  store_record_goes o first count (finds cell) s sight r h anew =
+      record_stored_goes o first (newest_ones named count s) (record_in cell.values first count) (without_newest named count s) sight
+      (operands_run w (drop count (operands s)) s.activations s.heap (elsewhere_drop w.ghosts count (operands s) r.operands) r) h anew
 
   -- The bodies go on as a Get begins.
   pub gets_goes :

@@ -10,16 +10,16 @@ use Rattle.ada_program.specs.declared.program.VariableKind.{VariableKind}
 use Rattle.ada_program.specs.declared.program.VariableKind.TheVariants as variable
 use Rattle.ada_program.specs.Form.{PathForm, RecordPathForm, ActualForm, in_value, in_null, in_access, in_record, in_out_path, in_out_access, in_out_component, in_out_record, ExpressionForm, integer, boolean, reads, is_null, applied_to, chained, LinksForm, no_more_links, a_link, ItemForm, null_item, item_of_path, item_of_value, item_of_record, RightForm, nothing, value_of, allocates, allocates_default, computes, DeclarationForm, creates_pool, collects, declares, declares_record, StmtForm, skips, assigns, assigns_record, frees, gets, writes, writes_text, chooses, repeats, counts, exits, calls, returns, raises, encloses, StmtsForm, no_stmts, a_stmt, BranchesForm, otherwise, a_branch, HandlersForm, no_handlers, a_handler}
 use Rattle.ada_program.specs.ProgramForm.{TypeForm, VariableForm, BodyForm, ProgramForm, program_form, nowhere}
-use Rattle.ada_program.specs.WellFormed.{IsWellFormed, designated_in, designated_type, is_access, is_this, path_access, path_kind, selected_kind, type_fits, value_access, variable_fits, variable_kind}
+use Rattle.ada_program.specs.WellFormed.{IsWellFormed, designated_in, designated_type, finalization_of, is_access, is_this, path_access, path_kind, selected_kind, type_fits, value_access, variable_fits, variable_kind}
 use Rattle.ada_quiet.specs.Bare.{has_bare_objects}
 use Rattle.ada_deeds.specs.declared.deed.Callee.{Callee}
 use Rattle.ada_deeds.specs.declared.deed.Callee.TheVariants as callee
 use Rattle.ada_deeds.specs.declared.deed.Deed.{Deed}
 use Rattle.ada_deeds.specs.declared.deed.Deed.TheVariants as deed
-use Rattle.ada_deeds.specs.declared.deed.Operation.TheVariants.{Finalize}
+use Rattle.ada_deeds.specs.declared.deed.Operation.TheVariants.{Adjust, Finalize}
 use Rattle.ada_deeds.specs.Does.{called_does, is_deed_of, Does, does}
 use Rattle.ada_deeds.specs.Follows.{selectors_follow, path_follows, record_path_follows, expression_follows, links_follow, condition_follows, actual_follows, actuals_follow}
-use Rattle.ada_deeds.specs.Forms.{path_does, expression_does, condition_does, actuals_do, allocation_does, freeing_does, is_left, is_raising, procedure_does, parts_do, creation_does, designated_by, item_does, items_do, right_does, declaration_does, declarations_do, leaving_does, stmt_does, stmts_do, branches_do, handlers_do, body_does}
+use Rattle.ada_deeds.specs.Forms.{path_does, record_path_does, expression_does, condition_does, actuals_do, allocation_does, freeing_does, is_left, is_raising, procedure_does, parts_do, creation_does, assignment_does, designated_by, item_does, items_do, right_does, declaration_does, declarations_do, leaving_does, stmt_does, stmts_do, branches_do, handlers_do, body_does}
 use Rattle.ada_deeds.specs.Within.{does_by}
 use Rattle.ada_deeds.proofs.Naming.{KindFits, variable_fits_kind, path_fits_kind}
 use Rattle.ada_deeds.proofs.Within.{counts_are_enough}
@@ -190,6 +190,10 @@ module _ (types : List TypeForm) (shuns apart : ℕ → Bool) where
       path_idle : (path : PathForm) → NoneOf is_use (λ d. path_does types variables d path) → path_shuns types shuns apart variables path ≡ true
       path_idle path none = path_unused path (follows_none (λ d. path_does types variables d path) none)
 
+      record_path_idle :
+          (q : RecordPathForm) → NoneOf is_use (λ d. record_path_does types variables d q) → record_path_shuns types shuns apart variables q ≡ true
+      record_path_idle q none = record_path_unused q (follows_none (λ d. record_path_does types variables d q) none)
+
       expression_idle :
           (e : ExpressionForm) → NoneOf is_use (λ d. expression_does types variables d e) → expression_shuns types shuns apart variables e ≡ true
       expression_idle e none = expression_unused e (follows_none (λ d. expression_does types variables d e) none)
@@ -205,7 +209,9 @@ module _ (types : List TypeForm) (shuns apart : ℕ → Bool) where
       item_idle null_item shape none = refl
       item_idle (item_of_path path) shape none = path_idle path none
       item_idle (item_of_value e) shape none = expression_idle e none
-      item_idle (item_of_record q) shape none = absurd (cc shape)
+      item_idle (item_of_record q) shape none =
+          record_path_idle q
+          (first is_use (λ d. record_path_does types variables d q) (λ d. parts_do (known d) Adjust (Some q.record_type)) none)
 
       items_idle :
           (items : List ItemForm) → list_all (item_shuns types (λ t. false) apart variables) items ≡ true
@@ -299,7 +305,18 @@ module _ (types : List TypeForm) (shuns apart : ℕ → Bool) where
             let given = λ (d : Deed). right_does types variables (known d) d right in
             and_from (path_shuns types shuns apart variables target) (right_shuns types shuns apart variables right)
             (path_idle target (first is_use path given none)) (right_idle right shapes.1 (second is_use path given none))
-        statement_idle (assigns_record target items) shape none = absurd (cc shape)
+        statement_idle (assigns_record target items) shape none =
+            let bare = not (is_some (finalization_of types target.record_type)) in
+            let shapes =
+            and_parts (record_path_shuns types (λ t. false) apart variables target && list_all (item_shuns types (λ t. false) apart variables) items) bare shape in
+            let inner = and_parts (record_path_shuns types (λ t. false) apart variables target) (list_all (item_shuns types (λ t. false) apart variables) items) shapes.0 in
+            let path = λ (d : Deed). record_path_does types variables d target in
+            let filled = λ (d : Deed). items_do types variables (known d) d items in
+            let assigned = λ (d : Deed). assignment_does (known d) target.record_type in
+            let both = first is_use (λ d. path d || filled d) assigned none in
+            and_from (record_path_shuns types shuns apart variables target && list_all (item_shuns types shuns apart variables) items) bare
+            (and_from (record_path_shuns types shuns apart variables target) (list_all (item_shuns types shuns apart variables) items)
+            (record_path_idle target (first is_use path filled both)) (items_idle items inner.1 (second is_use path filled both))) shapes.1
         statement_idle (frees access path) shape none =
             let leads = path_shuns types shuns apart variables path in
             let may = may_follow shuns (path_kind types variables path) in

@@ -1,6 +1,7 @@
 -- Values that refer to no ghost: which values do as bodies run, call and end.
 
-use Rattle.std.proofs.Common.{◌≡◌, ℕ, zero, suc, Bool, List, [], ◌∷◌, ◌++◌, drop, length, map, reverse, take, Option, Some, None, Result, Ok, Err, sym, subst}
+use Rattle.std.proofs.Common.{◌≡◌, ℕ, zero, suc, Bool, true, false, List, [], ◌∷◌, ◌++◌, drop, length, map, reverse, take, Option, Some, None, Result, Ok, Err, sym, subst}
+use Rattle.std.specs.Prelude.{◌==◌, if◌then◌else◌}
 use Rattle.std.proofs.lemmas.List.{reverse-append}
 use Rattle.std.specs.List.{slice_index_or, slice_set}
 use Rattle.ada_values.specs.declared.operator.BinaryOperator.{BinaryOperator}
@@ -18,9 +19,9 @@ use Rattle.ada_program.specs.WellFormed.{held_kind}
 use Rattle.ada_meaning.specs.declared.state.Id.{Id}
 use Rattle.ada_meaning.specs.declared.state.Value.{Value}
 use Rattle.ada_meaning.specs.declared.state.Value.TheVariants.{Null, Names, Scalar, Part}
-use Rattle.ada_meaning.specs.Step.{blank, blanks, copied_back, first_or, given_places, given_values, in_front, initial_value, initial_values, none_referred, older, one_given, one_referred, references_in, stored_back, value_given}
+use Rattle.ada_meaning.specs.Step.{blank, blanks, copied_back, first_or, given_places, given_values, in_front, initial_value, initial_values, none_referred, older, one_given, one_referred, record_in, references_in, stored_back, value_given}
 use Rattle.ada_meaning.specs.Named.{as_value, binary_given, named, unary_given, whole}
-use Rattle.ada_typed.specs.Holding.{Cells, HasKind}
+use Rattle.ada_typed.specs.Holding.{Cells, HasKind, HaveKinds}
 use Rattle.ada_reaching.specs.Reaching.{IsElsewhere, AreElsewhere}
 
 module _ (ghosts : Id → Bool) where
@@ -90,6 +91,27 @@ module _ (ghosts : Id → Bool) where
   pub elsewhere_in_front : (vs us : List Value) → AreElsewhere ghosts vs → AreElsewhere ghosts us → AreElsewhere ghosts (in_front vs us)
   elsewhere_in_front [] us others more = more
   elsewhere_in_front (v ∷ vs) us others more = elsewhere_in_front vs (v ∷ us) others.1 (others.0, more)
+
+  -- So does what an object's components hold.
+  pub cell_elsewhere :
+      (types : List TypeForm) (cells : Cells) (kinds : List ComponentKind) (vs : List Value) → HaveKinds types cells kinds vs → AreElsewhere ghosts vs
+  cell_elsewhere types cells [] [] have = tt
+  cell_elsewhere types cells [] (v ∷ vs) have = absurd have
+  cell_elsewhere types cells (kind ∷ kinds) [] have = tt
+  cell_elsewhere types cells (kind ∷ kinds) (v ∷ vs) have =
+      (held_elsewhere types cells kind v have.0, cell_elsewhere types cells kinds vs have.1)
+
+  -- Values do that are all of some, or none.
+  whole_ones : (b : Bool) (us vs : List Value) → (if b then Some us else None) ≡ Some vs → AreElsewhere ghosts us → AreElsewhere ghosts vs
+  whole_ones true us vs is others = let same : us ≡ vs = cc in subst (λ (ws : List Value). AreElsewhere ghosts ws) same others
+  whole_ones false us vs is others = absurd (cc)
+
+  -- So do those of a record that lies in an object, where its components do.
+  pub record_elsewhere :
+      (values : List Value) (first count : ℕ) (vs : List Value) → record_in values first count ≡ Some vs → AreElsewhere ghosts values → AreElsewhere ghosts vs
+  record_elsewhere values first count vs is others =
+      let us = take count (drop first values) in
+      whole_ones (length us == count) us vs is (elsewhere_take count (drop first values) (elsewhere_drop first values others))
 
   -- What components hold at first refers to none.
   kinds_elsewhere : (kinds : List ComponentKind) → AreElsewhere ghosts (map (initial_value named) kinds)

@@ -1,6 +1,6 @@
 -- Forms of a body that shuns some access types: what is evaluated, and what is allocated.
 
-use Rattle.std.proofs.Common.{◌≡◌, ℕ, Bool, true, false, not, List, [], ◌∷◌, drop, map, Option, Some, None, Result, Ok, Err, refl}
+use Rattle.std.proofs.Common.{◌≡◌, ℕ, Bool, true, false, not, List, [], ◌∷◌, drop, map, Option, Some, None, Result, Ok, Err, refl, sym, ap, ◌∙◌, subst}
 use Rattle.std.specs.List.{list_all}
 use Rattle.std.proofs.lemmas.Bool.{and_parts}
 use Rattle.ada_values.specs.declared.operator.BinaryOperator.{BinaryOperator}
@@ -11,6 +11,7 @@ use Rattle.ada_program.specs.declared.program.TypeDefinition.{TypeDefinition}
 use Rattle.ada_program.specs.Form.{ExpressionForm, integer, boolean, reads, is_null, applied_to, chained, LinksForm, no_more_links, a_link, ItemForm, null_item, item_of_path, item_of_value, item_of_record, RightForm, nothing, value_of, allocates, allocates_default, computes}
 use Rattle.ada_program.specs.ProgramForm.{type_form}
 use Rattle.ada_program.specs.Typed.{reached_of, words_of}
+use Rattle.ada_program.specs.WellFormed.{path_kind}
 use Rattle.ada_parts.specs.declared.tasks.Direction.TheVariants.{PartsFirst}
 use Rattle.ada_parts.specs.Task.{Task}
 use Rattle.ada_meaning.specs.declared.event.Birth.TheVariants.{Creation}
@@ -19,15 +20,16 @@ use Rattle.ada_meaning.specs.declared.state.Value.{Value}
 use Rattle.ada_meaning.specs.declared.state.Value.TheVariants.{Null}
 use Rattle.ada_meaning.specs.Frame.{Treatment, begins}
 use Rattle.ada_meaning.specs.Frame as frame
+use Rattle.ada_meaning.specs.Heap.{Cell, Found, on_null, on_gone, on_other, finds}
 use Rattle.ada_meaning.specs.State.{Destination, counted}
-use Rattle.ada_meaning.specs.Step.{with_operands, all_tasks, treating, at, operands, set_operands, in_front, newest, expression_next, null_test_next, is_decided, link_next, links_next, outcome_next, items_next, initial_values, initialized, new_cell, answered, new_next, right_next}
-use Rattle.ada_meaning.specs.Named.{State, named, an_integer, a_boolean, created, create, reads_boolean}
+use Rattle.ada_meaning.specs.Step.{with_operands, all_tasks, treating, at, operands, set_operands, in_front, newest, record_in, expression_next, null_test_next, is_decided, link_next, links_next, outcome_next, items_next, copied_next, copies_next, initial_values, initialized, new_cell, answered, new_next, right_next}
+use Rattle.ada_meaning.specs.Named.{State, named, look, an_integer, a_boolean, created, create, reads_boolean}
 use Rattle.ada_quiet.specs.Bare.{has_bare_objects}
-use Rattle.ada_reaching.specs.Reaching.{IsElsewhere, begins_anew}
-use Rattle.ada_reaching.specs.Forms.{expression_shuns, links_shun, item_shuns, right_shuns}
-use Rattle.ada_reaching.proofs.Elsewhere.{elsewhere_drop, elsewhere_in_front, initial_elsewhere}
+use Rattle.ada_reaching.specs.Reaching.{IsElsewhere, AreElsewhere, begins_anew}
+use Rattle.ada_reaching.specs.Forms.{may_follow, path_shuns, expression_shuns, links_shun, item_shuns, right_shuns}
+use Rattle.ada_reaching.proofs.Elsewhere.{elsewhere_drop, elsewhere_in_front, record_elsewhere, initial_elsewhere}
 use Rattle.ada_reaching.proofs.Going.{World, variables_in, Runs, Left, On, Goes, operands_run, created_run, stays, gives, jumps}
-use Rattle.ada_reaching.proofs.Paths.{Sound, named_goes}
+use Rattle.ada_reaching.proofs.Paths.{found_there, values_elsewhere, Sound, Fine, named_goes, record_goes}
 use Rattle.ada_reaching.proofs.Rooted.{ExpressionIsRooted, ItemsAreRooted, RightIsRooted}
 use Rattle.ada_reaching.proofs.Selections.{bare_tasks}
 
@@ -101,7 +103,37 @@ module _ (w : World) where
   items_go (item_of_value e ∷ is) s sound shun root r h anew =
       let both = items_apart (item_of_value e) is shun in
       stays w (at (frame.Computes e ∷ frame.Fills is ∷ s.control) s) r (both.0, refl, (both.1, anew, h)) refl
-  items_go (item_of_record q ∷ is) s sound shun root r h anew = absurd (cc)
+  items_go (item_of_record q ∷ is) s sound shun root r h anew =
+      let both = items_apart (item_of_record q) is shun in
+      let two = and_parts (path_shuns w.p.types w.shuns w.apart (variables_in w) q.object) (may_follow w.shuns (path_kind w.p.types (variables_in w) q.object)) both.0 in
+      record_goes w q root.0 (λ place. frame.Copies place.component q.record_type) (at (frame.Fills is ∷ s.control) s) sound root.1 two.0
+      (ap (may_follow w.shuns) (sym root.2) ∙ two.1) r (λ place. (tt, refl, (both.1, anew, h))) (λ may u place is_may. is_may)
+
+  -- The bodies go on as the components of a record are copied, if there is that record.
+  copied_goes :
+      (v : Value) (found : Option (List Value)) (s : State) → ((vs : List Value) → found ≡ Some vs → AreElsewhere w.ghosts vs) → Goes w s (copied_next named v found s)
+  copied_goes v None s each r h anew = tt
+  copied_goes v (Some vs) s each r h anew =
+      stays w (set_operands (in_front vs (operands s)) s)
+      (operands_run w (in_front vs (operands s)) s.activations s.heap (elsewhere_in_front w.ghosts vs (operands s) (each vs refl) r.operands) r) h anew
+
+  -- So they do, by what is found of the object in which it lies.
+  copies_found :
+      (v : Value) (first count : ℕ) (found : Found (Cell Value)) (s : State) → Fine w s → look s.heap v ≡ found
+      → Goes w s (copies_next named v first count found s)
+  copies_found v first count on_null s fine is r h anew = jumps w (Raising ConstraintError) s r h
+  copies_found v first count on_gone s fine is r h anew = tt
+  copies_found v first count on_other s fine is r h anew = tt
+  copies_found v first count (finds cell) s fine is r h anew =
+      let f = found_there s.heap v cell is in
+      copied_goes v (record_in cell.values first count) s
+      (λ vs given.
+      record_elsewhere w.ghosts cell.values first count vs given
+      (subst (λ (own : Cell Value). AreElsewhere w.ghosts own.values) f.own (values_elsewhere w s fine f.name f.object f.there))) r h anew
+
+  -- So they do as that object is looked for.
+  pub copies_go : (v : Value) (first count : ℕ) (s : State) → Fine w s → Goes w s (copies_next named v first count (look s.heap v) s)
+  copies_go v first count s fine r h anew = copies_found v first count (look s.heap v) s fine refl r h anew
 
   module _ (tds : List TypeDefinition) where
     -- The bodies go on as what is assigned is evaluated.

@@ -30,9 +30,9 @@ use Rattle.ada_reaching.specs.Law.{AreApart, TakesNone, AllGoOn}
 use Rattle.ada_reaching.proofs.Elsewhere.{elsewhere_first, unary_elsewhere, binary_elsewhere}
 use Rattle.ada_reaching.proofs.Going.{World, variables_in, Runs, Left, On, Goes, OperandsSeek, ValueSeeks, changed_run, stays, sought, popped_runs, put_runs}
 use Rattle.ada_reaching.proofs.Paths.{Sound, Fine, in_sight, step_goes, record_goes}
-use Rattle.ada_reaching.proofs.Forms.{expression_goes, null_test_goes, links_go, outcome_goes, items_go, right_goes, new_goes}
+use Rattle.ada_reaching.proofs.Forms.{expression_goes, null_test_goes, links_go, outcome_goes, items_go, copies_go, right_goes, new_goes}
 use Rattle.ada_reaching.proofs.Frees.{free_in_goes}
-use Rattle.ada_reaching.proofs.Assigns.{put_goes, target_goes, store_goes, receive_goes}
+use Rattle.ada_reaching.proofs.Assigns.{put_goes, target_goes, store_goes, record_target_goes, store_record_goes, receive_goes}
 use Rattle.ada_reaching.proofs.Calls.{AreParts, refers_goes, open_goes, opens_goes, begun_goes, returned_goes}
 use Rattle.ada_reaching.proofs.Statements.{decided_goes, repeats_go, turned_goes, counting_goes, ranges_go, exited_goes, line_goes, stmts_go, declarations_go}
 use Rattle.ada_reaching.proofs.Rooted.{FrameIsRooted}
@@ -179,7 +179,8 @@ module _ (w : World) where
     frame_goes (frame.AppliesAlone operator) s sound on parts h none root seeks r =
         outcome_goes w (unary_given operator (newest named s)) (popped s) (unary_elsewhere w.ghosts operator (newest named s)) (popped_runs w s r) h.2 h.1
     frame_goes (frame.Fills items) s sound on parts h none root seeks r = items_go w items s sound h.0 root r h.2 h.1
-    frame_goes (frame.Copies c record_type) s sound on parts h none root seeks r = absurd (h.0)
+    frame_goes (frame.Copies c record_type) s sound on parts h none root seeks r =
+        copies_go w (newest named s) c (width_of tds record_type) (popped s) sound.filled (popped_runs w s r) h.2 h.1
     frame_goes (frame.Creates access count) s sound on parts h none root seeks r =
         new_goes w tds known access count (words_of tds access) (home_of access s.masters) s h.0 r h.2 h.1
     frame_goes (frame.Stores x) s sound on parts h none root seeks r =
@@ -188,8 +189,11 @@ module _ (w : World) where
         target_goes w (newest named s) c right (popped s) seeks h.0 (popped_runs w s r) h.2 h.1
     frame_goes (frame.StoresIn o c) s sound on parts h none root seeks r =
         store_goes w o c (newest named s) (look s.heap o) (popped s) h.0 (popped_runs w s r) h.2 h.1
-    frame_goes (frame.TargetsRecord c record_type items) s sound on parts h none root seeks r = absurd (h.0)
-    frame_goes (frame.StoresRecord o c count) s sound on parts h none root seeks r = absurd (h.0)
+    frame_goes (frame.TargetsRecord c record_type items) s sound on parts h none root seeks r =
+        record_target_goes w (newest named s) c (width_of tds record_type) items (look s.heap (newest named s)) (popped s)
+        (in_sight w s.heap r.same (newest named s) seeks) h.0 (popped_runs w s r) h.2 h.1
+    frame_goes (frame.StoresRecord o c count) s sound on parts h none root seeks r =
+        store_record_goes w o c count (look s.heap o) s h.0 r h.2 h.1
     frame_goes (frame.Assigns record_type) s sound on parts h none root seeks r = absurd (h.0)
     frame_goes (frame.Receives c) s sound on parts h none root seeks r =
         receive_goes w (newest named s) c (look s.heap (newest named s)) (popped s) (in_sight w s.heap r.same (newest named s) seeks) (popped_runs w s r) h.2 h.1

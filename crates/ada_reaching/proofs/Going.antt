@@ -1,6 +1,6 @@
 -- How states change of bodies that shun some access types: they go on so, and each ghost stays as it is.
 
-use Rattle.std.proofs.Common.{◌≡◌, ℕ, zero, suc, Bool, true, false, not, List, [], ◌∷◌, ◌++◌, Option, Some, None, refl, sym, ap, ◌∙◌, inl, inr, subst}
+use Rattle.std.proofs.Common.{◌≡◌, ℕ, ◌+◌, zero, suc, Bool, true, false, not, List, [], ◌∷◌, ◌++◌, Option, Some, None, refl, sym, ap, ◌∙◌, inl, inr, subst}
 use Rattle.std.specs.List.{slice_get, slice_set}
 use Rattle.ada_program.specs.ProgramForm.{VariableForm, ProgramForm, seen_in}
 use Rattle.ada_meaning.specs.declared.state.Id.{Id}
@@ -12,8 +12,8 @@ use Rattle.ada_meaning.specs.Frame.{Frame}
 use Rattle.ada_meaning.specs.Frame as frame
 use Rattle.ada_meaning.specs.Heap.{Cell}
 use Rattle.ada_meaning.specs.State.{Activation}
-use Rattle.ada_meaning.specs.Step.{procedure_of, places_of, operands_of, with_places, with_operands, operands, places, older, computed, popped, jumping, put}
-use Rattle.ada_meaning.specs.Named.{Object, State, Next, object_at, changed, on_object, create, new_object}
+use Rattle.ada_meaning.specs.Step.{procedure_of, places_of, operands_of, with_places, with_operands, operands, places, older, computed, popped, jumping, put, stored_from}
+use Rattle.ada_meaning.specs.Named.{Object, State, Next, named, object_at, changed, on_object, filled, store, create, new_object}
 use Rattle.ada_untouched.specs.Untouched.{IsInSight}
 use Rattle.ada_untouched.proofs.Heaps.{set_there, one_or_other}
 use Rattle.ada_reaching.specs.Reaching.{IsOfShunned, IsElsewhere, AreElsewhere, LeftShuns, Seeks, OperandSeeks, begins_anew}
@@ -98,6 +98,8 @@ module _ (w : World) where
   anew_seeks may (frame.RefersIn place t ∷ k) u anew = absurd (cc)
   anew_seeks may (frame.OpensIn c ∷ k) u anew = absurd (cc)
   anew_seeks may (frame.Targets c right ∷ k) u anew = absurd (cc)
+  anew_seeks may (frame.TargetsRecord c t items ∷ k) u anew = absurd (cc)
+  anew_seeks may (frame.Copies c t ∷ k) u anew = absurd (cc)
   anew_seeks may (frame.Receives c ∷ k) u anew = absurd (cc)
   anew_seeks may (frame.FreesIn access c ∷ k) u anew = absurd (cc)
   anew_seeks may (f ∷ k) u anew = tt
@@ -167,6 +169,13 @@ module _ (w : World) where
     operands = r.operands;
     same = λ o is. object_stays w.ghosts change heap v sight o is ∙ r.same o is;
   }
+
+  -- So they do once components of such an object, from one on, have got these values.
+  pub stored_run :
+      (vs : List Value) (v : Value) (c : ℕ) (acts : List (Activation Value)) (heap : List Object) → IsInSight w.ghosts v → IsRun acts heap
+      → IsRun acts (stored_from named heap v c vs)
+  stored_run [] v c acts heap sight r = r
+  stored_run (u ∷ vs) v c acts heap sight r = stored_run vs v (c + 1) acts (store heap v c u) sight (changed_run (filled c u) v acts heap sight r)
 
   -- So they do once an object is created.
   pub created_run : (words : ℕ) (cell : Cell Value) (acts : List (Activation Value)) (heap : List Object) → IsRun acts heap → IsRun acts (create heap words cell)

@@ -24,13 +24,13 @@ use Rattle.ada_meaning.specs.Step.{at, places, held, reading, component_next, fo
 use Rattle.ada_meaning.specs.Named.{Object, State, named, object_at, look, seen, existing, whole, inside}
 use Rattle.ada_untouched.specs.Untouched.{IsInSight, LeadsOn, LeadsToHolder, hides}
 use Rattle.ada_typed.specs.Holding.{HasKind, cells_of}
-use Rattle.ada_typed.proofs.Evaluations.{own_access}
+use Rattle.ada_typed.proofs.Evaluations.{cell_at, own_access}
 use Rattle.ada_typed.proofs.Records.{begins}
-use Rattle.ada_typed.proofs.Values.{AreFilled}
-use Rattle.ada_reaching.specs.Reaching.{IsElsewhere, Seeks}
+use Rattle.ada_typed.proofs.Values.{AreFilled, filled_at}
+use Rattle.ada_reaching.specs.Reaching.{IsElsewhere, AreElsewhere, Seeks}
 use Rattle.ada_reaching.specs.Forms.{may_follow, selectors_shun}
 use Rattle.ada_reaching.specs.Law.{GhostsStay, AllGoOn, none_hidden}
-use Rattle.ada_reaching.proofs.Elsewhere.{elsewhere_at, held_elsewhere, whole_elsewhere}
+use Rattle.ada_reaching.proofs.Elsewhere.{elsewhere_at, cell_elsewhere, held_elsewhere, whole_elsewhere}
 use Rattle.ada_reaching.proofs.Going.{World, variables_in, Runs, Left, On, Goes, ghosts_there, anew_seeks, sought, gives, jumps}
 use Rattle.ada_reaching.proofs.Selections.{IsRooted, begun_somewhere, shun_first, shun_behind, shun_before, shun_holder, last_kind, LeadsShunning, seeks_weaker, followed, valued, held_in, named_kind, named_access}
 
@@ -125,6 +125,12 @@ module _ (w : World) where
   -- So it is with objects.
   abbrev pub Fine : State → Type 0
   Fine s = AreFilled w.p.types (cells_of s.heap) (cells_of s.heap)
+
+  -- What an object holds refers to no ghost.
+  pub values_elsewhere : (s : State) → Fine s → (o : Id) (x : Object) → object_at s.heap o ≡ Some x → AreElsewhere w.ghosts x.cell.values
+  values_elsewhere s fine o x at =
+      let own = filled_at w.p.types (cells_of s.heap) (cells_of s.heap) o.0 x.cell fine (cell_at s.heap o.0 x at) in
+      cell_elsewhere w.ghosts w.p.types (cells_of s.heap) own.0 x.cell.values own.2
 
   module _ (heap : List Object) (same : GhostsStay w.ghosts w.before heap) where
     -- An object is no ghost, if it is none where it is a ghost.

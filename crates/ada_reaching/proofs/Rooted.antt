@@ -9,9 +9,9 @@ use Rattle.ada_program.specs.declared.program.ScalarType.TheVariants.{Integer, B
 use Rattle.ada_program.specs.declared.program.TypeNo.{TypeNo}
 use Rattle.ada_program.specs.declared.program.VariableKind.{VariableKind}
 use Rattle.ada_program.specs.declared.program.VariableKind.TheVariants as variable
-use Rattle.ada_program.specs.Form.{PathForm, RecordPathForm, ExpressionForm, reads, is_null, ItemForm, item_of_path, RightForm, value_of, StmtForm, assigns, frees, gets, StmtsForm, no_stmts, a_stmt}
+use Rattle.ada_program.specs.Form.{PathForm, RecordPathForm, ExpressionForm, reads, is_null, ItemForm, item_of_path, item_of_record, RightForm, value_of, StmtForm, assigns, assigns_record, frees, gets, StmtsForm, no_stmts, a_stmt}
 use Rattle.ada_program.specs.ProgramForm.{TypeForm, VariableForm, ProgramForm}
-use Rattle.ada_program.specs.WellFormed.{access_of, has_record_at, is_record_path, object_components, record_components, path_kind, value_access, scalar_of, type_of, item_fits, items_fit, item_width, first_fits, kind_takes, right_fits, is_freed_by, names_borrower, lends_to, callable_in}
+use Rattle.ada_program.specs.WellFormed.{access_of, has_record_at, is_record_path, object_components, record_components, path_kind, value_access, scalar_of, type_of, begins_with_record, item_fits, items_fit, item_width, record_fits, first_fits, kind_takes, right_fits, is_freed_by, names_borrower, lends_to, callable_in}
 use Rattle.ada_meaning.specs.declared.state.Value.{Value}
 use Rattle.ada_meaning.specs.Frame.{Frame}
 use Rattle.ada_meaning.specs.Frame as frame
@@ -37,6 +37,7 @@ module _ (types : List TypeForm) (variables : List VariableForm) where
   -- So does that of the first of some items.
   abbrev pub ItemsAreRooted : List ItemForm → Type 0
   ItemsAreRooted (item_of_path path ∷ is) = PathIsRooted path
+  ItemsAreRooted (item_of_record q ∷ is) = PathIsRooted q.object
   ItemsAreRooted is = Unit {0}
 
   -- So does that of what is assigned.
@@ -53,6 +54,7 @@ module _ (types : List TypeForm) (variables : List VariableForm) where
   -- So does the path with which a statement begins.
   abbrev pub StatementIsRooted : StmtForm → Type 0
   StatementIsRooted (assigns target right) = PathIsRooted target
+  StatementIsRooted (assigns_record target items) = PathIsRooted target.object
   StatementIsRooted (frees access path) = FreedIsRooted access path
   StatementIsRooted (gets target) = PathIsRooted target
   StatementIsRooted f = Unit {0}
@@ -114,6 +116,10 @@ module _ (types : List TypeForm) (variables : List VariableForm) where
   items_rooted cs (item_of_path path ∷ is) fits =
       component_rooted cs path
       (and_left (item_fits types variables cs (item_of_path path)) (items_fit types variables (drop (item_width types (item_of_path path)) cs) is) fits)
+  items_rooted cs (item_of_record q ∷ is) fits =
+      record_rooted q
+      (and_left (is_record_path types variables q) (begins_with_record cs (record_components types q.record_type))
+      (and_left (item_fits types variables cs (item_of_record q)) (items_fit types variables (drop (item_width types (item_of_record q)) cs) is) fits))
   items_rooted cs items fits = tt
 
   -- So does that of what is assigned, where that fits.
@@ -152,6 +158,9 @@ module _ (p : ProgramForm) where
       let own = target_kind p.types p.variables kind right
       (and_left (right_fits p.types p.variables kind right) (lends_to p.variables (names_borrower p.variables target) right) is) in
       path_rooted p.types p.variables target own.0 own.1
+  statement_rooted inside (assigns_record target items) is =
+      record_rooted p.types p.variables target
+      (and_left (is_record_path p.types p.variables target) (record_fits p.types p.variables target.record_type items) is)
   statement_rooted inside (frees access path) is =
       let kind = path_kind p.types p.variables path in
       let own = freed_kind p.types p.variables kind access

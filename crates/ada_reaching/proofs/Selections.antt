@@ -1,6 +1,6 @@
 -- What selectors lead to, and what objects hold: facts of kinds.
 
-use Rattle.std.proofs.Common.{◌≡◌, ℕ, zero, suc, Bool, true, List, [], ◌∷◌, map, Option, Some, None, refl, sym, ap, ◌∙◌}
+use Rattle.std.proofs.Common.{◌≡◌, ℕ, zero, suc, Bool, true, false, List, [], ◌∷◌, map, Option, Some, None, refl, sym, ap, ◌∙◌}
 use Rattle.std.specs.Prelude.{is_some, not}
 use Rattle.std.specs.List.{slice_get}
 use Rattle.std.proofs.lemmas.Bool.{eqb-true}
@@ -10,6 +10,7 @@ use Rattle.ada_program.specs.declared.program.Finalization.{Finalization}
 use Rattle.ada_program.specs.declared.program.TypeDefinition.{TypeDefinition}
 use Rattle.ada_program.specs.declared.program.VariableKind.{VariableKind}
 use Rattle.ada_program.specs.declared.program.VariableKind.TheVariants as variable
+use Rattle.ada_program.proofs.Shapes.{same_number}
 use Rattle.ada_program.specs.Controlled.{number_in, number_reached, shapes_of}
 use Rattle.ada_program.specs.Form.{PathForm}
 use Rattle.ada_program.specs.ProgramForm.{TypeForm, record_of, access_to, object_of, VariableForm, type_form}
@@ -20,7 +21,7 @@ use Rattle.ada_meaning.specs.declared.state.Value.{Value}
 use Rattle.ada_meaning.specs.declared.state.Value.TheVariants.{Names}
 use Rattle.ada_meaning.specs.Frame.{Frame}
 use Rattle.ada_meaning.specs.Frame as frame
-use Rattle.ada_meaning.specs.Step.{all_tasks, tasks_for, before_last, last_of}
+use Rattle.ada_meaning.specs.Step.{has_parts, all_tasks, tasks_for, before_last, last_of}
 use Rattle.ada_meaning.specs.Named.{Object, object_at}
 use Rattle.ada_quiet.specs.Bare.{has_bare_objects, is_bare_access}
 use Rattle.ada_typed.specs.Holding.{Cells, HasKind, HaveKinds, cells_of}
@@ -111,6 +112,8 @@ module _ (types : List TypeForm) (shuns : ℕ → Bool) where
   seeks_weaker may more access (frame.RefersIn place t ∷ k) weaker h = weaker h
   seeks_weaker may more access (frame.OpensIn c ∷ k) weaker h = weaker h
   seeks_weaker may more access (frame.Targets c right ∷ k) weaker h = weaker h
+  seeks_weaker may more access (frame.TargetsRecord c t items ∷ k) weaker h = weaker h
+  seeks_weaker may more access (frame.Copies c t ∷ k) weaker h = weaker h
   seeks_weaker may more access (frame.Receives c ∷ k) weaker h = weaker h
   seeks_weaker may more access (frame.FreesIn t c ∷ k) weaker h = (weaker h.0, h.1, h.2)
   seeks_weaker may more access (f ∷ k) weaker h = tt
@@ -188,6 +191,13 @@ pub bare_tasks :
 bare_tasks tds types access direction shown is =
     let number : number_reached tds access ≡ None = sym (known_number tds types access shown) ∙ bare_number types (slice_get types access) is in
     ap (tasks_for (shapes_of tds) direction) number
+
+-- A record has no controlled parts whose type has none.
+pub bare_record :
+    (tds : List TypeDefinition) (types : List TypeForm) (t : ℕ) → map type_form tds ≡ types → not (is_some (finalization_of types t)) ≡ true
+    → has_parts tds t ≡ false
+bare_record tds types t shown is =
+    ap is_some (same_number tds t ∙ ap (λ (ts : List TypeForm). number_in (finalization_of ts t)) shown ∙ none_numbered (finalization_of types t) is)
 
 -- Two access types that designate the same record type have objects without controlled parts, or neither has.
 bare_same :

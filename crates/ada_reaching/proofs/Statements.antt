@@ -9,17 +9,18 @@ use Rattle.ada_program.specs.Form.{ExpressionForm, StmtForm, skips, assigns, ass
 use Rattle.ada_program.specs.ProgramForm.{type_form}
 use Rattle.ada_meaning.specs.declared.state.Mode.TheVariants.{Raising, Exiting, Returning}
 use Rattle.ada_meaning.specs.Frame as frame
-use Rattle.ada_meaning.specs.Step.{moves, at, entered, put, branches_next, decided_next, turn_next, repeats_next, turned_next, count_turn_next, ranges_next, exit_next, exited_next, stmt_next, stmts_next, line_next, declarations_next}
+use Rattle.ada_meaning.specs.Step.{moves, has_parts, at, entered, put, branches_next, decided_next, turn_next, repeats_next, turned_next, count_turn_next, ranges_next, exit_next, exited_next, stmt_next, stmts_next, line_next, declarations_next}
 use Rattle.ada_meaning.specs.Named.{State, named, an_integer}
 use Rattle.ada_meaning.specs.Event.{Quiet}
-use Rattle.ada_reaching.specs.Forms.{may_follow, expression_shuns, condition_shuns, actual_shuns, declaration_shuns, declarations_shun, statement_shuns, statements_shun, branches_shun, handlers_shun}
+use Rattle.ada_reaching.specs.Forms.{may_follow, record_path_shuns, expression_shuns, condition_shuns, item_shuns, actual_shuns, declaration_shuns, declarations_shun, statement_shuns, statements_shun, branches_shun, handlers_shun}
 use Rattle.ada_reaching.specs.Law.{AreApart}
 use Rattle.ada_reaching.proofs.Going.{World, variables_in, Goes, stays, jumps, put_runs}
 use Rattle.ada_reaching.proofs.Paths.{Sound}
-use Rattle.ada_reaching.proofs.Assigns.{assign_goes, gets_goes}
+use Rattle.ada_reaching.proofs.Assigns.{assign_goes, record_assign_goes, gets_goes}
 use Rattle.ada_reaching.proofs.Calls.{call_goes}
 use Rattle.ada_reaching.proofs.Frees.{frees_go}
 use Rattle.ada_reaching.proofs.Rooted.{StatementIsRooted, StatementsAreRooted}
+use Rattle.ada_reaching.proofs.Selections.{bare_record}
 
 module _ (w : World) where
   -- An expression shuns the types.
@@ -149,7 +150,13 @@ module _ (w : World) where
     stmt_goes (assigns target right) s sound shun root r h anew =
         let two = and_parts _ _ shun in
         assign_goes w target.selectors target.root root.0 right s sound root.1 two.0 two.1 r h anew
-    stmt_goes (assigns_record target items) s sound shun root r h anew = absurd (cc)
+    stmt_goes (assigns_record target items) s sound shun root r h anew =
+        let three = and_parts _ _ shun in
+        let two = and_parts (record_path_shuns w.p.types w.shuns w.apart (variables_in w) target)
+        (list_all (item_shuns w.p.types w.shuns w.apart (variables_in w)) items) three.0 in
+        let one = and_parts _ _ two.0 in
+        record_assign_goes w (has_parts tds target.record_type) target root.0 items s (bare_record tds w.p.types target.record_type known three.1) sound root.1 one.0
+        (ap (may_follow w.shuns) (sym root.2) ∙ one.1) two.1 r h anew
     stmt_goes (frees access path) s sound shun root r h anew =
         let two = and_parts _ _ shun in
         let one = and_parts _ _ two.0 in

@@ -6,7 +6,7 @@ use Rattle.std.proofs.lemmas.Bool.{and_parts}
 use Rattle.ada_program.specs.declared.program.TypeNo.{TypeNo}
 use Rattle.ada_program.specs.declared.program.VariableKind.{VariableKind}
 use Rattle.ada_program.specs.declared.program.VariableKind.TheVariants as variable
-use Rattle.ada_program.specs.Form.{ExpressionForm, reads, is_null, ItemForm, item_of_path, item_of_record, RightForm, value_of, assigns, assigns_record, frees, gets, StmtsForm, no_stmts, a_stmt}
+use Rattle.ada_program.specs.Form.{RecordPathForm, ExpressionForm, reads, is_null, ItemForm, item_of_path, item_of_record, RightForm, value_of, assigns, assigns_record, frees, gets, StmtsForm, no_stmts, a_stmt}
 use Rattle.ada_program.specs.WellFormed.{kind_among, path_kind, reached_components, variable_kind}
 use Rattle.ada_meaning.specs.declared.state.Id.{Id}
 use Rattle.ada_meaning.specs.declared.state.Mode.{Mode}
@@ -19,15 +19,15 @@ use Rattle.ada_meaning.specs.Heap.{Cell, Found, on_null, on_gone, on_other, find
 use Rattle.ada_meaning.specs.Step.{operands, held, newest}
 use Rattle.ada_meaning.specs.Named.{Object, State, named, object_at, look}
 use Rattle.ada_typed.specs.Holding.{HasKind, cells_of}
-use Rattle.ada_untouched.specs.Untouched.{IsOpen, FreedIsOpen, MayBeSought, MayBeFreed, ExpressionIsOpen, ItemsAreOpen, RightIsOpen, StatementsAreOpen, FrameIsOpen, JumpIsOpen, FirstIsOpen}
-use Rattle.ada_reaching.specs.Forms.{may_follow, selectors_shun, path_shuns, expression_shuns, item_shuns, right_shuns, statement_shuns, statements_shun}
+use Rattle.ada_untouched.specs.Untouched.{IsOpen, FreedIsOpen, MayBeSought, MayBeFreed, RecordIsOpen, ExpressionIsOpen, ItemsAreOpen, RightIsOpen, StatementsAreOpen, FrameIsOpen, JumpIsOpen, FirstIsOpen}
+use Rattle.ada_reaching.specs.Forms.{may_follow, selectors_shun, path_shuns, record_path_shuns, expression_shuns, item_shuns, right_shuns, statement_shuns, statements_shun}
 use Rattle.ada_reaching.specs.Law.{TakesNone, FirstTakesNone, none_hidden}
 use Rattle.ada_reaching.proofs.Frames.{newest_seeks}
 use Rattle.ada_reaching.proofs.Frees.{same_kind, component_sight, variable_sight}
 use Rattle.ada_reaching.proofs.Going.{World, variables_in, Runs, Left, OperandsSeek, ValueSeeks}
 use Rattle.ada_reaching.proofs.Jumps.{FirstIsRooted}
 use Rattle.ada_reaching.proofs.Paths.{found_there, nothing_hidden, Sound, in_sight, path_open, holder_open}
-use Rattle.ada_reaching.proofs.Rooted.{ExpressionIsRooted, ItemsAreRooted, RightIsRooted, StatementsAreRooted, FrameIsRooted}
+use Rattle.ada_reaching.proofs.Rooted.{PathIsRooted, ExpressionIsRooted, ItemsAreRooted, RightIsRooted, StatementsAreRooted, FrameIsRooted}
 use Rattle.ada_reaching.proofs.Selections.{IsRooted}
 
 module _ (w : World) (s : State) (sound : Sound w s) (r : Runs w s) where
@@ -39,6 +39,15 @@ module _ (w : World) (s : State) (sound : Sound w s) (r : Runs w s) where
   expression_open (is_null equal path) shuns root = path_open w s path.root path.selectors root.0 sound r root.1 shuns
   expression_open e shuns root = tt
 
+  -- The way to a record does not.
+  record_open :
+      (q : RecordPathForm) → record_path_shuns w.p.types w.shuns w.apart (variables_in w) q ≡ true → PathIsRooted w.p.types (variables_in w) q.object
+      → RecordIsOpen none_hidden w.ghosts s q
+  record_open q shuns root =
+      let two =
+      and_parts (path_shuns w.p.types w.shuns w.apart (variables_in w) q.object) (may_follow w.shuns (path_kind w.p.types (variables_in w) q.object)) shuns in
+      path_open w s q.object.root q.object.selectors root.0 sound r root.1 two.0
+
   -- The first of some items follows none.
   items_open :
       (items : List ItemForm) → list_all (item_shuns w.p.types w.shuns w.apart (variables_in w)) items ≡ true → ItemsAreRooted w.p.types (variables_in w) items
@@ -49,7 +58,11 @@ module _ (w : World) (s : State) (sound : Sound w s) (r : Runs w s) where
       and_parts (item_shuns w.p.types w.shuns w.apart (variables_in w) (item_of_path path))
       (list_all (item_shuns w.p.types w.shuns w.apart (variables_in w)) is) shuns in
       path_open w s path.root path.selectors root.0 sound r root.1 two.0
-  items_open (item_of_record q ∷ is) shuns root = absurd (cc)
+  items_open (item_of_record q ∷ is) shuns root =
+      let two =
+      and_parts (item_shuns w.p.types w.shuns w.apart (variables_in w) (item_of_record q))
+      (list_all (item_shuns w.p.types w.shuns w.apart (variables_in w)) is) shuns in
+      record_open q two.0 root
   items_open (i ∷ is) shuns root = tt
 
   -- What is assigned follows none.
@@ -82,7 +95,15 @@ module _ (w : World) (s : State) (sound : Sound w s) (r : Runs w s) where
       shuns in
       let one = and_parts (path_shuns w.p.types w.shuns w.apart (variables_in w) target) (right_shuns w.p.types w.shuns w.apart (variables_in w) right) two.0 in
       holder_open w s target.root target.selectors root.0 sound r root.1 one.0
-  statements_open (a_stmt (assigns_record target items) fs) shuns root = absurd (cc)
+  statements_open (a_stmt (assigns_record target items) fs) shuns root =
+      let two =
+      and_parts (statement_shuns w.p.types w.shuns w.apart (variables_in w) (assigns_record target items))
+      (statements_shun w.p.types w.shuns w.apart (variables_in w) fs)
+      shuns in
+      let three = and_parts _ _ two.0 in
+      let one = and_parts (record_path_shuns w.p.types w.shuns w.apart (variables_in w) target)
+      (list_all (item_shuns w.p.types w.shuns w.apart (variables_in w)) items) three.0 in
+      record_open target one.0 root
   statements_open (a_stmt (frees access path) fs) shuns root =
       let two =
       and_parts (statement_shuns w.p.types w.shuns w.apart (variables_in w) (frees access path)) (statements_shun w.p.types w.shuns w.apart (variables_in w) fs)
@@ -133,19 +154,16 @@ module _ (w : World) (s : State) (sound : Sound w s) (r : Runs w s) where
   frame_open (frame.Evaluates right) k h root seeks none = right_open right (h.0) root
   frame_open (frame.Computes e) k h root seeks none = expression_open e (h.0) root
   frame_open (frame.Follows cs) k h root seeks none = followed_open cs (newest named s) k seeks
-  frame_open (frame.Refers q) k h root seeks none =
-      let two =
-      and_parts (path_shuns w.p.types w.shuns w.apart (variables_in w) q.object) (may_follow w.shuns (path_kind w.p.types (variables_in w) q.object)) (h.0) in
-      path_open w s q.object.root q.object.selectors root.0 sound r root.1 two.0
+  frame_open (frame.Refers q) k h root seeks none = record_open q (h.0) root
   frame_open (frame.RefersIn place t) k h root seeks none = in_sight w s.heap r.same (newest named s) seeks
   frame_open (frame.Opens path) k h root seeks none = holder_open w s path.root path.selectors root.0 sound r root.1 (h.0)
   frame_open (frame.OpensIn c) k h root seeks none = (in_sight w s.heap r.same (newest named s) seeks, nothing_hidden (newest named s) c)
   frame_open (frame.Fills items) k h root seeks none = items_open items (h.0) root
-  frame_open (frame.Copies c t) k h root seeks none = absurd (h.0)
+  frame_open (frame.Copies c t) k h root seeks none = (in_sight w s.heap r.same (newest named s) seeks, λ component. nothing_hidden (newest named s) component)
   frame_open (frame.Targets c right) k h root seeks none = in_sight w s.heap r.same (newest named s) seeks
   frame_open (frame.StoresIn v c) k h root seeks none = h.0
-  frame_open (frame.TargetsRecord c t items) k h root seeks none = absurd (h.0)
-  frame_open (frame.StoresRecord v c count) k h root seeks none = absurd (h.0)
+  frame_open (frame.TargetsRecord c t items) k h root seeks none = in_sight w s.heap r.same (newest named s) seeks
+  frame_open (frame.StoresRecord v c count) k h root seeks none = h.0
   frame_open (frame.Receives c) k h root seeks none = in_sight w s.heap r.same (newest named s) seeks
   frame_open (frame.FreesIn access c) k h root seeks none = (
     (in_sight w s.heap r.same (newest named s) (λ o x e at. (seeks o x e at).0), nothing_hidden (newest named s) c),

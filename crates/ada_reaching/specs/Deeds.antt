@@ -17,8 +17,8 @@ use Rattle.ada_untouched.specs.Untouched.{Untouched}
 use Rattle.ada_reaching.specs.Law.{AreApart, IsWithin, GoesOn, AllGoOn, none_hidden}
 use Rattle.ada_reaching.specs.Reaching.{IsReaching}
 
--- The bodies of these procedures shun no type, but are of the shape of those that do, and call these procedures alone: they declare, assign and copy no record as a
--- whole, create no collection and no pool, and allocate and free objects without controlled parts alone (7.6).
+-- The bodies of these procedures shun no type, but are of the shape of those that do, and call these procedures alone: they declare no record object, assign to no
+-- record with controlled parts (7.6) as a whole, create no collection and no pool, and allocate and free objects without controlled parts alone.
 abbrev pub AreShaped : ProgramForm → (apart : ℕ → Bool) → Type 0
 AreShaped p apart = AreApart p (λ access. false) apart
 

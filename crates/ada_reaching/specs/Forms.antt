@@ -1,14 +1,14 @@
 -- Bodies that shun some access types (3.10): they follow no value of one (4.1) and free none (13.11.2), and call procedures alone whose bodies do so. They
--- may move such values, store them, compare them with null, and pass them. They assign, declare and copy no record as a whole, create no collection and no
--- pool, and allocate and free objects without controlled parts alone (7.6).
+-- may move such values, store them, compare them with null, pass them, and copy them with records that have no controlled parts (7.6). They declare no record
+-- object, create no collection and no pool, and allocate and free objects without controlled parts alone.
 
-use Rattle.std.specs.Prelude.{ℕ, Bool, true, false, not, ◌&&◌, List, [], ◌∷◌, Option, Some, None}
+use Rattle.std.specs.Prelude.{ℕ, Bool, true, false, not, ◌&&◌, List, [], ◌∷◌, Option, Some, None, is_some}
 use Rattle.std.specs.List.{list_all}
 use Rattle.ada_program.specs.Form.{PathForm, RecordPathForm, ActualForm, in_value, in_null, in_access, in_record, in_out_path, in_out_access, in_out_component, in_out_record, ExpressionForm, integer, boolean, reads, is_null, applied_to, chained, LinksForm, no_more_links, a_link, ItemForm, null_item, item_of_path, item_of_value, item_of_record, RightForm, nothing, value_of, allocates, allocates_default, computes, DeclarationForm, creates_pool, collects, declares, declares_record, StmtForm, skips, assigns, assigns_record, frees, gets, writes, writes_text, chooses, repeats, counts, exits, calls, returns, raises, encloses, StmtsForm, no_stmts, a_stmt, BranchesForm, otherwise, a_branch, HandlersForm, no_handlers, a_handler}
 use Rattle.ada_program.specs.declared.program.VariableKind.{VariableKind}
 use Rattle.ada_program.specs.declared.program.VariableKind.TheVariants as variable
 use Rattle.ada_program.specs.ProgramForm.{TypeForm, VariableForm, BodyForm}
-use Rattle.ada_program.specs.WellFormed.{path_kind, selected_kind, variable_kind}
+use Rattle.ada_program.specs.WellFormed.{finalization_of, path_kind, selected_kind, variable_kind}
 use Rattle.ada_quiet.specs.Bare.{has_bare_objects}
 
 -- What is held may be followed, and freed: it is no value of an access type that is shunned.
@@ -54,12 +54,12 @@ module _ (types : List TypeForm) (shuns apart : ℕ → Bool) (variables : List 
   condition_shuns None = true
   condition_shuns (Some e) = expression_shuns e
 
-  -- Those of an item do not, and it is no record (4.3.1).
+  -- Those of an item do not, and neither does the way to a record that is copied (4.3.1).
   abbrev pub item_shuns : ItemForm → Bool
   item_shuns null_item = true
   item_shuns (item_of_path path) = path_shuns path
   item_shuns (item_of_value e) = expression_shuns e
-  item_shuns (item_of_record q) = false
+  item_shuns (item_of_record q) = record_path_shuns q
 
   -- Those of what is assigned do not, and a new object has no controlled parts (5.2, 4.8).
   abbrev pub right_shuns : RightForm → Bool
@@ -92,11 +92,13 @@ module _ (types : List TypeForm) (shuns apart : ℕ → Bool) (variables : List 
   declarations_shun ds = list_all declaration_shuns ds
 
   abbrev mutual
-    -- The paths of a statement follow no value that is shunned, and so it is inside it (5.1). No such value is freed (13.11.2).
+    -- The paths of a statement follow no value that is shunned, and so it is inside it (5.1). No such value is freed (13.11.2), and no record with controlled
+    -- parts is assigned to as a whole (5.2, 7.6).
     pub statement_shuns : StmtForm → Bool
     statement_shuns skips = true
     statement_shuns (assigns target right) = path_shuns target && right_shuns right
-    statement_shuns (assigns_record target items) = false
+    statement_shuns (assigns_record target items) =
+        record_path_shuns target && list_all item_shuns items && not (is_some (finalization_of types target.record_type))
     statement_shuns (frees access path) = path_shuns path && may_follow shuns (path_kind types variables path) && has_bare_objects types access
     statement_shuns (gets target) = path_shuns target
     statement_shuns (writes e) = expression_shuns e

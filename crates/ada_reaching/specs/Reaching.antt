@@ -39,13 +39,15 @@ abbrev pub AreElsewhere : (ghosts : Id → Bool) → List Value → Type 0
 AreElsewhere ghosts [] = Unit {0}
 AreElsewhere ghosts (v ∷ vs) = IsElsewhere ghosts v × AreElsewhere ghosts vs
 
--- A frame looks for the object that the newest operand names: to follow selectors (4.1.3), to assign or read to a component (5.2), to free what that holds
--- (13.11.2), or to refer to a record or a component (6.2, 6.4.1).
+-- A frame looks for the object that the newest operand names: to follow selectors (4.1.3), to assign or read to a component (5.2), to assign to a record or copy
+-- one (5.2), to free what a component holds (13.11.2), or to refer to a record or a component (6.2, 6.4.1).
 abbrev pub is_seeking : Frame Value → Bool
 is_seeking (frame.Follows cs) = true
 is_seeking (frame.RefersIn place t) = true
 is_seeking (frame.OpensIn c) = true
 is_seeking (frame.Targets c right) = true
+is_seeking (frame.TargetsRecord c t items) = true
+is_seeking (frame.Copies c t) = true
 is_seeking (frame.Receives c) = true
 is_seeking (frame.FreesIn access c) = true
 is_seeking f = false
@@ -60,8 +62,8 @@ abbrev pub IsInFront : Frame Value → (behind : List (Frame Value)) → Type 0
 IsInFront (frame.Follows cs) k = Unit {0}
 IsInFront f k = begins_anew k ≡ true
 
--- What a frame holds of a body with these variables shuns the types, and names no ghost where it stores, clears, ends or gives back. Nothing copies a record or
--- treats one, and what is created or freed has no controlled parts.
+-- What a frame holds of a body with these variables shuns the types, and names no ghost where it stores, clears, ends or gives back. Nothing treats a record, and
+-- what is created, freed or assigned to has no controlled parts.
 module _ (types : List TypeForm) (shuns apart : ℕ → Bool) (bodies : List BodyForm) (ghosts : Id → Bool) (variables : List VariableForm) where
   abbrev pub FrameShuns : Frame Value → Type 0
   FrameShuns (frame.Elaborates ds fs hs) =
@@ -81,12 +83,12 @@ module _ (types : List TypeForm) (shuns apart : ℕ → Bool) (bodies : List Bod
   FrameShuns (frame.Opens path) = path_shuns types shuns apart variables path ≡ true
   FrameShuns (frame.Continues links) = links_shun types shuns apart variables links ≡ true
   FrameShuns (frame.Fills items) = list_all (item_shuns types shuns apart variables) items ≡ true
-  FrameShuns (frame.Copies c t) = ⊥
+  FrameShuns (frame.Copies c t) = Unit {0}
   FrameShuns (frame.Creates access count) = has_bare_objects types access ≡ true
   FrameShuns (frame.Targets c right) = right_shuns types shuns apart variables right ≡ true
   FrameShuns (frame.StoresIn v c) = IsInSight ghosts v
-  FrameShuns (frame.TargetsRecord c t items) = ⊥
-  FrameShuns (frame.StoresRecord v c count) = ⊥
+  FrameShuns (frame.TargetsRecord c t items) = list_all (item_shuns types shuns apart variables) items ≡ true
+  FrameShuns (frame.StoresRecord v c count) = IsInSight ghosts v
   FrameShuns (frame.FreesIn access c) = has_bare_objects types access ≡ true
   FrameShuns (frame.Assigns t) = ⊥
   FrameShuns (frame.DeclaresRecord x t) = ⊥
@@ -147,6 +149,8 @@ Seeks types shuns may access (frame.Follows (c ∷ cs) ∷ k) =
 Seeks types shuns may access (frame.RefersIn place t ∷ k) = (may ≡ true)
 Seeks types shuns may access (frame.OpensIn c ∷ k) = (may ≡ true)
 Seeks types shuns may access (frame.Targets c right ∷ k) = (may ≡ true)
+Seeks types shuns may access (frame.TargetsRecord c t items ∷ k) = (may ≡ true)
+Seeks types shuns may access (frame.Copies c t ∷ k) = (may ≡ true)
 Seeks types shuns may access (frame.Receives c ∷ k) = (may ≡ true)
 Seeks types shuns may access (frame.FreesIn t c ∷ k) =
     (may ≡ true)

@@ -20,6 +20,7 @@ use Rattle.ada_meaning.specs.State.{Activation, Master}
 use Rattle.ada_meaning.specs.Step.{halts, moves, tells, asks, picks, older, places}
 use Rattle.ada_program.specs.declared.program.Program.{Program}
 use Rattle.ada_program.specs.declared.program.TypeDefinition.{TypeDefinition}
+use Rattle.ada_program.specs.Form.{frees, a_stmt}
 use Rattle.ada_program.specs.ProgramForm.{BodyForm, ProgramForm, TypeForm, body_forms, program_form, seen_in}
 use Rattle.ada_program.specs.WellFormed.{IsWellFormed, is_access}
 use Rattle.ada_scopes.specs.Scopes.{CollectTwoTypes}
@@ -36,6 +37,8 @@ use Rattle.ada_sound.specs.Agreement.{running_procedure}
 use Rattle.ada_quiet.specs.Apart.{is_tracker}
 use Rattle.ada_quiet.specs.Bare.{has_bare_objects}
 use Rattle.ada_quiet.specs.InUse.{may_be_frugal}
+use Rattle.ada_quiet.specs.Calm.{are_calm_in, calm_types}
+use Rattle.ada_sound.proofs.CalmObjects.{calm_if_bare}
 use Rattle.ada_sound.proofs.CallsApart.{CallApart, AllCallApart}
 use Rattle.ada_sound.proofs.CallsApartSteps.{calls_stay_apart}
 use Rattle.ada_sound.proofs.FormalStays.{SamePlaces, AllSamePlaces, places_stay}
@@ -65,7 +68,7 @@ use Rattle.ada_sound.proofs.TouchingStands.{frees_bare}
 use Rattle.ada_sound.proofs.Steps as inside
 use Rattle.ada_sound.proofs.Stored.{IsUnder, Stored}
 use Rattle.ada_sound.proofs.StoredStates.{ready_stored}
-use Rattle.ada_sound.proofs.Touched.{ComponentsUntouched, GoesByComponent, touches_in}
+use Rattle.ada_sound.proofs.Touched.{FreesLed, touches_in}
 use Rattle.ada_sound.proofs.Trackers.{tracks_apart}
 use Rattle.ada_sound.proofs.TracksWell.{tracked_bare}
 
@@ -192,31 +195,30 @@ module _
   none_is_under : NoneIsUnder bare_types (outers known).under f.t.heap
   none_is_under o x under found = let none : IsUnder [] o = subst (λ (all : List Id). IsUnder all o) f.settled under in absurd none
 
-  -- What is freed next by a component is bare, too.
-  component_bare : (access : ℕ) (mode : Mode) (k : Control) (ms : List Master) → GoesByComponent access k → Frugal (calling_none p.types) f.behind mode k ms → bare_types access ≡ true
-  component_bare access mode [] ms goes q = absurd goes
-  component_bare access mode (frame.FreesIn t c ∷ k) ms goes (inl q) = subst (λ (u : ℕ). bare_types u ≡ true) goes q.0
-  component_bare access mode (frame.FreesIn t c ∷ k) ms goes (inr (runs, leaving)) = absurd leaving
-  component_bare access mode (g ∷ k) ms goes q = absurd goes
-
-  components_untouched : ComponentsUntouched p.types (touches_in p) f.t.control
-  components_untouched holder c access is goes = by (may_be_frugal p)
+  -- So no operation is called for it that touches storage.
+  bare_untouched : (access : ℕ) → bare_types access ≡ true → touches_in p access ≡ true → ⊥
+  bare_untouched access bare = by (may_be_frugal p)
     where
-      by : (may : Bool) → (may && not (has_bare_objects p.types access)) ≡ false
-      by true = rw (component_bare access f.t.mode f.t.control f.frugal.upper goes f.frugal.frugal) refl
-      by false = refl
+      by : (may : Bool) → (may && not (are_calm_in p access)) ≡ true → ⊥
+      by true touches = let is_calm = calm_if_bare p access bare in cc (rw is_calm at touches)
+      by false touches = cc touches
+
+  -- And nothing is asked of the path to it.
+  frees_next_led : (k : Control) → FreesAmong bare_types k → FreesLed p.types (touches_in p) k
+  frees_next_led [] freely' = tt
+  frees_next_led (frame.Does (a_stmt (frees access path) fs) ∷ k) freely' = λ is touches. absurd (bare_untouched access freely' touches)
+  frees_next_led (g ∷ k) freely' = tt
 
   -- No allocator copies a record with controlled parts, or makes an object with some from items.
-  bare_there : AllocatesBare known.program.types known.touches f.t.control
+  bare_there : AllocatesBare known.program known.touches f.t.control
   bare_there =
-      subst (λ (types : List TypeForm). AllocatesBare types known.touches f.t.control) (sym types_are)
-      (tracked_bare program well (tracks_apart (program_form program) f.tracking) f.t components_untouched (λ stand. f.apart))
+      tracked_bare program well (tracks_apart (program_form program) f.tracking) known.program types_are judged.fits f.t (frees_next_led f.t.control freely) (λ stand. f.apart)
 
   places_on : AllSamePlaces s (next tds bodies s)
   places_on = places_stay tds bodies f.w.tracks.first s (within f.w.tracks.first s.control f.simple inner)
 
-  apart_on : AllCallApart p.types (is_tracker p) false (next tds bodies f.t)
-  apart_on = calls_stay_apart tds bodies p.types (is_tracker p) false judged.apart f.t f.apart
+  apart_on : AllCallApart p.types (calm_types p) (is_tracker p) false (next tds bodies f.t)
+  apart_on = calls_stay_apart tds bodies p.types (calm_types p) (is_tracker p) false judged.apart f.t f.apart
 
   -- So the other one takes its step well.
   fine_on : Fine known f.t.heap f.t.masters (next tds bodies f.t)
@@ -264,7 +266,7 @@ module _
   Runs after = SameRun s after × SamePlaces s after
 
   abbrev Kept : State → Type 0
-  Kept stands = typed.TypedIn known.program stands × CallApart p.types (is_tracker p) false stands.control
+  Kept stands = typed.TypedIn known.program stands × CallApart p.types (calm_types p) (is_tracker p) false stands.control
 
   -- What holds behind a step.
   adjusting_by :
@@ -377,7 +379,7 @@ module _
   pub step_on : GoesAdjusting program s f (next tds bodies s)
   step_on =
       next_on (next tds bodies s) (next tds bodies f.t) shown (each_both (SameRun s) (SamePlaces s) (next tds bodies s) real_on (each_next (SamePlaces s) (next tds bodies s) places_on)) simple_on fine_on frugal_on
-      (each_both (typed.TypedIn known.program) (λ stands. CallApart p.types (is_tracker p) false stands.control) (next tds bodies f.t) typed_on (each_next (λ (stands : State). CallApart p.types (is_tracker p) false stands.control) (next tds bodies f.t) apart_on))
+      (each_both (typed.TypedIn known.program) (λ stands. CallApart p.types (calm_types p) (is_tracker p) false stands.control) (next tds bodies f.t) typed_on (each_next (λ (stands : State). CallApart p.types (calm_types p) (is_tracker p) false stands.control) (next tds bodies f.t) apart_on))
 
 -- Each step of the body but its end keeps all that is known while it runs.
 pub adjusting_step :

@@ -211,7 +211,7 @@ module _ {types : List TypeForm} {variables : List VariableForm} {outer : Outsid
           rw here at (walk_names path.root r (inside (place_at places path.root) c ∷ cs) v o (rw some at found) is)
 
 -- A value that is followed in front of the last selector is passed.
-passed_last : (types : List TypeForm) (may : ℕ → Bool) (kind : Option VariableKind) (c : ℕ) (cs : List ℕ) → passes_freed types may kind (c ∷ cs) ≡ false → is_freed may (access_of (selectors_kind types kind (before_last c cs))) ≡ false
+pub passed_last : (types : List TypeForm) (may : ℕ → Bool) (kind : Option VariableKind) (c : ℕ) (cs : List ℕ) → passes_freed types may kind (c ∷ cs) ≡ false → is_freed may (access_of (selectors_kind types kind (before_last c cs))) ≡ false
 passed_last types may kind c [] none = first (is_freed may (access_of kind)) none
   where
     first : (a : Bool) → a || false ≡ false → a ≡ false
@@ -240,7 +240,7 @@ first_leads types kind c cs to leads = go (selected_kind types kind c) refl
 abbrev pub IsSpared : (static : (may : ℕ → Bool) → Type 0) → List Reference → Id → (t : ℕ) → Type 0
 IsSpared static referenced o t = ((may : ℕ → Bool) → static may → may t ≡ false) ⊎ IsReferred referenced o t
 
-freed_is : (may : ℕ → Bool) (found : Option ℕ) (t : ℕ) → found ≡ Some t → is_freed may found ≡ false → may t ≡ false
+pub freed_is : (may : ℕ → Bool) (found : Option ℕ) (t : ℕ) → found ≡ Some t → is_freed may found ≡ false → may t ≡ false
 freed_is may found t is none = rw is at none
 
 behind_components : (types : List TypeForm) (access : Option ℕ) (c : ℕ) → kind_behind types access c ≡ kind_among (object_components types access) c

@@ -81,7 +81,7 @@ under_set heap o x y found same access (z, there, of) =
     let one : z ≡ x = cc (there, found) in
     (y, set_here heap o.0 x y found, same ∙ (rw one at of))
 
--- So what its finalization may free stays the same, and a component that is freed is of its type still.
+-- So what its finalization may free stays the same, and a component that is freed names it still, and is of its type.
 pub frees_set : (known : Known) (heap : List Object) (o : Id) (x y : Object) → object_at heap o ≡ Some x → y.cell.access ≡ x.cell.access → (holds : Holds) → FreesWell known heap (Some o) holds → FreesWell known (slice_set heap o.0 y) (Some o) holds
 frees_set known heap o x y found same holds well object at =
     let still = set_here heap o.0 x y found in
@@ -90,9 +90,9 @@ frees_set known heap o x y found same holds well object at =
 
 pub named_set : (known : Known) (heap : List Object) (o : Id) (x y : Object) → object_at heap o ≡ Some x → y.cell.access ≡ x.cell.access → (v : Value) (c : ℕ) → v ≢ Names o → IsNamedIn known heap v c (Some o) → IsNamedIn known (slice_set heap o.0 y) v c (Some o)
 named_set known heap o x y found same Null c other named = absurd named
-named_set known heap o x y found same (Names h) c other (holder, object, at_h, at_o, is, never) =
+named_set known heap o x y found same (Names h) c other (holder, object, at_h, at_o, is, names, beside) =
     let one : object ≡ x = cc (at_o, found) in
-    (holder, y, at_other heap o h y (λ e. other (ap Names e)) ∙ at_h, set_here heap o.0 x y found, rw same (rw one at is), rw same (rw one at never))
+    (holder, y, at_other heap o h y (λ e. other (ap Names e)) ∙ at_h, set_here heap o.0 x y found, rw same (rw one at is), names, rw same (rw one at beside))
 named_set known heap o x y found same (Scalar n) c other named = absurd named
 named_set known heap o x y found same (Part p place) c other named = absurd named
 
@@ -154,7 +154,7 @@ module _ (known : Known) where
             roomed = r.3.roomed;
             fit = rw elsewhere.2 kept.0;
             aside = rw elsewhere.2 kept.1;
-            rest = r.3.rest;
+            rest = (r.3.rest.0, frees r.3.holds r.3.rest.1);
           },
         )
     holder_set (Scalar n) c places ms k r = absurd r.0
@@ -232,7 +232,7 @@ module _ (known : Known) where
     module _ (heap : List Object) (stored : Stored (outers known).under heap s.masters) where
       clearing_ready : (h : Value) (d : ℕ) (k : Control) → ClearsTo known None heap a.places s.masters (ClearsIn h d ∷ k) → Clearing known h d k heap a.places s.masters
       clearing_ready Null d k c = absurd c.0
-      clearing_ready (Names h) d k c = (c.0, freed_works (stored_after heap h d Null stored) c.3)
+      clearing_ready (Names h) d k c = let w = freed_works (stored_after heap h d Null stored) c.3 in (c.0, at_work w w.rest.0)
       clearing_ready (Scalar n) d k c = absurd c.0
       clearing_ready (Part object_id base) d k c = absurd c.0
 

@@ -25,7 +25,7 @@ use Rattle.ada_sound.proofs.Homes.{HaveHomes, same_one, stands_there, freed_home
 use Rattle.ada_sound.proofs.Stored.{stored_part}
 use Rattle.ada_sound.proofs.Alters.{alters_set}
 use Rattle.ada_sound.proofs.Taken.{root_access}
-use Rattle.ada_sound.proofs.Invariant.{CoveredIn, Spares, Unaliased, FreesWell, outers, Known, Control, Rooms, Goes, To, RunsOn, Working, Ending, Stepped, Fine}
+use Rattle.ada_sound.proofs.Invariant.{CoveredIn, EndsWellBy, FreesWell, outers, Known, Control, Rooms, Goes, To, RunsOn, Working, Ending, Stepped, Fine}
 use Rattle.ada_sound.proofs.Ready.{running, runs_on, treats_ready}
 
 -- An owner is not lost.
@@ -39,7 +39,7 @@ own_kept hold.Lost spot own = absurd own
 -- What is left goes on behind it; and of what the finalization of an object of this type may free, no suspended activation and no variable has an alias, and the
 -- running body may free it (7.6.1).
 abbrev pub FreesTo : Known → (access : ℕ) → Control → Rooms → Holds → Type 0
-FreesTo known t k rooms holds = RunsOn known k rooms holds × Spares known (known.implicit.end_frees t) × Unaliased known.program.variables (known.implicit.end_frees t) holds
+FreesTo known t k rooms holds = RunsOn known k rooms holds × EndsWellBy known t holds
 
 module _ (known : Known) (a : Activation Value) (rest : List (Activation Value)) (s : State) (types : List TypeDefinition) (access x : ℕ) (none : is_object known.program.variables x ≡ false) (spot : Spot) (fs : StmtsForm) (k : Control) (raised : Rooms → Holds → Type 0) (may : ℕ → Bool) (homes : HaveHomes may known.program.types (outers known).under s.heap s.masters) (freely : may access ≡ true) (own_type : ℕ) (by_own : own_type ≡ access) (of_type : variable_access known.program.variables x ≡ Some own_type) (is_type : is_access known.program.types own_type ≡ true) (spares : NoOuterAlias known.program.types (outers known) own_type × CoveredIn known.implicit known.program own_type) (w : Working known s.heap a.places s.masters (λ rooms holds. Goes (released known.program.variables x spot holds (hold_at holds x)) (To (FreesTo known own_type (Does fs ∷ k) rooms)) (raised rooms))) where
   -- X is null: nothing happens.
@@ -60,7 +60,7 @@ module _ (known : Known) (a : Activation Value) (rest : List (Activation Value))
       let here = set_here s.heap o.0 there.0 (parted there.0) found in
       let well : FreesWell known (slice_set s.heap o.0 (parted there.0)) (Some o) more.0 = λ object at. (
       let same : object ≡ parted there.0 = cc (at, here) in
-      rw (same, ← one) (more.2.1, more.2.2)
+      rw (same, ← one) (more.2.1)
       ) in
       let under : Ending known o (GivesBack (Names o) (Freeing s.next) (Some (pool_freed_to (home_of access s.masters))) ∷ Clears x ∷ Does fs ∷ k) (slice_set s.heap o.0 (parted there.0)) a.places s.masters = record {
         object = parted there.0;

@@ -9,12 +9,13 @@ use Rattle.ada_program.specs.Form.{PathForm, RecordPathForm, ItemForm, null_item
 use Rattle.ada_program.specs.declared.program.ComponentKind.{ComponentKind}
 use Rattle.ada_program.specs.declared.program.ComponentKind.TheVariants as component
 use Rattle.ada_program.specs.declared.program.TypeNo.{TypeNo}
-use Rattle.ada_program.specs.ProgramForm.{TypeForm}
+use Rattle.ada_program.specs.ProgramForm.{TypeForm, ProgramForm}
 use Rattle.ada_program.specs.Walks.{Walks, ends, into}
 use Rattle.ada_program.specs.declared.program.Finalization.{Finalization}
 use Rattle.ada_program.specs.Controlled.{number_in}
 use Rattle.ada_program.specs.WellFormed.{named_in, components_reached, finalization_in, finalization_of, record_components, type_fits, components_lie}
 use Rattle.ada_meaning.specs.Frame.{Evaluates}
+use Rattle.ada_typed.proofs.Bodies.{TablesFit}
 use Rattle.ada_typed.proofs.Parts.{shown_number}
 use Rattle.ada_quiet.specs.Apart.{is_bare_item}
 use Rattle.ada_sound.proofs.CopiedOwners.{CopiesWell, SeesToAll}
@@ -26,7 +27,7 @@ use Rattle.ada_sound.proofs.Untracked.{owns_nothing}
 use Rattle.ada_sound.proofs.Invariant.{AdjustsFirst, Control, IsPlainFirst, NoneBroken, OwnsNothing, OwnNothing, owns_at_first}
 use Rattle.ada_sound.proofs.Followings.{first_kept, kept_apart}
 use Rattle.ada_sound.proofs.Copied.{IsCopy, copied_plain}
-use Rattle.ada_sound.proofs.Touched.{ComponentsUntouched}
+use Rattle.ada_sound.proofs.Touched.{FreesLed}
 
 -- The records among these items own nothing, where flow lets them be items.
 abbrev pub BareItems : List TypeForm → List ItemForm → Type 0
@@ -36,12 +37,13 @@ BareItems types items = (spot : Spot) (target : Option PathForm) (holds : Holds)
 abbrev pub AllocatesApart : (touches : ℕ → Bool) → Control → Type 0
 AllocatesApart touches k = (access : ℕ) (items : List ItemForm) (behind : Control) → k ≡ Evaluates (allocates access items) ∷ behind → touches access ≡ false
 
--- What is freed next by a component is no object for which an operation is called that touches storage; records that are items of an allocator that is evaluated next
--- own nothing, and no such operation is called for its object.
-abbrev pub AllocatesBare : List TypeForm → (touches : ℕ → Bool) → Control → Type 0
-AllocatesBare types touches k =
-    ComponentsUntouched types touches k
-    × ((access : ℕ) (items : List ItemForm) (behind : Control) → k ≡ Evaluates (allocates access items) ∷ behind → BareItems types items × (touches access ≡ false))
+-- The path to what is freed next, for which an operation is called that touches storage, is a variable, or follows an access value; the types and the variables fit
+-- that the running body sees; records that are items of an allocator that is evaluated next own nothing, and no such operation is called for its object.
+abbrev pub AllocatesBare : ProgramForm → (touches : ℕ → Bool) → Control → Type 0
+AllocatesBare p touches k =
+    FreesLed p.types touches k
+    × TablesFit p
+    × ((access : ℕ) (items : List ItemForm) (behind : Control) → k ≡ Evaluates (allocates access items) ∷ behind → BareItems p.types items × (touches access ≡ false))
 
 module _ (types : List TypeForm) (none : AdjustsNoOwners types) where
   -- A record that is copied as an item.
@@ -183,9 +185,9 @@ items_bare types none spot target holds earlier (i ∷ items) kept =
     (item_bare types none spot target holds earlier i two.0, items_bare types none spot target holds (named_by_item i ++ earlier) items two.1)
 
 -- Where no Adjust is of a type that declares components of access types, records that are items own nothing.
-pub allocates_none : {touches : ℕ → Bool} (types : List TypeForm) (k : Control) → AdjustsNoOwners types → ComponentsUntouched types touches k → AllocatesApart touches k → AllocatesBare types touches k
-allocates_none types k none untouched apart =
-    (untouched, λ access items behind is. ((λ spot target holds kept. items_bare types none spot target holds [] items kept), apart access items behind is))
+pub allocates_none : {touches : ℕ → Bool} (p : ProgramForm) (k : Control) → TablesFit p → AdjustsNoOwners p.types → FreesLed p.types touches k → AllocatesApart touches k → AllocatesBare p touches k
+allocates_none p k fit none led apart =
+    (led, fit, λ access items behind is. ((λ spot target holds kept. items_bare p.types none spot target holds [] items kept), apart access items behind is))
 
 -- A record that has no controlled parts owns nothing, where it may be copied.
 record_bare : (types : List TypeForm) → CopiesWell types → (t : ℕ) → finalization_of types t ≡ None → leaves_owners types t ≡ false → is_owning_record types t ≡ false
@@ -214,6 +216,6 @@ all_bare types copies spot target holds earlier (i ∷ items) bare kept =
     (one_bare types copies spot target holds earlier i each.0 two.0, all_bare types copies spot target holds (named_by_item i ++ earlier) items each.1 two.1)
 
 -- So do those of an allocator that is evaluated next, where it copies no such record.
-pub allocates_bare : {touches : ℕ → Bool} (types : List TypeForm) → CopiesWell types → (k : Control) → ((access : ℕ) (items : List ItemForm) (behind : Control) → k ≡ Evaluates (allocates access items) ∷ behind → list_all (is_bare_item types) items ≡ true) → ComponentsUntouched types touches k → AllocatesApart touches k → AllocatesBare types touches k
-allocates_bare types copies k bare untouched apart =
-    (untouched, λ access items behind is. ((λ spot target holds kept. all_bare types copies spot target holds [] items (bare access items behind is) kept), apart access items behind is))
+pub allocates_bare : {touches : ℕ → Bool} (p : ProgramForm) → TablesFit p → CopiesWell p.types → (k : Control) → ((access : ℕ) (items : List ItemForm) (behind : Control) → k ≡ Evaluates (allocates access items) ∷ behind → list_all (is_bare_item p.types) items ≡ true) → FreesLed p.types touches k → AllocatesApart touches k → AllocatesBare p touches k
+allocates_bare p fit copies k bare led apart =
+    (led, fit, λ access items behind is. ((λ spot target holds kept. all_bare p.types copies spot target holds [] items (bare access items behind is) kept), apart access items behind is))

@@ -1,6 +1,6 @@
 -- A master that is left loses its objects first, of whose types no component is, and then its collections (7.6.1, 13.11): where objects with controlled parts
--- may be allocated beside operations that touch storage, each goes where no objects from the newest collection of such objects that is left on, itself included,
--- have a component of its type.
+-- may be allocated beside operations that touch storage, each goes where no objects from the newest collection of such ones that is left and not calm on, itself
+-- included, have a component of its type.
 
 use Rattle.ada_program.specs.declared.program.TypeNo.{TypeNo}
 use Rattle.ada_program.specs.declared.program.ComponentKind.{ComponentKind}
@@ -21,8 +21,9 @@ use Rattle.ada_scopes.specs.Scopes.{is_declared_object}
 use Rattle.ada_scopes.proofs.Homes.{OwnedFits, ItemsFit, fit_before}
 use Rattle.ada_scopes.proofs.Components.{items_fit, objects_gone}
 use Rattle.ada_scopes.proofs.Runs.{Scoped}
-use Rattle.ada_sound.proofs.Ahead.{goes_first, ahead_in, HoldsNone, AllHoldNone, houses_parts, AtParts, HoldNoneFrom, IsApart, ItemsApart, MastersApart}
-use Rattle.ada_quiet.specs.Bare.{has_bare_objects, is_component_of, has_component_of, record_has_component_of, holds_component}
+use Rattle.ada_sound.proofs.Ahead.{goes_first, ahead_in, HoldsNone, AllHoldNone, houses_others, AtOthers, HoldNoneFrom, IsApart, ItemsApart, MastersApart}
+use Rattle.ada_quiet.specs.Calm.{are_calm_in}
+use Rattle.ada_quiet.specs.Bare.{is_component_of, has_component_of, record_has_component_of, holds_component}
 use Rattle.ada_quiet.specs.InUse.{may_allocate_parts}
 use Rattle.ada_sound.proofs.Fits.{from_ahead}
 use Rattle.ada_sound.proofs.FrugalFrees.{component_access}
@@ -81,7 +82,7 @@ held_type types v c access accessible is = by (slice_get types v) accessible is
     by (Some (access_to name designated pool)) some is' = type_holds (slice_get types designated) c access is'
     by (Some (object_of record_type)) some is' = absurd (cc some)
 
-module _ (types : List TypeForm) (t : ℕ) where
+module _ (types : List TypeForm) (calm : ℕ → Bool) (t : ℕ) where
   -- No objects of a collection have a component of an access type, where its own type holds none.
   none_held : (owned : Owned) → is_declared_object owned ≡ false → OwnedFits types owned → HoldsNone types t owned
       → (v : ℕ) (pool : Option ℕ) → Houses owned v pool → (c : ℕ) → access_of (kind_among (reached_components types v) c) ≡ Some t → ⊥
@@ -101,38 +102,38 @@ module _ (types : List TypeForm) (t : ℕ) where
 
   -- Where a collection is created apart from others, no objects have a component of its type from the first one on for whose objects an operation may be called
   -- that touches storage: of those others, ...
-  first_none_held : (is : List Item) → All (λ j. is_declared_object j.owned ≡ false) is → ItemsFit types is → HoldNoneFrom types t is
-      → HoldNone types t (from_ahead (goes_first true types) is)
+  first_none_held : (is : List Item) → All (λ j. is_declared_object j.owned ≡ false) is → ItemsFit types is → HoldNoneFrom types calm t is
+      → HoldNone types t (from_ahead (goes_first true calm) is)
   first_none_held [] all fit apart = tt
   first_none_held (i ∷ is) all fit apart =
       by i.owned refl (first_none_held is (λ k j lt. all (suc k) j (omega (arith, lt))) fit.1) apart
     where
-      by_parts : (first : Bool) → (HoldNoneFrom types t is → HoldNone types t (from_ahead (goes_first true types) is))
-          → AtParts first (HoldsNone types t i.owned × AllHoldNone types t is) (HoldNoneFrom types t is)
-          → HoldNone types t (if first then i ∷ is else from_ahead (goes_first true types) is)
+      by_parts : (first : Bool) → (HoldNoneFrom types calm t is → HoldNone types t (from_ahead (goes_first true calm) is))
+          → AtOthers first (HoldsNone types t i.owned × AllHoldNone types t is) (HoldNoneFrom types calm t is)
+          → HoldNone types t (if first then i ∷ is else from_ahead (goes_first true calm) is)
       by_parts true later apart' = all_none_held (i ∷ is) all fit apart'
       by_parts false later apart' = later apart'
 
-      by : (owned : Owned) → i.owned ≡ owned → (HoldNoneFrom types t is → HoldNone types t (from_ahead (goes_first true types) is))
-          → AtParts (houses_parts types owned) (HoldsNone types t i.owned × AllHoldNone types t is) (HoldNoneFrom types t is)
-          → HoldNone types t (if goes_first true types owned then i ∷ is else from_ahead (goes_first true types) is)
+      by : (owned : Owned) → i.owned ≡ owned → (HoldNoneFrom types calm t is → HoldNone types t (from_ahead (goes_first true calm) is))
+          → AtOthers (houses_others calm owned) (HoldsNone types t i.owned × AllHoldNone types t is) (HoldNoneFrom types calm t is)
+          → HoldNone types t (if goes_first true calm owned then i ∷ is else from_ahead (goes_first true calm) is)
       by (declared x) at later apart' = (let none : is_declared_object i.owned ≡ false = all zero i (omega arith) in absurd (cc (rw at at none)))
-      by (collection v pool) at later apart' = by_parts (not (has_bare_objects types v)) later apart'
+      by (collection v pool) at later apart' = by_parts (not (calm v)) later apart'
       by (record_object u) at later apart' = (let none : is_declared_object i.owned ≡ false = all zero i (omega arith) in absurd (cc (rw at at none)))
       by (storage_pool declaration number) at later apart' = later apart'
 
   -- ... and of its own ones and those.
   own_none_held : (i : Item) (is : List Item) → All (λ j. is_declared_object j.owned ≡ false) (i ∷ is) → ItemsFit types (i ∷ is)
-      → (pool : Option ℕ) → i.owned ≡ collection t pool → IsApart types t is → HoldNone types t (from_ahead (goes_first true types) (i ∷ is))
+      → (pool : Option ℕ) → i.owned ≡ collection t pool → IsApart types calm t is → HoldNone types t (from_ahead (goes_first true calm) (i ∷ is))
   own_none_held i is all fit pool own apart = of i.owned own
     where
-      by : (first : Bool) → AtParts first ((holds_component types t t ≡ false) × AllHoldNone types t is) (HoldNoneFrom types t is)
-          → HoldNone types t (if first then i ∷ is else from_ahead (goes_first true types) is)
+      by : (first : Bool) → AtOthers first ((holds_component types t t ≡ false) × AllHoldNone types t is) (HoldNoneFrom types calm t is)
+          → HoldNone types t (if first then i ∷ is else from_ahead (goes_first true calm) is)
       by true apart' = all_none_held (i ∷ is) all fit (rw own apart')
       by false apart' = first_none_held is (λ k j lt. all (suc k) j (omega (arith, lt))) fit.1 apart'
 
-      of : (owned : Owned) → owned ≡ collection t pool → HoldNone types t (if goes_first true types owned then i ∷ is else from_ahead (goes_first true types) is)
-      of owned same = rw same (by (not (has_bare_objects types t)) apart)
+      of : (owned : Owned) → owned ≡ collection t pool → HoldNone types t (if goes_first true calm owned then i ∷ is else from_ahead (goes_first true calm) is)
+      of owned same = rw same (by (not (calm t)) apart)
 
   -- No objects have a component of a type that is no access type.
   none_of_record : list_all (type_fits types) types ≡ true → is_access types t ≡ false → (is : List Item) → HoldNone types t is
@@ -141,12 +142,12 @@ module _ (types : List TypeForm) (t : ℕ) where
       (λ v pool houses c is'. (let one = component_is_access types fit v c t is' in cc (one, none)), none_of_record fit none is)
 
 -- Where such an operation may be called for declared objects alone, and none is left, it may be called for nothing.
-none_ahead : (types : List TypeForm) (is : List Item) → All (λ j. is_declared_object j.owned ≡ false) is → from_ahead (goes_first false types) is ≡ []
-none_ahead types [] all = refl
-none_ahead types (i ∷ is) all =
-    rw (not_alone i.owned (all zero i (omega arith))) (none_ahead types is (λ k j lt. all (suc k) j (omega (arith, lt))))
+none_ahead : (calm : ℕ → Bool) (is : List Item) → All (λ j. is_declared_object j.owned ≡ false) is → from_ahead (goes_first false calm) is ≡ []
+none_ahead calm [] all = refl
+none_ahead calm (i ∷ is) all =
+    rw (not_alone i.owned (all zero i (omega arith))) (none_ahead calm is (λ k j lt. all (suc k) j (omega (arith, lt))))
   where
-    not_alone : (owned : Owned) → is_declared_object owned ≡ false → goes_first false types owned ≡ false
+    not_alone : (owned : Owned) → is_declared_object owned ≡ false → goes_first false calm owned ≡ false
     not_alone (declared x) none = absurd (cc none)
     not_alone (collection access pool) none = refl
     not_alone (record_object t) none = absurd (cc none)
@@ -154,7 +155,7 @@ none_ahead types (i ∷ is) all =
 
 -- No component is of the type of a declared object. A collection goes where no objects from the first one on that is left of those for which such an operation may
 -- be called have a component of its type.
-order_of : (program : Program) → IsWellFormed (program_form program) → (s : State) → Scoped (program_form program) s → (may_allocate_parts (program_form program) ≡ true → MastersApart (program_form program).types s.masters) → (m : ℕ) (i : Item) (is : List Item) (ms : List Master) → s.masters ≡ record { number = m; items = i ∷ is } ∷ ms → (owned : Owned) → i.owned ≡ owned → GoesInOrder (ahead_in (program_form program)) (program_form program).types i is
+order_of : (program : Program) → IsWellFormed (program_form program) → (s : State) → Scoped (program_form program) s → (may_allocate_parts (program_form program) ≡ true → MastersApart (program_form program).types (are_calm_in (program_form program)) s.masters) → (m : ℕ) (i : Item) (is : List Item) (ms : List Master) → s.masters ≡ record { number = m; items = i ∷ is } ∷ ms → (owned : Owned) → i.owned ≡ owned → GoesInOrder (ahead_in (program_form program)) (program_form program).types i is
 order_of program well s nested apart m i is ms masters (declared x) own = λ access pool houses. (let none : Houses (declared x) access pool = rw own at houses in absurd none)
 order_of program well s nested apart m i is ms masters (storage_pool declaration number) own = λ access pool houses. (let none : Houses (storage_pool declaration number) access pool = rw own at houses in absurd none)
 order_of program well s nested apart m i is ms masters (collection t pool) own = by (may_allocate_parts p) refl
@@ -171,19 +172,19 @@ order_of program well s nested apart m i is ms masters (collection t pool) own =
     fit : ItemsFit p.types (i ∷ is)
     fit = fit_before p.types (i ∷ is) (items_of ms) (subst (λ (ms' : List Master). ItemsFit p.types (items_of ms')) masters (items_fit p s nested))
 
-    by : (may : Bool) → may_allocate_parts p ≡ may → GoesInOrder (goes_first may p.types) p.types i is
+    by : (may : Bool) → may_allocate_parts p ≡ may → GoesInOrder (goes_first may (are_calm_in p)) p.types i is
     by true may access pool' houses =
-        let items : ItemsApart p.types (i ∷ is) = (subst (MastersApart p.types) masters (apart may)).0 in
-        let created : IsApart p.types t is = rw own at (items.0) in
-        rw (← housed access pool' houses) (own_none_held p.types t i is none fit pool own created)
-    by false never access pool' houses = rw (none_ahead p.types (i ∷ is) none) tt
+        let items : ItemsApart p.types (are_calm_in p) (i ∷ is) = (subst (MastersApart p.types (are_calm_in p)) masters (apart may)).0 in
+        let created : IsApart p.types (are_calm_in p) t is = rw own at (items.0) in
+        rw (← housed access pool' houses) (own_none_held p.types (are_calm_in p) t i is none fit pool own created)
+    by false never access pool' houses = rw (none_ahead (are_calm_in p) (i ∷ is) none) tt
 order_of program well s nested apart m i is ms masters (record_object t) own = λ access pool houses.
     let own_type : t ≡ access = (let h : Houses (record_object t) access pool = rw own at houses in h.0) in
     let fits : OwnedFits (program_form program).types i.owned = (let all = items_fit (program_form program) s nested in (subst (λ (ms' : List Master). ItemsFit (program_form program).types (items_of ms')) masters all).0) in
     let none : is_access (program_form program).types t ≡ false = rw own at fits in
-    none_of_record (program_form program).types access well.types_fit (rw own_type at none) (from_ahead (ahead_in (program_form program)) (i ∷ is))
+    none_of_record (program_form program).types (are_calm_in (program_form program)) access well.types_fit (rw own_type at none) (from_ahead (ahead_in (program_form program)) (i ∷ is))
 
-pub in_order : (program : Program) → IsWellFormed (program_form program) → (s : State) → Scoped (program_form program) s → (may_allocate_parts (program_form program) ≡ true → MastersApart (program_form program).types s.masters) → (types : List TypeForm) → types ≡ (program_form program).types → (ms : List Master) → s.masters ≡ ms → AreInOrder (ahead_in (program_form program)) types (innermost ms)
+pub in_order : (program : Program) → IsWellFormed (program_form program) → (s : State) → Scoped (program_form program) s → (may_allocate_parts (program_form program) ≡ true → MastersApart (program_form program).types (are_calm_in (program_form program)) s.masters) → (types : List TypeForm) → types ≡ (program_form program).types → (ms : List Master) → s.masters ≡ ms → AreInOrder (ahead_in (program_form program)) types (innermost ms)
 in_order program well s nested apart types same [] masters = tt
 in_order program well s nested apart types same (m ∷ ms) masters = by m.items masters
   where

@@ -177,6 +177,8 @@ pub mod FrugalUseLets
 mod FrugalUseFrees
 -- what is finalized at an assignment
 pub mod AssignedParts
+-- the objects in which components lie that are freed
+pub mod Holders
 -- what Free of a component does
 pub mod Releases
 -- record objects are declared
@@ -274,6 +276,8 @@ pub mod InOrder
 pub mod Operated
 -- what is behind its object, where it is called
 pub mod TouchingRests
+-- the bodies of a Finalize, which shun access types
+pub mod Shunning
 -- where its body begins
 pub mod TouchingBegins
 pub mod TouchingStarts
@@ -285,6 +289,8 @@ pub mod TouchingStands
 pub mod TouchingLeaves
 -- its end
 pub mod TouchingEnds
+-- what is watched while it runs
+pub mod TouchingWatched
 -- its steps, the end included
 pub mod TouchingSteps
 -- whole runs
@@ -353,6 +359,8 @@ pub mod ExampleTidying
 pub mod ExampleBoxing
 pub mod ExampleOverwriting
 pub mod ExampleEmptying
+-- one in which a component frees such an object
+pub mod ExampleReleasing
 pub mod ExampleAllocating
 pub mod ExampleUndoing
 -- one whose Initialize allocates for what an allocator makes
@@ -371,3 +379,5 @@ pub mod Covered
 pub mod Headline
 -- objects without controlled parts
 pub mod BareObjects
+-- objects for which no operation is called that touches storage, where they begin or end
+pub mod CalmObjects

@@ -9,12 +9,13 @@ use Rattle.ada_program.specs.Nested.{collected}
 use Rattle.ada_program.specs.ProgramForm.{TypeForm, BodyForm, ProgramForm, main_body}
 use Rattle.ada_operations.specs.Created as parts
 use Rattle.ada_created.proofs.Control.{Each, join}
-use Rattle.ada_quiet.specs.Bare.{has_bare_objects, holds_component, hold_none, hold_none_from, is_apart_from, collect_in_order, stmt_collections, stmts_collections, branches_collections, handlers_collections, body_collections, bodies_collections, collections_in_order}
+use Rattle.ada_quiet.specs.Calm.{calm_types, has_calm_objects}
+use Rattle.ada_quiet.specs.Bare.{holds_component, hold_none, hold_none_from, is_apart_from, collect_in_order, stmt_collections, stmts_collections, branches_collections, handlers_collections, body_collections, bodies_collections, collections_in_order}
 
-module _ (types : List TypeForm) where
+module _ (types : List TypeForm) (calm : List Bool) where
   -- The collections of a declarative part are created in order: no others are in front of them.
   abbrev pub InOrder : List ℕ → Type 0
-  InOrder ts = collect_in_order types [] ts ≡ true
+  InOrder ts = collect_in_order types calm [] ts ≡ true
 
   -- So it is with each of some parts.
   abbrev pub AllInOrder : List (List ℕ) → Type 0
@@ -31,42 +32,42 @@ module _ (types : List TypeForm) where
   fewer_hold : (t : ℕ) (vs older : List ℕ) → hold_none types t (vs ++ older) ≡ true → hold_none types t vs ≡ true
   fewer_hold t vs older none = all_in_front (λ w. not (holds_component types t w)) vs older none
 
-  fewer_from : (t : ℕ) (vs older : List ℕ) → hold_none_from types t (vs ++ older) ≡ true → hold_none_from types t vs ≡ true
+  fewer_from : (t : ℕ) (vs older : List ℕ) → hold_none_from types calm t (vs ++ older) ≡ true → hold_none_from types calm t vs ≡ true
   fewer_from t [] older none = refl
-  fewer_from t (v ∷ vs) older none = by (has_bare_objects types v) (fewer_from t vs older) none
+  fewer_from t (v ∷ vs) older none = by (has_calm_objects types calm v) (fewer_from t vs older) none
     where
-      by : (bare : Bool) → (hold_none_from types t (vs ++ older) ≡ true → hold_none_from types t vs ≡ true)
-          → (if bare then hold_none_from types t (vs ++ older) else hold_none types t (v ∷ vs ++ older)) ≡ true
-          → (if bare then hold_none_from types t vs else hold_none types t (v ∷ vs)) ≡ true
+      by : (quiet : Bool) → (hold_none_from types calm t (vs ++ older) ≡ true → hold_none_from types calm t vs ≡ true)
+          → (if quiet then hold_none_from types calm t (vs ++ older) else hold_none types t (v ∷ vs ++ older)) ≡ true
+          → (if quiet then hold_none_from types calm t vs else hold_none types t (v ∷ vs)) ≡ true
       by true later none' = later none'
       by false later none' = fewer_hold t (v ∷ vs) older none'
 
   -- A collection that is created apart from others is apart from the newest ones of these.
-  fewer_older : (t : ℕ) (vs older : List ℕ) → is_apart_from types t (vs ++ older) ≡ true → is_apart_from types t vs ≡ true
-  fewer_older t vs older apart = by (has_bare_objects types t) apart
+  fewer_older : (t : ℕ) (vs older : List ℕ) → is_apart_from types calm t (vs ++ older) ≡ true → is_apart_from types calm t vs ≡ true
+  fewer_older t vs older apart = by (has_calm_objects types calm t) apart
     where
-      by : (bare : Bool) → (if bare then hold_none_from types t (vs ++ older) else hold_none types t (t ∷ vs ++ older)) ≡ true
-          → (if bare then hold_none_from types t vs else hold_none types t (t ∷ vs)) ≡ true
+      by : (quiet : Bool) → (if quiet then hold_none_from types calm t (vs ++ older) else hold_none types t (t ∷ vs ++ older)) ≡ true
+          → (if quiet then hold_none_from types calm t vs else hold_none types t (t ∷ vs)) ≡ true
       by true apart' = fewer_from t vs older apart'
       by false apart' = fewer_hold t (t ∷ vs) older apart'
 
   -- So it is with collections that are created one after the other.
-  fewer_in_order : (ts vs older : List ℕ) → collect_in_order types (vs ++ older) ts ≡ true → collect_in_order types vs ts ≡ true
+  fewer_in_order : (ts vs older : List ℕ) → collect_in_order types calm (vs ++ older) ts ≡ true → collect_in_order types calm vs ts ≡ true
   fewer_in_order [] vs older ordered = refl
   fewer_in_order (t ∷ ts) vs older ordered =
-      let both = and_parts (is_apart_from types t (vs ++ older)) (collect_in_order types (t ∷ vs ++ older) ts) ordered in
+      let both = and_parts (is_apart_from types calm t (vs ++ older)) (collect_in_order types calm (t ∷ vs ++ older) ts) ordered in
       rw (fewer_older t vs older both.0) (fewer_in_order ts (t ∷ vs) older both.1)
 
   -- What is created in order behind others is so alone.
-  pub alone_in_order : (ts older : List ℕ) → collect_in_order types older ts ≡ true → collect_in_order types [] ts ≡ true
+  pub alone_in_order : (ts older : List ℕ) → collect_in_order types calm older ts ≡ true → collect_in_order types calm [] ts ≡ true
   alone_in_order ts older ordered = fewer_in_order ts [] older ordered
 
   -- Of collections that are created in order, the first ones are so behind the same others, and the rest is so alone.
-  split_in_order : (ts more older : List ℕ) → collect_in_order types older (ts ++ more) ≡ true
-      → (collect_in_order types older ts ≡ true) × (collect_in_order types [] more ≡ true)
+  split_in_order : (ts more older : List ℕ) → collect_in_order types calm older (ts ++ more) ≡ true
+      → (collect_in_order types calm older ts ≡ true) × (collect_in_order types calm [] more ≡ true)
   split_in_order [] more older ordered = (refl, alone_in_order more older ordered)
   split_in_order (t ∷ ts) more older ordered =
-      let both = and_parts (is_apart_from types t older) (collect_in_order types (t ∷ older) (ts ++ more)) ordered in
+      let both = and_parts (is_apart_from types calm t older) (collect_in_order types calm (t ∷ older) (ts ++ more)) ordered in
       let rest = split_in_order ts more (t ∷ older) both.1 in
       (rw both.0 rest.0, rest.1)
 
@@ -132,7 +133,7 @@ module _ (types : List TypeForm) where
 
 -- So it is with those of a program.
 pub parts_in_order : (p : ProgramForm) → collections_in_order p ≡ true
-    → AllInOrder p.types (parts.body_collections (main_body p)) × AllInOrder p.types (flat_map parts.body_collections p.bodies)
+    → AllInOrder p.types (calm_types p) (parts.body_collections (main_body p)) × AllInOrder p.types (calm_types p) (flat_map parts.body_collections p.bodies)
 parts_in_order p ordered =
-    let both = split_in_order p.types (body_collections (main_body p)) (bodies_collections p.bodies) [] ordered in
-    (body_ordered p.types (main_body p) both.0, bodies_ordered p.types p.bodies both.1)
+    let both = split_in_order p.types (calm_types p) (body_collections (main_body p)) (bodies_collections p.bodies) [] ordered in
+    (body_ordered p.types (calm_types p) (main_body p) both.0, bodies_ordered p.types (calm_types p) p.bodies both.1)

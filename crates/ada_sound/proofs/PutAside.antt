@@ -16,6 +16,7 @@ use Rattle.ada_meaning.specs.Named.{Object, State, object_at, changed}
 use Rattle.ada_beside.specs.Law.{hidden_beside, no_ghosts}
 use Rattle.ada_tracked.specs.Frames.{View, shifted, number_at, blank_values, blank_object, blanked, values_at}
 use Rattle.ada_tracked.proofs.Lists.{apart_is, is_apart, set_length, untracked_read}
+use Rattle.ada_untouched.proofs.Heaps.{same_lists}
 use Rattle.ada_untouched.specs.Alike.{ValuesAlike, ObjectsAlike, FoundAlike, HeapsAlike, StatesAlike}
 use Rattle.ada_untouched.specs.Unwritten.{FrameWritesShown, FirstWritesShown, Unwritten}
 use Rattle.ada_untouched.proofs.Heaps.{both_there}
@@ -25,15 +26,6 @@ use Rattle.ada_sound.proofs.NoneHidden.{shifted_none}
 use Rattle.ada_sound.proofs.Objects.{set_get, set_here, set_other}
 use Rattle.ada_sound.proofs.OnlyRows.{or_false, or_true}
 use Rattle.ada_sound.proofs.Values.{same_or_not}
-
--- Lists are the same that have the same elements.
-pub same_lists : {X : Type 0} (xs ys : List X) → ((i : ℕ) → slice_get xs i ≡ slice_get ys i) → xs ≡ ys
-same_lists [] [] each = refl
-same_lists [] (y ∷ ys) each = absurd (let none = each 0 in cc none)
-same_lists (x ∷ xs) [] each = absurd (let none = each 0 in cc none)
-same_lists {X = X} (x ∷ xs) (y ∷ ys) each =
-    let first : x ≡ y = let is = each 0 in cc is in
-    subst (λ (z : X). x ∷ xs ≡ z ∷ ys) first (ap (λ (zs : List X). x ∷ zs) (same_lists xs ys (λ i. each (suc i))))
 
 -- A component that is none of these is not numbered among them.
 pub not_numbered : (bs : List ℕ) (n c : ℕ) → is_one_of bs c ≡ false → number_at bs n c ≡ None

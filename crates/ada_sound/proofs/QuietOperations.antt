@@ -23,7 +23,7 @@ use Rattle.ada_flow.specs.Flow.{have_exit, handlers_have_exit}
 use Rattle.ada_typed.proofs.Bodies.{seen_as, seen_fits}
 use Rattle.ada_scopes.specs.Scopes.{NestsAnywhere, AllNestAnywhere, OperationsNest}
 use Rattle.ada_quiet.specs.Apart.{is_this_one, is_adjust_of}
-use Rattle.ada_quiet.specs.Quiet.{is_quiet_stmt, are_quiet, are_quiet_branches, are_quiet_handlers, are_quiet_declarations, is_plain_body, is_plain_procedure, is_quiet_procedure, is_plain_operation, is_quiet_operation, has_access, operation_body}
+use Rattle.ada_quiet.specs.Quiet.{is_quiet_stmt, are_quiet, are_quiet_branches, are_quiet_handlers, are_quiet_declarations, is_plain_body, is_quiet_body, is_plain_procedure, is_quiet_procedure, is_plain_operation, is_quiet_operation, has_access, operation_body}
 use Rattle.ada_quiet.specs.Frugal.{is_frugal_body, frugal_procedures, thrift_of, is_frugal_operation, own_effects, is_silent_procedure, is_silent_operation}
 use Rattle.ada_quiet.specs.InUse.{may_be_frugal, uses_initialize, uses_finalize, uses_operations, operations_may_be_called, adjusts_alone, adjusts_nothing, may_track, uses_adjust, uses_called_adjust}
 use Rattle.ada_quiet.specs.Idle.{copies_parts}
@@ -128,6 +128,13 @@ module _ (p : ProgramForm) where
   abbrev pub IsQuiet : ℕ → Type 0
   IsQuiet number = is_quiet_procedure p.types (slice_get p.bodies number) ≡ true
 
+  -- A procedure is not plain, or not quiet.
+  abbrev pub IsNotPlain : ℕ → Type 0
+  IsNotPlain number = is_plain_procedure p.types (slice_get p.bodies number) ≡ false
+
+  abbrev pub IsNotQuiet : ℕ → Type 0
+  IsNotQuiet number = is_quiet_procedure p.types (slice_get p.bodies number) ≡ false
+
   -- A procedure is frugal, where that may be.
   abbrev pub IsFrugal : ℕ → Type 0
   IsFrugal number = (may_be_frugal p ≡ true) × (slice_index_or (frugal_procedures p) number false ≡ true)
@@ -141,9 +148,9 @@ module _ (p : ProgramForm) where
   -- What overrides Initialize is plain or frugal, what overrides Adjust is quiet, or simple and silent and of a type that owns, and what overrides Finalize is
   -- quiet, or frugal and silent.
   record AreUsed (Owns : Type 0) (o : Operations) (number : ℕ) : Type 0 where
-    initializes : procedure_number o.initialize ≡ Some number → IsPlain number ⊎ IsFrugal number
+    initializes : procedure_number o.initialize ≡ Some number → IsPlain number ⊎ (IsFrugal number × IsNotPlain number)
     adjusts : copies_parts p ≡ true → procedure_number o.adjust ≡ Some number → IsQuiet number ⊎ (IsSimple number × IsSilent number × Owns)
-    finalizes : procedure_number o.finalize ≡ Some number → IsQuiet number ⊎ (IsFrugal number × IsSilent number)
+    finalizes : procedure_number o.finalize ≡ Some number → IsQuiet number ⊎ (IsFrugal number × IsSilent number × IsNotQuiet number)
 
   plain_one : (o : Option ProcedureNo) (number : ℕ) → is_plain_operation p o ≡ true → procedure_number o ≡ Some number → IsPlain number
   plain_one None number plain is = absurd (cc is)
@@ -153,6 +160,14 @@ module _ (p : ProgramForm) where
   quiet_one None number quiet is = absurd (cc is)
   quiet_one (Some procedure) number quiet is = let same : procedure.0 ≡ number = cc is in rw same at quiet
 
+  not_plain : (o : Option ProcedureNo) (number : ℕ) → is_plain_operation p o ≡ false → procedure_number o ≡ Some number → IsNotPlain number
+  not_plain None number other is = absurd (cc is)
+  not_plain (Some procedure) number other is = let same : procedure.0 ≡ number = cc is in rw same at other
+
+  not_quiet : (o : Option ProcedureNo) (number : ℕ) → is_quiet_operation p o ≡ false → procedure_number o ≡ Some number → IsNotQuiet number
+  not_quiet None number other is = absurd (cc is)
+  not_quiet (Some procedure) number other is = let same : procedure.0 ≡ number = cc is in rw same at other
+
   frugal_one : (o : Option ProcedureNo) (number : ℕ) → is_frugal_operation p o ≡ true → procedure_number o ≡ Some number → slice_index_or (frugal_procedures p) number false ≡ true
   frugal_one None number frugal is = absurd (cc is)
   frugal_one (Some procedure) number frugal is = let same : procedure.0 ≡ number = cc is in rw same at frugal
@@ -161,15 +176,16 @@ module _ (p : ProgramForm) where
   silent_one None number silent is = absurd (cc is)
   silent_one (Some procedure) number silent is = let same : procedure.0 ≡ number = cc is in rw same at silent
 
-  pub finalize_one : (o : Option ProcedureNo) (number : ℕ) → uses_finalize p o ≡ true → procedure_number o ≡ Some number → IsQuiet number ⊎ (IsFrugal number × IsSilent number)
+  pub finalize_one : (o : Option ProcedureNo) (number : ℕ) → uses_finalize p o ≡ true → procedure_number o ≡ Some number → IsQuiet number ⊎ (IsFrugal number × IsSilent number × IsNotQuiet number)
   finalize_one o number uses is = by (is_quiet_operation p o) refl uses
     where
-      by : (quiet : Bool) → is_quiet_operation p o ≡ quiet → (quiet || (may_be_frugal p && is_frugal_operation p o && is_silent_operation p o)) ≡ true → IsQuiet number ⊎ (IsFrugal number × IsSilent number)
+      by : (quiet : Bool) → is_quiet_operation p o ≡ quiet → (quiet || (may_be_frugal p && is_frugal_operation p o && is_silent_operation p o)) ≡ true
+          → IsQuiet number ⊎ (IsFrugal number × IsSilent number × IsNotQuiet number)
       by true quiet uses' = inl (quiet_one o number quiet is)
       by false quiet uses' =
           let three = apart (may_be_frugal p && is_frugal_operation p o) (is_silent_operation p o) uses' in
           let both = apart (may_be_frugal p) (is_frugal_operation p o) three.0 in
-          inr ((both.0, frugal_one o number both.1 is), silent_one o number three.1 is)
+          inr ((both.0, frugal_one o number both.1 is), silent_one o number three.1 is, not_quiet o number quiet is)
 
   simple_one :
       (o : Option ProcedureNo) (number : ℕ) → is_simple_operation p (adjusts_alone p) o ≡ true → procedure_number o ≡ Some number
@@ -193,12 +209,12 @@ module _ (p : ProgramForm) where
           let both = apart (may_track p) (is_simple_operation p (adjusts_alone p) o) three.0 in
           inr ((both.0, simple_one o number both.1 is), silent_one o number three.1 is, (apart owns (is_some (operation_body p o)) so).0)
 
-  initialize_one : (o : Option ProcedureNo) (number : ℕ) → uses_initialize p o ≡ true → procedure_number o ≡ Some number → IsPlain number ⊎ IsFrugal number
+  initialize_one : (o : Option ProcedureNo) (number : ℕ) → uses_initialize p o ≡ true → procedure_number o ≡ Some number → IsPlain number ⊎ (IsFrugal number × IsNotPlain number)
   initialize_one o number uses is = by (is_plain_operation p o) refl uses
     where
-      by : (plain : Bool) → is_plain_operation p o ≡ plain → (plain || (may_be_frugal p && is_frugal_operation p o)) ≡ true → IsPlain number ⊎ IsFrugal number
+      by : (plain : Bool) → is_plain_operation p o ≡ plain → (plain || (may_be_frugal p && is_frugal_operation p o)) ≡ true → IsPlain number ⊎ (IsFrugal number × IsNotPlain number)
       by true plain uses' = inl (plain_one o number plain is)
-      by false plain uses' = let both = apart (may_be_frugal p) (is_frugal_operation p o) uses' in inr (both.0, frugal_one o number both.1 is)
+      by false plain uses' = let both = apart (may_be_frugal p) (is_frugal_operation p o) uses' in inr ((both.0, frugal_one o number both.1 is), not_plain o number plain is)
 
   three_used : (Owns : Type 0) (owns : Bool) (f : Option Finalization) (number : ℕ) → (owns ≡ true → is_adjust_of number f ≡ true → Owns) → uses_operations p owns f ≡ true → AreUsed Owns (operations_in f) number
   three_used Owns owns None number own uses = record { initializes = λ is. absurd (cc is); adjusts = λ copies is. absurd (cc is); finalizes = λ is. absurd (cc is) }
@@ -294,15 +310,15 @@ module _ (p : ProgramForm) where
   initialize_nests t None right uses = tt
   initialize_nests t (Some procedure) right uses = by (initialize_one (Some procedure) procedure.0 uses refl)
     where
-      by : IsPlain procedure.0 ⊎ IsFrugal procedure.0 → NestsAnywhere (callees_of p) (Some procedure)
+      by : IsPlain procedure.0 ⊎ (IsFrugal procedure.0 × IsNotPlain procedure.0) → NestsAnywhere (callees_of p) (Some procedure)
       by (inl plain) = plain_nests t (Some procedure) right plain
-      by (inr frugal) = frugal_nests p procedure.0 frugal.1
+      by (inr both) = frugal_nests p procedure.0 both.0.1
 
   finalize_nests : (t : ℕ) (o : Option ProcedureNo) → overrides_rightly p.types (callable_in p) t o ≡ true → uses_finalize p o ≡ true → NestsAnywhere (callees_of p) o
   finalize_nests t None right uses = tt
   finalize_nests t (Some procedure) right uses = by (finalize_one (Some procedure) procedure.0 uses refl)
     where
-      by : IsQuiet procedure.0 ⊎ (IsFrugal procedure.0 × IsSilent procedure.0) → NestsAnywhere (callees_of p) (Some procedure)
+      by : IsQuiet procedure.0 ⊎ (IsFrugal procedure.0 × IsSilent procedure.0 × IsNotQuiet procedure.0) → NestsAnywhere (callees_of p) (Some procedure)
       by (inl quiet) = plain_nests t (Some procedure) right (plain_operation p (Some procedure) quiet)
       by (inr both) = frugal_nests p procedure.0 both.0.1
 
@@ -374,11 +390,16 @@ pub record AdjustsOwn (types : List TypeForm) (of number : ℕ) : Type 0 where
   pub numbered : number_in (finalization_in (Some t)) ≡ Some of
   pub overrides : is_adjust_of number (finalization_in (Some t)) ≡ true
 
--- What is called is plain, or it is an Initialize or a Finalize that is frugal, where it may be, or an Adjust that may track.
+-- A body that begins or ends a part touches storage: that of an Initialize is not plain, or that of a Finalize is not quiet.
+abbrev pub TouchesStorage : ProgramForm → Treatment → BodyForm → Type 0
+TouchesStorage p (begins by done) b = is_plain_body p.types b ≡ false
+TouchesStorage p (ends cause) b = is_quiet_body p.types b ≡ false
+
+-- What is called is plain, or it is an Initialize or a Finalize that touches storage and is frugal, where it may be, or an Adjust that may track.
 abbrev pub IsUsedAs : ProgramForm → (of number : ℕ) → Treatment → BodyForm → Type 0
 IsUsedAs p of number treatment b =
     (PlainBody p.types b × LetsNothingOut treatment b)
-    ⊎ ((MayTouch treatment × (may_be_frugal p ≡ true) × (is_frugal_body (thrift_of p) b ≡ true) × LetsNone p treatment b)
+    ⊎ ((MayTouch treatment × (may_be_frugal p ≡ true) × (is_frugal_body (thrift_of p) b ≡ true) × LetsNone p treatment b × TouchesStorage p treatment b)
     ⊎ (AdjustsCopy treatment × MayTrack p b × AdjustsOwn p.types of number))
 
 -- A type that passes the test of a number has that number among the controlled ones, as what is shown of it says.
@@ -425,13 +446,13 @@ module _ (program : Program) (uses : operations_may_be_called (program_form prog
   silent_body : IsSilent whole number → body_raises (own_effects whole) b (λ e. true) ≡ false
   silent_body silent = not-true (body_raises (own_effects whole) b (λ e. true)) (rw there at silent)
 
-  finalizes_as : (cause : Cause) → IsQuiet whole number ⊎ (IsFrugal whole number × IsSilent whole number) → IsUsedAs whole of number (ends cause) b
+  finalizes_as : (cause : Cause) → IsQuiet whole number ⊎ (IsFrugal whole number × IsSilent whole number × IsNotQuiet whole number) → IsUsedAs whole of number (ends cause) b
   finalizes_as cause (inl quiet) = inl (quiet_body quiet)
-  finalizes_as cause (inr both) = inr (inl (tt, both.0.0, frugal_at whole number b both.0.1 there, silent_body both.1))
+  finalizes_as cause (inr both) = inr (inl (tt, both.0.0, frugal_at whole number b both.0.1 there, silent_body both.1, rw there at both.2))
 
-  initializes_as : (done : List parts.Part) → IsPlain whole number ⊎ IsFrugal whole number → IsUsedAs whole of number (begins Creation done) b
+  initializes_as : (done : List parts.Part) → IsPlain whole number ⊎ (IsFrugal whole number × IsNotPlain whole number) → IsUsedAs whole of number (begins Creation done) b
   initializes_as done (inl plain) = inl (plain_body plain, tt)
-  initializes_as done (inr frugal) = inr (inl (tt, frugal.0, frugal_at whole number b frugal.1 there, tt))
+  initializes_as done (inr both) = inr (inl (tt, both.0.0, frugal_at whole number b both.0.1 there, tt, rw there at both.1))
 
   adjusts_as : (treatment : Treatment) → AdjustsCopy treatment → (body_raises no_calls b (λ e. true) ≡ false → LetsNothingOut treatment b)
       → IsQuiet whole number ⊎ (IsSimple whole number × IsSilent whole number × AdjustsOwn whole.types of number) → IsUsedAs whole of number treatment b

@@ -11,9 +11,10 @@ use Rattle.ada_program.specs.declared.program.Exception.{Exception}
 use Rattle.ada_program.specs.declared.program.Exception.TheVariants.{ConstraintError}
 use Rattle.ada_program.specs.declared.program.VariableKind.{VariableKind}
 use Rattle.ada_program.specs.Form.{PathForm, StmtsForm}
-use Rattle.ada_effects.specs.Effects.{Implicit, path_raises}
+use Rattle.ada_quiet.specs.Apart.{is_led}
+use Rattle.ada_effects.specs.Effects.{Implicit, path_raises, follows_value}
 use Rattle.ada_program.specs.ProgramForm.{TypeForm, VariableForm}
-use Rattle.ada_program.specs.WellFormed.{is_access, access_of, variable_kind, selected_kind, selectors_kind, path_kind, path_access, is_this, is_freed_by}
+use Rattle.ada_program.specs.WellFormed.{is_access, access_of, variable_kind, selected_kind, selectors_kind, root_kind, path_kind, path_access, is_this, is_freed_by}
 use Rattle.ada_flow.specs.declared.rule.Hold.{Hold}
 use Rattle.ada_flow.specs.declared.rule.Hold.TheVariants as hold
 use Rattle.ada_flow.specs.Flow.{Holds, hold_at, Breach, lost_by, unless_broken, ends_with, behind_end, passes_type, passes_own, passes_reached, formal_reached, way_reached, freed_behind, released_behind, frees_seen}
@@ -28,6 +29,7 @@ use Rattle.ada_meaning.specs.Frame.{Does, FreesIn, Ends, GivesBack, ClearsIn, en
 use Rattle.ada_meaning.specs.State.{Activation, home_of, pool_freed_to}
 use Rattle.ada_meaning.specs.Step.{all_tasks, before_last, last_of, path_next, freed_next, free_component_next, free_in_next}
 use Rattle.ada_meaning.specs.Named.{store, Object, State, object_at, look, named, parted, inside}
+use Rattle.ada_typed.proofs.Bodies.{TablesFit}
 use Rattle.ada_owners.specs.Keeping.{IsThere}
 use Rattle.ada_owners.specs.Places.{is_there, access_at}
 use Rattle.ada_owners.specs.Reliance.{IsOf}
@@ -38,7 +40,7 @@ use Rattle.ada_sound.proofs.Stored.{stored_part}
 use Rattle.ada_sound.proofs.Alters.{alters_set}
 use Rattle.ada_sound.proofs.Assigned.{this_is, freed_at}
 use Rattle.ada_sound.proofs.Homes.{HaveHomes, same_one, stands_there, freed_home}
-use Rattle.ada_sound.proofs.Invariant.{Spares, CoveredIn, begun, outers, Known, Control, Goes, To, Raised, RunsOn, PassesNone, Releasing, Working, Ending, Stepped, Fine, ways}
+use Rattle.ada_sound.proofs.Invariant.{Spares, CoveredIn, begun, outers, Known, Control, Goes, To, Raised, RunsOn, PassesNone, EndsBeside, EndsWellBy, FreesWell, Releasing, Working, Ending, Stepped, Fine, ways}
 use Rattle.ada_sound.proofs.Ready.{running, at_work, stays, runs_ready, jumps_less, treats_ready}
 use Rattle.ada_sound.proofs.Outcomes.{ends_goes}
 use Rattle.ada_sound.proofs.Roots.{access_leads, root_object, object_there, front_raises}
@@ -47,7 +49,8 @@ use Rattle.ada_sound.proofs.Begins.{Root, IsAlone, IsPart, root_at, root_access,
 use Rattle.ada_sound.proofs.Walks.{selected_access, raises_less, finds_fine}
 use Rattle.ada_sound.proofs.Targets.{followed}
 use Rattle.ada_sound.proofs.Endings.{stored_elsewhere}
-use Rattle.ada_sound.proofs.Touched.{ComponentsUntouched}
+use Rattle.ada_sound.proofs.Frees.{FreesTo}
+use Rattle.ada_sound.proofs.Holders.{holder_kind, holder_access, holder_spared}
 
 -- The selectors of a path but the last one, and that one, are all.
 front_last : (c : ℕ) (cs : List ℕ) → before_last c cs ++ last_of c cs ∷ [] ≡ c ∷ cs
@@ -121,17 +124,19 @@ passes_root types outer heap kind v b c cs to (Some t) leads spares passes = by 
 
 module _ (known : Known) (a : Activation Value) (rest : List (Activation Value)) (s : State) where
   -- A Free of a component begins: its object is found first.
-  pub free_begins : (c : ℕ) (cs : List ℕ) (access : ℕ) (path : PathForm) (fs : StmtsForm) (k : Control) (among : Exception → Bool) → (path_raises path ≡ true → among ConstraintError ≡ true) → is_freed_by known.program.types access (path_access known.program.types known.program.variables path) ≡ true → is_this access (path_access known.program.types known.program.variables path) ≡ true → Spares known (λ t. is_this t (path_access known.program.types known.program.variables path)) → path.selectors ≡ c ∷ cs → Working known s.heap a.places s.masters (λ rooms holds. Goes (frees_seen known.program.types known.program.variables no_tracks false known.implicit (c ∷ cs) path holds) (To (RunsOn known (Does fs ∷ k) rooms)) (Raised among (ways known k rooms))) → Fine known s.heap s.masters (path_next named (before_last (inside (place_at a.places path.root) c) cs) (begun a.places path) (running (FreesIn access (last_of (inside (place_at a.places path.root) c) cs) ∷ Does fs ∷ k) a rest s))
-  free_begins c cs access path fs k among may freed by_own spares is w =
+  pub free_begins : (c : ℕ) (cs : List ℕ) (access : ℕ) (path : PathForm) (fs : StmtsForm) (k : Control) (among : Exception → Bool) → (path_raises path ≡ true → among ConstraintError ≡ true) → is_freed_by known.program.types access (path_access known.program.types known.program.variables path) ≡ true → is_this access (path_access known.program.types known.program.variables path) ≡ true → Spares known (λ t. is_this t (path_access known.program.types known.program.variables path)) → path.selectors ≡ c ∷ cs → TablesFit known.program → (is_access known.program.types access ≡ true → known.touches access ≡ true → is_led path ≡ true) → Working known s.heap a.places s.masters (λ rooms holds. Goes (frees_seen known.program.types known.program.variables no_tracks false known.implicit (c ∷ cs) path holds) (To (FreesTo known access (Does fs ∷ k) rooms)) (Raised among (ways known k rooms))) → Fine known s.heap s.masters (path_next named (before_last (inside (place_at a.places path.root) c) cs) (begun a.places path) (running (FreesIn access (last_of (inside (place_at a.places path.root) c) cs) ∷ Does fs ∷ k) a rest s))
+  free_begins c cs access path fs k among may freed by_own spares is tables led w =
       let types = known.program.types in
       let variables = known.program.variables in
       let own = path_access types variables path in
       let at = freed_at types variables access path freed in
       let leads = access_leads (path_kind types variables path) at.0 at.1 in
-      let g = released_goes types variables known.implicit path w.holds own (To (RunsOn known (Does fs ∷ k) w.rooms)) (Raised among (ways known k w.rooms)) w.rest in
+      let g = released_goes types variables known.implicit path w.holds own (To (FreesTo known access (Does fs ∷ k) w.rooms)) (Raised among (ways known k w.rooms)) w.rest in
       let kept = freed_kept (way_reached types variables known.implicit path (hold_at w.holds path.root) own) (hold_at w.holds path.root) path.spot g.0 in
       let own_or_reached = passes_own types variables path own || passes_reached types variables known.implicit path own in
-      let none_own = first_false (passes_own types variables path own) (passes_reached types variables known.implicit path own) (first_false own_or_reached (formal_reached types variables known.implicit path (hold_at w.holds path.root) own) kept.1) in
+      let none_on_way = first_false own_or_reached (formal_reached types variables known.implicit path (hold_at w.holds path.root) own) kept.1 in
+      let none_own = first_false (passes_own types variables path own) (passes_reached types variables known.implicit path own) none_on_way in
+      let none_reached = or_false (passes_own types variables path own) (passes_reached types variables known.implicit path own) none_on_way in
       let v = place_at a.places path.root in
       let b = root_at path.root path.spot kept.0 w.fit in
       let to = kind_named (selectors_kind types (variable_kind variables path.root) path.selectors) at.0 at.2 in
@@ -140,6 +145,14 @@ module _ (known : Known) (a : Activation Value) (rest : List (Activation Value))
       let from_here : selectors_kind types b.from (inside v c ∷ cs) ≡ Some to.0 = b.leads c cs to.0 from_kind in
       let spares_own : (t : ℕ) → own ≡ Some t → NoOuterAlias types (outers known) t = λ t same. (spares t (ap (is_this t) same ∙ eq-eqb t t refl)).0 in
       let is_own : (t : ℕ) → own ≡ Some t → is_access types t ≡ true = λ t same. (let one : at.0 ≡ t = let other = at.1 in cc (same, other) in rw (← one) at.3) in
+      let of_own : own ≡ Some access = this_is access own by_own in
+      let same_type : (t : ℕ) → own ≡ Some t → t ≡ access = λ t same. cc (same, of_own) in
+      let leads_on : selectors_kind types (root_kind path.of_record (variable_kind variables path.root)) (c ∷ cs) ≡ Some leads.0 = ap (λ (ds : List ℕ). selectors_kind types (root_kind path.of_record (variable_kind variables path.root)) ds) (sym is) ∙ leads.1 in
+      let follows_on : (t : ℕ) → own ≡ Some t → known.touches t ≡ true → follows_value path.of_record (c ∷ cs) ≡ true = λ t same touches. (
+      let one = same_type t same in
+      let is_led_on = led (rw one at (is_own t same)) (rw one at touches) in
+      rw is at is_led_on
+      ) in
       finds_fine known a rest s a.operands (FreesIn access (last_of (inside v c) cs) ∷ Does fs ∷ k) (before_last (inside v c) cs) (begun a.places path)
       (at_work w (record {
         from = b.from;
@@ -154,16 +167,21 @@ module _ (known : Known) (a : Activation Value) (rest : List (Activation Value))
         raises = front_raises known (begun a.places path) (Does fs ∷ k) w.rooms (behind_end variables own w.holds) path.of_record c (inside v c) cs
             (λ whole. object_there path.root path.spot kept.0 (root_object types variables path leads.0 leads.1 whole) w.fit)
             (λ raises. (let follows : path_raises path ≡ true = rw is raises in g.2 follows ConstraintError (may follows)));
-        runs = g.1;
+        beside = λ t u same holder touches. (
+            let follows = follows_on t same touches in
+            let of_holder : access_of (selectors_kind types (variable_kind variables path.root) (before_last c cs)) ≡ Some u = ap access_of (sym (holder_kind b path.of_record c cs leads.0 leads_on follows)) ∙ holder in
+            (holder_access known.program tables path.root path.of_record c cs leads.0 u leads_on follows of_holder, holder_spared types variables known.implicit path c cs own t u is same none_reached of_holder)
+            );
+        runs = (g.1.0, g.1.1, (g.1.2.0, λ t same. rw (same_type t same) (g.1.2.1)));
       }))
       (root_follows path.root path.spot kept.0 w.fit)
 
-  module _ (types : List TypeDefinition) (access c : ℕ) (k : Control) (below : List Value) (may : ℕ → Bool) (homes : HaveHomes may known.program.types (outers known).under s.heap s.masters) (freely : may access ≡ true) (untouched : ComponentsUntouched known.program.types known.touches (FreesIn access c ∷ k)) where
+  module _ (types : List TypeDefinition) (access c : ℕ) (k : Control) (below : List Value) (may : ℕ → Bool) (homes : HaveHomes may known.program.types (outers known).under s.heap s.masters) (freely : may access ≡ true) where
     -- The component is null: nothing happens.
     null_freed : (o : Id) → IsThere s.heap o → Working known s.heap a.places s.masters (Releasing known s.heap (Names o) [] access c k) → Stepped known s.heap (Followed (Names o)) (running k (record a { operands = below }) rest s)
     null_freed o there w =
         stays known (Followed (Names o)) (running k (record a { operands = below }) rest s)
-        (tt, runs_ready known k s.heap a.places below s.masters (record { rooms = w.rooms; holds = w.rest.runs.0; stored = w.stored; roomed = w.roomed; fit = weaker_fit w.rest.runs.0 w.rest.runs.1 (behind_fit w.rest.access w.fit); rest = w.rest.runs.2 }))
+        (tt, runs_ready known k s.heap a.places below s.masters (record { rooms = w.rooms; holds = w.rest.runs.0; stored = w.stored; roomed = w.roomed; fit = weaker_fit w.rest.runs.0 w.rest.runs.1 (behind_fit w.rest.access w.fit); rest = w.rest.runs.2.0 }))
         (followed o there w.stored)
 
     -- The component is of the type that is freed.
@@ -197,10 +215,16 @@ module _ (known : Known) (a : Activation Value) (rest : List (Activation Value))
         let aside = same_unnamed (store s.heap (Names o) c Null) p there.object elsewhere.1 p unnamed.1 (parted there.object) refl (λ c. refl) in
         let by_own : t ≡ access = let own = w.rest.frees_own in cc (is_t, own) in
         let stands = stands_there p there.object homes w.stored there.found there.there (rw there.access (w.rest.own t is_t)) (rw (there.access, by_own) freely) in
-        let runs : To (RunsOn known k w.rooms) (behind_end known.program.variables (Some t) w.holds) = rw is_t at w.rest.runs in
+        let all_run : To (λ less. RunsOn known k w.rooms less × EndsWellBy known t less) (behind_end known.program.variables w.rest.access w.holds) = (w.rest.runs.0, w.rest.runs.1, (w.rest.runs.2.0, w.rest.runs.2.1 t is_t)) in
+        let runs : To (λ less. RunsOn known k w.rooms less × EndsWellBy known t less) (behind_end known.program.variables (Some t) w.holds) = rw is_t at all_run in
         let home = freed_home access p there.object homes w.stored there.found exists (rw there.access (w.rest.own t is_t)) (there.access ∙ by_own) in
         let leads : component_access known.program.types object c ≡ Some there.object.cell.access = names_own o object found w ∙ (is_t ∙ ap Some (sym there.access)) in
-        let never : known.touches there.object.cell.access ≡ false = untouched object.cell.access c there.object.cell.access leads (sym (there.access ∙ by_own)) in
+        let beside : EndsBeside known there.object.cell.access object.cell.access = rw there.access (w.rest.beside t object.cell.access is_t (w.rest.is_from o object refl found)) in
+        let parts = set_here s.heap p.0 there.object (parted there.object) there.found in
+        let well : FreesWell known (slice_set s.heap p.0 (parted there.object)) (Some p) runs.0 = λ other at. (
+        let one : other ≡ parted there.object = cc (at, parts) in
+        rw (one, there.access) (runs.2.1)
+        ) in
         let under : Ending known p (GivesBack (Names p) (Freeing s.next) (Some (pool_freed_to (home_of access s.masters))) ∷ ClearsIn (Names o) c ∷ k) (slice_set s.heap p.0 (parted there.object)) a.places s.masters = record {
           object = parted there.object;
           found = set_here s.heap p.0 there.object (parted there.object) there.found;
@@ -214,14 +238,14 @@ module _ (known : Known) (a : Activation Value) (rest : List (Activation Value))
             (
               (object, elsewhere.0, held),
               (λ same. apart (cc same)),
-              (object, parted there.object, elsewhere.0, set_here s.heap p.0 there.object (parted there.object) there.found, leads, never),
+              (object, parted there.object, elsewhere.0, parts, leads, at, beside),
               record {
                 rooms = w.rooms;
                 holds = runs.0;
                 roomed = w.roomed;
                 fit = weaker_fit runs.0 runs.1 (rw elsewhere.2 after);
                 aside = rw elsewhere.2 (less_unnamed runs.0 runs.1 p after aside, unnamed.2);
-                rest = runs.2;
+                rest = (runs.2.0, well);
               },
             ),
           );

@@ -74,6 +74,7 @@ use Rattle.ada_sound.proofs.AdjustingCopies.{InCopy, WentOn, copy_goes, copy_sto
 use Rattle.ada_finalized.proofs.Standing.{nothing_begins, untreated_start}
 use Rattle.ada_sound.proofs.CallsApartRuns.{step_apart}
 use Rattle.ada_quiet.specs.Apart.{is_tracker}
+use Rattle.ada_quiet.specs.Calm.{calm_types}
 use Rattle.ada_sound.proofs.QuietOperations.{AdjustsCopy, IsUsedAs, operations_nest, used_as}
 use Rattle.ada_sound.proofs.TouchingStarts.{touching_starts}
 use Rattle.ada_sound.proofs.TouchingSteps.{InTouching, Went, touching_step}
@@ -444,8 +445,8 @@ module _ (program : Program) (a : Activation Value) (rest : List (Activation Val
     }))
     begun_as e after is c (inr (inr (copies, tracks, own))) =
         absurd (sees_to_none program sound.well tracks.0 a rest s o.suspensions k IsOperated e after c copies own)
-    begun_as e after is c (inr (inl (touches, may, frugal, silent))) = inr (inr (inl (record {
-      body = touching_starts program a rest s k v treatment tasks o.suspensions whole refl refl sound calm_here o.calm o.settled (restand Running (Treats v treatment tasks) o.suspensions o.stands) e after c touches may silent frugal
+    begun_as e after is c (inr (inl (may_touch, may, frugal, silent, touches))) = inr (inr (inl (record {
+      body = touching_starts program a rest s k v treatment tasks o.suspensions whole refl refl sound calm_here o.calm o.settled (restand Running (Treats v treatment tasks) o.suspensions o.stands) e after c may_touch may silent frugal touches
           (step_typed program sound.well whole after settled e sound.typed (rw is (refl, refl)));
       alters = rw c.is c.alters;
       says = told_says e s.heap after c.tells _ _;
@@ -687,7 +688,7 @@ sound_step program s choice e after r step = record {
   goes = goes_so program s.heap e after (led program s choice e after r step);
   idle = λ none. step_idle program none s after choice e (r.idle none) step;
   copies = λ none. step_adjusts_none program none s after choice e (r.copies none) step;
-  apart = λ alone stand. step_apart (program_form program).types (is_tracker (program_form program)) alone program (calls_stand_apart (program_form program) alone stand).1 s after choice e (r.apart alone stand) step;
+  apart = λ are_led stand. step_apart (program_form program).types (calm_types (program_form program)) (is_tracker (program_form program)) are_led program (calls_stand_apart (program_form program) are_led stand).1 s after choice e (r.apart are_led stand) step;
   typed = step_typed program r.well s after choice e r.typed step;
   nested = step_nested program s after choice e (λ treats. operations_nest (program_form program) r.well (treats_in_use program s r s.control refl treats)) r.nested step;
 }

@@ -31,6 +31,7 @@ use Rattle.ada_typed.proofs.Runs.{first_typed}
 use Rattle.ada_scopes.proofs.Runs.{Scoped, first_nested}
 use Rattle.ada_sound.proofs.Fits.{first_fit}
 use Rattle.ada_quiet.specs.Apart.{is_tracker, stand_apart}
+use Rattle.ada_quiet.specs.Calm.{calm_types}
 use Rattle.ada_sound.proofs.CallsApart.{CallApart}
 use Rattle.ada_sound.proofs.CallsApartRuns.{first_apart}
 use Rattle.ada_sound.proofs.Trackers.{TracksSafely, tracks_safely, calls_stand_apart}
@@ -73,7 +74,7 @@ pub record Sound (program : Program) (s : State) : Type 0 where
   pub goes : Ordinary program s ⊎ (Operates program s ⊎ (Touching program s ⊎ AdjustingCopy program s))
   pub idle : makes_parts (program_form program) ≡ false → IsIdle (program_form program).types s
   pub copies : copies_parts (program_form program) ≡ false → AdjustsNone (program_form program).types s.control
-  pub apart : (alone : Bool) → stand_apart (program_form program) alone ≡ true → CallApart (program_form program).types (is_tracker (program_form program)) alone s.control
+  pub apart : (led : Bool) → stand_apart (program_form program) led ≡ true → CallApart (program_form program).types (calm_types (program_form program)) (is_tracker (program_form program)) led s.control
   pub typed : typed.Typed (program_form program) s
   pub nested : Scoped (program_form program) s
 
@@ -140,9 +141,9 @@ sound_first program input well uses nest own obeys = let obeys_so : Obeys progra
   });
   idle = λ none. first_idle program none input;
   copies = λ none. first_adjusts_none program none input;
-  apart = λ alone stand. (
-      let bodies = calls_stand_apart (program_form program) alone stand in
-      first_apart (program_form program).types (is_tracker (program_form program)) alone program bodies.1 bodies.0 input
+  apart = λ led stand. (
+      let bodies = calls_stand_apart (program_form program) led stand in
+      first_apart (program_form program).types (calm_types (program_form program)) (is_tracker (program_form program)) led program bodies.1 bodies.0 input
       );
   typed = first_typed program input well;
   nested = first_nested program well nest input;

@@ -3,14 +3,14 @@
 -- waits for it.
 
 use Rattle.std.proofs.Common.{◌≡◌, ◌≢◌, ℕ, true, false, List, [], ◌∷◌, ◌++◌, ◌⊎◌, Option, drop, length, suc, take}
-use Rattle.std.specs.Prelude.{Bool, Some, None}
+use Rattle.std.specs.Prelude.{Bool, Some, None, ◌==◌}
 use Rattle.std.specs.List.{slice_get, slice_set, list_any}
 use Rattle.ada_parts.specs.Task.{Task}
 use Rattle.ada_program.specs.declared.program.Exception.{Exception}
 use Rattle.ada_quiet.specs.Bare.{has_bare_objects}
 use Rattle.ada_quiet.specs.InUse.{may_be_frugal}
 use Rattle.ada_program.specs.declared.program.Program.{Program}
-use Rattle.ada_program.specs.ProgramForm.{program_form, seen_in}
+use Rattle.ada_program.specs.ProgramForm.{ProgramForm, program_form, seen_in}
 use Rattle.ada_program.specs.WellFormed.{is_access, variable_kind, reached_components}
 use Rattle.ada_deeds.specs.Implicit.{implicit_of}
 use Rattle.ada_effects.specs.Effects.{Implicit, assignment_frees}
@@ -24,17 +24,17 @@ use Rattle.ada_meaning.specs.declared.state.Place.{Place}
 use Rattle.ada_meaning.specs.declared.state.Value.{Value}
 use Rattle.ada_meaning.specs.declared.state.Value.TheVariants.{Names, Part, Null, Scalar}
 use Rattle.ada_meaning.specs.Finalization.{NothingTreated}
-use Rattle.ada_meaning.specs.Frame.{Treatment, begins, ends, Leaves, Ends, GivesBack, Clears, Resumes, StoresRecord, Copies}
+use Rattle.ada_meaning.specs.Frame.{Treatment, begins, ends, Leaves, Ends, GivesBack, Clears, ClearsIn, Resumes, StoresRecord, Copies}
 use Rattle.ada_meaning.specs.Heap.{Home}
 use Rattle.ada_meaning.specs.State.{Master}
 use Rattle.ada_meaning.specs.Named.{Object, State, object_at}
 use Rattle.ada_typed.proofs.Kept.{behind_call}
 use Rattle.ada_sound.proofs.Bodies.{IsBody}
 use Rattle.ada_sound.proofs.Callers.{Suspension, known_in, Stands, callers_of}
-use Rattle.ada_sound.proofs.Fits.{Fit, Outsiders, IsPlace, IsRelied, IsSaid, IsUnreferred, none_spared, outer_hold, outer_value, place_at, Reference, IsReferred}
+use Rattle.ada_sound.proofs.Fits.{Fit, Outsiders, IsPlace, IsRelied, IsSaid, IsUnreferred, component_access, none_spared, outer_hold, outer_value, place_at, Reference, IsReferred}
 use Rattle.ada_sound.proofs.FrugalControl.{Frugally}
 use Rattle.ada_sound.proofs.Held.{FreeIf, holder_if}
-use Rattle.ada_sound.proofs.Invariant.{body_among, Control, Rooms, Roomed, GoesTo, MayAwait, RoomFor, RunsOn, Known, IsNewest, Ready, Spares, StartsTo, Unaliased, below, innermost, outers, BeginsWell, CameOut, To, By, ways, IsAwaited, under_in, AssignsWell, IsCopied, LiesAmong, AdjustedBehind, IsCovered}
+use Rattle.ada_sound.proofs.Invariant.{body_among, Control, Rooms, Roomed, GoesTo, MayAwait, RoomFor, RunsOn, Known, IsNewest, Ready, Spares, StartsTo, Unaliased, below, innermost, outers, BeginsWell, CameOut, To, By, ways, IsAwaited, under_in, AssignsWell, IsCopied, LiesAmong, AdjustedBehind, IsCovered, EndsBeside, EndsWellBy}
 use Rattle.ada_sound.proofs.Operating.{WaitsFor, IsCalm, lets_out}
 use Rattle.ada_sound.proofs.Stored.{Stored}
 use Rattle.ada_sound.specs.Agreement.{running_procedure}
@@ -42,7 +42,9 @@ use Rattle.ada_quiet.specs.Frugal.{thrift_of}
 use Rattle.ada_finalized.specs.Law.{NothingBegins}
 use Rattle.ada_meaning.specs.declared.event.Cause.{Cause}
 use Rattle.ada_meaning.specs.Step.{first_or, operands_of}
-use Rattle.ada_owners.specs.Places.{access_at}
+use Rattle.ada_owners.specs.Places.{access_at, is_there}
+use Rattle.ada_reaching.specs.Law.{AreApart}
+use Rattle.ada_reaching.specs.Reaching.{IsReaching}
 use Rattle.ada_owners.specs.Reliance.{Owns}
 use Rattle.ada_program.specs.declared.program.ComponentKind.{ComponentKind}
 
@@ -119,11 +121,47 @@ pub record Empties (known : Known) (object : Id) (access : ℕ) (home : Home) (p
   pub is : after ≡ Ends (Names object) ∷ GivesBack (Names object) (Freeing number) home.pool ∷ Clears x ∷ rest
   pub lost : holds ≡ slice_set before x hold.Lost
   pub runs : RunsOn known rest rooms before
-  pub well : Spares known (known.implicit.end_frees access) × Unaliased known.program.variables (known.implicit.end_frees access) before
+  pub well : EndsWellBy known access before
   pub covered : IsCovered known.implicit known.program (Freeing number) access
   pub said : IsSaid (place_at (outers known).given x) (hold_at before x) Null
   pub fits : hold_at before x ≢ hold.Lost → IsPlace known.program.types (outers known).referenced (variable_kind known.program.variables x) Null
   pub nowhere : IsNamedNowhere (outers known) (slice_set places x Null) before object
+  pub unreferred : IsUnreferred (outers known) object
+  pub untreated : NothingTreated rest
+
+-- The object in which a component lies that is freed, as it is: it stays so while operations are called for what the component names.
+pub record Watch : Type 0 where
+  pub holder : Id
+  pub is : Object
+
+-- Is an object the one that is watched, if there is one?
+abbrev pub is_watched : Option Watch → Id → Bool
+is_watched None o = false
+is_watched (Some w) o = w.holder.0 == o.0
+
+-- So it is with its type, as those say who watch it.
+abbrev pub watches : Option Watch → (access : ℕ) → Bool
+watches None t = false
+watches (Some w) t = w.is.cell.access == t
+
+-- What is behind the finalization of an object that a component names which is freed: the end of the object, and then the component becomes null. It owns the object
+-- still while a Finalize of that runs, and lies in the object that is watched.
+pub record Releases (known : Known) (watch : Option Watch) (object : Id) (access : ℕ) (home : Home) (places : List Value) (after : Control) (rooms : Rooms) (holds : Holds) : Type 0 where
+  pub number : ℕ
+  pub c : ℕ
+  pub rest : Control
+  pub w : Watch
+  pub watched : watch ≡ Some w
+  pub is : after ≡ Ends (Names object) ∷ GivesBack (Names object) (Freeing number) home.pool ∷ ClearsIn (Names w.holder) c ∷ rest
+  pub other : w.holder ≢ object
+  pub there : is_there w.is.stage ≡ true
+  pub of_type : component_access known.program.types w.is c ≡ Some access
+  pub names : slice_get w.is.cell.values c ≡ Some (Names object)
+  pub beside : EndsBeside known access w.is.cell.access
+  pub runs : RunsOn known rest rooms holds
+  pub well : EndsWellBy known access holds
+  pub covered : IsCovered known.implicit known.program (Freeing number) access
+  pub nowhere : IsNamedNowhere (outers known) places holds object
   pub unreferred : IsUnreferred (outers known) object
   pub untreated : NothingTreated rest
 
@@ -159,21 +197,26 @@ pub record Overwrites (known : Known) (object : Id) (access : ℕ) (operands : L
   pub into : StoresInto known object access record_type stores rooms holds
   pub well : AssignsWell known record_type holds
 
--- What is behind a finalization, by its cause: an object that ceases to exist then is held.
-abbrev pub RestsBy : Known → Cause → (held : Bool) → (object : Id) → (access : ℕ) → Home → (places operands : List Value) → (also : List Reference) → (after : Control) → (lower : List Master) → Rooms → Holds → Type 0
-RestsBy known (Leaving m item) held object access home places operands also after lower rooms holds =
-    (held ≡ true) × (also ≡ []) × RestsAtEnd known object access home places after lower rooms holds
-RestsBy known (Freeing number) held object access home places operands also after lower rooms holds =
-    (held ≡ true) × (also ≡ []) × RestsAtEnd known object access home places after lower rooms holds
-RestsBy known (Assigning number) held object access home places operands also after lower rooms holds = Overwrites known object access operands also after rooms holds
-RestsBy known (Undoing number) held object access home places operands also after lower rooms holds =
-    (held ≡ true) × (also ≡ []) × RestsAtEnd known object access home places after lower rooms holds
+-- What is behind the finalization of an object that ceases to exist then, by who owns it: it is held, or a component owns it, which is freed.
+abbrev pub RestsAsOwned : Known → (held : Bool) → (watch : Option Watch) → (object : Id) → (access : ℕ) → Home → (places : List Value) → (after : Control) → (lower : List Master) → Rooms → Holds → Type 0
+RestsAsOwned known held watch object access home places after lower rooms holds =
+    ((held ≡ true) × RestsAtEnd known object access home places after lower rooms holds) ⊎ Releases known watch object access home places after rooms holds
 
--- What is behind the body, by what it is called for, which is held for it or not; and to which other objects the activation that waits refers.
-abbrev pub Rests : Known → Treatment → (held : Bool) → (object : Id) → (access : ℕ) → Home → (places operands : List Value) → (also : List Reference) → (after : Control) → (lower : List Master) → Rooms → Holds → Type 0
-Rests known (begins by done) held object access home places operands also after lower rooms holds =
+-- What is behind a finalization, by its cause.
+abbrev pub RestsBy : Known → Cause → (held : Bool) → (watch : Option Watch) → (object : Id) → (access : ℕ) → Home → (places operands : List Value) → (also : List Reference) → (after : Control) → (lower : List Master) → Rooms → Holds → Type 0
+RestsBy known (Leaving m item) held watch object access home places operands also after lower rooms holds =
+    (also ≡ []) × RestsAsOwned known held watch object access home places after lower rooms holds
+RestsBy known (Freeing number) held watch object access home places operands also after lower rooms holds =
+    (also ≡ []) × RestsAsOwned known held watch object access home places after lower rooms holds
+RestsBy known (Assigning number) held watch object access home places operands also after lower rooms holds = Overwrites known object access operands also after rooms holds
+RestsBy known (Undoing number) held watch object access home places operands also after lower rooms holds =
+    (also ≡ []) × RestsAsOwned known held watch object access home places after lower rooms holds
+
+-- What is behind the body, by what it is called for, which is held for it or not; what is watched; and to which other objects the activation that waits refers.
+abbrev pub Rests : Known → Treatment → (held : Bool) → (watch : Option Watch) → (object : Id) → (access : ℕ) → Home → (places operands : List Value) → (also : List Reference) → (after : Control) → (lower : List Master) → Rooms → Holds → Type 0
+Rests known (begins by done) held watch object access home places operands also after lower rooms holds =
     (by ≡ Creation) × (((also ≡ []) × Starting known held object access places after rooms holds) ⊎ Naming known held object access places operands also after rooms holds)
-Rests known (ends cause) held object access home places operands also after lower rooms holds = RestsBy known cause held object access home places operands also after lower rooms holds
+Rests known (ends cause) held watch object access home places operands also after lower rooms holds = RestsBy known cause held watch object access home places operands also after lower rooms holds
 
 -- What is known of the activation that waits, whatever the body is called for: the object has controlled parts, or is a declared one; no other object begins
 -- behind it; and what each variable holds is as it is said of it.
@@ -209,6 +252,23 @@ abbrev pub treated_frees : Implicit → Treatment → (access : ℕ) → (behind
 treated_frees implicit (begins by done) access k t = implicit.start_frees access t
 treated_frees implicit (ends cause) access k t = ended_frees implicit cause access k t
 
+-- While a Free ends an object, the one that is watched, if there is one, is there, and is another one; and what is called then neither follows nor frees values of its
+-- type.
+abbrev pub IsSpared : Known → Treatment → Id → (access : ℕ) → List Object → (watch : Option Watch) → Type 0
+IsSpared known treatment o access heap None = Unit {0}
+IsSpared known (begins by done) o access heap (Some w) = ⊥
+IsSpared known (ends cause) o access heap (Some w) =
+    (object_at heap w.holder ≡ Some w.is) × (w.holder ≢ o) × (is_access known.program.types w.is.cell.access ≡ true)
+    × (known.implicit.end_reaches access w.is.cell.access ≡ false)
+
+-- What is watched, if something is, is there as it was; and the bodies that run in front of this, of procedures among some that neither follow nor free values of its
+-- type, refer to nothing in it.
+abbrev pub Watched : ProgramForm → (watch : Option Watch) → (behind : Control) → State → Type 0
+Watched p None behind s = Unit {0}
+Watched p (Some w) behind s =
+    (object_at s.heap w.holder ≡ Some w.is)
+    × ((apart : ℕ → Bool) × AreApart p (watches (Some w)) apart × IsReaching p (watches (Some w)) apart (is_watched (Some w)) behind s)
+
 -- What is known where such a body is called: what waits for it, whether the object is held, which is in hand then, and what it may free, of which there is no alias.
 -- Of what has no controlled parts, which bodies free alone, that is no other object to which the activation that waits refers.
 pub record Enters (known : Known) (treatment : Treatment) (o : Id) (x : Object) (after : Control) (heap : List Object) (places operands : List Value) (masters : List Master) : Type 0 where
@@ -219,7 +279,9 @@ pub record Enters (known : Known) (treatment : Treatment) (o : Id) (x : Object) 
   pub waits : Paused known o x.cell.access places after masters rooms holds
   pub held : Bool
   pub hand : FreeIf held (outers known) heap places holds x.cell.access o
-  pub rests : Rests known treatment held o x.cell.access x.cell.home places operands also after masters rooms holds
+  pub watch : Option Watch
+  pub spared : IsSpared known treatment o x.cell.access heap watch
+  pub rests : Rests known treatment held watch o x.cell.access x.cell.home places operands also after masters rooms holds
   pub fit : Fit known.program.types known.program.variables (outers known) none_spared heap places holds
   pub stored : Stored (under_way treatment o ++ (outers known).under) heap masters
   pub may : ℕ → Bool
@@ -295,7 +357,9 @@ pub record Touching (program : Program) (s : State) : Type 0 where
   pub operands : List Value
   pub computed : operands_of (drop (suc (length inner)) s.activations) ≡ operands
   pub held : Bool
-  pub rests : Rests (known_in program procedure suspensions) treatment held object access home places operands also after lower rooms holds
+  pub watch : Option Watch
+  pub still : Watched (program_form program) watch behind s
+  pub rests : Rests (known_in program procedure suspensions) treatment held watch object access home places operands also after lower rooms holds
   pub stands : Stands program (inner ++ holding held procedure places treatment object access also place behind lower kept rooms holds ∷ suspensions) s
   pub calm : IsCalm (behind_call behind)
   pub settled : under_in (callers_of program suspensions) ≡ []

@@ -43,7 +43,7 @@ use Rattle.ada_sound.proofs.Bodies.{IsBody, seen_is}
 use Rattle.ada_sound.proofs.BodyRuns.{body_runs}
 use Rattle.ada_sound.proofs.Calls.{home_low, relied_says}
 use Rattle.ada_sound.proofs.Callers.{Suspension, caller_of, known_in, Stands, callers_of}
-use Rattle.ada_sound.proofs.Touching.{Enters, under_way, Touching, holding}
+use Rattle.ada_sound.proofs.Touching.{Enters, under_way, Touching, Watched, holding}
 use Rattle.ada_sound.proofs.Fits.{Fit, IsPlace, IsReferred, IsSaid, IsWithin, NoOuterAlias, none_spared, outer_access, outer_hold, place_at, IsRelied, there_by, Reference}
 use Rattle.ada_sound.proofs.FrugalControl.{frugal_starts}
 use Rattle.ada_sound.proofs.Held.{fit_held, held_borrows, held_lies, holder_if, with_held}
@@ -217,8 +217,9 @@ module _ (program : Program) (well : IsWellFormed (program_form program)) (obeys
     under_low (frame.ends (Undoing number)) q (inr none) = absurd none
 
     pub touching_begins : (e : Event) (of : ℕ) (tasks : List Task) → Alters s.heap e heap → WaitsFor (program_form program).types o of treatment tasks k behind → IsAwaited behind → Stands program gs (record s { activations = a ∷ rest }) → IsCalm (behind_call behind) → under_in (callers_of program gs) ≡ []
+        → Watched (program_form program) at.watch behind (operating named number b (Part o place) behind (record s { activations = a ∷ rest; heap = heap; mode = Running }))
         → Touching program (operating named number b (Part o place) behind (record s { activations = a ∷ rest; heap = heap; mode = Running }))
-    touching_begins e of tasks alters awaited waited stands calm settled =
+    touching_begins e of tasks alters awaited waited stands calm settled watched =
         let after = operating named number b (Part o place) behind (record s { activations = a ∷ rest; heap = heap; mode = Running }) in
         let still = stands_kept program (record s { activations = a ∷ rest }) (behind_operation (a ∷ rest) behind s.masters after) gs stands e (record { procedure = refl; suspended = refl }) alters in
         record {
@@ -253,6 +254,8 @@ module _ (program : Program) (well : IsWellFormed (program_form program)) (obeys
           operands = a.operands;
           computed = refl;
           held = at.held;
+          watch = at.watch;
+          still = watched;
           rests = at.rests;
           calls = tt;
           stands = record {

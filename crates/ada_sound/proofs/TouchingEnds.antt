@@ -3,7 +3,7 @@
 
 use Rattle.ada_sound.proofs.Leavings.{owns_relied, borrows_relied, component_borrows}
 use Rattle.ada_meaning.specs.Heap.{Home}
-use Rattle.std.proofs.Common.{◌≡◌, ℕ, Bool, true, false, List, [], ◌∷◌, ◌++◌, refl, sym, ap, ◌∙◌, ◌⊎◌, subst, inl, inr, slice_set, drop, length, suc}
+use Rattle.std.proofs.Common.{◌≡◌, ◌≢◌, ℕ, Bool, true, false, List, [], ◌∷◌, ◌++◌, refl, sym, ap, ◌∙◌, ◌⊎◌, subst, inl, inr, slice_set, drop, length, suc}
 use Rattle.std.specs.Prelude.{Option, Some, None}
 use Rattle.std.specs.List.{slice_get}
 use Rattle.ada_program.specs.declared.program.Exception.{Exception}
@@ -30,19 +30,21 @@ use Rattle.ada_meaning.specs.Frame.{Returns, Ends, ends, begins, Treatment, Stor
 use Rattle.ada_meaning.specs.Frame as frame
 use Rattle.ada_meaning.specs.State.{Activation, Master}
 use Rattle.ada_meaning.specs.Step.{moves, operands, places, mode_next, procedure_of, places_of, operands_of, older, first_or}
-use Rattle.ada_meaning.specs.Named.{Object, State, named, next, store}
-use Rattle.ada_owners.specs.Places.{Place, variable, component, elsewhere, value_at, access_at}
+use Rattle.ada_meaning.specs.Named.{Object, State, named, next, object_at, store}
+use Rattle.ada_owners.specs.Places.{Place, variable, component, elsewhere, value_at, access_at, is_there}
 use Rattle.ada_owners.specs.Reliance.{Owns, Borrows}
+use Rattle.ada_owners.proofs.Changes.{store_reads, store_value}
 use Rattle.ada_owners.proofs.Ends.{IsUnnamed}
+use Rattle.ada_owners.proofs.Kernel.{same_place}
 use Rattle.ada_owners.proofs.Objects.{present_at}
 use Rattle.ada_sound.proofs.Activations.{returned_fit}
 use Rattle.ada_sound.proofs.Awaiting.{goes_along}
 use Rattle.ada_sound.proofs.Callers.{rest_of, Suspension, caller_of, known_in, Stands, AreOf, callers_of}
 use Rattle.ada_sound.proofs.Emptying.{null_again}
 use Rattle.ada_sound.proofs.Held.{fit_unheld, held_alone, holder_if, unnamed_hand, with_held}
-use Rattle.ada_sound.proofs.Touching.{AwaitsAmong, IsNamedNowhere, Touching, Empties, Resting, Rests, RestsAtEnd, Starting, Naming, under_way, Undoes, origin, called_by, Overwrites, RestsBy, StoresInto}
-use Rattle.ada_sound.proofs.Fits.{Fit, Hand, hold_in, place_at, is_object, stacked, none_spared, plain_place, put_owner, sparing, outer_hold, outer_value_at, spare_fit, weaker_fit, IsReferred, Reference, component_access, referred_first, store_owner}
-use Rattle.ada_sound.proofs.Invariant.{AllWait, Control, Known, Rooms, GoesOn, Working, Ending, EndsTo, ReadyIn, TreatsBy, innermost, outer_of, outers, IsLive, Beginning, StartsTo, BeginsWell, Ready, IsActive, AreSuspended, CopiesBehind, EndsBy, LiesIn, StoresBehind, FreesWell, IsCovered, Spares, Unaliased, AwaitsIn, GoesTo, HasRoom, IsHolder, IsMade, Making, NamesTo, RoomFor, To, RunsOn}
+use Rattle.ada_sound.proofs.Touching.{AwaitsAmong, IsNamedNowhere, Touching, Empties, Resting, Rests, RestsAsOwned, RestsAtEnd, Starting, Naming, under_way, Undoes, origin, called_by, Overwrites, Releases, RestsBy, StoresInto, Watch, Watched}
+use Rattle.ada_sound.proofs.Fits.{Fit, Hand, hold_in, place_at, is_object, stacked, none_spared, plain_place, put_owner, sparing, outer_hold, outer_value_at, spare_fit, weaker_fit, IsReferred, Reference, component_access, component_value, referred_first, store_blank, store_owner}
+use Rattle.ada_sound.proofs.Invariant.{AllWait, Control, Known, Rooms, GoesOn, Working, Ending, EndsTo, ReadyIn, TreatsBy, innermost, outer_of, outers, IsLive, Beginning, StartsTo, BeginsWell, Ready, IsActive, AreSuspended, CopiesBehind, EndsBy, LiesIn, StoresBehind, FreesWell, IsCovered, EndsBeside, EndsWellBy, AwaitsIn, GoesTo, HasRoom, IsHolder, IsMade, Making, NamesTo, RoomFor, To, RunsOn}
 use Rattle.ada_sound.proofs.Operating.{behind_operation, lets_out, WaitsFor}
 use Rattle.ada_sound.proofs.Waiting.{stands_behind}
 use Rattle.ada_sound.proofs.Returns.{CrossesTo, same_types}
@@ -201,6 +203,25 @@ module _ (program : Program) (well : IsWellFormed (program_form program)) (s : S
   end_stored (Assigning number) end is = absurd end
   end_stored (Undoing number) end is = own_stored (ends (Undoing number)) is
 
+  -- Of what the end of the object may free, there is no alias, and the body may free it that goes on.
+  frees_well : (holds : Holds) → EndsWellBy own f.access holds → FreesWell own s.heap (Some f.object) holds
+  frees_well holds well object at =
+      let one : f.x ≡ object = let here = f.found in cc (here, at) in
+      let of : f.access ≡ object.cell.access = sym f.of_access ∙ ap (λ (x : Object). x.cell.access) one in
+      subst (λ (t : ℕ). EndsWellBy own t holds) of well
+
+  -- No other place owns the object than a component that names it, and that becomes null.
+  released_alone :
+      (h : Id) (holder : Object) (c : ℕ) → object_at s.heap h ≡ Some holder → is_there holder.stage ≡ true → slice_get holder.cell.values c ≡ Some (Names f.object)
+      → (q : Place) → (q ≡ component h c) ⊎ (q ≢ component h c) → Owns (hold_in (outers own) none_spared f.holds q)
+      → value_at (store s.heap (Names h) c Null) (stacked f.places (outers own)) q ≡ Names f.object → ⊥
+  released_alone h holder c found exists names q (inl same) owns is =
+      let null : Null ≡ Names f.object = store_value s.heap h holder found c Null (stacked f.places (outers own)) f.object (rw same at is) in
+      cc null
+  released_alone h holder c found exists names q (inr ne) owns is =
+      let before = sym (store_reads s.heap h holder found c Null (stacked f.places (outers own)) q ne) ∙ is in
+      ne (own_fit.owners.fit.apart q (component h c) f.object owns tt before (component_value s.heap (stacked f.places (outers own)) h holder c (Names f.object) found exists names))
+
   -- The object is to cease to exist, and its words go back, before what is left of its master.
   resting_ends : (cause : Cause) → IsEnd cause → f.treatment ≡ ends cause → f.held ≡ true → (r : Resting own f.object f.home f.places f.after f.lower f.rooms f.holds) → Ending own f.object (frame.GivesBack (Names f.object) (Leaving r.master r.item) f.home.pool ∷ frame.Leaves r.mode ∷ r.rest) s.heap f.places f.lower
   resting_ends cause end is held r =
@@ -283,12 +304,48 @@ module _ (program : Program) (well : IsWellFormed (program_form program)) (s : S
           },
         );
       }
-    where
-      frees_well : (holds : Holds) → Spares own (own.implicit.end_frees f.access) × Unaliased own.program.variables (own.implicit.end_frees f.access) holds → FreesWell own s.heap (Some f.object) holds
-      frees_well holds well object at =
-          let one : f.x ≡ object = let here = f.found in cc (here, at) in
-          let of : f.access ≡ object.cell.access = sym f.of_access ∙ ap (λ (x : Object). x.cell.access) one in
-          subst (λ (t : ℕ). Spares own (own.implicit.end_frees t) × Unaliased own.program.variables (own.implicit.end_frees t) holds) of well
+
+  -- So it is, before the component becomes null that is freed: it owned the object alone.
+  releasing_ends : (cause : Cause) → IsEnd cause → f.treatment ≡ ends cause → (r : Releases own f.watch f.object f.access f.home f.places f.after f.rooms f.holds) → Ending own f.object (frame.GivesBack (Names f.object) (Freeing r.number) f.home.pool ∷ frame.ClearsIn (Names r.w.holder) r.c ∷ r.rest) s.heap f.places f.lower
+  releasing_ends cause end is r =
+      let still : Watched (program_form program) (Some r.w) f.behind s = subst (λ (watch : Option Watch). Watched (program_form program) watch f.behind s) r.watched f.still in
+      record {
+        object = f.x;
+        found = f.found;
+        exists = exists_still;
+        parted = parted cause end is;
+        stored = end_stored cause end is;
+        covered = subst (λ (t : ℕ). IsCovered own.implicit own.program (Freeing r.number) t) (sym f.of_access) r.covered;
+        rest = (
+          refl,
+          ap (λ (home : Home). home.pool) (sym f.at_home),
+          (
+            (r.w.is, still.0, r.there),
+            (λ same. r.other (cc same)),
+            (
+              r.w.is,
+              f.x,
+              still.0,
+              f.found,
+              r.of_type ∙ ap Some (sym f.of_access),
+              r.names,
+              subst (λ (t : ℕ). EndsBeside own t r.w.is.cell.access) (sym f.of_access) r.beside,
+            ),
+            record {
+              rooms = f.rooms;
+              holds = f.holds;
+              roomed = f.waits.roomed;
+              fit = store_blank r.w.holder r.w.is r.c Null still.0 (λ q is. cc is) own_fit;
+              aside = (
+                unnamed_here own (store s.heap (Names r.w.holder) r.c Null) f.places f.holds none_spared f.object
+                    (λ p c. released_alone r.w.holder r.w.is r.c still.0 r.there r.names (component p c) (same_place (component p c) (component r.w.holder r.c)) tt) r.nowhere,
+                r.unreferred,
+              );
+              rest = (r.runs, frees_well f.holds r.well);
+            },
+          ),
+        );
+      }
 
   -- Its initialization goes on, or what is left does.
   beginning : (done : List parts.Part) → f.treatment ≡ begins Creation done → Starting own f.held f.object f.access f.places f.after f.rooms f.holds → Beginning own (Names f.object) f.after s.heap f.places f.lower
@@ -316,6 +373,12 @@ module _ (program : Program) (well : IsWellFormed (program_form program)) (s : S
   ends_next cause end is held (inl r) = ends_first own f.object f.after _ s.heap f.places f.lower r.is (resting_ends cause end is held r)
   ends_next cause end is held (inr (inl r)) = ends_first own f.object f.after _ s.heap f.places f.lower r.is (undoing_ends cause end is held r)
   ends_next cause end is held (inr (inr r)) = ends_first own f.object f.after _ s.heap f.places f.lower r.is (emptying_ends cause end is held r)
+
+  -- So it is, whether it is held or a component owns it that is freed.
+  owned_ends : (cause : Cause) → IsEnd cause → f.treatment ≡ ends cause → RestsAsOwned own f.held f.watch f.object f.access f.home f.places f.after f.lower f.rooms f.holds
+      → EndsTo own (Names f.object) f.after s.heap f.places f.lower
+  owned_ends cause end is (inl (held, r)) = ends_next cause end is held r
+  owned_ends cause end is (inr r) = ends_first own f.object f.after _ s.heap f.places f.lower r.is (releasing_ends cause end is r)
 
   -- The copy is next, where a record in the object is assigned to.
   operands_are : f.operands ≡ b.operands
@@ -439,13 +502,13 @@ module _ (program : Program) (well : IsWellFormed (program_form program)) (s : S
         },
       )
 
-  ends_by : (cause : Cause) → f.treatment ≡ ends cause → RestsBy own cause f.held f.object f.access f.home f.places f.operands f.also f.after f.lower f.rooms f.holds → EndsBy own (Names f.object) cause f.after s.heap f.places b.operands f.lower
-  ends_by (Leaving m item) is (held, none_also, r) = ends_next (Leaving m item) tt is held r
-  ends_by (Freeing number) is (held, none_also, r) = ends_next (Freeing number) tt is held r
+  ends_by : (cause : Cause) → f.treatment ≡ ends cause → RestsBy own cause f.held f.watch f.object f.access f.home f.places f.operands f.also f.after f.lower f.rooms f.holds → EndsBy own (Names f.object) cause f.after s.heap f.places b.operands f.lower
+  ends_by (Leaving m item) is (none_also, r) = owned_ends (Leaving m item) tt is r
+  ends_by (Freeing number) is (none_also, r) = owned_ends (Freeing number) tt is r
   ends_by (Assigning number) is r = copies_next number is r
-  ends_by (Undoing number) is (held, none_also, r) = ends_next (Undoing number) tt is held r
+  ends_by (Undoing number) is (none_also, r) = owned_ends (Undoing number) tt is r
 
-  treats_by : (treatment : Treatment) → f.treatment ≡ treatment → Rests own treatment f.held f.object f.access f.home f.places f.operands f.also f.after f.lower f.rooms f.holds → TreatsBy own (Names f.object) treatment f.tasks f.after s.heap f.places b.operands f.lower
+  treats_by : (treatment : Treatment) → f.treatment ≡ treatment → Rests own treatment f.held f.watch f.object f.access f.home f.places f.operands f.also f.after f.lower f.rooms f.holds → TreatsBy own (Names f.object) treatment f.tasks f.after s.heap f.places b.operands f.lower
   treats_by (begins Creation done) is (creation, inl (none_also, r)) =
       let b = beginning done is r in (
         inl b,

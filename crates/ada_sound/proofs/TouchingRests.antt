@@ -1,5 +1,5 @@
--- An operation that touches storage is called for an object whose master is left (7.6.1), for one that a variable names which is freed (13.11.2), for one that a
--- declaration or an allocator creates (7.6), or for one of which a record is assigned to (5.2): what is behind that.
+-- An operation that touches storage is called for an object whose master is left (7.6.1), for one that a variable or a component names which is freed (13.11.2), for
+-- one that a declaration or an allocator creates (7.6), or for one of which a record is assigned to (5.2): what is behind that.
 
 use Rattle.std.proofs.Common.{◌≡◌, ℕ, Bool, true, false, List, [], ◌∷◌, ◌++◌, refl, sym, subst, ◌∙◌, ◌⊎◌, inl, inr, slice_set, None, ap, ◌≢◌}
 use Rattle.std.specs.Prelude.{Option, Some}
@@ -21,19 +21,23 @@ use Rattle.ada_parts.specs.Part as parts
 use Rattle.ada_meaning.specs.Frame.{Clears, ClearsIn, Copies, Ends, GivesBack, Leaves, Resumes, ends, begins, Stores, Declares, StoresIn, StoresRecord}
 use Rattle.ada_meaning.specs.Law.{items_of}
 use Rattle.ada_meaning.specs.State.{Owned, Item, Master}
-use Rattle.ada_meaning.specs.Named.{Object, object_at}
-use Rattle.ada_owners.specs.Places.{variable, elsewhere, access_at}
+use Rattle.ada_meaning.specs.Named.{Object, object_at, filled, store}
+use Rattle.ada_owners.specs.Places.{variable, elsewhere, access_at, access_in, is_there}
 use Rattle.ada_owners.specs.Reliance.{Owns, Borrows}
+use Rattle.ada_owners.proofs.Changes.{store_is}
 use Rattle.ada_owners.proofs.Ends.{IsUnnamed}
+use Rattle.ada_owners.proofs.Objects.{at_other, set_here}
 use Rattle.ada_scopes.proofs.Homes.{OwnedFits, ItemsFit}
 use Rattle.ada_sound.proofs.Endings.{among_by}
 use Rattle.ada_sound.proofs.Emptying.{lost_fit, lost_unaliased, null_there}
-use Rattle.ada_sound.proofs.Touching.{AwaitsAmong, IsNamedNowhere, Enters, Naming, Paused, Resting, RestsAtEnd, Starting, ended_object, RestsBy, StoresInto, ended_frees}
+use Rattle.ada_sound.proofs.Touching.{AwaitsAmong, IsNamedNowhere, Enters, Naming, Paused, Releases, Resting, RestsAsOwned, RestsAtEnd, Starting, Watch, ended_object, RestsBy, StoresInto, ended_frees}
 use Rattle.ada_sound.proofs.FrugalUseEnds.{any_end}
 use Rattle.ada_sound.proofs.Held.{FreeIf, emptied_hand, lost_hand, owner_or_not, unnamed_hand}
 use Rattle.ada_effects.specs.Effects.{endings_free, Implicit, assignment_frees}
-use Rattle.ada_sound.proofs.Fits.{Fit, IsRelied, Outsiders, hold_in, none_spared, in_front, lies_nowhere, outer_hold, outer_value_at, respare, place_at, sparing, stacked, IsReferred, Reference}
-use Rattle.ada_sound.proofs.Invariant.{Behind, CopiesBehind, Control, Ending, EndingBy, EndsTo, Freed, IsCopied, IsNewest, Known, LeavesTo, Roomed, Rooms, RunsOn, ThenBack, TreatsBy, WillBeCovered, below, innermost, outers, Beginning, CameOut, ResumesTo, BeginsWell, To, By, ways, gone_in, LiesAmong, LiesIn, StoresBehind, ClearsTo, FreesWell, IsCovered, IsNamedIn, AwaitsIn, GoesTo, Making}
+use Rattle.ada_sound.proofs.Fits.{Fit, IsRelied, Outsiders, component_access, hold_in, none_spared, in_front, lies_nowhere, outer_hold, outer_value_at, respare, place_at, sparing, stacked, store_owner, IsReferred, Reference}
+use Rattle.ada_sound.proofs.Invariant.{Behind, CopiesBehind, Control, Ending, EndingBy, EndsTo, Freed, IsCopied, IsNewest, Known, LeavesTo, Roomed, Rooms, RunsOn, ThenBack, TreatsBy, WillBeCovered, below, innermost, outers, Beginning, CameOut, ResumesTo, BeginsWell, To, By, ways, gone_in, LiesAmong, LiesIn, StoresBehind, ClearsTo, FreesWell, IsCovered, EndsBeside, EndsWellBy, AwaitsIn, GoesTo, Making}
+use Rattle.ada_sound.proofs.NoneHidden.{set_itself}
+use Rattle.ada_sound.proofs.Objects.{set_twice}
 use Rattle.ada_sound.proofs.Items.{Counted, HasItem, Houses, newest_is}
 use Rattle.ada_sound.proofs.Stored.{Stored, exists_out}
 use Rattle.ada_finalized.proofs.Standing.{nothing_begins, AdjustsAlone}
@@ -50,12 +54,19 @@ IsEnd (Freeing number) = Unit {0}
 IsEnd (Assigning number) = ⊥
 IsEnd (Undoing number) = Unit {0}
 
+-- What is behind the end of an object, by who owns it, is behind its finalization, whatever ends it.
+rests_as_owned : (known : Known) (cause : Cause) → IsEnd cause → (held : Bool) (watch : Option Watch) (o : Id) (access : ℕ) (home : Home) (places operands : List Value) (after : Control) (lower : List Master) (rooms : Rooms) (holds : Holds)
+    → RestsAsOwned known held watch o access home places after lower rooms holds → RestsBy known cause held watch o access home places operands [] after lower rooms holds
+rests_as_owned known (Leaving m item) end held watch o access home places operands after lower rooms holds r = (refl, r)
+rests_as_owned known (Freeing number) end held watch o access home places operands after lower rooms holds r = (refl, r)
+rests_as_owned known (Assigning number) end held watch o access home places operands after lower rooms holds r = absurd end
+rests_as_owned known (Undoing number) end held watch o access home places operands after lower rooms holds r = (refl, r)
+
+-- So it is where the object is held.
 rests_at_end : (known : Known) (cause : Cause) → IsEnd cause → (o : Id) (access : ℕ) (home : Home) (places operands : List Value) (after : Control) (lower : List Master) (rooms : Rooms) (holds : Holds)
-    → RestsAtEnd known o access home places after lower rooms holds → RestsBy known cause true o access home places operands [] after lower rooms holds
-rests_at_end known (Leaving m item) end o access home places operands after lower rooms holds r = (refl, refl, r)
-rests_at_end known (Freeing number) end o access home places operands after lower rooms holds r = (refl, refl, r)
-rests_at_end known (Assigning number) end o access home places operands after lower rooms holds r = absurd end
-rests_at_end known (Undoing number) end o access home places operands after lower rooms holds r = (refl, refl, r)
+    → RestsAtEnd known o access home places after lower rooms holds → RestsBy known cause true None o access home places operands [] after lower rooms holds
+rests_at_end known cause end o access home places operands after lower rooms holds r =
+    rests_as_owned known cause end true None o access home places operands after lower rooms holds (inl (refl, r))
 
 stored_at_end : (cause : Cause) → IsEnd cause → (o : Id) (under : List Id) (heap : List Object) (masters : List Master) → Stored (o ∷ under) heap masters → Stored (ended_object cause o ++ under) heap masters
 stored_at_end (Leaving m item) end o under heap masters stored = stored
@@ -90,6 +101,20 @@ named_nowhere outer spared heap places holds o none = record {
       elim (relied_apart (outer_hold (slice_get outer.suspended d) x) relied) [ inl own ↦ none.unowned (elsewhere d x) own at | inr b ↦ none.unborrowed (elsewhere d x) b at ]
       );
 }
+
+-- A component that gets the value again that it had before it was null is as it was.
+filled_again : (x : Object) (c : ℕ) (v : Value) → slice_get x.cell.values c ≡ Some v → filled c v (filled c Null x) ≡ x
+filled_again x c v at =
+    ap (λ (values : List Value). record x { cell = record (x.cell) { values = values } }) (set_twice x.cell.values c Null v ∙ set_itself x.cell.values c v at)
+
+-- So are the objects.
+stored_again : (heap : List Object) (p : Id) (x : Object) (c : ℕ) (v : Value) → object_at heap p ≡ Some x → slice_get x.cell.values c ≡ Some v
+    → store (store heap (Names p) c Null) (Names p) c v ≡ heap
+stored_again heap p x c v found at =
+    ap (λ (objects : List Object). store objects (Names p) c v) (store_is heap p x found c Null)
+    ∙ (store_is (slice_set heap p.0 (filled c Null x)) p (filled c Null x) (set_here heap p.0 x (filled c Null x) found) c v
+    ∙ (set_twice heap p.0 (filled c Null x) (filled c v (filled c Null x))
+    ∙ (ap (λ (y : Object). slice_set heap p.0 y) (filled_again x c v at) ∙ set_itself heap p.0 x found)))
 
 module _ (known : Known) (under : List Id) (heap : List Object) (o : Id) (x : Object) (found : object_at heap o ≡ Some x) (out : x.out ≡ true) (ahead : (owned : Owned) → Houses owned x.cell.access x.cell.home.pool → OwnedFits known.program.types owned → known.ahead owned ≡ true) (m : Master) (ms : List Master) (stored : Stored under heap (m ∷ ms)) (fits : ItemsFit known.program.types (items_of (m ∷ ms))) where
   -- The newest item is the home of the object, so it is of a type that the master may own; and no item is in front of it.
@@ -173,6 +198,8 @@ module _ (known : Known) (o : Id) (x : Object) (heap : List Object) (found : obj
       waits = paused_here;
       held = true;
       hand = unnamed_hand (outers known) heap o x.cell.access is_of (sparing known.ahead heap (innermost masters)) places r.holds (λ k. rw left (sym (lies_nowhere (object_at heap k)))) r.aside.0;
+      watch = None;
+      spared = tt;
       rests = rests_at_end known cause end o x.cell.access x.cell.home places operands behind_it masters r.rooms r.holds (inl resting_here);
       fit = respare (sparing known.ahead heap (innermost masters)) none_spared (λ k c p e. rw left (lies_nowhere (object_at heap k))) r.fit;
       stored = stored_at_end cause end o (outers known).under heap masters stored;
@@ -186,8 +213,8 @@ module _ (known : Known) (o : Id) (x : Object) (heap : List Object) (found : obj
     at_rest_here : (cause : Cause) → IsEnd cause → Enters known (ends cause) o x behind_it heap places operands masters
     at_rest_here cause end = by_rooms cause end r.rooms refl r.roomed r.rest
 
-  -- In a program in which operations may touch storage, an object with controlled parts ends where its master is left, where a variable is freed that names it, and
-  -- where an exception comes out of its initialization: no component is freed that names it, and it does not count as gone already.
+  -- In a program in which operations may touch storage, an object with controlled parts ends where its master is left, where a variable or a component is freed that
+  -- names it, and where an exception comes out of its initialization: it does not count as gone already.
   module _ (ahead : (owned : Owned) → Houses owned x.cell.access x.cell.home.pool → OwnedFits known.program.types owned → known.ahead owned ≡ true)
       (touches : known.touches x.cell.access ≡ true)
       (starts : (access t : ℕ) → known.implicit.end_frees access t ≡ true → known.implicit.start_frees access t ≡ true) (way : Cause) (end : IsEnd way) where
@@ -213,6 +240,8 @@ module _ (known : Known) (o : Id) (x : Object) (heap : List Object) (found : obj
       };
       held = true;
       hand = unnamed_hand (outers known) heap o x.cell.access is_of none_spared places r.holds (λ k. refl) r.aside.0;
+      watch = None;
+      spared = tt;
       rests = rests_at_end known way end o x.cell.access x.cell.home places operands (Ends (Names o) ∷ GivesBack (Names o) (Undoing number) x.cell.home.pool ∷ Resumes mode ∷ rest) masters r.rooms r.holds (inr (inl (record {
         number = number;
         mode = mode;
@@ -271,6 +300,8 @@ module _ (known : Known) (o : Id) (x : Object) (heap : List Object) (found : obj
           };
           held = true;
           hand = emptied_hand (outers known) heap o x.cell.access is_of places r.holds y r.aside.0;
+          watch = None;
+          spared = tt;
           rests = rests_at_end known way end o x.cell.access x.cell.home places operands (Ends (Names o) ∷ GivesBack (Names o) (Freeing number) x.cell.home.pool ∷ Clears y ∷ k) masters r.rooms (slice_set r.holds y hold.Lost) (inr (inr (record {
             number = number;
             x = y;
@@ -296,21 +327,102 @@ module _ (known : Known) (o : Id) (x : Object) (heap : List Object) (found : obj
           kept = none_kept (known.implicit.end_frees x.cell.access);
         }
 
-    -- No component is freed that names it.
-    never_named : (v : Value) (c : ℕ) → IsNamedIn known heap v c (Some o) → ⊥
-    never_named Null c r = r
-    never_named (Names p) c (holder, object, at, there, is, never) =
-        let one : object ≡ x = cc (there, found) in
-        let untouched : known.touches x.cell.access ≡ false = rw one at never in
-        cc (untouched, touches)
-    never_named (Scalar n) c r = r
-    never_named (Part p place) c r = r
+    -- A component is freed that names it, of another object, which operations leave alone that touch storage: the component owns it still.
+    module _ (number : ℕ) (p : Id) (c : ℕ) (k : Control) (covered : IsCovered known.implicit known.program (Freeing number) x.cell.access) (untreated : NothingTreated k) (stored : Stored (o ∷ (outers known).under) heap masters)
+        (other : p ≢ o) (holder : Object) (at : object_at heap p ≡ Some holder) (there : is_there holder.stage ≡ true) (of_type : component_access known.program.types holder c ≡ Some x.cell.access) (names : slice_get holder.cell.values c ≡ Some (Names o))
+        (beside : EndsBeside known x.cell.access holder.cell.access) (r : Freed known (Some o) none_spared (store heap (Names p) c Null) places masters (λ rooms holds. RunsOn known k rooms holds × FreesWell known heap (Some o) holds)) where
+      -- What is left behind the end of the object.
+      abbrev behind_release : Control
+      behind_release = Ends (Names o) ∷ GivesBack (Names o) (Freeing number) x.cell.home.pool ∷ ClearsIn (Names p) c ∷ k
+
+      -- The holder, once the component is null.
+      cleared : object_at (store heap (Names p) c Null) p ≡ Some (filled c Null holder)
+      cleared = rw (store_is heap p holder at c Null) (set_here heap p.0 holder (filled c Null holder) at)
+
+      -- The object is there then.
+      still_of : access_at (store heap (Names p) c Null) o ≡ Some x.cell.access
+      still_of = rw (store_is heap p holder at c Null) (ap access_in (at_other heap p o (filled c Null holder) (λ same. other (sym same))) ∙ is_of)
+
+      -- So the component can own it again, as it does.
+      fit_before : Fit known.program.types known.program.variables (outers known) none_spared heap places r.holds
+      fit_before =
+          subst (λ (objects : List Object). Fit known.program.types known.program.variables (outers known) none_spared objects places r.holds) (stored_again heap p holder c (Names o) at names)
+          (store_owner p (filled c Null holder) c (Names o) cleared there (rw of_type (unnamed_hand (outers known) (store heap (Names p) c Null) o x.cell.access still_of none_spared places r.holds (λ q. refl) r.aside.0)) r.fit)
+
+      -- Of what its end may free, nothing else has an alias.
+      well_here : EndsWellBy known x.cell.access r.holds
+      well_here = r.rest.1 x found
+
+      -- The holder is watched.
+      abbrev watched_here : Watch
+      watched_here = record { holder = p; is = holder }
+
+      -- What is behind it is known.
+      releases_here : Releases known (Some watched_here) o x.cell.access x.cell.home places behind_release r.rooms r.holds
+      releases_here = record {
+        number = number;
+        c = c;
+        rest = k;
+        w = watched_here;
+        watched = refl;
+        is = refl;
+        other = other;
+        there = there;
+        of_type = of_type;
+        names = names;
+        beside = beside;
+        runs = r.rest.0;
+        well = well_here;
+        covered = covered;
+        nowhere = named_nowhere (outers known) none_spared (store heap (Names p) c Null) places r.holds o r.aside.0;
+        unreferred = r.aside.1;
+        untreated = untreated;
+      }
+
+      -- So its finalization may call such an operation.
+      released_here : Enters known (ends way) o x behind_release heap places operands masters
+      released_here = record {
+        rooms = r.rooms;
+        holds = r.holds;
+        also = [];
+        there = none_others;
+        waits = record {
+          parted = not_bare;
+          untreated = λ v ne. nothing_begins v k untreated;
+          roomed = r.roomed;
+          said = r.fit.said;
+          objects = r.fit.objects;
+        };
+        held = false;
+        hand = tt;
+        watch = Some watched_here;
+        spared = (at, other, (beside touches).0, (beside touches).1);
+        rests = rests_as_owned known way end false (Some watched_here) o x.cell.access x.cell.home places operands behind_release masters r.rooms r.holds (inr releases_here);
+        fit = fit_before;
+        stored = stored_at_end way end o (outers known).under heap masters stored;
+        may = known.implicit.end_frees x.cell.access;
+        includes = λ t is. frees_at_end known.implicit way end x.cell.access behind_release t is;
+        spares = well_here.0;
+        unaliased = well_here.1;
+        kept = none_kept (known.implicit.end_frees x.cell.access);
+      }
+
+    -- So it is, whatever leads to the component.
+    releasing : (number : ℕ) (v : Value) (c : ℕ) (k : Control) → IsCovered known.implicit known.program (Freeing number) x.cell.access → NothingTreated k → Stored (o ∷ (outers known).under) heap masters → ClearsTo known (Some o) heap places masters (ClearsIn v c ∷ k)
+        → Enters known (ends way) o x (Ends (Names o) ∷ GivesBack (Names o) (Freeing number) x.cell.home.pool ∷ ClearsIn v c ∷ k) heap places operands masters
+    releasing number Null c k covered untreated stored r = absurd r.2
+    releasing number (Names p) c k covered untreated stored ((y, at_y, there), other, (holder, object, at, found', of_type, names, beside), r) =
+        let same : y ≡ holder = cc (at_y, at) in
+        let one : object ≡ x = cc (found', found) in
+        released_here number p c k covered untreated stored (λ is. other (ap Names is)) holder at (rw same at there) (rw one at of_type) names (rw one at beside) r
+    releasing number (Scalar n) c k covered untreated stored r = absurd r.2
+    releasing number (Part p place) c k covered untreated stored r = absurd r.2
 
     freeing : (number : ℕ) (pool : Option ℕ) (k : Control) → pool ≡ x.cell.home.pool → IsCovered known.implicit known.program (Freeing number) x.cell.access → NothingTreated k → Stored (o ∷ (outers known).under) heap masters → ClearsTo known (Some o) heap places masters k
         → Enters known (ends way) o x (Ends (Names o) ∷ GivesBack (Names o) (Freeing number) pool ∷ k) heap places operands masters
     freeing number pool [] from covered untreated stored r = absurd r
     freeing number pool (Clears y ∷ k) from covered untreated stored r = rw from (emptying number y k covered untreated stored r)
-    freeing number pool (ClearsIn v c ∷ k) from covered untreated stored r = absurd (never_named v c r.2)
+    freeing number pool (ClearsIn v c ∷ k) from covered untreated stored r = rw from (releasing number v c k covered untreated stored r)
     freeing number pool (f ∷ k) from covered untreated stored r = absurd r
 
     by_cause : (cause : Cause) (pool : Option ℕ) (k : Control) → pool ≡ x.cell.home.pool → WillBeCovered known.implicit known.program x.cell.access (GivesBack (Names o) cause pool ∷ k) → Stored (o ∷ (outers known).under) heap masters → x.out ≡ true → NothingTreated k → Behind known cause (Some o) x.cell.home.item heap places masters k → Enters known (ends way) o x (Ends (Names o) ∷ GivesBack (Names o) cause pool ∷ k) heap places operands masters
@@ -389,6 +501,8 @@ module _ (known : Known) (o : Id) (x : Object) (heap : List Object) (found : obj
               };
               held = false;
               hand = tt;
+              watch = None;
+              spared = tt;
               rests = record {
                 first = first;
                 record_type = t;
@@ -438,6 +552,8 @@ module _ (known : Known) (o : Id) (x : Object) (heap : List Object) (found : obj
     };
     held = held;
     hand = hand;
+    watch = None;
+    spared = tt;
     rests = (refl, behind);
     fit = fit;
     stored = stored;

@@ -22,7 +22,7 @@ use Rattle.ada_meaning.specs.State.{Master}
 use Rattle.ada_meaning.specs.Step.{treating}
 use Rattle.ada_meaning.specs.Named.{State, Object, object_at}
 use Rattle.ada_sound.proofs.Finalization.{parts_alive}
-use Rattle.ada_sound.proofs.Touching.{Touching, RestsAtEnd, RestsBy}
+use Rattle.ada_sound.proofs.Touching.{Touching, RestsAsOwned, RestsAtEnd, RestsBy}
 use Rattle.ada_sound.proofs.FrugalControl.{Frugal, FrugalLeads}
 use Rattle.ada_sound.proofs.Invariant.{Control}
 use Rattle.ada_meaning.specs.declared.state.Id.{Id}
@@ -164,11 +164,15 @@ touching_unlisted program s reached f ends_next cause end is = go f.x.listed ref
     before_by (inr (inl undoes)) = rw (undoes.is) (refl, undoes.untreated)
     before_by (inr (inr empties)) = rw (empties.is) (refl, empties.untreated)
 
-    before_end : (by : Cause) → IsEnd by → RestsBy (known_in program f.procedure f.suspensions) by f.held f.object f.access f.home f.places f.operands f.also f.after f.lower f.rooms f.holds → EndsObject
-    before_end (Leaving m item) e r = before_by r.2
-    before_end (Freeing number) e r = before_by r.2
+    before_owned : RestsAsOwned (known_in program f.procedure f.suspensions) f.held f.watch f.object f.access f.home f.places f.after f.lower f.rooms f.holds → EndsObject
+    before_owned (inl (held, resting)) = before_by resting
+    before_owned (inr releases) = rw (releases.is) (refl, releases.untreated)
+
+    before_end : (by : Cause) → IsEnd by → RestsBy (known_in program f.procedure f.suspensions) by f.held f.watch f.object f.access f.home f.places f.operands f.also f.after f.lower f.rooms f.holds → EndsObject
+    before_end (Leaving m item) e r = before_owned r.1
+    before_end (Freeing number) e r = before_owned r.1
     before_end (Assigning number) e r = absurd e
-    before_end (Undoing number) e r = before_by r.2
+    before_end (Undoing number) e r = before_owned r.1
 
     before : EndsObject
     before = before_end cause end (rw is at f.rests)

@@ -2,6 +2,7 @@
 
 use Rattle.std.proofs.Common.{◌≡◌, ℕ, Bool, true, false, not, ◌&&◌, List, ◌∷◌, refl, sym, ap, subst, ◌∙◌, []}
 use Rattle.std.specs.Prelude.{Option, Some, None}
+use Rattle.std.specs.List.{slice_get}
 use Rattle.std.specs.Option.{option_map}
 use Rattle.std.proofs.lemmas.Option.{slice_get-map}
 use Rattle.ada_deeds.specs.Implicit.{implicit_of}
@@ -10,7 +11,7 @@ use Rattle.ada_finalized.proofs.Standing.{AdjustsAlone, adjusts_alone, untreated
 use Rattle.ada_parts.specs.Task.{Task}
 use Rattle.ada_program.specs.declared.program.Program.{Program}
 use Rattle.ada_program.specs.Controlled.{operations_of}
-use Rattle.ada_program.specs.ProgramForm.{TypeForm, ProgramForm, program_form, body_forms, seen_by, seen_in}
+use Rattle.ada_program.specs.ProgramForm.{TypeForm, BodyForm, ProgramForm, program_form, body_forms, seen_by, seen_in}
 use Rattle.ada_program.specs.WellFormed.{finalization_of, is_access, variable_kind, object_named, IsWellFormed}
 use Rattle.ada_quiet.specs.Bare.{has_bare_objects}
 use Rattle.ada_quiet.specs.Frugal.{is_frugal_body, thrift_of}
@@ -19,6 +20,7 @@ use Rattle.ada_meaning.specs.declared.event.Birth.TheVariants.{Creation, Copy, A
 use Rattle.ada_program.specs.declared.program.Exception.{Exception}
 use Rattle.ada_meaning.specs.declared.state.Id.{Id}
 use Rattle.ada_meaning.specs.declared.state.Mode.TheVariants.{Running}
+use Rattle.ada_meaning.specs.declared.state.Place.{Place}
 use Rattle.ada_meaning.specs.declared.state.Value.{Value}
 use Rattle.ada_meaning.specs.declared.state.Value.TheVariants.{Names, Part}
 use Rattle.ada_meaning.specs.Frame.{Treatment, Treats, begins, ends, Copies, Ends}
@@ -28,6 +30,14 @@ use Rattle.ada_meaning.specs.State.{Activation, Owned, declared, collection, rec
 use Rattle.ada_meaning.specs.Step.{operating}
 use Rattle.ada_meaning.specs.Named.{Object, State, object_at, named}
 use Rattle.ada_owners.specs.Places.{access_at}
+use Rattle.ada_owners.proofs.Objects.{id_is}
+use Rattle.ada_parts.proofs.Facts.{eq_self}
+use Rattle.ada_reaching.proofs.Law.{operation_reaches}
+use Rattle.ada_reaching.specs.Forms.{body_shuns}
+use Rattle.ada_reaching.specs.Law.{AreApart}
+use Rattle.ada_reaching.specs.Reaching.{IsOfShunned, IsReaching}
+use Rattle.ada_tracked.proofs.Lists.{apart_is, is_same}
+use Rattle.ada_typed.proofs.Lying.{IsOperable}
 use Rattle.ada_meaning.specs.Run.{Event}
 use Rattle.ada_scopes.proofs.Components.{items_fit}
 use Rattle.ada_scopes.proofs.Homes.{ItemsFit, OwnedFits}
@@ -38,14 +48,17 @@ use Rattle.ada_typed.proofs.Kept.{behind_call}
 use Rattle.ada_typed.proofs.Overridings.{OperationFor, beginning_for, ending_for}
 use Rattle.ada_sound.proofs.Alters.{Alters}
 use Rattle.ada_sound.proofs.Callers.{Suspension, known_in, Stands, callers_of}
-use Rattle.ada_sound.proofs.Touching.{Enters, Touching}
+use Rattle.ada_sound.proofs.Shunning.{finalize_shuns}
+use Rattle.ada_sound.proofs.Touching.{Enters, IsSpared, Touching, Watch, Watched, is_watched, watches}
 use Rattle.ada_sound.proofs.Trackers.{touches_apart}
 use Rattle.ada_sound.proofs.TouchingBegins.{IsAlone, alone, touching_begins}
 use Rattle.ada_sound.proofs.TouchingRests.{IsEnd, assigns_by, at_start, ends_by}
 use Rattle.ada_sound.proofs.Fits.{IsWithin, access_is}
 use Rattle.ada_sound.proofs.AssignedParts.{treated_frees_of, IsAssignedBehind}
 use Rattle.ada_sound.proofs.BareObjects.{allocated_is_bare, holder_is_not_bare, operable_is_not_bare}
-use Rattle.ada_sound.proofs.QuietOperations.{LetsNone, MayTouch}
+use Rattle.ada_sound.proofs.QuietOperations.{LetsNone, MayTouch, TouchesStorage}
+use Rattle.ada_sound.proofs.CalmObjects.{calm_finalize, calm_initialize}
+use Rattle.ada_quiet.specs.Calm.{are_calm_in}
 use Rattle.ada_sound.proofs.Items.{Houses}
 use Rattle.ada_sound.proofs.FrugalUseEnds.{ends_in_starts}
 use Rattle.ada_sound.proofs.FrugalUseLets.{touches_let}
@@ -126,7 +139,7 @@ module _ (program : Program) (a : Activation Value) (rest : List (Activation Val
         subst (λ (types : List TypeForm). ItemsFit types (items_of s.masters)) (sym (same_types a.procedure p)) (rw same at fits)
 
     -- What waits for it, by what is treated.
-    module _ (may : may_be_frugal p ≡ true) (o : Id) (x : Object) (heap : List Object) (named : v ≡ Names o) (found : object_at heap o ≡ Some x) (is_of : access_at heap o ≡ Some x.cell.access) (not_bare : has_bare_objects known.program.types x.cell.access ≡ false) where
+    module _ (may : may_be_frugal p ≡ true) (o : Id) (x : Object) (heap : List Object) (named : v ≡ Names o) (found : object_at heap o ≡ Some x) (is_of : access_at heap o ≡ Some x.cell.access) (not_bare : has_bare_objects known.program.types x.cell.access ≡ false) (not_calm : are_calm_in p x.cell.access ≡ false) where
       -- The home of the object is an item for whose objects an operation may be called that touches storage.
       goes_ahead : (owned : Owned) → Houses owned x.cell.access x.cell.home.pool → OwnedFits known.program.types owned → known.ahead owned ≡ true
       goes_ahead (declared y) houses fits = absurd houses
@@ -142,13 +155,16 @@ module _ (program : Program) (a : Activation Value) (rest : List (Activation Val
           of_access : is_access p.types t ≡ true
           of_access = subst (λ (types : List TypeForm). is_access types t ≡ true) (same_types a.procedure p) fits
 
-          by : (b : Bool) → may_allocate_parts p ≡ b → (may_allocate_parts p && not (has_bare_objects p.types t)) ≡ true
-          by true allocates = rw (allocates, parted) refl
+          other : are_calm_in p t ≡ false
+          other = subst (λ (access : ℕ). are_calm_in p access ≡ false) (sym houses.0) not_calm
+
+          by : (b : Bool) → may_allocate_parts p ≡ b → (may_allocate_parts p && not (are_calm_in p t)) ≡ true
+          by true allocates = rw (allocates, other) refl
           by false none = let bare = allocated_is_bare program sound.well may none t of_access in absurd (cc (bare, parted))
 
       -- An operation may be called for it that touches storage.
       touches : known.touches x.cell.access ≡ true
-      touches = let parted = not_bare in let bare : has_bare_objects p.types x.cell.access ≡ false = rw (same_types a.procedure p) at parted in rw (may, bare) refl
+      touches = rw (may, not_calm) refl
 
       ends_for : (cause : Cause) → IsEnd cause → ends cause ≡ treatment → EndsTo known (Names o) k heap a.places s.masters → Enters known (ends cause) o x k heap a.places a.operands s.masters
       ends_for cause end one treats =
@@ -169,13 +185,61 @@ module _ (program : Program) (a : Activation Value) (rest : List (Activation Val
           (control_by (ends (Assigning number)) one ∙ ap (λ (j : Control). Treats v (ends (Assigning number)) tasks ∷ j) at)))
       enters (ends (Undoing number)) left one may' treats = ends_for (Undoing number) tt one treats
 
-    pub touching_starts : (e : Event) (after : State) (c : Begins known a rest s program.types.items (body_forms program) k IsOperated e after) → MayTouch c.treatment → may_be_frugal p ≡ true → LetsNone p c.treatment c.b → is_frugal_body (thrift_of p) c.b ≡ true → typed.Typed p after → Touching program after
-    touching_starts e after c touches may silent frugal typing =
+    -- What is watched, if something is, is left alone by the body of a Finalize that begins, and by those that it calls.
+    watched_begins : (by : Treatment) (watch : Option Watch) (o : Id) (access of part number : ℕ) (b : BodyForm) (place : Place) (behind : Control) (heap : List Object) → IsOperable p.types access of part
+        → IsCalled (operations_of program.types.items of) by number → slice_get (body_forms program) number ≡ Some b → is_frugal_body (thrift_of p) b ≡ true → IsSpared known by o access heap watch
+        → Watched p watch behind (operating named number b (Part o place) behind (record s { activations = a ∷ rest; heap = heap; mode = Running }))
+    watched_begins by None o access of part number b place behind heap operable called there frugal spared = tt
+    watched_begins (begins by done) (Some w) o access of part number b place behind heap operable called there frugal spared = absurd spared
+    watched_begins (ends cause) (Some w) o access of part number b place behind heap operable called there frugal (at, other, accessed, apart) = (at, (shunned.0, shunned.1, reaching))
+      where
+        -- The procedures that it calls are among some whose bodies neither follow nor free values of the type of what is watched.
+        shunned : (among : ℕ → Bool) × AreApart p (watches (Some w)) among × (body_shuns p.types (watches (Some w)) among b ≡ true)
+        shunned = finalize_shuns program sound.well access of part number w.is.cell.access b operable called there frugal apart
+
+        -- That is an access type.
+        is_access_here : is_access p.types w.is.cell.access ≡ true
+        is_access_here = subst (λ (types : List TypeForm). is_access types w.is.cell.access ≡ true) (same_types a.procedure p) accessed
+
+        -- What is watched is there.
+        ghosts_there : (q : Id) → is_watched (Some w) q ≡ true → IsOfShunned p.types (watches (Some w)) (object_at heap q)
+        ghosts_there q is = record {
+          object = w.is;
+          there = subst (λ (r : Id). object_at heap r ≡ Some w.is) (id_is w.holder q (is_same w.holder.0 q.0 is)) at;
+          shunned = eq_self w.is.cell.access;
+          accessed = is_access_here;
+        }
+
+        -- The body begins so, for a part of another object.
+        reaching : IsReaching p (watches (Some w)) shunned.0 (is_watched (Some w)) behind (operating named number b (Part o place) behind (record s { activations = a ∷ rest; heap = heap; mode = Running }))
+        reaching =
+            operation_reaches p (watches (Some w)) shunned.0 (is_watched (Some w)) number b (Part o place) behind (record s { activations = a ∷ rest; heap = heap; mode = Running }) there shunned.2 ghosts_there
+            (apart_is w.holder.0 o.0 (λ same. other (id_is w.holder o same)))
+
+    -- The object is not calm: for calm ones an Initialize is plain, and a Finalize quiet.
+    other_object : (access of part number : ℕ) (b : BodyForm) (by : Treatment) → IsOperable p.types access of part → MayTouch by → IsCalled (operations_of program.types.items of) by number
+        → slice_get (body_forms program) number ≡ Some b → TouchesStorage p by b → are_calm_in p access ≡ false
+    other_object access of part number b by operable may called there touches = go (are_calm_in p access) refl by may called touches
+      where
+        go : (calm' : Bool) → are_calm_in p access ≡ calm' → (treated : Treatment) → MayTouch treated → IsCalled (operations_of program.types.items of) treated number
+            → TouchesStorage p treated b → are_calm_in p access ≡ false
+        go false none treated may' called' touches' = none
+        go true is_calm (begins Creation done) may' called' touches' =
+            let plain = calm_initialize program sound.well access of part number b operable is_calm called' there in absurd (cc (plain, touches'))
+        go true is_calm (begins Copy done) may' called' touches' = absurd may'
+        go true is_calm (begins (Adjustment n) done) may' called' touches' = absurd may'
+        go true is_calm (ends cause) may' called' touches' =
+            let quiet = calm_finalize program sound.well access of part number b operable is_calm called' there in absurd (cc (quiet, touches'))
+
+    pub touching_starts : (e : Event) (after : State) (c : Begins known a rest s program.types.items (body_forms program) k IsOperated e after) → MayTouch c.treatment → may_be_frugal p ≡ true → LetsNone p c.treatment c.b → is_frugal_body (thrift_of p) c.b ≡ true → TouchesStorage p c.treatment c.b
+        → typed.Typed p after → Touching program after
+    touching_starts e after c touches may silent frugal stores typing =
         let operated = c.operated.1 in
         let of_type : c.x.cell.access ≡ operated.0 = kept_type s.heap c.heap e c.o c.x operated.0 c.alters c.found operated.2 in
         let parted : has_bare_objects p.types c.x.cell.access ≡ false = rw of_type (operable_is_not_bare program sound.well operated.0 c.of operated.1 operated.3) in
+        let not_calm : are_calm_in p c.x.cell.access ≡ false = rw of_type (other_object operated.0 c.of operated.1 c.number c.b c.treatment operated.3 touches c.called c.there stores) in
         let at : Enters known c.treatment c.o c.x k c.heap a.places a.operands s.masters =
-        enters may c.o c.x c.heap c.operated.3 c.found (access_is c.heap c.o c.x c.found (live_there c.x.stage c.live)) (subst (λ (types : List TypeForm). has_bare_objects types c.x.cell.access ≡ false) (sym (same_types a.procedure p)) parted) c.treatment c.tasks c.operated.0 touches c.treats in
+        enters may c.o c.x c.heap c.operated.3 c.found (access_is c.heap c.o c.x c.found (live_there c.x.stage c.live)) (subst (λ (types : List TypeForm). has_bare_objects types c.x.cell.access ≡ false) (sym (same_types a.procedure p)) parted) not_calm c.treatment c.tasks c.operated.0 touches c.treats in
         let operation = operation_for program sound.well c.of c.number c.treatment touches c.called in
         let body : operation.body ≡ c.b = let found = operation.there in let there = c.there in cc (found, there) in
         let lone : IsAlone c.b = alone c.b operation.object (rw body at operation.formals) in
@@ -191,4 +255,5 @@ module _ (program : Program) (a : Activation Value) (rest : List (Activation Val
         let lets : (raised : Exception) → body_among (implicit_of p) (seen_in (Some c.number) p) raised ≡ true → lets_out (implicit_of p) c.x.cell.access c.treatment raised ≡ true =
         touches_let program sound.well c.x.cell.access c.of operated.1 c.number c.b (rw of_type operated.3) c.treatment touches silent c.called c.there frugal in
         rw c.is (touching_begins program sound.well sound.obeys c.number (touches_apart program sound.obeys.0 c.of c.number c.treatment touches c.called) c.b c.there may frugal lone a rest gs s k c.o c.x c.heap c.found (live_there c.x.stage c.live) c.place within c.treatment at c.behind frees lets e c.of c.tasks c.alters waits (is_awaited p.types c.o c.of c.treatment c.tasks k c.behind waits) stands
-        (calm_behind p.types c.o c.of c.treatment c.tasks k c.behind waits calm) settled)
+        (calm_behind p.types c.o c.of c.treatment c.tasks k c.behind waits calm) settled
+        (watched_begins c.treatment at.watch c.o c.x.cell.access c.of operated.1 c.number c.b c.place c.behind c.heap (rw of_type operated.3) c.called c.there frugal at.spared))

@@ -43,10 +43,11 @@ use Rattle.ada_sound.proofs.TracksWell.{copies_at, allocates_at, called_apart}
 use Rattle.ada_sound.proofs.Starts.{Sound}
 use Rattle.ada_sound.proofs.Steps as inside
 use Rattle.ada_sound.proofs.Stored.{IsUnder}
-use Rattle.ada_sound.proofs.Touching.{AreCalls, Touching, called_by, origin, waiting_for, under_way}
+use Rattle.ada_sound.proofs.Touching.{AreCalls, Touching, Watched, called_by, origin, waiting_for, under_way}
 use Rattle.ada_sound.proofs.TouchingEnds.{touching_ends}
 use Rattle.ada_sound.proofs.TouchingLeaves.{touching_leaves}
 use Rattle.ada_sound.proofs.TouchingStands.{touching_frees, touching_stands, touching_unlisted}
+use Rattle.ada_sound.proofs.TouchingWatched.{watched_stays}
 use Rattle.ada_sound.proofs.Waiting.{SameBody, stands_kept}
 
 -- The body runs behind a step, or one that it has called; and what that does to objects.
@@ -93,9 +94,9 @@ module _ (program : Program) (s : State) (f : Touching program s) where
   -- Whatever is called from now on, and whoever goes on: the same object is treated.
   touching_on :
       (inner : List Suspension) (e : Event) (after : State) → AreCalls inner → called_by (running_procedure after) inner ≡ Some f.number
-      → operands_of (drop (suc (length inner)) after.activations) ≡ f.operands → Frugally frugal f.lower f.behind after
+      → operands_of (drop (suc (length inner)) after.activations) ≡ f.operands → Frugally frugal f.lower f.behind after → Watched p f.watch f.behind after
       → CrossesTo program (inner ++ origin program s f ∷ f.suspensions) s.heap e after → InTouching program s.heap e after
-  touching_on inner e after calls operates computed goes c =
+  touching_on inner e after calls operates computed goes still c =
       let y = c.stepped.alters.kept f.object f.x f.found in
       record {
         body = record {
@@ -131,6 +132,8 @@ module _ (program : Program) (s : State) (f : Touching program s) where
           operands = f.operands;
           computed = computed;
           held = f.held;
+          watch = f.watch;
+          still = still;
           rests = f.rests;
           stands = c.stands;
           calm = f.calm;
@@ -144,21 +147,21 @@ module _ (program : Program) (s : State) (f : Touching program s) where
       }
 
   -- Where the same body runs on.
-  stays_on : (e : Event) (after : State) → SameBody s after → Stepped (known_in program (running_procedure s) (waiting_for program s f)) s.heap e after → Frugally frugal f.lower f.behind after → InTouching program s.heap e after
-  stays_on e after same st goes =
+  stays_on : (e : Event) (after : State) → SameBody s after → Stepped (known_in program (running_procedure s) (waiting_for program s f)) s.heap e after → Frugally frugal f.lower f.behind after → Watched p f.watch f.behind after → InTouching program s.heap e after
+  stays_on e after same st goes still =
       let all = waiting_for program s f in
       touching_on f.inner e after f.calls (ap (λ (running : Option ℕ). called_by running f.inner) same.procedure ∙ f.operates)
-      (operands_behind (length f.inner) after.activations s.activations same.suspended ∙ f.computed) goes (record {
+      (operands_behind (length f.inner) after.activations s.activations same.suspended ∙ f.computed) goes still (record {
         stepped = subst (λ (procedure : Option ℕ). Stepped (known_in program procedure all) s.heap e after) (sym same.procedure) st;
         stands = stands_kept program s after all f.stands e same st.alters;
       })
 
-  pub stays_next : (n : Next) → Each (SameBody s) n → Fine (known_in program (running_procedure s) (waiting_for program s f)) s.heap s.masters n → GoesFrugally frugal f.lower f.behind n → GoesTouching program s n
-  stays_next (halts halt) same fine goes = fine
-  stays_next (moves e after) same fine goes = inl (stays_on e after same fine goes)
-  stays_next (tells request e after) same fine goes = inl (stays_on e after same fine goes)
-  stays_next (asks request answered) same fine goes = λ granted. inl (stays_on Quiet (answered granted) (same granted) (fine granted) (goes granted))
-  stays_next (picks n taken) same fine goes = goes
+  pub stays_next : (n : Next) → Each (SameBody s) n → Fine (known_in program (running_procedure s) (waiting_for program s f)) s.heap s.masters n → GoesFrugally frugal f.lower f.behind n → Each (Watched p f.watch f.behind) n → GoesTouching program s n
+  stays_next (halts halt) same fine goes still = fine
+  stays_next (moves e after) same fine goes still = inl (stays_on e after same fine goes still)
+  stays_next (tells request e after) same fine goes still = inl (stays_on e after same fine goes still)
+  stays_next (asks request answered) same fine goes still = λ granted. inl (stays_on Quiet (answered granted) (same granted) (fine granted) (goes granted) (still granted))
+  stays_next (picks n taken) same fine goes still = goes
 
   -- No other object than the one that is treated is under way; and no body frees objects of its type.
   settled_none : (inner : List Suspension) → AreCalls inner → under_in (callers_of program (inner ++ origin program s f ∷ f.suspensions)) ≡ under_way f.treatment f.object
@@ -198,6 +201,10 @@ module _ (program : Program) (s : State) (f : Touching program s) where
     goes_on =
         frugal_goes program sound.frees_own f.lower f.behind s f.frugal (λ actuals references k is. absurd (let end = not_end in cc (rw is at end))) sound.typed.inside
 
+    -- So it is of what is watched.
+    watched_on : Each (Watched p f.watch f.behind) (next program.types.items (body_forms program) s)
+    watched_on = watched_stays program s f sound (λ is. absurd (let end = not_end in cc (rw is at end)))
+
     -- Where no body begins and none ends.
     inner_step : inside.crosses s.mode s.control ≡ false → Each (SameBody s) (next program.types.items (body_forms program) s) → GoesTouching program s (next program.types.items (body_forms program) s)
     inner_step none same =
@@ -214,6 +221,7 @@ module _ (program : Program) (s : State) (f : Touching program s) where
         ))
         f.ready)
         goes_on
+        watched_on
 
 -- Whatever keeps activations keeps what runs and what waits.
 same_by : (s mid after : State) → mid.activations ≡ s.activations → Keeps mid after → SameBody s after
@@ -283,12 +291,15 @@ module _ (program : Program) (a : Activation Value) (k : Control) (s : State) wh
       behind_it = origin program ending f ∷ f.suspensions
 
       -- That of one that it has called: its caller goes on.
-      inner_returns : (g : Suspension) (gs : List Suspension) → AreCalls (g ∷ gs) → called_by g.procedure gs ≡ Some f.number → operands_of (drop (length gs) rest) ≡ f.operands → Stands program (g ∷ gs ++ behind_it) ending → LeavesBody (g ∷ gs ++ behind_it) → InTouching program s.heap Quiet back
-      inner_returns g gs calls operates computed stands w =
+      inner_returns : (g : Suspension) (gs : List Suspension) → AreCalls (g ∷ gs) → called_by g.procedure gs ≡ Some f.number → operands_of (drop (length gs) rest) ≡ f.operands → Stands program (g ∷ gs ++ behind_it) ending → LeavesBody (g ∷ gs ++ behind_it) → next tds bodies ending ≡ moves Quiet back → InTouching program s.heap Quiet back
+      inner_returns g gs calls operates computed stands w is =
           let control = same_control program a.procedure g (gs ++ behind_it) mode actuals references k w.rooms w.holds w.rest in
           let none : IsAwaited k → ⊥ = λ awaited. calls.0 (subst IsAwaited control awaited) in
+          let awaits = is_awaited (program_form program).types f.object f.of f.treatment f.tasks f.after f.behind f.awaited in
           let placed = placed_in (seen_in a.procedure (program_form program)) a (b ∷ rest) ending refl sound.typed.inside in
-          let leads = frugal_returns (thrift_of (program_form program)) f.behind mode actuals references k f.frugal.upper (is_awaited (program_form program).types f.object f.of f.treatment f.tasks f.after f.behind f.awaited) none f.frugal.frugal in
+          let further : ending.control ≡ Returns [] [] ∷ f.behind → ⊥ = λ last. (let same : f.behind ≡ k = cc last in none (subst IsAwaited same awaits)) in
+          let still = subst (Each (Watched (program_form program) f.watch f.behind)) is (watched_stays program ending f sound further) in
+          let leads = frugal_returns (thrift_of (program_form program)) f.behind mode actuals references k f.frugal.upper awaits none f.frugal.frugal in
           touching_on program ending f gs Quiet back calls.2
           (ap (λ (running : Option ℕ). called_by running gs) (back_runs mode actuals a.places b rest ∙ stands.bodies.0) ∙ operates)
           (back_operands (length gs) mode actuals a.places b rest ∙ computed)
@@ -298,6 +309,7 @@ module _ (program : Program) (a : Activation Value) (k : Control) (s : State) wh
             own = f.frugal.own;
             frugal = back_frugal (thrift_of (program_form program)) f.behind mode references k f.frugal.upper leads;
           })
+          still
           (left_to program a actuals references k s mode b rest g (gs ++ behind_it) (restand mode (Returns actuals references) (b ∷ rest) (g ∷ gs ++ behind_it) stands) none placed w)
 
       -- Its own: what waits for it goes on.
@@ -321,7 +333,7 @@ module _ (program : Program) (a : Activation Value) (k : Control) (s : State) wh
       ends_by (g ∷ gs) are w is =
           inl (inner_returns g gs (subst AreCalls are f.calls) (subst (λ (all : List Suspension). called_by a.procedure all ≡ Some f.number) are f.operates)
           (subst (λ (all : List Suspension). operands_of (drop (suc (length all)) (a ∷ b ∷ rest)) ≡ f.operands) are f.computed)
-          (subst (λ (all : List Suspension). Stands program (all ++ behind_it) ending) are f.stands) (subst (λ (all : List Suspension). LeavesBody (all ++ behind_it)) are w))
+          (subst (λ (all : List Suspension). Stands program (all ++ behind_it) ending) are f.stands) (subst (λ (all : List Suspension). LeavesBody (all ++ behind_it)) are w) is)
 
   body_ends :
       (mode : Mode) (actuals : List ActualForm) (references : List Value) (rest : List (Activation Value)) → Sound program (with_parts mode (Returns actuals references ∷ k) (a ∷ rest) s) → (f : Touching program (with_parts mode (Returns actuals references ∷ k) (a ∷ rest) s))
@@ -349,6 +361,7 @@ module _ (program : Program) (a : Activation Value) (k : Control) (s : State) wh
         f.operates
         f.computed
         (goes_on program (whole Running (Calls number b given)) f sound refl)
+        (watched_on program (whole Running (Calls number b given)) f sound refl)
         (calls_to program number b given k a rest gs s w ready.rest.1 (inside.heap_typed (seen_in a.procedure (program_form program)) (whole Running (Calls number b given)) sound.typed.inside).1 stands
         (runs_called program number b given k a gs s sound.well sound.obeys (called_apart program (whole Running (Calls number b given)) number b given k refl sound.obeys.0 sound.apart) w stands.body ready.rest.1 rest stands)))
       where

@@ -22,6 +22,7 @@ pub mod CallExamples
 pub mod PoolExamples
 -- the same where operations of controlled types are overridden
 pub mod OperationExamples
+pub mod ReleasingExample
 -- what the rules let through
 pub mod Owners
 -- what they say of calls

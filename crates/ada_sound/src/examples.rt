@@ -21,6 +21,7 @@ ghost use Rattle.ada_sound.specs.RecordExamples as record_examples;
 ghost use Rattle.ada_sound.specs.CallExamples as call_examples;
 ghost use Rattle.ada_sound.specs.PoolExamples as pool_examples;
 ghost use Rattle.ada_sound.specs.OperationExamples as operation_examples;
+ghost use Rattle.ada_sound.specs.ReleasingExample as releasing_example;
 
 /// The laws are not empty: a program is accepted and comes to a statement; it finishes after it has followed an access
 /// value, written a line, freed an object, and left its main procedure, with which another object went. And one is
@@ -165,6 +166,10 @@ pub fn premises_are_met()
 /// before its own words go back; and one is there when the main procedure is left, and is finalized with its collection,
 /// which goes before that of the cells.
 ///
+/// And one is accepted that frees such an object by a component (13.11.2), whose path follows an access value (4.1) to another
+/// allocated object: Finalize frees the cell, the words of the freed object go back, and then the component is null; the other
+/// object is there until the main procedure is left.
+///
 /// And one is accepted whose Initialize touches storage, too (7.6, 4.8): it allocates the cell that its record object owns,
 /// and handles `Storage_Error`, so that the program finishes where the cell is granted, and is freed by Finalize, and where
 /// it is refused, and nothing is freed.
@@ -227,6 +232,12 @@ pub fn operations_are_accepted()
         × (declaration_forms program ≡ operation_examples.boxing_declarations)
         × (stmt_forms program ≡ operation_examples.boxing_stmts)
         × IsChecked program × FinishesAfter operation_examples.boxing_events program }
+    ensures releases { (program : Program)
+        × (operations_of program.types.items 0 ≡ operation_examples.tidying_operations)
+        × (body_forms program ≡ releasing_example.releasing_finalize ∷ [])
+        × (declaration_forms program ≡ releasing_example.releasing_declarations)
+        × (stmt_forms program ≡ releasing_example.releasing_stmts)
+        × IsChecked program × FinishesAfter releasing_example.releasing_events program }
     ensures allocates { (program : Program)
         × (operations_of program.types.items 0 ≡ operation_examples.allocating_operations)
         × (body_forms program ≡ operation_examples.allocating_bodies)

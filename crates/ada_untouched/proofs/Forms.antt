@@ -23,12 +23,12 @@ use Rattle.ada_meaning.specs.Frame.{begins, Frame}
 use Rattle.ada_meaning.specs.Frame as frame
 use Rattle.ada_meaning.specs.Heap.{Cell, Found, on_null, on_gone, on_other, finds}
 use Rattle.ada_meaning.specs.State.{Owned, declared, collection, record_object, storage_pool, type_housed, Item, Master}
-use Rattle.ada_meaning.specs.Step.{halts, moves, tells, at, older, computed, raised, shorter, before_last, last_of, record_in, same_pool, held, newest, component_next, follow_next, path_next, selected, named_next, holder_next, place_in, record_holder_next, expression_next, null_test_next, is_decided, link_next, links_next, outcome_next, item_next, items_next, end_next, told_back, given_back, back_next, target_next, stored_next, store_next, record_target_next, received_next, receive_next, referred_next, refers_next, open_next, opened_next, opens_next, line_next, item_leave_next, master_leave_next, leave_next}
+use Rattle.ada_meaning.specs.Step.{halts, moves, tells, at, older, computed, raised, shorter, before_last, last_of, operands, set_operands, in_front, record_in, same_pool, held, newest, newest_ones, without_newest, component_next, follow_next, path_next, selected, named_next, holder_next, place_in, record_holder_next, expression_next, null_test_next, is_decided, link_next, links_next, outcome_next, item_next, items_next, copied_next, copies_next, end_next, told_back, given_back, back_next, target_next, stored_next, store_next, record_target_next, stored_from, record_stored_next, store_record_next, received_next, receive_next, referred_next, refers_next, open_next, opened_next, opens_next, line_next, item_leave_next, master_leave_next, leave_next}
 use Rattle.ada_meaning.specs.Named.{Object, State, Next, named, look, lent, standing, whole, inside, reads_integer, reads_boolean, reads_null, same, create, created, store, on_object, parted, finished}
 use Rattle.ada_meaning.specs.Named as heap
 use Rattle.ada_untouched.specs.Alike.{ValuesAlike, HeapsAlike, StatesAlike, NextAlike}
 use Rattle.ada_untouched.specs.Untouched.{hides, IsInSight, IsReadable, IsOpen, LeadsOn, LeadsToHolder, NewestHousesNone, InnermostHousesNone, ExpressionIsOpen, ItemIsOpen, ItemsAreOpen}
-use Rattle.ada_untouched.proofs.Heaps.{both_there, there_or_not, record_there, by_found, finished_alike, returned_alike, look_alike, lent_alike, on_alike, store_alike}
+use Rattle.ada_untouched.proofs.Heaps.{both_there, there_or_not, record_there, same_lists, by_found, finished_alike, returned_alike, look_alike, lent_alike, on_alike, store_alike, stored_alike}
 
 -- The state with another heap.
 abbrev pub over : List Object → State → State
@@ -128,6 +128,19 @@ module _ (hidden : Id → (component : ℕ) → Bool) (ghosts : Id → Bool) whe
   items_same [] s k a clear = goes Quiet s k a
   items_same (i ∷ is) s k a clear = item_same i (at (frame.Fills is ∷ s.control) s) k a clear
 
+  -- Records are copied (4.3.1).
+  copied_same : (v : Value) (found : Option (List Value)) → Same (copied_next named v found)
+  copied_same v None s k a = refl
+  copied_same v (Some vs) s k a = goes (Followed v) (set_operands (in_front vs (operands s)) s) k a
+
+  pub copies_same : (v : Value) (first count : ℕ) (s : State) (k : List Object) → HeapsAlike hidden ghosts s.heap k → IsInSight ghosts v → ((component : ℕ) → hides hidden v component ≡ false) → NextAlike hidden ghosts (copies_next named v first count (look s.heap v) s) (copies_next named v first count (look k v) (over k s))
+  copies_same v first count s k a clear shown =
+      by_look v (λ f g. NextAlike hidden ghosts (copies_next named v first count f s) (copies_next named v first count g (over k s)))
+      (goes Quiet (raised ConstraintError s) k a) refl refl
+      (λ cell us both. subst (λ (vs : List Value). NextAlike hidden ghosts (copied_next named v (record_in cell.values first count) s) (copied_next named v (record_in vs first count) (over k s)))
+      (same_lists cell.values us (λ c. both.values c (shown c))) (copied_same v (record_in cell.values first count) s k a))
+      s.heap k a clear
+
   -- Records and components that are given (6.2, 6.4.1).
   pub refers_same : (v : Value) (place : Place) (count : ℕ) (s : State) (k : List Object) → HeapsAlike hidden ghosts s.heap k → IsInSight ghosts v → NextAlike hidden ghosts (refers_next named v place count (look s.heap v) s) (refers_next named v place count (look k v) (over k s))
   refers_same v place count s k a clear =
@@ -176,6 +189,18 @@ module _ (hidden : Id → (component : ℕ) → Bool) (ghosts : Id → Bool) whe
       by_look v (λ f g. NextAlike hidden ghosts (record_target_next named v first count items f s) (record_target_next named v first count items g (over k s)))
       (goes Quiet (raised ConstraintError s) k a) refl refl
       (λ cell us both. goes (Followed v) (at (frame.Fills items ∷ frame.StoresRecord v first count ∷ s.control) s) k a)
+      s.heap k a clear
+
+  -- The components of a record get the values that were computed for them (5.2).
+  pub store_record_same : (v : Value) (first count : ℕ) (s : State) (k : List Object) → HeapsAlike hidden ghosts s.heap k → IsInSight ghosts v → NextAlike hidden ghosts (store_record_next named v first count (look s.heap v) s) (store_record_next named v first count (look k v) (over k s))
+  store_record_same v first count s k a clear =
+      let vs = newest_ones named count s in
+      let t = without_newest named count s in
+      by_look v (λ f g. NextAlike hidden ghosts (store_record_next named v first count f s) (store_record_next named v first count g (over k s)))
+      refl refl refl
+      (λ cell us both. there_or_not (λ found found_too. NextAlike hidden ghosts (record_stored_next named v first vs found t) (record_stored_next named v first vs found_too (over k t)))
+      refl (λ w x. goes (Followed v) (record t { heap = stored_from named s.heap v first vs }) (stored_from named k v first vs) (stored_alike hidden ghosts vs s.heap k v first a))
+      (record_in cell.values first count) (record_in us first count) (record_there cell.values us first count both.count))
       s.heap k a clear
 
   pub received_same : (v : Value) (c : ℕ) (input : List ℤ) (s : State) (k : List Object) → HeapsAlike hidden ghosts s.heap k → (found found_too : Value) → NextAlike hidden ghosts (received_next named v c input (Some found) s) (received_next named v c input (Some found_too) (over k s))

@@ -28,7 +28,7 @@ use Rattle.ada_meaning.specs.Named.{Object, State, named, look, standing, reads_
 use Rattle.ada_untouched.specs.Alike.{HeapsAlike, StatesAlike, NextAlike}
 use Rattle.ada_untouched.specs.Untouched.{hides, IsInSight, IsReadable, LeadsOn, LeadsToHolder, MayBeSought, MayBeFreed, RightIsOpen, FreedIsOpen, StatementIsOpen, StatementsAreOpen, FrameIsOpen}
 use Rattle.ada_untouched.proofs.Heaps.{by_found, parted_alike, standing_alike, on_alike, create_alike, created_alike}
-use Rattle.ada_untouched.proofs.Forms.{over, alike, goes, told, Same, by_look, path_same, named_same, holder_same, record_holder_same, expression_same, null_test_same, links_same, outcome_same, items_same, refers_same, opens_same, open_same, target_same, store_same, record_target_same, receive_same, end_same, back_same, line_same, leave_same}
+use Rattle.ada_untouched.proofs.Forms.{over, alike, goes, told, Same, by_look, path_same, named_same, holder_same, record_holder_same, expression_same, null_test_same, links_same, outcome_same, items_same, copies_same, refers_same, opens_same, open_same, target_same, store_same, record_target_same, store_record_same, receive_same, end_same, back_same, line_same, leave_same}
 
 module _ (hidden : Id → (component : ℕ) → Bool) (ghosts : Id → Bool) (types : List TypeDefinition) (bodies : List BodyForm) where
   -- Both go on.
@@ -264,14 +264,15 @@ module _ (hidden : Id → (component : ℕ) → Bool) (ghosts : Id → Bool) (ty
       outcome_same hidden ghosts (named.binary operator (newest named (popped s)) (newest named s)) (popped (popped s)) k a
   frame_same (frame.AppliesAlone operator) s k a clear = outcome_same hidden ghosts (named.unary operator (newest named s)) (popped s) k a
   frame_same (frame.Fills items) s k a clear = items_same hidden ghosts items s k a clear
-  frame_same (frame.Copies first t) s k a clear = absurd clear
+  frame_same (frame.Copies first t) s k a clear =
+      copies_same hidden ghosts (newest named s) first (width_of types t) (popped s) k a clear.0 clear.1
   frame_same (frame.Creates access count) s k a clear = new_same access count (words_of types access) (home_of access s.masters) s k a
   frame_same (frame.Stores x) s k a clear = on Quiet (put x (newest named s) (popped s)) k a
   frame_same (frame.Targets c right) s k a clear = target_same hidden ghosts (newest named s) c right (popped s) k a clear
   frame_same (frame.StoresIn v c) s k a clear = store_same hidden ghosts v c (newest named s) (popped s) k a clear
   frame_same (frame.TargetsRecord first t items) s k a clear =
       record_target_same hidden ghosts (newest named s) first (width_of types t) items (popped s) k a clear
-  frame_same (frame.StoresRecord v first count) s k a clear = absurd clear
+  frame_same (frame.StoresRecord v first count) s k a clear = store_record_same hidden ghosts v first count s k a clear
   frame_same (frame.Assigns t) s k a clear =
       assigns_same t (newest named (popped s)) (newest named s) (same (newest named (popped s)) (newest named s)) (popped (popped s)) k a
   frame_same (frame.Receives c) s k a clear = receive_same hidden ghosts (newest named s) c (popped s) k a clear

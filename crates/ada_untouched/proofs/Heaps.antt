@@ -1,6 +1,6 @@
 -- Heaps that are alike: what is found there, and what becomes of them.
 
-use Rattle.std.proofs.Common.{◌≡◌, ◌≢◌, ◌⊎◌, ℕ, zero, suc, Bool, true, false, List, [], ◌∷◌, ◌++◌, length, take, drop, Option, Some, None, is_some, refl, sym, ap, ◌∙◌, inl, inr, subst, arith, length-set}
+use Rattle.std.proofs.Common.{◌≡◌, ◌≢◌, ◌⊎◌, ℕ, ◌+◌, zero, suc, Bool, true, false, List, [], ◌∷◌, ◌++◌, length, take, drop, Option, Some, None, is_some, refl, sym, ap, ◌∙◌, inl, inr, subst, arith, length-set}
 use Rattle.std.specs.Prelude.{◌==◌, ◌&&◌, if◌then◌else◌}
 use Rattle.std.specs.List.{slice_get, slice_set}
 use Rattle.std.proofs.lemmas.Bool.Decides.{eqb_tells}
@@ -10,8 +10,8 @@ use Rattle.ada_meaning.specs.declared.state.Stage.TheVariants.{Building, Existin
 use Rattle.ada_meaning.specs.declared.state.Value.{Value}
 use Rattle.ada_meaning.specs.declared.state.Value.TheVariants.{Null, Names, Scalar, Part}
 use Rattle.ada_meaning.specs.Heap.{Cell, Found, on_null, on_gone, on_other, finds}
-use Rattle.ada_meaning.specs.Step.{if_whole, record_in}
-use Rattle.ada_meaning.specs.Named.{Object, object_at, changed, existing, seen, look, lent_by, lent, all_alive, standing_by, standing, new_object, create, created, parted, finished, returned, filled, on_object, store}
+use Rattle.ada_meaning.specs.Step.{if_whole, record_in, stored_from}
+use Rattle.ada_meaning.specs.Named.{Object, named, object_at, changed, existing, seen, look, lent_by, lent, all_alive, standing_by, standing, new_object, create, created, parted, finished, returned, filled, on_object, store}
 use Rattle.ada_untouched.specs.Alike.{ValuesAlike, UnlessGhost, ObjectsAlike, FoundAlike, HeapsAlike}
 use Rattle.ada_untouched.specs.Untouched.{hides, IsInSight}
 
@@ -59,6 +59,15 @@ pub record_there : (vs us : List Value) (first count : ℕ) → length vs ≡ le
 record_there vs us first count e =
     if_both_whole count (take count (drop first vs)) (take count (drop first us))
     (take_length count (drop first vs) (drop first us) (drop_length first vs us e))
+
+-- Lists are the same that have the same elements.
+pub same_lists : {X : Type 0} (xs ys : List X) → ((i : ℕ) → slice_get xs i ≡ slice_get ys i) → xs ≡ ys
+same_lists [] [] each = refl
+same_lists [] (y ∷ ys) each = absurd (let none = each 0 in cc none)
+same_lists (x ∷ xs) [] each = absurd (let none = each 0 in cc none)
+same_lists {X = X} (x ∷ xs) (y ∷ ys) each =
+    let first : x ≡ y = let is = each 0 in cc is in
+    subst (λ (z : X). x ∷ xs ≡ z ∷ ys) first (ap (λ (zs : List X). x ∷ zs) (same_lists xs ys (λ i. each (suc i))))
 
 -- A component gets a value in both.
 set_alike : {X : Type 0} (xs ys : List X) (c i : ℕ) (v : X) → length xs ≡ length ys → slice_get xs i ≡ slice_get ys i → slice_get (slice_set xs c v) i ≡ slice_get (slice_set ys c v) i
@@ -262,3 +271,11 @@ module _ (hidden : Id → (component : ℕ) → Bool) (ghosts : Id → Bool) (h 
 
   pub created_alike : (words : ℕ) → created k words ≡ created h words
   created_alike words = ap (λ (n : ℕ). Names (record { 0 = n })) (sym a.count)
+
+-- Components from one on get these values in both.
+pub stored_alike :
+    (hidden : Id → (component : ℕ) → Bool) (ghosts : Id → Bool) (us : List Value) (h k : List Object) (v : Value) (c : ℕ) → HeapsAlike hidden ghosts h k
+    → HeapsAlike hidden ghosts (stored_from named h v c us) (stored_from named k v c us)
+stored_alike hidden ghosts [] h k v c a = a
+stored_alike hidden ghosts (u ∷ us) h k v c a =
+    stored_alike hidden ghosts us (store h v c u) (store k v c u) v (c + 1) (store_alike hidden ghosts h k a v c u)

@@ -126,8 +126,8 @@ module _ (hidden : Id → (component : ℕ) → Bool) (ghosts : Id → Bool) (s 
   StatementsAreOpen no_stmts = Unit {0}
   StatementsAreOpen (a_stmt f fs) = StatementIsOpen f
 
-  -- What a frame looks at, where no jump is on its way. None copies a record from an object or into one, treats controlled parts (7.6), or takes an object
-  -- out of its collection where a master is left (7.6.1).
+  -- What a frame looks at, where no jump is on its way. Where a record is copied from an object, that hides no component. None treats controlled parts (7.6), or
+  -- takes an object out of its collection where a master is left (7.6.1).
   abbrev pub FrameIsOpen : Frame Value → Type 0
   FrameIsOpen (frame.Does fs) = StatementsAreOpen fs
   FrameIsOpen (frame.Leaves mode) = InnermostHousesNone s.masters
@@ -139,11 +139,11 @@ module _ (hidden : Id → (component : ℕ) → Bool) (ghosts : Id → Bool) (s 
   FrameIsOpen (frame.Opens path) = HolderIsOpen path
   FrameIsOpen (frame.OpensIn c) = IsReadable hidden ghosts (newest named s) c
   FrameIsOpen (frame.Fills items) = ItemsAreOpen items
-  FrameIsOpen (frame.Copies first t) = ⊥
+  FrameIsOpen (frame.Copies first t) = IsInSight ghosts (newest named s) × ((component : ℕ) → hides hidden (newest named s) component ≡ false)
   FrameIsOpen (frame.Targets c right) = IsInSight ghosts (newest named s)
   FrameIsOpen (frame.StoresIn v c) = IsInSight ghosts v
   FrameIsOpen (frame.TargetsRecord first t items) = IsInSight ghosts (newest named s)
-  FrameIsOpen (frame.StoresRecord v first count) = ⊥
+  FrameIsOpen (frame.StoresRecord v first count) = IsInSight ghosts v
   FrameIsOpen (frame.Receives c) = IsInSight ghosts (newest named s)
   FrameIsOpen (frame.FreesIn access c) = IsReadable hidden ghosts (newest named s) c × MayBeFreed ghosts c (look s.heap (newest named s))
   FrameIsOpen (frame.Treats v treatment tasks) = ⊥

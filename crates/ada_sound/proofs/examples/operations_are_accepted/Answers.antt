@@ -1,9 +1,10 @@
--- By eleven programs and their runs.
+-- By twelve programs and their runs.
 use Rattle.ada_sound.proofs.ExampleOperations as operations
 use Rattle.ada_sound.proofs.ExampleTidying as tidying
 use Rattle.ada_sound.proofs.ExampleOverwriting as overwriting
 use Rattle.ada_sound.proofs.ExampleEmptying as emptying
 use Rattle.ada_sound.proofs.ExampleBoxing as boxing
+use Rattle.ada_sound.proofs.ExampleReleasing as releasing
 use Rattle.ada_sound.proofs.ExampleAllocating as allocating
 use Rattle.ada_sound.proofs.ExampleUndoing as undoing
 use Rattle.ada_sound.proofs.ExampleFilling as filling
@@ -61,6 +62,15 @@ returns c = record {
     boxing.boxing_does,
     boxing.boxing_accepted,
     boxing.boxes,
+  );
+  releases = (
+    releasing.releasing,
+    releasing.releasing_overrides,
+    releasing.releasing_has,
+    releasing.releasing_declares,
+    releasing.releasing_does,
+    releasing.releasing_accepted,
+    releasing.releases,
   );
   allocates = (
     allocating.allocating,

@@ -1,0 +1,31 @@
+//! Paths to what is freed (13.11.2): variables, and paths that follow an access value to the object in which a component lies (4.1).
+
+ghost use Rattle.std.specs.Prelude.{◌≡◌};
+ghost use Rattle.ada_program.specs.Form.{path_form};
+ghost use Rattle.ada_quiet.specs.Apart as rules;
+
+use ada_effects::path_raises;
+use ada_program::Path;
+
+/// Whether a path is a variable (4.1).
+fn is_variable(path: &Path) -> bool
+    ensures { result ≡ rules.is_variable (path_form path.now).selectors }
+{
+    path.selectors.is_empty()
+}
+
+/// Whether a path to what is freed is a variable, or follows an access value to the object in which a component lies (4.1): that is no
+/// record object, and none that a formal parameter stands for.
+fn is_led(path: &Path) -> bool
+    ensures { result ≡ rules.is_led (path_form path.now) }
+{
+    is_variable(path) || path_raises(path)
+}
+
+/// Whether a path leads so to what is freed, or the object is calm, where paths lead so to all objects for which an operation may be called
+/// that touches storage.
+pub(crate) fn frees_led(led: bool, path: &Path, calm: bool) -> bool
+    ensures { result ≡ rules.frees_led led (path_form path.now) calm }
+{
+    !led || is_led(path) || calm
+}

@@ -1,0 +1,442 @@
+-- The body of a Finalize shuns an access type (3.10) that the end of an object does not reach, in which such a part lies (7.6, 7.6.1): where the body is frugal, it
+-- follows and frees no value of the type (4.1, 13.11.2), and neither does what it calls.
+
+use Rattle.std.proofs.Common.{◌≡◌, ℕ, Bool, true, false, not, ◌==◌, ◌&&◌, ◌||◌, List, [], ◌∷◌, length, Option, Some, None, refl, sym, ap, ◌∙◌, subst, inl, inr}
+use Rattle.std.specs.Prelude.{nat_lt, is_some}
+use Rattle.std.specs.List.{list_all, slice_get, slice_index_or}
+use Rattle.std.proofs.lemmas.Bool.{and_from, and_parts, or_parts, or_left, or_right, or_cases, cases_Bool, eqb-true, eq-eqb, not-true, false_from_ne_true}
+use Rattle.ada_program.specs.declared.program.Program.{Program}
+use Rattle.ada_program.specs.declared.program.VariableKind.{VariableKind}
+use Rattle.ada_program.specs.declared.program.VariableKind.TheVariants as variable
+use Rattle.ada_program.specs.Controlled.{operations_of, procedure_number}
+use Rattle.ada_program.specs.Form.{PathForm, RecordPathForm, ActualForm, in_value, in_null, in_access, in_record, in_out_path, in_out_access, in_out_component, in_out_record, ExpressionForm, integer, boolean, reads, is_null, applied_to, chained, LinksForm, no_more_links, a_link, ItemForm, null_item, item_of_path, item_of_value, item_of_record, RightForm, nothing, value_of, allocates, allocates_default, computes, DeclarationForm, creates_pool, collects, declares, declares_record, StmtForm, skips, assigns, assigns_record, frees, gets, writes, writes_text, chooses, repeats, counts, exits, calls, returns, raises, encloses, StmtsForm, no_stmts, a_stmt, BranchesForm, otherwise, a_branch, HandlersForm, no_handlers, a_handler}
+use Rattle.ada_program.specs.ProgramForm.{TypeForm, VariableForm, BodyForm, ProgramForm, program_form, body_forms}
+use Rattle.ada_program.specs.WellFormed.{IsWellFormed, finalization_of, path_kind, selected_kind, variable_kind}
+use Rattle.ada_quiet.specs.Bare.{allocates_bare, has_bare_objects}
+use Rattle.ada_quiet.specs.Frugal.{thrift_of, frugal_procedures, is_frugal_declaration, are_frugal_declarations, is_frugal_stmt, are_frugal, are_frugal_branches, are_frugal_handlers, is_frugal_body}
+use Rattle.ada_quiet.proofs.FrugalAt.{frugal_at}
+use Rattle.ada_deeds.specs.declared.deed.Callee.{Callee}
+use Rattle.ada_deeds.specs.declared.deed.Callee.TheVariants as callee
+use Rattle.ada_deeds.specs.declared.deed.Deed.{Deed}
+use Rattle.ada_deeds.specs.declared.deed.Deed.TheVariants as deed
+use Rattle.ada_deeds.specs.declared.deed.Operation.TheVariants.{Finalize}
+use Rattle.ada_deeds.specs.Does.{called_does, is_deed_of, Does, does}
+use Rattle.ada_deeds.specs.Forms.{expression_does, condition_does, actuals_do, is_left, procedure_does, parts_do, declarations_do, leaving_does, stmt_does, stmts_do, branches_do, handlers_do, body_does}
+use Rattle.ada_deeds.specs.Implicit.{implicit_of, record_at}
+use Rattle.ada_deeds.specs.Within.{does_within, callee_count, does_by}
+use Rattle.ada_deeds.proofs.Within.{counts_are_enough}
+use Rattle.ada_reaching.specs.Forms.{may_follow, selectors_shun, path_shuns, record_path_shuns, expression_shuns, links_shun, condition_shuns, item_shuns, right_shuns, actual_shuns, declaration_shuns, declarations_shun, statement_shuns, statements_shun, branches_shun, handlers_shun, body_shuns}
+use Rattle.ada_reaching.specs.Law.{AreApart}
+use Rattle.ada_reaching.specs.Deeds.{AreShaped, UseNone}
+use Rattle.ada_reaching.proofs.Deeds.{unused_apart}
+use Rattle.ada_typed.proofs.Lying.{IsOperable}
+use Rattle.ada_sound.proofs.FrugalUseEnds.{done_lying}
+
+-- Frugal bodies are of the shape of bodies that shun types.
+
+-- Where no type is shunned, each value may be followed,
+all_may : (kind : Option VariableKind) → may_follow (λ t. false) kind ≡ true
+all_may None = refl
+all_may (Some variable.Integer) = refl
+all_may (Some variable.Boolean) = refl
+all_may (Some (variable.Access access)) = refl
+all_may (Some (variable.Record object)) = refl
+
+-- and selectors follow none that is shunned.
+selectors_shaped : (types : List TypeForm) (kind : Option VariableKind) (cs : List ℕ) → selectors_shun types (λ t. false) kind cs ≡ true
+selectors_shaped types kind [] = refl
+selectors_shaped types kind (c ∷ cs) =
+    let behind = selected_kind types kind c in
+    and_from (may_follow (λ t. false) kind) (selectors_shun types (λ t. false) behind cs) (all_may kind) (selectors_shaped types behind cs)
+
+-- What holds of each element holds of all.
+all_so : {A : Type 0} (test : A → Bool) → ((x : A) → test x ≡ true) → (xs : List A) → list_all test xs ≡ true
+all_so test so [] = refl
+all_so test so (x ∷ xs) = and_from (test x) (list_all test xs) (so x) (all_so test so xs)
+
+-- Whatever a body evaluates has the shape.
+module _ (types : List TypeForm) (apart : ℕ → Bool) (variables : List VariableForm) where
+  -- So has a path (4.1),
+  path_shaped : (path : PathForm) → path_shuns types (λ t. false) apart variables path ≡ true
+  path_shaped path = selectors_shaped types (variable_kind variables path.root) path.selectors
+
+  -- and the way to a record,
+  record_path_shaped : (q : RecordPathForm) → record_path_shuns types (λ t. false) apart variables q ≡ true
+  record_path_shaped q =
+      and_from (path_shuns types (λ t. false) apart variables q.object) (may_follow (λ t. false) (path_kind types variables q.object)) (path_shaped q.object)
+      (all_may (path_kind types variables q.object))
+
+  mutual
+    -- an expression (4.4)
+    expression_shaped : (e : ExpressionForm) → expression_shuns types (λ t. false) apart variables e ≡ true
+    expression_shaped (integer i) = refl
+    expression_shaped (boolean b) = refl
+    expression_shaped (reads path) = path_shaped path
+    expression_shaped (is_null equal path) = path_shaped path
+    expression_shaped (applied_to operator e) = expression_shaped e
+    expression_shaped (chained e links) =
+        and_from (expression_shuns types (λ t. false) apart variables e) (links_shun types (λ t. false) apart variables links) (expression_shaped e) (links_shaped links)
+
+    -- and right operands,
+    links_shaped : (links : LinksForm) → links_shun types (λ t. false) apart variables links ≡ true
+    links_shaped no_more_links = refl
+    links_shaped (a_link operator e links) =
+        and_from (expression_shuns types (λ t. false) apart variables e) (links_shun types (λ t. false) apart variables links) (expression_shaped e) (links_shaped links)
+
+  -- a condition, where there is one,
+  condition_shaped : (condition : Option ExpressionForm) → condition_shuns types (λ t. false) apart variables condition ≡ true
+  condition_shaped None = refl
+  condition_shaped (Some e) = expression_shaped e
+
+  -- an item (4.3.1)
+  item_shaped : (i : ItemForm) → item_shuns types (λ t. false) apart variables i ≡ true
+  item_shaped null_item = refl
+  item_shaped (item_of_path path) = path_shaped path
+  item_shaped (item_of_value e) = expression_shaped e
+  item_shaped (item_of_record q) = record_path_shaped q
+
+  -- and an actual parameter (6.4.1).
+  actual_shaped : (a : ActualForm) → actual_shuns types (λ t. false) apart variables a ≡ true
+  actual_shaped (in_value e) = expression_shaped e
+  actual_shaped in_null = refl
+  actual_shaped (in_access path) = path_shaped path
+  actual_shaped (in_record q) = record_path_shaped q
+  actual_shaped (in_out_path path) = path_shaped path
+  actual_shaped (in_out_access path) = path_shaped path
+  actual_shaped (in_out_component path) = path_shaped path
+  actual_shaped (in_out_record q) = record_path_shaped q
+
+  -- What is assigned has it, where no object with controlled parts is allocated (5.2, 4.8).
+  right_shaped : (right : RightForm) → allocates_bare types right ≡ true → right_shuns types (λ t. false) apart variables right ≡ true
+  right_shaped nothing is = refl
+  right_shaped (value_of path) is = path_shaped path
+  right_shaped (allocates access items) is =
+      and_from (has_bare_objects types access) (list_all (item_shuns types (λ t. false) apart variables) items) is
+      (all_so (item_shuns types (λ t. false) apart variables) item_shaped items)
+  right_shaped (allocates_default access) is = is
+  right_shaped (computes e) is = expression_shaped e
+
+  -- A declaration of a variable has it (3.3.1),
+  declaration_shaped : (d : DeclarationForm) → is_frugal_declaration types d ≡ true → declaration_shuns types (λ t. false) apart variables d ≡ true
+  declaration_shaped (creates_pool pool) is = absurd (cc is)
+  declaration_shaped (collects access) is = absurd (cc is)
+  declaration_shaped (declares x right) is = right_shaped right is
+  declaration_shaped (declares_record x object initial) is = absurd (cc is)
+
+  -- and so have declarations of variables alone.
+  declarations_shaped : (ds : List DeclarationForm) → are_frugal_declarations types ds ≡ true → declarations_shun types (λ t. false) apart variables ds ≡ true
+  declarations_shaped [] is = refl
+  declarations_shaped (d ∷ ds) is =
+      let both = and_parts (is_frugal_declaration types d) (are_frugal_declarations types ds) is in
+      and_from (declaration_shuns types (λ t. false) apart variables d) (declarations_shun types (λ t. false) apart variables ds) (declaration_shaped d both.0)
+      (declarations_shaped ds both.1)
+
+-- What procedures do.
+
+-- A value of an access type is freed (13.11.2),
+abbrev freeing : (access : ℕ) → Deed
+freeing u = deed.Frees (record { 0 = u })
+
+-- or followed (4.1).
+abbrev following : (access : ℕ) → Deed
+following u = deed.Follows (record { 0 = u })
+
+-- A procedure that may do so, by its number.
+abbrev calling : (procedure : ℕ) → Callee
+calling n = callee.Procedure (record { 0 = n })
+
+-- A deed is a use of an access type of the program: a value of it is freed or followed.
+abbrev is_use : ProgramForm → (access : ℕ) → Deed → Bool
+is_use p u (deed.Raises e) = false
+is_use p u (deed.Frees t) = (u == t.0) && nat_lt t.0 (length p.types)
+is_use p u (deed.Follows t) = (u == t.0) && nat_lt t.0 (length p.types)
+is_use p u deed.Allocates = false
+
+-- What is done is no use of it.
+abbrev Spares : ProgramForm → (access : ℕ) → (done : Deed → Bool) → Type 0
+Spares p u done = (d : Deed) → is_use p u d ≡ true → done d ≡ false
+
+-- A procedure is frugal, and frees and follows no value of an access type.
+abbrev is_shunning : ProgramForm → (access procedure : ℕ) → Bool
+is_shunning p u n =
+    slice_index_or (frugal_procedures p) n false && not (does_by p (freeing u) (calling n)) && not (does_by p (following u) (calling n))
+
+module _ (p : ProgramForm) (u : ℕ) where
+  -- Where neither of two is a use, the first one is not,
+  first : (a b : Deed → Bool) → Spares p u (λ d. a d || b d) → Spares p u a
+  first a b spares d is = (or_parts (a d) (b d) (spares d is)).0
+
+  -- and neither is the second one.
+  second : (a b : Deed → Bool) → Spares p u (λ d. a d || b d) → Spares p u b
+  second a b spares d is = (or_parts (a d) (b d) (spares d is)).1
+
+  -- Handlers take no use from what statements do (11.4).
+  left_spares : (hs : HandlersForm) (done : Deed → Bool) → Spares p u (λ d. is_left hs d && done d) → Spares p u done
+  left_spares hs done spares (deed.Raises e) is = absurd (cc is)
+  left_spares hs done spares (deed.Frees t) is = spares (deed.Frees t) is
+  left_spares hs done spares (deed.Follows t) is = spares (deed.Follows t) is
+  left_spares hs done spares deed.Allocates is = absurd (cc is)
+
+  -- A callee does nothing that is no deed of the program.
+  done_none : (d : Deed) (c : Callee) → (is_deed_of p d ≡ true → does_by p d c ≡ false) → does_by p d c ≡ false
+  done_none d c none = elim (cases_Bool (is_deed_of p d)) [
+    | inl is ↦ none is
+    | inr is ↦ ap (λ (b : Bool). b && does_within p d (callee_count p) c) is
+  ]
+
+  -- A frugal procedure frees and follows no value of the type, where a call of it is no use,
+  called_shunning :
+      (n : ℕ) → slice_index_or (frugal_procedures p) n false ≡ true → Spares p u (λ d. procedure_does (does_by p d) n) → is_shunning p u n ≡ true
+  called_shunning n told spares =
+      let frugal = slice_index_or (frugal_procedures p) n false in
+      let is_one = λ (there : nat_lt u (length p.types) ≡ true). and_from (u == u) (nat_lt u (length p.types)) (eq-eqb u u refl) there in
+      and_from (frugal && not (does_by p (freeing u) (calling n))) (not (does_by p (following u) (calling n)))
+      (and_from frugal (not (does_by p (freeing u) (calling n))) told
+      (ap not (done_none (freeing u) (calling n) (λ there. spares (freeing u) (is_one there)))))
+      (ap not (done_none (following u) (calling n) (λ there. spares (following u) (is_one there))))
+
+  -- and one that does neither is told to be frugal.
+  shunning_parts :
+      (n : ℕ) → is_shunning p u n ≡ true
+      → (slice_index_or (frugal_procedures p) n false ≡ true) × (does_by p (freeing u) (calling n) ≡ false) × (does_by p (following u) (calling n) ≡ false)
+  shunning_parts n is =
+      let frugal = slice_index_or (frugal_procedures p) n false in
+      let frees = does_by p (freeing u) (calling n) in
+      let follows = does_by p (following u) (calling n) in
+      let both = and_parts (frugal && not frees) (not follows) is in
+      let two = and_parts frugal (not frees) both.0 in
+      (two.0, not-true frees two.1, not-true follows both.1)
+
+  -- Some procedures are marked, among them each frugal one of which a call is no use.
+  module _
+      (apart : ℕ → Bool)
+      (marked : (n : ℕ) → slice_index_or (frugal_procedures p) n false ≡ true → Spares p u (λ d. procedure_does (does_by p d) n) → apart n ≡ true)
+      (variables : List VariableForm) where
+    -- A block, or a body: what it declares, its statements and its handlers.
+    abbrev master_does : List DeclarationForm → StmtsForm → HandlersForm → Deed → Bool
+    master_does ds fs hs d =
+        declarations_do p.types variables (does_by p d) d ds || (is_left hs d && stmts_do p.types variables (does_by p d) d fs)
+        || handlers_do p.types variables (does_by p d) d hs || leaving_does p.types (does_by p d) ds
+
+    -- It has the shape,
+    abbrev master_shuns : List DeclarationForm → StmtsForm → HandlersForm → Bool
+    master_shuns ds fs hs =
+        declarations_shun p.types (λ t. false) apart variables ds && statements_shun p.types (λ t. false) apart variables fs
+        && handlers_shun p.types (λ t. false) apart variables hs
+
+    -- where its statements and its handlers have it.
+    master_shaped :
+        (ds : List DeclarationForm) (fs : StmtsForm) (hs : HandlersForm)
+        → (are_frugal (thrift_of p) fs ≡ true → Spares p u (λ d. stmts_do p.types variables (does_by p d) d fs)
+        → statements_shun p.types (λ t. false) apart variables fs ≡ true)
+        → (are_frugal_handlers (thrift_of p) hs ≡ true → Spares p u (λ d. handlers_do p.types variables (does_by p d) d hs)
+        → handlers_shun p.types (λ t. false) apart variables hs ≡ true)
+        → (are_frugal_declarations p.types ds && are_frugal (thrift_of p) fs && are_frugal_handlers (thrift_of p) hs) ≡ true
+        → Spares p u (master_does ds fs hs) → master_shuns ds fs hs ≡ true
+    master_shaped ds fs hs within behind frugal spares =
+        let parts = and_parts (are_frugal_declarations p.types ds && are_frugal (thrift_of p) fs) (are_frugal_handlers (thrift_of p) hs) frugal in
+        let inner = and_parts (are_frugal_declarations p.types ds) (are_frugal (thrift_of p) fs) parts.0 in
+        let declared = λ (d : Deed). declarations_do p.types variables (does_by p d) d ds in
+        let inside = λ (d : Deed). stmts_do p.types variables (does_by p d) d fs in
+        let left = λ (d : Deed). is_left hs d && inside d in
+        let handled = λ (d : Deed). handlers_do p.types variables (does_by p d) d hs in
+        let ended = λ (d : Deed). leaving_does p.types (does_by p d) ds in
+        let three = first (λ d. declared d || left d || handled d) ended spares in
+        let two = first (λ d. declared d || left d) handled three in
+        and_from (declarations_shun p.types (λ t. false) apart variables ds && statements_shun p.types (λ t. false) apart variables fs)
+        (handlers_shun p.types (λ t. false) apart variables hs)
+        (and_from (declarations_shun p.types (λ t. false) apart variables ds) (statements_shun p.types (λ t. false) apart variables fs)
+        (declarations_shaped p.types apart variables ds inner.0) (within inner.1 (left_spares hs inside (second declared left two))))
+        (behind parts.1 (second (λ d. declared d || left d) handled three))
+
+    mutual
+      -- A frugal statement has the shape, where what it does is no use,
+      statement_shaped :
+          (f : StmtForm) → is_frugal_stmt (thrift_of p) f ≡ true → Spares p u (λ d. stmt_does p.types variables (does_by p d) d f)
+          → statement_shuns p.types (λ t. false) apart variables f ≡ true
+      statement_shaped skips frugal spares = refl
+      statement_shaped (assigns target right) frugal spares =
+          and_from (path_shuns p.types (λ t. false) apart variables target) (right_shuns p.types (λ t. false) apart variables right)
+          (path_shaped p.types apart variables target) (right_shaped p.types apart variables right frugal)
+      statement_shaped (assigns_record target items) frugal spares =
+          let leads = record_path_shuns p.types (λ t. false) apart variables target in
+          let test = item_shuns p.types (λ t. false) apart variables in
+          and_from (leads && list_all test items) (not (is_some (finalization_of p.types target.record_type)))
+          (and_from leads (list_all test items) (record_path_shaped p.types apart variables target) (all_so test (item_shaped p.types apart variables) items)) frugal
+      statement_shaped (frees access path) frugal spares =
+          let leads = path_shuns p.types (λ t. false) apart variables path in
+          let may = may_follow (λ t. false) (path_kind p.types variables path) in
+          and_from (leads && may) (has_bare_objects p.types access)
+          (and_from leads may (path_shaped p.types apart variables path) (all_may (path_kind p.types variables path))) frugal
+      statement_shaped (gets target) frugal spares = path_shaped p.types apart variables target
+      statement_shaped (writes e) frugal spares = expression_shaped p.types apart variables e
+      statement_shaped (writes_text text) frugal spares = refl
+      statement_shaped (chooses branches) frugal spares = branches_shaped branches frugal spares
+      statement_shaped (repeats condition fs spot) frugal spares =
+          let tested = λ (d : Deed). condition_does p.types variables d condition in
+          let inside = λ (d : Deed). stmts_do p.types variables (does_by p d) d fs in
+          and_from (condition_shuns p.types (λ t. false) apart variables condition) (statements_shun p.types (λ t. false) apart variables fs)
+          (condition_shaped p.types apart variables condition) (statements_shaped fs frugal (second tested inside spares))
+      statement_shaped (counts x low high fs spot) frugal spares =
+          let from = expression_shuns p.types (λ t. false) apart variables low in
+          let to = expression_shuns p.types (λ t. false) apart variables high in
+          let range = λ (d : Deed). expression_does p.types variables d low || expression_does p.types variables d high in
+          let inside = λ (d : Deed). stmts_do p.types variables (does_by p d) d fs in
+          and_from (from && to) (statements_shun p.types (λ t. false) apart variables fs)
+          (and_from from to (expression_shaped p.types apart variables low) (expression_shaped p.types apart variables high))
+          (statements_shaped fs frugal (second range inside spares))
+      statement_shaped (exits condition spot) frugal spares = condition_shaped p.types apart variables condition
+      statement_shaped (calls procedure actuals) frugal spares =
+          let given = λ (d : Deed). actuals_do p.types variables d actuals in
+          let called = λ (d : Deed). procedure_does (does_by p d) procedure in
+          let test = actual_shuns p.types (λ t. false) apart variables in
+          and_from (list_all test actuals) (apart procedure) (all_so test (actual_shaped p.types apart variables) actuals)
+          (marked procedure frugal (second given called spares))
+      statement_shaped (returns spot) frugal spares = refl
+      statement_shaped (raises e) frugal spares = refl
+      statement_shaped (encloses ds fs hs) frugal spares = master_shaped ds fs hs (statements_shaped fs) (handlers_shaped hs) frugal spares
+
+      -- and so have statements,
+      statements_shaped :
+          (fs : StmtsForm) → are_frugal (thrift_of p) fs ≡ true → Spares p u (λ d. stmts_do p.types variables (does_by p d) d fs)
+          → statements_shun p.types (λ t. false) apart variables fs ≡ true
+      statements_shaped no_stmts frugal spares = refl
+      statements_shaped (a_stmt f fs) frugal spares =
+          let both = and_parts (is_frugal_stmt (thrift_of p) f) (are_frugal (thrift_of p) fs) frugal in
+          let one = λ (d : Deed). stmt_does p.types variables (does_by p d) d f in
+          let more = λ (d : Deed). stmts_do p.types variables (does_by p d) d fs in
+          and_from (statement_shuns p.types (λ t. false) apart variables f) (statements_shun p.types (λ t. false) apart variables fs)
+          (statement_shaped f both.0 (first one more spares)) (statements_shaped fs both.1 (second one more spares))
+
+      -- branches (5.3)
+      branches_shaped :
+          (branches : BranchesForm) → are_frugal_branches (thrift_of p) branches ≡ true
+          → Spares p u (λ d. branches_do p.types variables (does_by p d) d branches) → branches_shun p.types (λ t. false) apart variables branches ≡ true
+      branches_shaped (otherwise fs) frugal spares = statements_shaped fs frugal spares
+      branches_shaped (a_branch e fs branches) frugal spares =
+          let both = and_parts (are_frugal (thrift_of p) fs) (are_frugal_branches (thrift_of p) branches) frugal in
+          let tested = λ (d : Deed). expression_does p.types variables d e in
+          let inside = λ (d : Deed). stmts_do p.types variables (does_by p d) d fs in
+          let more = λ (d : Deed). branches_do p.types variables (does_by p d) d branches in
+          let two = first (λ d. tested d || inside d) more spares in
+          and_from (expression_shuns p.types (λ t. false) apart variables e && statements_shun p.types (λ t. false) apart variables fs)
+          (branches_shun p.types (λ t. false) apart variables branches)
+          (and_from (expression_shuns p.types (λ t. false) apart variables e) (statements_shun p.types (λ t. false) apart variables fs)
+          (expression_shaped p.types apart variables e) (statements_shaped fs both.0 (second tested inside two)))
+          (branches_shaped branches both.1 (second (λ d. tested d || inside d) more spares))
+
+      -- and handlers (11.2).
+      handlers_shaped :
+          (hs : HandlersForm) → are_frugal_handlers (thrift_of p) hs ≡ true → Spares p u (λ d. handlers_do p.types variables (does_by p d) d hs)
+          → handlers_shun p.types (λ t. false) apart variables hs ≡ true
+      handlers_shaped no_handlers frugal spares = refl
+      handlers_shaped (a_handler choices fs hs) frugal spares =
+          let both = and_parts (are_frugal (thrift_of p) fs) (are_frugal_handlers (thrift_of p) hs) frugal in
+          let one = λ (d : Deed). stmts_do p.types variables (does_by p d) d fs in
+          let more = λ (d : Deed). handlers_do p.types variables (does_by p d) d hs in
+          and_from (statements_shun p.types (λ t. false) apart variables fs) (handlers_shun p.types (λ t. false) apart variables hs)
+          (statements_shaped fs both.0 (first one more spares)) (handlers_shaped hs both.1 (second one more spares))
+
+  -- So has a frugal body.
+  body_shaped :
+      (apart : ℕ → Bool)
+      → ((n : ℕ) → slice_index_or (frugal_procedures p) n false ≡ true → Spares p u (λ d. procedure_does (does_by p d) n) → apart n ≡ true)
+      → (b : BodyForm) → is_frugal_body (thrift_of p) b ≡ true → Spares p u (λ d. body_does p.types (does_by p d) d b)
+      → body_shuns p.types (λ t. false) apart b ≡ true
+  body_shaped apart marked b =
+      master_shaped apart marked b.variables b.declarations b.statements b.handlers (statements_shaped apart marked b.variables b.statements)
+      (handlers_shaped apart marked b.variables b.handlers)
+
+  -- A use is a deed of the program.
+  use_of : (d : Deed) → is_use p u d ≡ true → is_deed_of p d ≡ true
+  use_of (deed.Raises e) is = absurd (cc is)
+  use_of (deed.Frees t) is = (and_parts (u == t.0) (nat_lt t.0 (length p.types)) is).1
+  use_of (deed.Follows t) is = (and_parts (u == t.0) (nat_lt t.0 (length p.types)) is).1
+  use_of deed.Allocates is = absurd (cc is)
+
+  -- What the body of a procedure does, the procedure does: where that is no use, what its body does is none.
+  body_spares :
+      (n : ℕ) (b : BodyForm) → slice_get p.bodies n ≡ Some b → ((d : Deed) → is_use p u d ≡ true → ¬ Does p d (calling n))
+      → Spares p u (λ d. body_does p.types (does_by p d) d b)
+  body_spares n b there none d is =
+      false_from_ne_true (body_does p.types (does_by p d) d b)
+      (λ done. none d is
+      (does (use_of d is) (does_by p d) (λ other known. (counts_are_enough p d other).0 known) (ap (called_does p.types (does_by p d) d) there ∙ done)))
+
+-- The Finalize of a part of an object, whose end does not reach an access type.
+module _
+    (program : Program) (well : IsWellFormed (program_form program)) (access of part number u : ℕ) (b : BodyForm)
+    (operable : IsOperable (program_form program).types access of part)
+    (overrides : procedure_number (operations_of program.types.items of).finalize ≡ Some number)
+    (there : slice_get (body_forms program) number ≡ Some b) (frugal : is_frugal_body (thrift_of (program_form program)) b ≡ true)
+    (reaches : (implicit_of (program_form program)).end_reaches access u ≡ false) where
+  abbrev p : ProgramForm
+  p = program_form program
+
+  -- It, and the frugal procedures that free and follow no value of the type.
+  abbrev apart : ℕ → Bool
+  apart n = is_shunning p u n || (n == number)
+
+  -- What neither the end of the object does nor one of the others, none of these procedures does.
+  apart_none :
+      (d : Deed) → parts_do (does_by p d) Finalize (record_at p.types access) ≡ false → ((n : ℕ) → is_shunning p u n ≡ true → does_by p d (calling n) ≡ false)
+      → (n : ℕ) → apart n ≡ true → ¬ Does p d (calling n)
+  apart_none d none others n among done = elim (or_cases (is_shunning p u n) (n == number) among) [
+    | inl is ↦ absurd (cc (sym (others n is) ∙ (counts_are_enough p d (calling n)).1 done))
+    | inr same ↦
+        let own = subst (λ (m : ℕ). Does p d (calling m)) (eqb-true n number same) done in
+        absurd (cc (sym none ∙ done_lying program well d Finalize access of part number operable overrides own))
+  ]
+
+  -- So they free and follow no value of the type,
+  unused : UseNone p (λ t. u == t) apart
+  unused =
+      let ended = λ (d : Deed). parts_do (does_by p d) Finalize (record_at p.types access) in
+      let none = or_parts (ended (freeing u)) (ended (following u)) reaches in
+      record {
+        follow_none = λ n t among shunned done.
+            apart_none (following u) none.1 (λ m is. (shunning_parts p u m is).2) n among
+            (subst (λ (v : ℕ). Does p (following v) (calling n)) (sym (eqb-true u t shunned)) done);
+        free_none = λ n t among shunned done.
+            apart_none (freeing u) none.0 (λ m is. (shunning_parts p u m is).1) n among
+            (subst (λ (v : ℕ). Does p (freeing v) (calling n)) (sym (eqb-true u t shunned)) done);
+      }
+
+  -- and no use is among what they do.
+  uses_none : (n : ℕ) → apart n ≡ true → (d : Deed) → is_use p u d ≡ true → ¬ Does p d (calling n)
+  uses_none n among (deed.Raises e) is done = absurd (cc is)
+  uses_none n among (deed.Frees t) is done = unused.free_none n t.0 among (and_parts (u == t.0) (nat_lt t.0 (length p.types)) is).0 done
+  uses_none n among (deed.Follows t) is done = unused.follow_none n t.0 among (and_parts (u == t.0) (nat_lt t.0 (length p.types)) is).0 done
+  uses_none n among deed.Allocates is done = absurd (cc is)
+
+  -- Their bodies are frugal,
+  apart_frugal : (n : ℕ) (c : BodyForm) → apart n ≡ true → slice_get p.bodies n ≡ Some c → is_frugal_body (thrift_of p) c ≡ true
+  apart_frugal n c among at = elim (or_cases (is_shunning p u n) (n == number) among) [
+    | inl is ↦ frugal_at p n c (shunning_parts p u n is).0 at
+    | inr same ↦
+        let one : b ≡ c = cc (there, at, ap (λ (m : ℕ). slice_get p.bodies m) (eqb-true n number same)) in
+        subst (λ (x : BodyForm). is_frugal_body (thrift_of p) x ≡ true) one frugal
+  ]
+
+  -- and have the shape.
+  shaped : AreShaped p apart
+  shaped n c among at =
+      body_shaped p u apart (λ m told spares. or_left (is_shunning p u m) (m == number) (called_shunning p u m told spares)) c (apart_frugal n c among at)
+      (body_spares p u n c at (uses_none n among))
+
+  -- So all of them shun the type.
+  all_apart : AreApart p (λ t. u == t) apart
+  all_apart = unused_apart p (λ t. u == t) apart unused well shaped
+
+  -- The Finalize is one of them.
+  own_apart : (apart : ℕ → Bool) × AreApart p (λ t. u == t) apart × (body_shuns p.types (λ t. u == t) apart b ≡ true)
+  own_apart = (apart, all_apart, all_apart number b (or_right (is_shunning p u number) (number == number) (eq-eqb number number refl)) there)
+
+-- The body of a Finalize of a part of an object, whose end does not reach an access type, shuns that type, and so do all that it calls.
+pub finalize_shuns :
+    (program : Program) → IsWellFormed (program_form program) → (access of part number u : ℕ) (b : BodyForm)
+    → IsOperable (program_form program).types access of part → procedure_number (operations_of program.types.items of).finalize ≡ Some number
+    → slice_get (body_forms program) number ≡ Some b → is_frugal_body (thrift_of (program_form program)) b ≡ true
+    → (implicit_of (program_form program)).end_reaches access u ≡ false
+    → (apart : ℕ → Bool) × AreApart (program_form program) (λ t. u == t) apart × (body_shuns (program_form program).types (λ t. u == t) apart b ≡ true)
+finalize_shuns = own_apart
