@@ -29,18 +29,6 @@ allocates_bare types (allocates access items) = has_bare_objects types access
 allocates_bare types (allocates_default access) = has_bare_objects types access
 allocates_bare types (computes e) = true
 
--- A component holds no access value (3.8, 3.10), or values of an access type whose objects are bare.
-abbrev pub is_bare_component : List TypeForm → ComponentKind → Bool
-is_bare_component types (component.Integer initial) = true
-is_bare_component types (component.Boolean initial) = true
-is_bare_component types (component.Access access) = has_bare_objects types access.0
-
--- So does each component of a type, if it is a record type.
-abbrev pub has_bare_components : List TypeForm → TypeForm → Bool
-has_bare_components types (record_of name parts components finalization) = list_all (is_bare_component types) components
-has_bare_components types (access_to name designated pool) = true
-has_bare_components types (object_of record_type) = true
-
 -- A component is of an access type (3.8, 3.10).
 abbrev pub is_component_of : (access : ℕ) → ComponentKind → Bool
 is_component_of t (component.Integer initial) = false

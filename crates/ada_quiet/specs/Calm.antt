@@ -1,13 +1,15 @@
--- Record types and access types for whose objects no operation is called that touches storage, where they begin or end (7.6): calm ones.
+-- Record types and access types whose objects are calm: no operation that is asked about is called for them, neither for an object itself nor for a part of it (7.6).
 
 use Rattle.std.specs.Prelude.{ℕ, Bool, true, false, not, ◌&&◌, ◌||◌, List, [], ◌∷◌, ◌++◌, Option, Some, None, is_some}
 use Rattle.std.specs.List.{list_all, slice_get, slice_index_or}
+use Rattle.ada_program.specs.declared.program.ComponentKind.{ComponentKind}
+use Rattle.ada_program.specs.declared.program.ComponentKind.TheVariants as component
 use Rattle.ada_program.specs.declared.program.Finalization.{Finalization}
 use Rattle.ada_program.specs.declared.program.PartKind.{PartKind}
 use Rattle.ada_program.specs.declared.program.PartKind.TheVariants as part
 use Rattle.ada_program.specs.ProgramForm.{TypeForm, record_of, access_to, object_of, ProgramForm}
-use Rattle.ada_program.specs.WellFormed.{finalization_of}
-use Rattle.ada_quiet.specs.Quiet.{is_plain_operation, is_quiet_operation}
+use Rattle.ada_program.specs.WellFormed.{finalization_in, finalization_of}
+use Rattle.ada_quiet.specs.Quiet.{adjusts_access, is_plain_operation, is_quiet_operation}
 
 -- Neither operation of a type that begins or ends an object touches storage: what overrides Initialize is plain, and what overrides Finalize is quiet (7.6).
 abbrev pub ends_calmly : ProgramForm → Option Finalization → Bool
@@ -21,19 +23,23 @@ is_calm_part calm (part.Record t) = slice_index_or calm t.0 false
 is_calm_part calm part.Parent = true
 
 -- A record type is calm, if its own operations are so, and each of its declared components.
-abbrev pub is_calm_type : ProgramForm → (calm : List Bool) → TypeForm → Bool
-is_calm_type p calm (record_of name parts components finalization) = ends_calmly p finalization && list_all (λ c. is_calm_part calm c.kind) parts
-is_calm_type p calm (access_to name designated pool) = false
-is_calm_type p calm (object_of record_type) = false
+abbrev pub is_calm_type : (own : Bool) → (calm : List Bool) → TypeForm → Bool
+is_calm_type own calm (record_of name parts components finalization) = own && list_all (λ c. is_calm_part calm c.kind) parts
+is_calm_type own calm (access_to name designated pool) = false
+is_calm_type own calm (object_of record_type) = false
 
--- Of each of these types, behind others, by its number, whether it is a calm record type.
-abbrev pub calm_from : ProgramForm → (calm : List Bool) → List TypeForm → List Bool
-calm_from p calm [] = calm
-calm_from p calm (t ∷ ts) = calm_from p (calm ++ is_calm_type p calm t ∷ []) ts
+-- Of each of these types, behind others, by its number, whether it is a calm record type, where this tells of a type's own operations.
+abbrev pub calm_from : (own : TypeForm → Bool) → (calm : List Bool) → List TypeForm → List Bool
+calm_from own calm [] = calm
+calm_from own calm (t ∷ ts) = calm_from own (calm ++ is_calm_type (own t) calm t ∷ []) ts
 
--- Of the types of a program.
+-- Of the types of a program, where objects begin and end: no operation is called there that touches storage.
 abbrev pub calm_types : ProgramForm → List Bool
-calm_types p = calm_from p [] p.types
+calm_types p = calm_from (λ t. ends_calmly p (finalization_in (Some t))) [] p.types
+
+-- And where objects are copied: no Adjust is called there that tracks components.
+abbrev pub calmly_copied_types : ProgramForm → List Bool
+calmly_copied_types p = calm_from (λ t. not (adjusts_access p t)) [] p.types
 
 -- A type is an access type that designates a record type without controlled parts, or a calm one (3.10, 7.6).
 abbrev pub is_calm_access : List TypeForm → (calm : List Bool) → Option TypeForm → Bool
@@ -42,10 +48,30 @@ is_calm_access types calm (Some (record_of name parts components finalization)) 
 is_calm_access types calm (Some (access_to name designated pool)) = not (is_some (finalization_of types designated)) || slice_index_or calm designated false
 is_calm_access types calm (Some (object_of record_type)) = false
 
--- So is the type of a number: no operation that touches storage is called where its objects begin or end.
+-- So is the type of a number.
 abbrev pub has_calm_objects : List TypeForm → (calm : List Bool) → (access : ℕ) → Bool
 has_calm_objects types calm t = is_calm_access types calm (slice_get types t)
 
--- So it is with the access types of a program.
+-- The objects of an access type of a program are calm where they begin and end.
 abbrev pub are_calm_in : ProgramForm → (access : ℕ) → Bool
 are_calm_in p t = has_calm_objects p.types (calm_types p) t
+
+-- They are calm where they are copied.
+abbrev pub are_calmly_copied_in : ProgramForm → (access : ℕ) → Bool
+are_calmly_copied_in p t = has_calm_objects p.types (calmly_copied_types p) t
+
+-- A component holds no access value (3.8, 3.10), or values of an access type whose objects are calm.
+abbrev pub is_calm_component : List TypeForm → (calm : List Bool) → ComponentKind → Bool
+is_calm_component types calm (component.Integer initial) = true
+is_calm_component types calm (component.Boolean initial) = true
+is_calm_component types calm (component.Access access) = has_calm_objects types calm access.0
+
+-- So does each component of a type, if it is a record type.
+abbrev pub has_calm_components : List TypeForm → (calm : List Bool) → TypeForm → Bool
+has_calm_components types calm (record_of name parts components finalization) = list_all (is_calm_component types calm) components
+has_calm_components types calm (access_to name designated pool) = true
+has_calm_components types calm (object_of record_type) = true
+
+-- No component of a program names an object with a part whose Adjust tracks components.
+abbrev pub names_no_trackers : ProgramForm → Bool
+names_no_trackers p = list_all (has_calm_components p.types (calmly_copied_types p)) p.types

@@ -9,7 +9,8 @@ use Rattle.ada_program.specs.declared.program.ProcedureNo.{ProcedureNo}
 use Rattle.ada_program.specs.ProgramForm.{PartForm, TypeForm, record_of, access_to, object_of, ProgramForm}
 use Rattle.ada_program.specs.WellFormed.{finalization_in, finalization_of, components_within, is_parent, is_inherited}
 use Rattle.ada_quiet.specs.Quiet.{is_quiet_operation, is_plain_operation, has_access, operation_body}
-use Rattle.ada_quiet.specs.Bare.{has_bare_components, collections_in_order}
+use Rattle.ada_quiet.specs.Bare.{collections_in_order}
+use Rattle.ada_quiet.specs.Calm.{names_no_trackers}
 use Rattle.ada_quiet.specs.Frugal.{is_frugal_operation, is_silent_operation}
 use Rattle.ada_quiet.specs.Simple.{is_simple_operation}
 use Rattle.ada_quiet.specs.Apart.{operations_stand_apart, parts_are_led}
@@ -30,10 +31,6 @@ allocates_no_parts p = list_all (designates_no_parts p.types) p.types
 -- is left (7.6.1).
 abbrev pub may_allocate_parts : ProgramForm → Bool
 may_allocate_parts p = collections_in_order p && parts_are_led p
-
--- No component names an object with controlled parts: none is allocated, or each component is of another type.
-abbrev pub names_no_parts : ProgramForm → Bool
-names_no_parts p = allocates_no_parts p || list_all (has_bare_components p.types) p.types
 
 -- An Initialize and a Finalize may be frugal in a program that allocates no object with controlled parts, or may allocate some beside them, and whose operations
 -- stand apart: so an Initialize is called where an object is declared or allocated (7.6), and a Finalize where an object's master is left, an exception comes out
@@ -69,10 +66,10 @@ is_copied_in_order types (record_of name parts components finalization) = stand_
 is_copied_in_order types (access_to name designated pool) = true
 is_copied_in_order types (object_of record_type) = true
 
--- An Adjust may track its components in a program in which a Finalize may be frugal, no component names an object with controlled parts, and each record's
+-- An Adjust may track its components in a program in which a Finalize may be frugal, no component names an object with a part whose Adjust tracks, and each record's
 -- components stand in order.
 abbrev pub may_track : ProgramForm → Bool
-may_track p = may_be_frugal p && names_no_parts p && list_all (is_copied_in_order p.types) p.types
+may_track p = may_be_frugal p && names_no_trackers p && list_all (is_copied_in_order p.types) p.types
 
 -- A record has at most one controlled part, at any depth and itself included: where it is copied, that is the first one that is adjusted, and the last one (7.6).
 abbrev pub has_one_part : Option Finalization → Bool

@@ -1,7 +1,6 @@
 //! Access types whose objects have no controlled parts (3.10, 7.6), and what allocates such objects alone (4.8).
 
 ghost use Rattle.std.specs.Prelude.{◌≡◌, Some};
-ghost use Rattle.std.specs.List.{list_all};
 ghost use Rattle.ada_program.specs.Form.{initial_form, right_form};
 ghost use Rattle.ada_program.specs.Kept.{types_in};
 ghost use Rattle.ada_program.specs.ProgramForm.{type_form};
@@ -9,7 +8,7 @@ ghost use Rattle.ada_quiet.specs.Bare as rules;
 
 use ada_program::TypeNo;
 use ada_program::parts::finalization_of;
-use ada_program::program::{ComponentKind, Right, TypeDefinition};
+use ada_program::program::{Right, TypeDefinition};
 
 /// Whether a type is an access type that designates a record type without controlled parts (3.10, 7.6).
 fn is_bare_access(types: &[TypeDefinition], definition: &TypeDefinition) -> bool
@@ -54,53 +53,4 @@ pub(crate) fn initial_allocates_bare(types: &[TypeDefinition], initial: &Option<
         None => true,
         Some(right) => allocates_bare(types, right),
     }
-}
-
-/// Whether a component holds no access value (3.8, 3.10), or values of an access type whose objects are bare.
-fn is_bare_component(types: &[TypeDefinition], component: ComponentKind) -> bool
-    ensures { result ≡ rules.is_bare_component (types_in types.now) component }
-{
-    match component {
-        ComponentKind::Integer { initial: _ } | ComponentKind::Boolean { initial: _ } => true,
-        ComponentKind::Access(access) => has_bare_objects(types, access),
-    }
-}
-
-/// Whether each of these components does.
-fn are_bare_components(types: &[TypeDefinition], components: &[ComponentKind]) -> bool
-    ensures { result ≡ list_all (rules.is_bare_component (types_in types.now)) components.now }
-{
-    'components: for component in components {
-        if !is_bare_component(types, *component) {
-            return false;
-        }
-    }
-    true
-}
-
-/// Whether each component of a type does, if it is a record type.
-fn has_bare_components(types: &[TypeDefinition], definition: &TypeDefinition) -> bool
-    ensures { result ≡ rules.has_bare_components (types_in types.now) (type_form definition.now) }
-{
-    match definition {
-        TypeDefinition::Record {
-            name: _,
-            parts: _,
-            components,
-            finalization: _,
-        } => are_bare_components(types, components),
-        TypeDefinition::Access { .. } | TypeDefinition::Object { .. } => true,
-    }
-}
-
-/// Whether that is so with each of these types. Linear in the types and their components.
-pub(crate) fn have_bare_components(types: &[TypeDefinition]) -> bool
-    ensures { result ≡ list_all (rules.has_bare_components (types_in types.now)) (types_in types.now) }
-{
-    'types: for definition in types {
-        if !has_bare_components(types, definition) {
-            return false;
-        }
-    }
-    true
 }

@@ -1,4 +1,5 @@
-//! Record types and access types for whose objects no operation is called that touches storage, where they begin or end (7.6): calm ones.
+//! Record types and access types whose objects are calm: no operation that is asked about is called for them, neither for an object itself
+//! nor for a part of it (7.6).
 
 ghost use Rattle.std.specs.Prelude.{◌≡◌, Some, IfOk, map};
 ghost use Rattle.std.specs.List.{list_all};
@@ -7,9 +8,9 @@ ghost use Rattle.ada_program.specs.ProgramForm.{part_form, program_form, type_fo
 ghost use Rattle.ada_quiet.specs.Calm as rules;
 
 use crate::marks::has_mark;
-use crate::operations::{is_plain_operation, is_quiet_operation};
+use crate::operations::{adjusts_access, finalization_in, is_plain_operation, is_quiet_operation};
 use ada_program::parts::finalization_of;
-use ada_program::program::{Finalization, Part, PartKind, TypeDefinition};
+use ada_program::program::{ComponentKind, Finalization, Part, PartKind, TypeDefinition};
 use ada_program::{Program, TypeNo};
 use std::alloc::{AllocError, Global};
 
@@ -57,32 +58,24 @@ fn are_calm_parts(calm: &[bool], parts: &[Part]) -> bool
     true
 }
 
-/// Whether a type is a calm record type: its own operations are so, and each of its declared components. Linear in the components, and
-/// in the bodies of the operations.
-///
-/// # Errors
-/// `AllocError` where memory for the exceptions that a body raises was refused.
-fn is_calm_type(
-    alloc: Global,
-    program: &Program,
-    calm: &[bool],
-    definition: &TypeDefinition,
-) -> Result<bool, AllocError>
-    ensures { IfOk result (λ answer. answer ≡ rules.is_calm_type (program_form program.now) calm.now (type_form definition.now)) }
+/// Whether a type is a calm record type, where `own` says whether its own operations are so: they are, and so is each of its declared
+/// components. Linear in the components.
+fn is_calm_type(own: bool, calm: &[bool], definition: &TypeDefinition) -> bool
+    ensures { result ≡ rules.is_calm_type own calm.now (type_form definition.now) }
 {
     match definition {
         TypeDefinition::Record {
             name: _,
             parts,
             components: _,
-            finalization,
-        } => Ok(ends_calmly(alloc, program, *finalization)? && are_calm_parts(calm, parts)),
-        TypeDefinition::Access { .. } | TypeDefinition::Object { .. } => Ok(false),
+            finalization: _,
+        } => own && are_calm_parts(calm, parts),
+        TypeDefinition::Access { .. } | TypeDefinition::Object { .. } => false,
     }
 }
 
-/// Of each type, by its number, whether it is a calm record type: its components are of those before it. Linear in the types, their
-/// components, and the bodies of their operations.
+/// Of each type, by its number, whether it is a record type that is calm where objects begin and end: no operation is called there that
+/// touches storage. Its components are of the types before it. Linear in the types, their components, and the bodies of their operations.
 ///
 /// # Errors
 /// `AllocError` where memory was refused.
@@ -91,7 +84,25 @@ pub(crate) fn calm_types(alloc: Global, program: &Program) -> Result<Vec<bool>, 
 {
     let mut calm = Vec::new(alloc);
     'types: for definition in &program.types {
-        let is_calm = is_calm_type(alloc, program, &calm, definition)?;
+        let own = ends_calmly(alloc, program, finalization_in(definition))?;
+        let is_calm = is_calm_type(own, &calm, definition);
+        calm.push(is_calm)?;
+    }
+    Ok(calm)
+}
+
+/// Of each type, by its number, whether it is a record type that is calm where objects are copied: no Adjust is called there that tracks
+/// components. Its components are of the types before it. Linear in the types and their components.
+///
+/// # Errors
+/// `AllocError` where memory was refused.
+fn calmly_copied_types(alloc: Global, program: &Program) -> Result<Vec<bool>, AllocError>
+    ensures { IfOk result (λ calm. calm.items ≡ rules.calmly_copied_types (program_form program.now)) }
+{
+    let mut calm = Vec::new(alloc);
+    'types: for definition in &program.types {
+        let own = !adjusts_access(program, definition);
+        let is_calm = is_calm_type(own, &calm, definition);
         calm.push(is_calm)?;
     }
     Ok(calm)
@@ -111,7 +122,7 @@ fn is_calm_access(types: &[TypeDefinition], calm: &[bool], definition: &TypeDefi
     }
 }
 
-/// Whether the type of a number is: no operation that touches storage is called where its objects begin or end.
+/// Whether the type of a number is: its objects are calm.
 pub(crate) fn has_calm_objects(types: &[TypeDefinition], calm: &[bool], access: TypeNo) -> bool
     ensures { result ≡ rules.has_calm_objects (types_in types.now) calm.now access.0 }
 {
@@ -119,4 +130,68 @@ pub(crate) fn has_calm_objects(types: &[TypeDefinition], calm: &[bool], access: 
         Some(definition) => is_calm_access(types, calm, definition),
         None => false,
     }
+}
+
+/// Whether a component holds no access value (3.8, 3.10), or values of an access type whose objects are calm.
+fn is_calm_component(types: &[TypeDefinition], calm: &[bool], component: ComponentKind) -> bool
+    ensures { result ≡ rules.is_calm_component (types_in types.now) calm.now component }
+{
+    match component {
+        ComponentKind::Integer { initial: _ } | ComponentKind::Boolean { initial: _ } => true,
+        ComponentKind::Access(access) => has_calm_objects(types, calm, access),
+    }
+}
+
+/// Whether each of these components does. Linear in them.
+fn are_calm_components(
+    types: &[TypeDefinition],
+    calm: &[bool],
+    components: &[ComponentKind],
+) -> bool
+    ensures { result ≡ list_all (rules.is_calm_component (types_in types.now) calm.now) components.now }
+{
+    'components: for component in components {
+        if !is_calm_component(types, calm, *component) {
+            return false;
+        }
+    }
+    true
+}
+
+/// Whether each component of a type does, if it is a record type. Linear in the components.
+fn has_calm_components(types: &[TypeDefinition], calm: &[bool], definition: &TypeDefinition) -> bool
+    ensures { result ≡ rules.has_calm_components (types_in types.now) calm.now (type_form definition.now) }
+{
+    match definition {
+        TypeDefinition::Record {
+            name: _,
+            parts: _,
+            components,
+            finalization: _,
+        } => are_calm_components(types, calm, components),
+        TypeDefinition::Access { .. } | TypeDefinition::Object { .. } => true,
+    }
+}
+
+/// Whether that is so with each of these types. Linear in the types and their components.
+fn have_calm_components(types: &[TypeDefinition], calm: &[bool]) -> bool
+    ensures { result ≡ list_all (rules.has_calm_components (types_in types.now) calm.now) (types_in types.now) }
+{
+    'types: for definition in types {
+        if !has_calm_components(types, calm, definition) {
+            return false;
+        }
+    }
+    true
+}
+
+/// Whether no component of a program names an object with a part whose Adjust tracks components. Linear in the types and their components.
+///
+/// # Errors
+/// `AllocError` where memory was refused.
+pub(crate) fn names_no_trackers(alloc: Global, program: &Program) -> Result<bool, AllocError>
+    ensures { IfOk result (λ answer. answer ≡ rules.names_no_trackers (program_form program.now)) }
+{
+    let calm = calmly_copied_types(alloc, program)?;
+    Ok(have_calm_components(&program.types, &calm))
 }

@@ -83,7 +83,7 @@ fn allowed_in(alloc: Global, program: &Program) -> Result<Allowed, AllocError>
 {
     let frugal = may_be_frugal(alloc, program)?;
     let nothing = adjusts_nothing(alloc, program)?;
-    let tracks = may_track(program, frugal);
+    let tracks = may_track(alloc, program, frugal)?;
     let alone = adjusts_alone(program);
     Ok(Allowed {
         frugal,

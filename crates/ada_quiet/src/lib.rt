@@ -35,13 +35,13 @@
 //! and a Finalize where an object's master is left, an exception comes out of the initialization of one (7.6.1), another record is
 //! assigned to it (7.6), or a variable or a component is freed that names it (13.11.2), and nowhere else.
 //!
-//! An Adjust may track where a Finalize may be frugal, if also no component names an object with controlled parts, since no access type
-//! designates such a record type, or no component is of one that does; and if the elementary components of each record type stand in the
-//! order of its declared ones, and a record whose type overrides Adjust is itself controlled, as in each program that is resolved. A
-//! record may have any number of controlled parts: where it is copied, they are adjusted one behind the other (7.6). But where some
-//! record of the program has two, an Adjust that tracks frees nothing. For until a part of the copy is adjusted, its components name the
-//! same objects as those of the source: while another part is adjusted before it, these are to stay, and do so where nothing is freed.
-//! Where each record has at most one controlled part, none is left to be adjusted later.
+//! An Adjust may track where a Finalize may be frugal, if also no component names an object that has a part whose Adjust tracks: where
+//! such an object is copied, each Adjust that is called leaves components as they are (`names_no_trackers`). And the elementary components
+//! of each record type are to stand in the order of its declared ones, and a record whose type overrides Adjust is to be controlled
+//! itself, as in each program that is resolved. A record may have any number of controlled parts: where it is copied, they are adjusted
+//! one behind the other (7.6). But where some record of the program has two, an Adjust that tracks frees nothing. For until a part of the
+//! copy is adjusted, its components name the same objects as those of the source: while another part is adjusted before it, these are to
+//! stay, and do so where nothing is freed. Where each record has at most one controlled part, none is left to be adjusted later.
 //!
 //! A program with another body is refused (F23), since no theorem covers it so far: an Initialize, an Adjust or a Finalize that
 //! touches storage in another program, allocates or frees objects with controlled parts, or assigns records with some, an Adjust that

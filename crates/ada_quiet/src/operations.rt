@@ -4,7 +4,7 @@ ghost use Rattle.std.specs.Prelude.{◌≡◌, ◌&&◌, Some, is_some, map, not
 ghost use Rattle.std.specs.List.{list_any, slice_get};
 ghost use Rattle.ada_program.specs.Kept.{types_in};
 ghost use Rattle.ada_program.specs.ProgramForm.{ProgramForm, part_form, program_form, type_form};
-ghost use Rattle.ada_program.specs.WellFormed.{finalization_in};
+ghost use Rattle.ada_program.specs.WellFormed as fits;
 ghost use Rattle.ada_quiet.specs.Frugal as frugal;
 ghost use Rattle.ada_quiet.specs.Known.{IsKnown};
 ghost use Rattle.ada_quiet.specs.Quiet as rules;
@@ -173,6 +173,21 @@ pub(crate) fn is_overridden(program: &Program, operation: Option<ProcedureNo>) -
     }
 }
 
+/// How objects of a type are finalized. None, if it is no record type whose objects have controlled parts.
+pub(crate) fn finalization_in(definition: &TypeDefinition) -> Option<Finalization>
+    ensures { result ≡ fits.finalization_in (Some (type_form definition.now)) }
+{
+    match definition {
+        TypeDefinition::Record {
+            name: _,
+            parts: _,
+            components: _,
+            finalization,
+        } => *finalization,
+        TypeDefinition::Access { .. } | TypeDefinition::Object { .. } => None,
+    }
+}
+
 /// Whether a body overrides Adjust of a type.
 fn is_adjusted(program: &Program, finalization: Option<Finalization>) -> bool
     ensures { result ≡ is_some (rules.adjust_body (program_form program.now) finalization) }
@@ -183,27 +198,29 @@ fn is_adjusted(program: &Program, finalization: Option<Finalization>) -> bool
     }
 }
 
+/// Whether a body overrides Adjust of a type with a component of an access type, declared in it directly (3.10, 7.6). Linear in the
+/// components.
+pub(crate) fn adjusts_access(program: &Program, definition: &TypeDefinition) -> bool
+    ensures { result ≡ rules.adjusts_access (program_form program.now) (type_form definition.now) }
+{
+    has_own_access(definition) && is_adjusted(program, finalization_in(definition))
+}
+
 /// Whether the operations of a type are quiet, and none overrides its Adjust where it has a component of an access type.
+///
+/// # Errors
+/// `AllocError` where memory for the exceptions that a body raises was refused.
 fn is_quiet_type(
     alloc: Global,
     program: &Program,
     definition: &TypeDefinition,
 ) -> Result<bool, AllocError>
     ensures { IfOk result (λ answer. answer ≡
-        (rules.has_quiet_operations (program_form program.now) (finalization_in (Some (type_form definition.now)))
+        (rules.has_quiet_operations (program_form program.now) (fits.finalization_in (Some (type_form definition.now)))
         && not (rules.adjusts_access (program_form program.now) (type_form definition.now)))) }
 {
-    let TypeDefinition::Record {
-        name: _,
-        parts,
-        components: _,
-        finalization,
-    } = definition
-    else {
-        return Ok(true);
-    };
-    let quiet = has_quiet_operations(alloc, program, *finalization)?;
-    Ok(quiet && !(have_access(parts) && is_adjusted(program, *finalization)))
+    let quiet = has_quiet_operations(alloc, program, finalization_in(definition))?;
+    Ok(quiet && !adjusts_access(program, definition))
 }
 
 /// Whether whatever overrides an operation of a controlled type (7.6) is quiet, and none overrides Adjust of a type with a component

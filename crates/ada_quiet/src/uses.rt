@@ -7,7 +7,6 @@ ghost use Rattle.ada_quiet.specs.InUse as rules;
 ghost use Rattle.ada_quiet.specs.Known.{IsKnown};
 
 use crate::apart::{operations_stand_apart, parts_are_led};
-use crate::bare::have_bare_components;
 use crate::collections::collections_in_order;
 use crate::known::Known;
 use crate::operations::{
@@ -55,14 +54,6 @@ fn may_allocate_parts(alloc: Global, program: &Program) -> Result<bool, AllocErr
     ensures { IfOk result (λ answer. answer ≡ rules.may_allocate_parts (program_form program.now)) }
 {
     Ok(collections_in_order(alloc, program)? && parts_are_led(alloc, program)?)
-}
-
-/// Whether no component names an object with controlled parts: none is allocated, or each component is of another type. Linear in the
-/// types and their components.
-pub(crate) fn names_no_parts(program: &Program) -> bool
-    ensures { result ≡ rules.names_no_parts (program_form program.now) }
-{
-    allocates_no_parts(program) || have_bare_components(&program.types)
 }
 
 /// Whether an Initialize and a Finalize may be frugal in a program: no object with controlled parts is allocated, or each may be, and

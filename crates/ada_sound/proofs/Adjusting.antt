@@ -26,7 +26,7 @@ use Rattle.ada_quiet.specs.Apart.{is_tracker}
 use Rattle.ada_judged.specs.Fitting.{TracksComponents}
 use Rattle.ada_judged.specs.Obeying.{BodyIsOrderly}
 use Rattle.ada_quiet.specs.InUse.{may_be_frugal, may_track}
-use Rattle.ada_quiet.specs.Calm.{calm_types}
+use Rattle.ada_quiet.specs.Calm.{are_calmly_copied_in, calm_types}
 use Rattle.ada_beside.specs.Confined.{IsConfined}
 use Rattle.ada_beside.specs.Law.{LieBeside}
 use Rattle.ada_tracked.specs.Frames.{View, blanked, values_at}
@@ -103,6 +103,7 @@ pub record Adjusting (program : Program) (s : State) : Type 0 where
   pub calm : IsCalm (behind_call behind)
   pub settled : under_in (callers_of program suspensions) ≡ []
   pub tracking : may_track (program_form program) ≡ true
+  pub sees_to : are_calmly_copied_in (program_form program) access ≡ false
   pub may : may_be_frugal (program_form program) ≡ true
   pub silent : (e : Exception) → body_among (implicit_of (program_form program)) (known_judged program number w.tracks []).program e ≡ true → ⊥
   -- what holds of the state that stands for it

@@ -48,7 +48,7 @@ use Rattle.ada_typed.proofs.Bodies.{seen_as}
 use Rattle.ada_typed.proofs.Control as typed
 use Rattle.ada_typed.proofs.Kept.{behind_call}
 use Rattle.ada_quiet.specs.Apart.{is_tracker}
-use Rattle.ada_quiet.specs.Calm.{calm_types}
+use Rattle.ada_quiet.specs.Calm.{are_calmly_copied_in, calm_types}
 use Rattle.ada_sound.proofs.CallsApart.{CallApart}
 use Rattle.ada_sound.proofs.WatchedBy.{given_count, hold_bare, some_variable}
 use Rattle.ada_sound.proofs.Activations.{called_fit}
@@ -326,13 +326,13 @@ module _ (program : Program) (number : ℕ) (b : BodyForm) (there : slice_get (p
     referred_low q t (inr other) = absurd other
 
     -- The body begins.
-    pub adjusting_begins : IsOfCopy by → tracks_of p.types number b ≡ w.tracks → is_tracker p number ≡ true → BodyIsOrderly w.tracks b → hold_bare p.types (drop 1 b.variables) ≡ true → may_track p ≡ true → may_be_frugal p ≡ true → is_frugal_body (calling_none p.types) b ≡ true → FrameIsSimple w.tracks.first (Elaborates b.declarations b.statements b.handlers)
+    pub adjusting_begins : IsOfCopy by → tracks_of p.types number b ≡ w.tracks → is_tracker p number ≡ true → BodyIsOrderly w.tracks b → hold_bare p.types (drop 1 b.variables) ≡ true → may_track p ≡ true → are_calmly_copied_in p x.cell.access ≡ false → may_be_frugal p ≡ true → is_frugal_body (calling_none p.types) b ≡ true → FrameIsSimple w.tracks.first (Elaborates b.declarations b.statements b.handlers)
         → ((e : Exception) → body_among (implicit_of p) (known_judged program number w.tracks []).program e ≡ true → ⊥)
         → CallApart p.types (calm_types p) (is_tracker p) false (seen_state w begun).control → RunsAsJudged → BeginsAsJudged → TypedAsJudged
         → (e : Event) (of : ℕ) → Alters s.heap e heap → WaitsFor p.types o of (begins by done) tasks k behind → Stands program gs (record s { activations = a ∷ rest }) → IsCalm (behind_call behind) → under_in (callers_of program gs) ≡ []
         → ((v : Value) → v ≢ Names o → NothingBegins v k)
         → AdjustsIn program o x.cell.access record_type tasks w begun
-    adjusting_begins copies tracks_so tracker orderly alone_there tracking may frugal simple silent calls_apart runs_judged begins_judged typed_judged e of alters awaited stands calm settled untreated =
+    adjusting_begins copies tracks_so tracker orderly alone_there tracking sees_to may frugal simple silent calls_apart runs_judged begins_judged typed_judged e of alters awaited stands calm settled untreated =
         let still = stands_kept program (record s { activations = a ∷ rest }) (behind_operation (a ∷ rest) behind s.masters (record s { heap = blank_heap })) gs stands e (record { procedure = refl; suspended = refl }) (alters_then s.heap heap blank_heap e alters (alters_blank e)) in
         let f : Adjusting program begun =
         record {
@@ -394,6 +394,7 @@ module _ (program : Program) (number : ℕ) (b : BodyForm) (there : slice_get (p
           calm = calm;
           settled = settled;
           tracking = tracking;
+          sees_to = sees_to;
           may = may;
           silent = silent;
           bodies = (refl, stands.body, stands.behind, stands.bodies);

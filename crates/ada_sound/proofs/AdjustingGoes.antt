@@ -31,7 +31,7 @@ use Rattle.ada_typed.proofs.Control.{OwnBody}
 use Rattle.ada_typed.proofs.Evaluations as evaluated
 use Rattle.ada_typed.proofs.Kept.{Behind, Each, behind_call}
 use Rattle.ada_judged.specs.Obeying.{BodyIsOrderly}
-use Rattle.ada_quiet.specs.Bare.{has_bare_objects}
+use Rattle.ada_quiet.specs.Calm.{calmly_copied_types, has_calm_objects}
 use Rattle.ada_quiet.specs.InUse.{is_copied_in_order, stand_in_a_row, adjusts_itself, may_track}
 use Rattle.ada_sound.proofs.Adjusting.{Adjusting, waiting}
 use Rattle.ada_sound.proofs.AdjustingCore.{judged_keeps}
@@ -54,7 +54,7 @@ use Rattle.ada_sound.proofs.Returns.{CrossesTo, same_types}
 use Rattle.ada_sound.proofs.TracksApart.{AreInARow, tracks_apart}
 use Rattle.ada_sound.proofs.TracksWell.{copied_in_order, tracked_well}
 use Rattle.ada_sound.proofs.Trackers.{calls_stand_apart, names_none_too, order_too, stands_apart}
-use Rattle.ada_sound.proofs.BareObjects.{components_are_bare}
+use Rattle.ada_sound.proofs.CalmTypes.{components_are_calm}
 use Rattle.ada_sound.proofs.FrugalBodies.{calling_none}
 use Rattle.ada_sound.proofs.WatchedBy.{hold_bare, watched_by}
 
@@ -123,26 +123,26 @@ module _
   pub inside : typed.TypedIn own (record s { heap = heap })
   inside = subst (λ (procedure : Option ℕ). typed.TypedIn (seen_in procedure p) (record s { heap = heap })) f.runs typing.inside
 
-  -- The object has controlled parts.
-  parted_there : has_bare_objects own.types x.cell.access ≡ false
-  parted_there =
-      let waits = f.waits.parted in
-      let parted : has_bare_objects p.types f.access ≡ false = rw (same_types f.procedure p) at waits in
-      subst (λ (types : List TypeForm). has_bare_objects types x.cell.access ≡ false) (sym (same_types (Some f.number) p)) (rw of_access parted)
+  -- The object has a part whose Adjust tracks.
+  other_there : has_calm_objects own.types (calmly_copied_types p) x.cell.access ≡ false
+  other_there =
+      subst (λ (types : List TypeForm). has_calm_objects types (calmly_copied_types p) x.cell.access ≡ false) (sym (same_types (Some f.number) p)) (rw of_access f.sees_to)
 
   -- And no component names such an object.
-  components_there : (holder c access : ℕ) → access_of (kind_among (reached_components own.types holder) c) ≡ Some access → has_bare_objects own.types access ≡ true
+  components_there :
+      (holder c access : ℕ) → access_of (kind_among (reached_components own.types holder) c) ≡ Some access → has_calm_objects own.types (calmly_copied_types p) access ≡ true
   components_there =
-      subst (λ (types : List TypeForm). (holder c access : ℕ) → access_of (kind_among (reached_components types holder) c) ≡ Some access → has_bare_objects types access ≡ true)
-      (sym (same_types (Some f.number) p)) (components_are_bare program well (names_none_too p may))
+      subst
+      (λ (types : List TypeForm). (holder c access : ℕ) → access_of (kind_among (reached_components types holder) c) ≡ Some access → has_calm_objects types (calmly_copied_types p) access ≡ true)
+      (sym (same_types (Some f.number) p)) (components_are_calm p.types (calmly_copied_types p) (names_none_too p may))
 
   -- The object is watched, where it exists.
   pub is_watched : x.stage ≡ Existing → IsWatched f.w (places s) heap
   is_watched exists =
       let here = sym (seen_as p f.number f.b f.there) in
-      watched_by own (tables_in own (seen_fits p well (Some f.number))) f.w (tracks_seen p f.number f.b f.w.tracks f.there f.components) (record s { heap = heap }) f.place x inside
+      watched_by own (tables_in own (seen_fits p well (Some f.number))) (calmly_copied_types p) f.w (tracks_seen p f.number f.b f.w.tracks f.there f.components) (record s { heap = heap }) f.place x inside
       (rw f.object_so f.formal) f.based (subst (λ (q : ProgramForm). length (places s) ≡ length q.variables) here f.count)
-      (rw f.object_so found) exists parted_there
+      (rw f.object_so found) exists other_there
       (subst (λ (types : List TypeForm). hold_bare types (drop 1 own.variables) ≡ true) (sym (same_types (Some f.number) p)) (subst (λ (q : ProgramForm). hold_bare p.types (drop 1 q.variables) ≡ true) here f.lone))
       components_there
       (subst (λ (tracks : Tracks). AreApart tracks.components) f.tracks_so (tracks_apart p.types (in_a_row p well may) f.number f.b))

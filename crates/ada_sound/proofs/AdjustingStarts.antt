@@ -35,14 +35,15 @@ use Rattle.ada_quiet.specs.Bare.{has_bare_objects}
 use Rattle.ada_quiet.specs.Frugal.{is_frugal_body, thrift_of}
 use Rattle.ada_quiet.specs.InUse.{may_be_frugal, adjusts_alone, count_found, has_one_part}
 use Rattle.ada_quiet.specs.Simple.{is_simple_body}
-use Rattle.ada_quiet.specs.Calm.{calm_types}
+use Rattle.ada_quiet.specs.Calm.{are_calmly_copied_in, calm_types, calmly_copied_types, has_calm_objects}
 use Rattle.ada_sound.proofs.AdjustedParts.{adjusted_frees}
 use Rattle.ada_sound.proofs.Adjusting.{IsOfCopy, copied, assigned, AdjustingCopy, LeavesAlone, is_one_of}
 use Rattle.ada_sound.proofs.AdjustingBegins.{Copied, adjusting_begins, begins_as_judged, AdjustsIn}
-use Rattle.ada_sound.proofs.AdjustingEnters.{copied_type, copied_where_called, copy_among, copy_tracks, copy_view, called_left, copy_beside, copy_declares, copy_found, copy_heap, copy_left, copy_names_left, copy_object, copy_of_access, copy_owners, copy_record, formal_components, not_one}
+use Rattle.ada_sound.proofs.AdjustingEnters.{copied_type, copied_where_called, copy_among, copy_tracks, copy_view, called_left, copy_beside, copy_declares, copy_found, copy_heap, copy_left, copy_names_left, copy_object, copy_of_access, copy_owners, copy_record, copy_sees_to, formal_components, not_one}
 use Rattle.ada_sound.proofs.AdjustingGoes.{in_a_row}
 use Rattle.ada_sound.proofs.Alters.{Alters, alters_set}
-use Rattle.ada_sound.proofs.BareObjects.{components_are_bare, frugal_frees_bare}
+use Rattle.ada_sound.proofs.BareObjects.{frugal_frees_bare}
+use Rattle.ada_sound.proofs.CalmTypes.{components_are_calm}
 use Rattle.ada_sound.proofs.Callers.{Suspension, Stands, callers_of, known_in}
 use Rattle.ada_sound.proofs.CallsApart.{CallApart}
 use Rattle.ada_sound.proofs.ConfinedBodies.{confined_body, reaches_record}
@@ -239,7 +240,11 @@ module _
         let holds = formal_holds program c.number c.b o place begun (_, refl) aside found inside_body in
         formal_within p.types (variable_kind c.b.variables 0) o x.cell.access place lone.object lone.is (rw lone.is at holds)
 
-    -- The object is watched: it exists, and is a declared one.
+    -- The object has a part whose Adjust tracks: this one.
+    sees_to : are_calmly_copied_in p x.cell.access ≡ false
+    sees_to = copy_sees_to program well tracks.0 a rest s gs v k IsOperated e after c filled
+
+    -- The object is watched: it exists, and has such a part.
     exists : aside.stage ≡ Existing
     exists = (at.works.stored.sane o (blank_object (watched w) aside) (blanked_here w heap aside found)).there_exists c.to.there
 
@@ -247,11 +252,13 @@ module _
     watches =
         let here = sym own_is in
         let types : own.types ≡ p.types = same_types (Some c.number) p in
-        watched_by own (tables_in own (seen_fits p well (Some c.number))) w own_components begun place aside inside refl refl
+        watched_by own (tables_in own (seen_fits p well (Some c.number))) (calmly_copied_types p) w own_components begun place aside inside refl refl
         (subst (λ (q : ProgramForm). length (places begun) ≡ length q.variables) here count) found exists
-        (subst (λ (types : List TypeForm). has_bare_objects types x.cell.access ≡ false) (known_types ∙ sym types) at.parted)
+        (subst (λ (types : List TypeForm). has_calm_objects types (calmly_copied_types p) x.cell.access ≡ false) (sym types) sees_to)
         (subst (λ (types : List TypeForm). hold_bare types (drop 1 own.variables) ≡ true) (sym types) (subst (λ (q : ProgramForm). hold_bare p.types (drop 1 q.variables) ≡ true) here none_other))
-        (subst (λ (types : List TypeForm). (holder component access : ℕ) → access_of (kind_among (reached_components types holder) component) ≡ Some access → has_bare_objects types access ≡ true) (sym types) (components_are_bare program well (names_none_too p tracks.0)))
+        (subst
+        (λ (types : List TypeForm). (holder component access : ℕ) → access_of (kind_among (reached_components types holder) component) ≡ Some access → has_calm_objects types (calmly_copied_types p) access ≡ true)
+        (sym types) (components_are_calm p.types (calmly_copied_types p) (names_none_too p tracks.0)))
         (tracks_apart p.types (in_a_row p well tracks.0) c.number c.b)
 
     -- It frees no more than the adjustment may.
@@ -320,7 +327,7 @@ module _
         let kept = keeps_tracking program c.number w.tracks in
         let waiting = resting a.procedure a.places (begins c.by c.done) o x.cell.access [] place behind s.masters kept at.works.rooms at.works.holds in
         adjusting_begins program c.number c.b c.there w lone components a rest gs s k o aside heap place refl within c.by c.done behind kept may_free r c.tasks at
-        frees_no_more frees_bare (of_copy c.by c.copies) refl tracker orderly none_other tracks.0 may (simple_frugal (calling_none p.types) c.b simple_so) simple
+        frees_no_more frees_bare (of_copy c.by c.copies) refl tracker orderly none_other tracks.0 sees_to may (simple_frugal (calling_none p.types) c.b simple_so) simple
         (simple_silent program well c.number c.b c.there simple_so tracks.2 w.tracks components orderly)
         (calls_apart behind_apart)
         (λ spares. judged_runs program c.number c.b w.tracks waiting gs well obeys.1 c.there refl components orderly spares refl)

@@ -324,6 +324,7 @@ module _
             calm = f.calm;
             settled = f.settled;
             tracking = f.tracking;
+            sees_to = f.sees_to;
             may = f.may;
             silent = f.silent;
             bodies = subst (λ (all : List (Activation Value)). AreOf program all (waiting program s f ∷ f.suspensions)) (sym same.0.suspended) f.bodies;

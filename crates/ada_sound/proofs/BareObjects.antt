@@ -1,24 +1,20 @@
--- Where operations may touch storage, what they free has no controlled parts, and neither has what a component names; and what they are called for does, or is a
--- declared object (7.6, 3.10).
+-- Where operations may touch storage, what they free has no controlled parts; and what they are called for does, or is a declared object (7.6, 3.10).
 
-use Rattle.std.proofs.Common.{◌≡◌, ℕ, zero, suc, true, false, ◌||◌, List, [], ◌∷◌, refl, ap, ◌⊎◌, inl, inr}
+use Rattle.std.proofs.Common.{◌≡◌, ℕ, true, false, ◌||◌, List, refl, ap, ◌⊎◌, inl, inr}
 use Rattle.std.specs.Prelude.{Option, Some, None, is_some}
 use Rattle.std.specs.List.{list_all, slice_get}
 use Rattle.std.proofs.lemmas.Bool.{or_cases}
 use Rattle.ada_deeds.proofs.Naming.{all_at}
 use Rattle.ada_deeds.specs.Implicit.{implicit_of}
 use Rattle.ada_meaning.proofs.Places.{is_declared}
-use Rattle.ada_program.specs.declared.program.ComponentKind.{ComponentKind}
-use Rattle.ada_program.specs.declared.program.ComponentKind.TheVariants as component
 use Rattle.ada_program.specs.declared.program.Finalization.{Finalization}
 use Rattle.ada_program.specs.declared.program.Program.{Program}
 use Rattle.ada_program.specs.ProgramForm.{TypeForm, record_of, access_to, object_of, BodyForm, ProgramForm, program_form, seen_in}
-use Rattle.ada_program.specs.WellFormed.{IsWellFormed, access_of, components_in, components_reached, designated_in, finalization_in, finalization_of, is_access, kind_among, named_in, object_named, reached_components}
+use Rattle.ada_program.specs.WellFormed.{IsWellFormed, designated_in, finalization_in, finalization_of, is_access, named_in, object_named}
 use Rattle.ada_quiet.specs.Apart.{operations_stand_apart}
-use Rattle.ada_quiet.specs.Bare.{has_bare_components, has_bare_objects, is_bare_access, is_bare_component}
+use Rattle.ada_quiet.specs.Bare.{has_bare_objects, is_bare_access}
 use Rattle.ada_quiet.specs.Frugal.{is_frugal_body, thrift_of}
-use Rattle.ada_quiet.specs.InUse.{designates_no_parts, may_allocate_parts, allocates_no_parts, may_be_frugal, names_no_parts}
-use Rattle.ada_sound.proofs.FrugalFrees.{accepted_access}
+use Rattle.ada_quiet.specs.InUse.{designates_no_parts, may_allocate_parts, allocates_no_parts, may_be_frugal}
 use Rattle.ada_sound.proofs.FrugalUseFrees.{covered_bare}
 use Rattle.ada_sound.proofs.FrugalUseParts.{some_parts, walked_parts}
 use Rattle.ada_sound.proofs.Invariant.{CoveredIn}
@@ -38,25 +34,6 @@ module _ (types : List TypeForm) where
       by (Some (access_to name designated pool)) at is' = all_at (designates_no_parts types) types t (access_to name designated pool) none at
       by (Some (object_of record_type)) at is' = absurd (cc is')
 
-  -- Where each component holds values of such types, so it is with what one of them is to name.
-  kind_bare : (components : List ComponentKind) (c own : ℕ) → list_all (is_bare_component types) components ≡ true → access_of (kind_among (Some components) c) ≡ Some own → has_bare_objects types own ≡ true
-  kind_bare [] c own all is = absurd (cc is)
-  kind_bare (component.Integer initial ∷ ks) zero own all is = absurd (cc is)
-  kind_bare (component.Boolean initial ∷ ks) zero own all is = absurd (cc is)
-  kind_bare (component.Access access ∷ ks) zero own all is = let same : access.0 ≡ own = cc is in rw (← same) (apart _ _ all).0
-  kind_bare (k ∷ ks) (suc c) own all is = kind_bare ks c own (apart _ _ all).1 is
-
-  components_bare : list_all (has_bare_components types) types ≡ true → (u : Option TypeForm) (t c own : ℕ) → slice_get types t ≡ u → access_of (kind_among (components_in u) c) ≡ Some own → has_bare_objects types own ≡ true
-  components_bare all None t c own at is = absurd (cc is)
-  components_bare all (Some (record_of name parts components finalization)) t c own at is =
-      kind_bare components c own (all_at (has_bare_components types) types t (record_of name parts components finalization) all at) is
-  components_bare all (Some (access_to name designated pool)) t c own at is = absurd (cc is)
-  components_bare all (Some (object_of record_type)) t c own at is = absurd (cc is)
-
-  reached_bare : list_all (has_bare_components types) types ≡ true → (named : Option ℕ) (c own : ℕ) → access_of (kind_among (components_reached types named) c) ≡ Some own → has_bare_objects types own ≡ true
-  reached_bare all None c own is = absurd (cc is)
-  reached_bare all (Some t) c own is = components_bare all (slice_get types t) t c own refl is
-
   -- An object in which a record with controlled parts lies has some, too.
   walked_bare : (t first part : ℕ) (o : Option TypeForm) → WalksTo types (named_in o) (Some t) first part → is_some (finalization_of types t) ≡ true → is_bare_access types o ≡ false
   walked_bare t first part None walks has = refl
@@ -72,14 +49,6 @@ module _ (program : Program) (well : IsWellFormed (program_form program)) where
   parts_where : may_be_frugal p ≡ true → (allocates_no_parts p ≡ true) ⊎ (may_allocate_parts p ≡ true)
   parts_where may =
       or_cases (allocates_no_parts p) (may_allocate_parts p) (apart (allocates_no_parts p || may_allocate_parts p) (operations_stand_apart p) may).0
-
-  -- What a component is to name has no controlled parts, where none of these is named.
-  pub components_are_bare : names_no_parts p ≡ true → (holder c access : ℕ) → access_of (kind_among (reached_components p.types holder) c) ≡ Some access → has_bare_objects p.types access ≡ true
-  components_are_bare names holder c access is = by (or_cases (allocates_no_parts p) (list_all (has_bare_components p.types) p.types) names)
-    where
-      by : (allocates_no_parts p ≡ true) ⊎ (list_all (has_bare_components p.types) p.types ≡ true) → has_bare_objects p.types access ≡ true
-      by (inl none) = bare_access p.types none access (accepted_access p.types well.types_fit holder c access is)
-      by (inr each) = reached_bare p.types each (named_in (slice_get p.types holder)) c access is
 
   -- An object is that of a variable or a component, or it has controlled parts, where an operation is called for one of these.
   pub operable_is_not_bare : (access of part : ℕ) → IsOperable p.types access of part → has_bare_objects p.types access ≡ false

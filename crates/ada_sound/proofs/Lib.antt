@@ -379,5 +379,7 @@ pub mod Covered
 pub mod Headline
 -- objects without controlled parts
 pub mod BareObjects
+-- what lies in calm records
+pub mod CalmTypes
 -- objects for which no operation is called that touches storage, where they begin or end
 pub mod CalmObjects

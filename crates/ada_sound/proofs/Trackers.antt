@@ -25,9 +25,9 @@ use Rattle.ada_flow.specs.Flow.{is_owning_part, object_record, is_procedure, tra
 use Rattle.ada_flow.specs.Tracking.{no_tracks, tracks_behind, access_numbers, number_within}
 use Rattle.ada_quiet.specs.Apart.{is_this_one, is_adjust_of, is_tracker, body_calls_apart, overrides_apart, operations_apart, stand_apart, operations_stand_apart}
 use Rattle.ada_quiet.specs.Idle.{makes_parts, copies_parts}
-use Rattle.ada_quiet.specs.InUse.{uses_adjust, allocates_no_parts, may_allocate_parts, may_be_frugal, names_no_parts, uses_operations, operations_are_idle, operations_may_be_called, operations_are_in_use, is_copied_in_order, may_track, adjusts_nothing, operations_stand_in_order}
+use Rattle.ada_quiet.specs.InUse.{uses_adjust, allocates_no_parts, may_allocate_parts, may_be_frugal, uses_operations, operations_are_idle, operations_may_be_called, operations_are_in_use, is_copied_in_order, may_track, adjusts_nothing, operations_stand_in_order}
 use Rattle.ada_quiet.specs.Quiet.{has_access, is_of_access, operation_body}
-use Rattle.ada_quiet.specs.Calm.{calm_types}
+use Rattle.ada_quiet.specs.Calm.{calm_types, names_no_trackers}
 use Rattle.ada_sound.proofs.OperationStarts.{apart}
 use Rattle.ada_sound.specs.Untracked.{AdjustsNoOwners}
 
@@ -73,8 +73,8 @@ module _ (p : ProgramForm) where
   -- Where components may be tracked, operations may be frugal, and the components of each record stand in order.
   frugal_and_order : may_track p ≡ true → (may_be_frugal p ≡ true) × (list_all (is_copied_in_order p.types) p.types ≡ true)
   frugal_and_order may =
-      let two = apart (may_be_frugal p && names_no_parts p) (list_all (is_copied_in_order p.types) p.types) may in
-      ((apart (may_be_frugal p) (names_no_parts p) two.0).0, two.1)
+      let two = apart (may_be_frugal p && names_no_trackers p) (list_all (is_copied_in_order p.types) p.types) may in
+      ((apart (may_be_frugal p) (names_no_trackers p) two.0).0, two.1)
 
   pub frugal_too : may_track p ≡ true → may_be_frugal p ≡ true
   frugal_too may = (frugal_and_order may).0
@@ -83,9 +83,9 @@ module _ (p : ProgramForm) where
   order_too may = (frugal_and_order may).1
 
   -- And no component names an object with controlled parts.
-  pub names_none_too : may_track p ≡ true → names_no_parts p ≡ true
+  pub names_none_too : may_track p ≡ true → names_no_trackers p ≡ true
   names_none_too may =
-      (apart (may_be_frugal p) (names_no_parts p) (apart (may_be_frugal p && names_no_parts p) (list_all (is_copied_in_order p.types) p.types) may).0).1
+      (apart (may_be_frugal p) (names_no_trackers p) (apart (may_be_frugal p && names_no_trackers p) (list_all (is_copied_in_order p.types) p.types) may).0).1
 
   -- Where operations may be frugal, they stand apart.
   pub apart_too : may_be_frugal p ≡ true → operations_stand_apart p ≡ true

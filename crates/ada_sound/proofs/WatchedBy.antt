@@ -1,5 +1,5 @@
--- The object whose components a body tracks (7.6) is watched: its components are there, and nothing but the formal parameter leads to it. It has controlled parts,
--- and no component, and no other variable of the body, names such an object (3.10).
+-- The object whose components a body tracks (7.6) is watched: its components are there, and nothing but the formal parameter leads to it. It has a part whose Adjust
+-- tracks, and no component, and no other variable of the body, names such an object (3.10).
 
 use Rattle.std.proofs.Common.{◌≡◌, ℕ, zero, suc, ◌+◌, ◌<◌, Bool, true, false, List, [], ◌∷◌, length, drop, Option, Some, arith, refl, sym, ap, ◌∙◌, subst}
 use Rattle.std.specs.Prelude.{◌==◌}
@@ -30,17 +30,18 @@ use Rattle.ada_typed.proofs.Evaluations.{cell_at}
 use Rattle.ada_typed.proofs.Operators.{and_left, and_right}
 use Rattle.ada_typed.proofs.Values.{AreHeld, filled_at, component_held}
 use Rattle.ada_sound.proofs.Calm.{filled_in}
-use Rattle.ada_quiet.specs.Bare.{has_bare_objects}
+use Rattle.ada_quiet.specs.Calm.{has_calm_objects}
 use Rattle.ada_quiet.specs.Simple.{is_bare_kind}
+use Rattle.ada_sound.proofs.CalmTypes.{bare_calm}
 use Rattle.ada_sound.proofs.JudgedTyped.{AreAccess, watched_of_access, read_there, formal_lies, active_held}
 
 -- Each of these variables holds an Integer, a Boolean, or values of an access type whose objects have no controlled parts.
 abbrev pub hold_bare : List TypeForm → List VariableForm → Bool
 hold_bare types ys = list_all (λ y. is_bare_kind types y.kind) ys
 
-module _ (types : List TypeForm) (heap : List Object) (o : Id) (x : Object) (there : object_at heap o ≡ Some x) (parted : has_bare_objects types x.cell.access ≡ false) where
-  -- No value names it of an access type whose objects are bare.
-  access_other : (access : ℕ) → has_bare_objects types access ≡ true → (v : Value) → IsAccess (cells_of heap) access v → IsOther o v
+module _ (types : List TypeForm) (calm : List Bool) (heap : List Object) (o : Id) (x : Object) (there : object_at heap o ≡ Some x) (other : has_calm_objects types calm x.cell.access ≡ false) where
+  -- No value names it of an access type whose objects are calm.
+  access_other : (access : ℕ) → has_calm_objects types calm access ≡ true → (v : Value) → IsAccess (cells_of heap) access v → IsOther o v
   access_other access is Null has = refl
   access_other access is (Names p) has = by (p.0 == o.0) refl
     where
@@ -51,36 +52,50 @@ module _ (types : List TypeForm) (heap : List Object) (o : Id) (x : Object) (the
       by false e = e
       by true e =
           let one : has.0 ≡ x.cell = some_same (sym has.1 ∙ ap (λ (i : ℕ). slice_get (cells_of heap) i) (is_same p.0 o.0 e) ∙ cell_at heap o.0 x there) in
-          let of : has_bare_objects types x.cell.access ≡ true = ap (λ (c : Cell Value). has_bare_objects types c.access) (sym one) ∙ ap (has_bare_objects types) has.2 ∙ is in
-          absurd (cc (of, parted))
+          let of : has_calm_objects types calm x.cell.access ≡ true = ap (λ (c : Cell Value). has_calm_objects types calm c.access) (sym one) ∙ ap (has_calm_objects types calm) has.2 ∙ is in
+          absurd (cc (of, other))
   access_other access is (Scalar v) has = refl
   access_other access is (Part p place) has = absurd has
 
-  -- Nor does a value of another kind, but a record's.
-  kind_other : (kind : VariableKind) (v : Value) → is_bare_kind types kind ≡ true → HasKind types (cells_of heap) kind v → IsOther o v
-  kind_other variable.Integer Null bare has = refl
-  kind_other variable.Integer (Names p) bare has = absurd has
-  kind_other variable.Integer (Scalar v) bare has = refl
-  kind_other variable.Integer (Part p place) bare has = absurd has
-  kind_other variable.Boolean Null bare has = refl
-  kind_other variable.Boolean (Names p) bare has = absurd has
-  kind_other variable.Boolean (Scalar v) bare has = refl
-  kind_other variable.Boolean (Part p place) bare has = absurd has
-  kind_other (variable.Access access) v bare has = access_other access.0 bare v has
-  kind_other (variable.Record object) v bare has = absurd (cc bare)
+  -- A value of a kind is no record's, and names calm objects alone.
+  abbrev is_calm_kind : VariableKind → Bool
+  is_calm_kind variable.Integer = true
+  is_calm_kind variable.Boolean = true
+  is_calm_kind (variable.Access access) = has_calm_objects types calm access.0
+  is_calm_kind (variable.Record object) = false
 
-  component_bare : (k : ComponentKind) → ((access : TypeNo) → held_kind k ≡ variable.Access access → has_bare_objects types access.0 ≡ true) → is_bare_kind types (held_kind k) ≡ true
-  component_bare (component.Integer initial) each = refl
-  component_bare (component.Boolean initial) each = refl
-  component_bare (component.Access access) each = each access refl
+  -- Nor does a value of another kind, but a record's.
+  kind_other : (kind : VariableKind) (v : Value) → is_calm_kind kind ≡ true → HasKind types (cells_of heap) kind v → IsOther o v
+  kind_other variable.Integer Null is has = refl
+  kind_other variable.Integer (Names p) is has = absurd has
+  kind_other variable.Integer (Scalar v) is has = refl
+  kind_other variable.Integer (Part p place) is has = absurd has
+  kind_other variable.Boolean Null is has = refl
+  kind_other variable.Boolean (Names p) is has = absurd has
+  kind_other variable.Boolean (Scalar v) is has = refl
+  kind_other variable.Boolean (Part p place) is has = absurd has
+  kind_other (variable.Access access) v is has = access_other access.0 is v has
+  kind_other (variable.Record object) v is has = absurd (cc is)
+
+  -- It names bare ones, so.
+  kind_calm : (kind : VariableKind) → is_bare_kind types kind ≡ true → is_calm_kind kind ≡ true
+  kind_calm variable.Integer bare = refl
+  kind_calm variable.Boolean bare = refl
+  kind_calm (variable.Access access) bare = bare_calm types calm (slice_get types access.0) bare
+  kind_calm (variable.Record object) bare = absurd (cc bare)
+
+  component_calm : (k : ComponentKind) → ((access : TypeNo) → held_kind k ≡ variable.Access access → has_calm_objects types calm access.0 ≡ true) → is_calm_kind (held_kind k) ≡ true
+  component_calm (component.Integer initial) each = refl
+  component_calm (component.Boolean initial) each = refl
+  component_calm (component.Access access) each = each access refl
 
   -- So it is with what components hold.
-  components_other : (ks : List ComponentKind) (vs : List Value) → ((c : ℕ) (access : TypeNo) → component_kind (slice_get ks c) ≡ Some (variable.Access access) → has_bare_objects types access.0 ≡ true) → HaveKinds types (cells_of heap) ks vs → AreOther o vs
+  components_other : (ks : List ComponentKind) (vs : List Value) → ((c : ℕ) (access : TypeNo) → component_kind (slice_get ks c) ≡ Some (variable.Access access) → has_calm_objects types calm access.0 ≡ true) → HaveKinds types (cells_of heap) ks vs → AreOther o vs
   components_other [] [] each have = tt
   components_other [] (v ∷ vs) each have = absurd have
   components_other (k ∷ ks) [] each have = absurd have
   components_other (k ∷ ks) (v ∷ vs) each have =
-      (kind_other (held_kind k) v (component_bare k (λ access is. each 0 access (ap (λ (kind : VariableKind). Some kind) is))) have.0, components_other ks vs (λ c access is. each (suc c) access is) have.1)
+      (kind_other (held_kind k) v (component_calm k (λ access is. each 0 access (ap (λ (kind : VariableKind). Some kind) is))) have.0, components_other ks vs (λ c access is. each (suc c) access is) have.1)
 
   -- And with what variables hold.
   variables_other : (ys : List VariableForm) (vs : List Value) → length vs ≡ length ys → hold_bare types ys ≡ true → AreHeld types (cells_of heap) ys vs → AreOther o vs
@@ -89,7 +104,7 @@ module _ (types : List TypeForm) (heap : List Object) (o : Id) (x : Object) (the
   variables_other (y ∷ ys) [] count bare held = absurd held
   variables_other (y ∷ ys) (v ∷ vs) count bare held =
       let fewer : length vs ≡ length ys = omega (arith, count) in (
-        kind_other y.kind v (and_left (is_bare_kind types y.kind) (hold_bare types ys) bare) held.0,
+        kind_other y.kind v (kind_calm y.kind (and_left (is_bare_kind types y.kind) (hold_bare types ys) bare)) held.0,
         variables_other ys vs fewer (and_right (is_bare_kind types y.kind) (hold_bare types ys) bare) held.1,
       )
 
@@ -162,15 +177,15 @@ pub some_variable : (ys : List VariableForm) (kind : VariableKind) → variable_
 some_variable [] kind is = absurd (cc is)
 some_variable (y ∷ ys) kind is = omega arith
 
--- In a typed state of a body that tracks components, the object in which they lie is watched, where it exists and has controlled parts, no two of the components
--- are one, and no component and no other variable of the body is a record or names an object with controlled parts.
+-- In a typed state of a body that tracks components, the object in which they lie is watched, where it exists and is not calm in some sense, no two of the components
+-- are one, no component names what is not calm, and no other variable of the body is a record or names an object with controlled parts.
 pub watched_by :
-    (own : ProgramForm) → TablesFit own → (w : View) → TracksComponents own.types w.tracks own.variables → (s : State) (place : Place) (x : Object) → typed.TypedIn own s
+    (own : ProgramForm) → TablesFit own → (calm : List Bool) → (w : View) → TracksComponents own.types w.tracks own.variables → (s : State) (place : Place) (x : Object) → typed.TypedIn own s
     → slice_get (places s) 0 ≡ Some (Part w.object place) → place.component ≡ w.base → length (places s) ≡ length own.variables
-    → object_at s.heap w.object ≡ Some x → x.stage ≡ Existing → has_bare_objects own.types x.cell.access ≡ false → hold_bare own.types (drop 1 own.variables) ≡ true
-    → ((holder c access : ℕ) → access_of (kind_among (reached_components own.types holder) c) ≡ Some access → has_bare_objects own.types access ≡ true)
+    → object_at s.heap w.object ≡ Some x → x.stage ≡ Existing → has_calm_objects own.types calm x.cell.access ≡ false → hold_bare own.types (drop 1 own.variables) ≡ true
+    → ((holder c access : ℕ) → access_of (kind_among (reached_components own.types holder) c) ≡ Some access → has_calm_objects own.types calm access ≡ true)
     → AreApart w.tracks.components → IsWatched w (places s) s.heap
-watched_by own tables w tracking s place x typing at_first base count found exists parted bare components apart =
+watched_by own tables calm w tracking s place x typing at_first base count found exists other bare components apart =
     let cells = cells_of s.heap in
     let filled = filled_in own s typing in
     let held = held_in own s typing in
@@ -186,11 +201,11 @@ watched_by own tables w tracking s place x typing at_first base count found exis
       below = are_below own.types cells lies.ks x.cell.values have (watched w) each;
       apart = apart_shifted w.base w.tracks.components apart;
       no_references = subst (λ (o : Option Object). AreNoReferences (values_at (watched w) (values_of o))) (sym found) (are_no_references own.types cells lies.ks x.cell.values have (watched w) each);
-      variables = are_places own.types s.heap w.object x found parted w refl own.variables (places s) place at_first base (some_variable own.variables (variable.Record tracking.object) tracking.formal) count bare held;
+      variables = are_places own.types calm s.heap w.object x found other w refl own.variables (places s) place at_first base (some_variable own.variables (variable.Record tracking.object) tracking.formal) count bare held;
       count = count ∙ sym tracking.behind;
       components = λ p y at.
           let cell = filled_at own.types cells cells p y.cell filled (cell_at s.heap p y at) in
-          components_other own.types s.heap w.object x found parted cell.0 y.cell.values
+          components_other own.types calm s.heap w.object x found other cell.0 y.cell.values
           (λ c access is. components y.cell.access c access.0 (ap (λ (ks : Option (List ComponentKind)). access_of (kind_among ks c)) cell.1 ∙ ap access_of is)) cell.2;
     }
   where
