@@ -10,6 +10,8 @@ pub mod Checking
 pub mod Silence
 -- what implicit calls may do
 pub mod Parts
+-- what they spare
+pub mod Spared
 -- the laws
 pub mod Proved
 -- the examples

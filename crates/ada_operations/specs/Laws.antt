@@ -1,6 +1,6 @@
 -- Laws of the rules on operations, and of what implicit calls may do.
 
-use Rattle.std.specs.Prelude.{◌≡◌, ◌↔◌, ◌⊎◌, ℕ, true, List, Option, Some, None}
+use Rattle.std.specs.Prelude.{◌≡◌, ◌↔◌, ◌⊎◌, ℕ, true, false, List, Option, Some, None}
 use Rattle.std.specs.List.{Contains, slice_get}
 use Rattle.ada_deeds.specs.Does.{Does}
 use Rattle.ada_deeds.specs.Implicit.{implicit_of}
@@ -15,7 +15,7 @@ use Rattle.ada_operations.specs.declared.rule.OperationRule.{OperationRule}
 use Rattle.ada_program.specs.declared.program.Exception.{Exception}
 use Rattle.ada_program.specs.declared.program.ProcedureNo.{ProcedureNo}
 use Rattle.ada_program.specs.ProgramForm.{TypeForm, ProgramForm}
-use Rattle.ada_program.specs.WellFormed.{IsWellFormed, designated_type, is_record, object_in}
+use Rattle.ada_program.specs.WellFormed.{IsWellFormed, designated_type, is_access, is_record, object_in}
 use Rattle.ada_quiet.specs.Quiet.{operations_are_quiet}
 use Rattle.ada_text.specs.declared.spot.Spot.{Spot}
 
@@ -72,3 +72,8 @@ EndsFreeWhatPartsFree = (p : ProgramForm) (u t : ℕ) → ((implicit_of p).end_f
 abbrev pub EndsReachWhatPartsUse : Type 0
 EndsReachWhatPartsUse = (p : ProgramForm) (u t : ℕ) →
     ((implicit_of p).end_reaches u t ≡ true) ↔ (OperationDoes p Finalize (Frees (record { 0 = t })) u ⊎ OperationDoes p Finalize (Follows (record { 0 = t })) u)
+
+-- Where no body breaks a rule, what is known to be freed where an object of an access type ends, or is adjusted, is none of that type (7.6.1).
+abbrev pub EndsSpareTheirOwn : Type 0
+EndsSpareTheirOwn = (p : ProgramForm) → IsFirstFault p None → (t : ℕ) → is_access p.types t ≡ true →
+    ((implicit_of p).end_frees t t ≡ false) × ((implicit_of p).adjust_frees t t ≡ false)

@@ -3,7 +3,7 @@
 
 ghost use Rattle.ada_operations.specs.Example.{AllAreBroken, NoneIsBroken, PartsOfPartsCount};
 ghost use Rattle.ada_operations.specs.Laws.{OneIsFirst, QuietOperationsDoNothing, QuietOperationsObey};
-ghost use Rattle.ada_operations.specs.Laws.{AdjustsFreeWhatPartsFree, EndsFreeWhatPartsFree, EndsReachWhatPartsUse};
+ghost use Rattle.ada_operations.specs.Laws.{AdjustsFreeWhatPartsFree, EndsFreeWhatPartsFree, EndsReachWhatPartsUse, EndsSpareTheirOwn};
 ghost use Rattle.ada_operations.specs.Laws.{StartsFreeWhatPartsFree, StartsRaiseWhatPartsRaise};
 
 /// A program has its first fault, or none: not two of these.
@@ -35,6 +35,12 @@ pub fn implicit_calls_are_those_of_all_parts()
     ensures adjust_frees { AdjustsFreeWhatPartsFree }
     ensures end_frees { EndsFreeWhatPartsFree }
     ensures end_reaches { EndsReachWhatPartsUse }
+{}
+
+/// Where no body breaks a rule, the end and the adjustment of an object of an access type free no object of that type: what they use
+/// lies in a collection that is created before it (S8).
+pub fn ends_spare_their_own()
+    ensures { EndsSpareTheirOwn }
 {}
 
 /// That is not empty: the operations of a part that lies within a part count, each for itself.

@@ -10,5 +10,7 @@ pub mod QuietFrugal
 pub mod QuietSimple
 -- procedures that are frugal have frugal bodies
 pub mod FrugalAt
+-- bodies that are frugal where none may free objects with controlled parts are so where some may
+pub mod FrugalMore
 -- collections that are created in order, found in one pass
 pub mod Collecting

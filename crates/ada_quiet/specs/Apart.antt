@@ -12,6 +12,7 @@ use Rattle.ada_program.specs.WellFormed.{finalization_in, finalization_of}
 use Rattle.ada_effects.specs.Effects.{path_raises}
 use Rattle.ada_quiet.specs.Bare.{has_bare_objects}
 use Rattle.ada_quiet.specs.Calm.{calm_types, has_calm_objects}
+use Rattle.ada_quiet.specs.Frugal.{barely_ending_types}
 use Rattle.ada_quiet.specs.Quiet.{has_access}
 
 -- What overrides an operation, if one is overridden, is this procedure.
@@ -64,14 +65,18 @@ is_variable (c ∷ cs) = false
 abbrev pub is_led : PathForm → Bool
 is_led path = is_variable path.selectors || path_raises path
 
+-- A path leads to what is freed as a variable, or it follows an access value, and the operations that end the object call none themselves.
+abbrev pub leads_barely : PathForm → (barely : Bool) → Bool
+leads_barely path barely = is_variable path.selectors || (is_led path && barely)
+
 -- Where paths lead so to all objects that are freed (13.11.2) for which an operation may be called that touches storage, this one does, or none may be called for
 -- its object: that is calm.
-abbrev pub frees_led : (led : Bool) → PathForm → (calm : Bool) → Bool
-frees_led led path calm = not led || (is_led path || calm)
+abbrev pub frees_led : (led : Bool) → PathForm → (calm barely : Bool) → Bool
+frees_led led path calm barely = not led || (leads_barely path barely || calm)
 
--- Of each record type, by its number, whether it is calm; of each procedure, whether it tracks; and whether objects that are not calm are freed by variables and
--- followed values alone.
-module _ (types : List TypeForm) (calm : List Bool) (tracks : ℕ → Bool) (led : Bool) where
+-- Of each record type, by its number, whether it is calm, and whether the operations that end its objects call none themselves; of each procedure, whether it tracks;
+-- and whether objects that are not calm are freed by variables and followed values alone.
+module _ (types : List TypeForm) (calm barely : List Bool) (tracks : ℕ → Bool) (led : Bool) where
   abbrev mutual
     -- A statement calls no procedure that tracks (6.4), and its allocator with items makes no object with controlled parts and copies no record with some (4.8). If
     -- objects that are not calm are freed by variables and followed values alone, it frees none by a component of a record object or of a formal parameter (13.11.2).
@@ -79,7 +84,7 @@ module _ (types : List TypeForm) (calm : List Bool) (tracks : ℕ → Bool) (led
     calls_apart skips = true
     calls_apart (assigns target right) = is_bare_right types right
     calls_apart (assigns_record target items) = true
-    calls_apart (frees access path) = frees_led led path (has_calm_objects types calm access)
+    calls_apart (frees access path) = frees_led led path (has_calm_objects types calm access) (has_calm_objects types barely access)
     calls_apart (gets target) = true
     calls_apart (writes e) = true
     calls_apart (writes_text text) = true
@@ -108,9 +113,9 @@ module _ (types : List TypeForm) (calm : List Bool) (tracks : ℕ → Bool) (led
     handlers_call_apart (a_handler choices fs hs) = all_call_apart fs && handlers_call_apart hs
 
 -- So it is with a body.
-abbrev pub body_calls_apart : List TypeForm → (calm : List Bool) → (tracks : ℕ → Bool) → (led : Bool) → BodyForm → Bool
-body_calls_apart types calm tracks led b =
-    declare_apart types b.declarations && all_call_apart types calm tracks led b.statements && handlers_call_apart types calm tracks led b.handlers
+abbrev pub body_calls_apart : List TypeForm → (calm barely : List Bool) → (tracks : ℕ → Bool) → (led : Bool) → BodyForm → Bool
+body_calls_apart types calm barely tracks led b =
+    declare_apart types b.declarations && all_call_apart types calm barely tracks led b.statements && handlers_call_apart types calm barely tracks led b.handlers
 
 -- What overrides an operation, if one is overridden, does not track.
 abbrev pub overrides_apart : (tracks : ℕ → Bool) → Option ProcedureNo → Bool
@@ -127,7 +132,8 @@ operations_apart tracks owns (Some f) =
 -- that are not calm are freed by variables and followed values alone, or not.
 abbrev pub stand_apart : ProgramForm → (led : Bool) → Bool
 stand_apart p led =
-    body_calls_apart p.types (calm_types p) (is_tracker p) led (main_body p) && list_all (body_calls_apart p.types (calm_types p) (is_tracker p) led) p.bodies
+    body_calls_apart p.types (calm_types p) (barely_ending_types p) (is_tracker p) led (main_body p)
+    && list_all (body_calls_apart p.types (calm_types p) (barely_ending_types p) (is_tracker p) led) p.bodies
     && list_all (λ t. operations_apart (is_tracker p) (has_access (Some t)) (finalization_in (Some t))) p.types
 
 -- Operations stand apart in a program, whatever frees objects with controlled parts.

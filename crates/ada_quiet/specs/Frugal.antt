@@ -1,13 +1,17 @@
--- Bodies of Initialize and Finalize that touch storage, and of procedures that they call (7.6, 4.8, 5.2, 6.4, 13.11.2): they allocate, move, follow and free objects
--- without controlled parts, assign records without them, and declare variables alone, which may be given what they allocate.
+-- Bodies of Initialize and Finalize that touch storage, and of procedures that they call (7.6, 4.8, 5.2, 6.4, 13.11.2): they allocate, move and follow objects
+-- without controlled parts, assign records without them, and declare variables alone, which may be given what they allocate. They free objects without controlled
+-- parts, and those of a Finalize others, too.
 
-use Rattle.std.specs.Prelude.{Bool, true, false, not, ◌&&◌, List, [], ◌∷◌, ◌++◌, Option, Some, None, is_some}
+use Rattle.std.specs.Prelude.{ℕ, Bool, true, false, not, ◌&&◌, ◌||◌, List, [], ◌∷◌, ◌++◌, Option, Some, None, is_some}
 use Rattle.std.specs.List.{list_all, slice_get, slice_index_or}
 use Rattle.ada_program.specs.Form.{StmtForm, skips, assigns, assigns_record, frees, gets, writes, writes_text, chooses, repeats, counts, exits, calls, returns, raises, encloses, StmtsForm, no_stmts, a_stmt, BranchesForm, otherwise, a_branch, HandlersForm, no_handlers, a_handler, DeclarationForm, creates_pool, collects, declares, declares_record}
 use Rattle.ada_program.specs.declared.program.ProcedureNo.{ProcedureNo}
 use Rattle.ada_program.specs.ProgramForm.{TypeForm, BodyForm, ProgramForm}
-use Rattle.ada_program.specs.WellFormed.{finalization_of}
+use Rattle.ada_program.specs.declared.program.Finalization.{Finalization}
+use Rattle.ada_program.specs.WellFormed.{finalization_in, finalization_of}
 use Rattle.ada_quiet.specs.Bare.{has_bare_objects, allocates_bare}
+use Rattle.ada_quiet.specs.Calm.{calm_from}
+use Rattle.ada_quiet.specs.Quiet.{is_quiet_operation}
 use Rattle.ada_effects.specs.Effects.{Effects, no_implicit, effects_of, body_raises}
 
 -- A declaration is that of a variable (3.3.1), and what that is given at first is no new object with controlled parts: no record object, no collection and no pool
@@ -22,20 +26,26 @@ is_frugal_declaration types (declares_record x t initial) = false
 abbrev pub are_frugal_declarations : List TypeForm → List DeclarationForm → Bool
 are_frugal_declarations types ds = list_all (is_frugal_declaration types) ds
 
--- What frugal bodies go by: the types of the program, and of each procedure, by its number, whether its body is frugal.
+-- What frugal bodies go by: the types of the program, whether they may free objects with controlled parts, and of each procedure, by its number, whether its body
+-- is frugal.
 pub record Thrift : Type 0 where
   pub types : List TypeForm
+  pub ends_parts : Bool
   pub procedures : List Bool
+
+-- Such a body may free objects of an access type (13.11.2): they have no controlled parts, or it may free those that have some.
+abbrev pub may_end : Thrift → (access : ℕ) → Bool
+may_end thrift access = thrift.ends_parts || has_bare_objects thrift.types access
 
 module _ (thrift : Thrift) where
   abbrev mutual
-    -- A statement assigns no record with controlled parts as a whole (5.2), allocates and frees no object with some (4.8, 13.11.2), and calls procedures with frugal
-    -- bodies alone (6.4).
+    -- A statement assigns no record with controlled parts as a whole (5.2), allocates no object with some (4.8), frees none with some unless it may (13.11.2), and calls
+    -- procedures with frugal bodies alone (6.4).
     pub is_frugal_stmt : StmtForm → Bool
     is_frugal_stmt skips = true
     is_frugal_stmt (assigns target right) = allocates_bare thrift.types right
     is_frugal_stmt (assigns_record target items) = not (is_some (finalization_of thrift.types target.record_type))
-    is_frugal_stmt (frees access path) = has_bare_objects thrift.types access
+    is_frugal_stmt (frees access path) = may_end thrift access
     is_frugal_stmt (gets target) = true
     is_frugal_stmt (writes e) = true
     is_frugal_stmt (writes_text text) = true
@@ -68,22 +78,22 @@ abbrev pub is_frugal_body : Thrift → BodyForm → Bool
 is_frugal_body thrift b = are_frugal_declarations thrift.types b.declarations && are_frugal thrift b.statements && are_frugal_handlers thrift b.handlers
 
 -- Of these procedures, behind others: each calls those before it.
-abbrev pub frugal_from : List TypeForm → (frugal : List Bool) → List BodyForm → List Bool
-frugal_from types frugal [] = frugal
-frugal_from types frugal (b ∷ bs) = frugal_from types (frugal ++ is_frugal_body (record { types = types; procedures = frugal }) b ∷ []) bs
+abbrev pub frugal_from : List TypeForm → (ends_parts : Bool) → (frugal : List Bool) → List BodyForm → List Bool
+frugal_from types ends frugal [] = frugal
+frugal_from types ends frugal (b ∷ bs) = frugal_from types ends (frugal ++ is_frugal_body (record { types = types; ends_parts = ends; procedures = frugal }) b ∷ []) bs
 
 -- Of the procedures of a program.
-abbrev pub frugal_procedures : ProgramForm → List Bool
-frugal_procedures p = frugal_from p.types [] p.bodies
+abbrev pub frugal_procedures : ProgramForm → (ends_parts : Bool) → List Bool
+frugal_procedures p ends = frugal_from p.types ends [] p.bodies
 
 -- What the frugal bodies of a program go by.
-abbrev pub thrift_of : ProgramForm → Thrift
-thrift_of p = record { types = p.types; procedures = frugal_procedures p }
+abbrev pub thrift_of : ProgramForm → (ends_parts : Bool) → Thrift
+thrift_of p ends = record { types = p.types; ends_parts = ends; procedures = frugal_procedures p ends }
 
 -- What overrides an operation has such a body, if one is overridden (7.6).
-abbrev pub is_frugal_operation : ProgramForm → Option ProcedureNo → Bool
-is_frugal_operation p None = true
-is_frugal_operation p (Some procedure) = slice_index_or (frugal_procedures p) procedure.0 false
+abbrev pub is_frugal_operation : ProgramForm → (ends_parts : Bool) → Option ProcedureNo → Bool
+is_frugal_operation p ends None = true
+is_frugal_operation p ends (Some procedure) = slice_index_or (frugal_procedures p ends) procedure.0 false
 
 -- What the procedures of a program may raise, but for what is called implicitly: in frugal bodies nothing is.
 abbrev pub own_effects : ProgramForm → Effects
@@ -102,3 +112,12 @@ is_silent_procedure effects (Some b) = is_silent_body effects b
 abbrev pub is_silent_operation : ProgramForm → Option ProcedureNo → Bool
 is_silent_operation p None = true
 is_silent_operation p (Some procedure) = is_silent_procedure (own_effects p) (slice_get p.bodies procedure.0)
+
+-- What overrides Finalize of a type is quiet, or frees no object with controlled parts: so it calls no operation.
+abbrev pub ends_barely : ProgramForm → Option Finalization → Bool
+ends_barely p None = true
+ends_barely p (Some f) = is_quiet_operation p f.operations.finalize || is_frugal_operation p false f.operations.finalize
+
+-- Of the types of a program, by their numbers, whether that is so of each record that lies in an object of the type.
+abbrev pub barely_ending_types : ProgramForm → List Bool
+barely_ending_types p = calm_from (λ t. ends_barely p (finalization_in (Some t))) [] p.types

@@ -1,7 +1,8 @@
 //! Where the operations of controlled types stand apart (7.6): no body calls the procedures that override an Adjust which tracks
 //! components (6.4), and they override no other operation; and no allocator gives values to the components of an object with
 //! controlled parts, or copies a record with some (4.8): so each such object that is allocated is initialized by default. And where
-//! those of them that are not calm are freed by variables and followed values alone (13.11.2).
+//! those of them that are not calm are freed by variables and followed values alone (13.11.2), and by a component behind a followed value
+//! only if the operations that end them call none themselves.
 
 ghost use Rattle.std.specs.Prelude.{◌≡◌, ◌&&◌, ◌||◌, ◌==◌, ℕ, Some, IfOk, OnOk, map};
 ghost use Rattle.std.specs.List.{list_all};
@@ -14,6 +15,7 @@ ghost use Rattle.ada_quiet.specs.Known.{is_marked};
 ghost use Rattle.ada_quiet.specs.Quiet.{has_access};
 
 use crate::bare::has_bare_objects;
+use crate::barely::barely_ending_types;
 use crate::calm::{calm_types, has_calm_objects};
 use crate::marks::{has_mark, mark};
 use crate::operations::have_access;
@@ -154,6 +156,8 @@ struct Asked<'a> {
     types: &'a [TypeDefinition],
     /// Of each type, by its number, whether it is a calm record type.
     calm: &'a [bool],
+    /// Of each one, whether it is a record type whose objects are ended by operations that call none themselves.
+    barely: &'a [bool],
     /// Of each procedure, by its number, whether it is marked: none that is may be called.
     marks: &'a [bool],
     /// Whether objects that are not calm are freed by variables and followed values alone (13.11.2).
@@ -162,12 +166,13 @@ struct Asked<'a> {
 
 /// Whether a statement calls no procedure that is marked (6.4), and its allocator with items makes no object with controlled parts and
 /// copies no record with some (4.8). If objects that are not calm are freed by variables and followed values alone, it frees none by a
-/// component of a record object or of a formal parameter (13.11.2).
+/// component of a record object or of a formal parameter (13.11.2), nor one by a component behind a followed value for which operations
+/// are called that call others.
 #[cycle(statements)]
 #[tactic(auto, using(std::proofs::lemmas::Grind::common_steps, ada_program::specs::Form::statement_rules))]
 fn calls_apart(asked: Asked<'_>, statement: &Stmt) -> bool
-    ensures { result
-        ≡ rules.calls_apart (types_in asked.entry.types.now) asked.entry.calm.now (is_marked asked.entry.marks.now) asked.entry.led (stmt_form statement.now) }
+    ensures { result ≡ rules.calls_apart (types_in asked.entry.types.now) asked.entry.calm.now asked.entry.barely.now
+        (is_marked asked.entry.marks.now) asked.entry.led (stmt_form statement.now) }
 {
     match statement {
         Stmt::Null
@@ -181,7 +186,8 @@ fn calls_apart(asked: Asked<'_>, statement: &Stmt) -> bool
         Stmt::Assign { target: _, value } => is_bare_right(asked.types, value),
         Stmt::Free { access, path } => {
             let calm = has_calm_objects(asked.types, asked.calm, *access);
-            frees_led(asked.led, path, calm)
+            let barely = has_calm_objects(asked.types, asked.barely, *access);
+            frees_led(asked.led, path, calm, barely)
         }
         Stmt::Call {
             procedure,
@@ -216,8 +222,8 @@ fn calls_apart(asked: Asked<'_>, statement: &Stmt) -> bool
 /// Whether that is so with statements.
 #[cycle(statements)]
 fn all_call_apart(asked: Asked<'_>, statements: &[Stmt]) -> bool
-    ensures { result
-        ≡ rules.all_call_apart (types_in asked.entry.types.now) asked.entry.calm.now (is_marked asked.entry.marks.now) asked.entry.led (stmts_form statements.now) }
+    ensures { result ≡ rules.all_call_apart (types_in asked.entry.types.now) asked.entry.calm.now asked.entry.barely.now
+        (is_marked asked.entry.marks.now) asked.entry.led (stmts_form statements.now) }
 {
     'statements: for statement in statements {
         if !calls_apart(asked, statement) {
@@ -232,10 +238,11 @@ fn all_call_apart(asked: Asked<'_>, statements: &[Stmt]) -> bool
 fn branches_call_apart(asked: Asked<'_>, branches: &[Branch]) -> bool
     ensures { let types = types_in asked.entry.types.now in
         let calm = asked.entry.calm.now in
+        let barely = asked.entry.barely.now in
         let tracks = is_marked asked.entry.marks.now in
         let led = asked.entry.led in
-        (others : StmtsForm) → rules.branches_call_apart types calm tracks led (branches_form branches.now others)
-        ≡ (result && rules.all_call_apart types calm tracks led others) }
+        (others : StmtsForm) → rules.branches_call_apart types calm barely tracks led (branches_form branches.now others)
+        ≡ (result && rules.all_call_apart types calm barely tracks led others) }
 {
     'branches: for branch in branches {
         if !all_call_apart(asked, &branch.statements) {
@@ -248,8 +255,8 @@ fn branches_call_apart(asked: Asked<'_>, branches: &[Branch]) -> bool
 /// Whether that is so with handlers (11.2).
 #[cycle(statements)]
 fn handlers_call_apart(asked: Asked<'_>, handlers: &[Handler]) -> bool
-    ensures { result ≡ rules.handlers_call_apart (types_in asked.entry.types.now) asked.entry.calm.now (is_marked asked.entry.marks.now) asked.entry.led
-        (handlers_form handlers.now) }
+    ensures { result ≡ rules.handlers_call_apart (types_in asked.entry.types.now) asked.entry.calm.now asked.entry.barely.now
+        (is_marked asked.entry.marks.now) asked.entry.led (handlers_form handlers.now) }
 {
     'handlers: for handler in handlers {
         if !all_call_apart(asked, &handler.statements) {
@@ -261,8 +268,8 @@ fn handlers_call_apart(asked: Asked<'_>, handlers: &[Handler]) -> bool
 
 /// Whether that is so with the bodies of these procedures. Linear in the bodies.
 fn bodies_call_apart(asked: Asked<'_>, procedures: &[Procedure]) -> bool
-    ensures { result ≡ list_all (rules.body_calls_apart (types_in asked.entry.types.now) asked.entry.calm.now (is_marked asked.entry.marks.now) asked.entry.led)
-        (map body_form procedures.now) }
+    ensures { result ≡ list_all (rules.body_calls_apart (types_in asked.entry.types.now) asked.entry.calm.now asked.entry.barely.now
+        (is_marked asked.entry.marks.now) asked.entry.led) (map body_form procedures.now) }
 {
     'procedures: for procedure in procedures {
         if !declare_apart(asked.types, &procedure.declarations) {
@@ -280,8 +287,8 @@ fn bodies_call_apart(asked: Asked<'_>, procedures: &[Procedure]) -> bool
 
 /// Whether that is so with the main procedure's body. Linear in the body.
 fn main_calls_apart(asked: Asked<'_>, program: &Program) -> bool
-    ensures { result ≡ rules.body_calls_apart (types_in asked.entry.types.now) asked.entry.calm.now (is_marked asked.entry.marks.now) asked.entry.led
-        (main_body (program_form program.now)) }
+    ensures { result ≡ rules.body_calls_apart (types_in asked.entry.types.now) asked.entry.calm.now asked.entry.barely.now
+        (is_marked asked.entry.marks.now) asked.entry.led (main_body (program_form program.now)) }
 {
     declare_apart(asked.types, &program.declarations)
         && all_call_apart(asked, &program.statements)
@@ -343,9 +350,15 @@ fn are_apart(marks: &[bool], types: &[TypeDefinition]) -> bool
 /// Whether what is marked stands apart in a program: no body calls it, and it overrides nothing but Adjust of types that declare such a
 /// component; and no allocator with items makes an object with controlled parts, or copies a record with some. Those that are not calm
 /// are freed by variables and followed values alone, or not.
-fn marked_stand_apart(calm: &[bool], marks: &[bool], program: &Program, led: bool) -> bool
+fn marked_stand_apart(
+    calm: &[bool],
+    barely: &[bool],
+    marks: &[bool],
+    program: &Program,
+    led: bool,
+) -> bool
     ensures { let p = program_form program.now in
-        let calls_apart = rules.body_calls_apart p.types calm.now (is_marked marks.now) led in
+        let calls_apart = rules.body_calls_apart p.types calm.now barely.now (is_marked marks.now) led in
         let tracks = is_marked marks.now in
         result ≡ (calls_apart (main_body p) && list_all calls_apart p.bodies
         && list_all (λ t. rules.operations_apart tracks (has_access (Some t)) (finalization_in (Some t))) p.types) }
@@ -353,6 +366,7 @@ fn marked_stand_apart(calm: &[bool], marks: &[bool], program: &Program, led: boo
     let asked = Asked {
         types: &program.types,
         calm,
+        barely,
         marks,
         led,
     };
@@ -371,8 +385,9 @@ fn stand_apart(alloc: Global, program: &Program, led: bool) -> Result<bool, Allo
     ensures { IfOk result (λ answer. answer ≡ rules.stand_apart (program_form program.now) led) }
 {
     let calm = calm_types(alloc, program)?;
+    let barely = barely_ending_types(alloc, program)?;
     let marks = trackers(alloc, program)?;
-    Ok(marked_stand_apart(&calm, &marks, program, led))
+    Ok(marked_stand_apart(&calm, &barely, &marks, program, led))
 }
 
 /// Whether operations stand apart in a program, whatever frees objects with controlled parts. Linear in the types, their components, and

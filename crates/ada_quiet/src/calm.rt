@@ -60,7 +60,7 @@ fn are_calm_parts(calm: &[bool], parts: &[Part]) -> bool
 
 /// Whether a type is a calm record type, where `own` says whether its own operations are so: they are, and so is each of its declared
 /// components. Linear in the components.
-fn is_calm_type(own: bool, calm: &[bool], definition: &TypeDefinition) -> bool
+pub(crate) fn is_calm_type(own: bool, calm: &[bool], definition: &TypeDefinition) -> bool
     ensures { result ≡ rules.is_calm_type own calm.now (type_form definition.now) }
 {
     match definition {

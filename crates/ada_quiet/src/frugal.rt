@@ -1,6 +1,6 @@
-//! Declarations, statements and bodies, where they are frugal: they allocate, move, follow and free objects without controlled parts
-//! (7.6, 4.8, 13.11.2), assign records without them (5.2), call procedures with frugal bodies alone (6.4), and declare no more than
-//! variables.
+//! Declarations, statements and bodies, where they are frugal: they allocate, move and follow objects without controlled parts (7.6,
+//! 4.8), assign records without them (5.2), call procedures with frugal bodies alone (6.4), and declare no more than variables. They free
+//! objects without controlled parts (13.11.2), and others, where they may.
 
 ghost use Rattle.std.specs.Prelude.{◌≡◌, ◌&&◌, false, map, slice_index_or};
 ghost use Rattle.ada_program.specs.Form.{StmtsForm, branches_form, declaration_form, handlers_form, stmt_form, stmts_form};
@@ -12,7 +12,18 @@ ghost use Rattle.ada_quiet.specs.Known.{thrift_in};
 use crate::bare::{allocates_bare, has_bare_objects, initial_allocates_bare};
 use ada_program::parts::finalization_of;
 use ada_program::program::{Branch, Declaration, Handler, Procedure, TypeDefinition};
-use ada_program::{ProcedureNo, Stmt};
+use ada_program::{ProcedureNo, Stmt, TypeNo};
+
+/// What frugal bodies go by.
+#[derive(Clone, Copy)]
+pub(crate) struct Thrift<'a> {
+    /// The types of the program.
+    pub(crate) types: &'a [TypeDefinition],
+    /// Whether they may free objects with controlled parts.
+    pub(crate) ends_parts: bool,
+    /// Of each procedure that is known, by its number, whether its body is frugal.
+    pub(crate) procedures: &'a [bool],
+}
 
 /// Whether a declaration is that of a variable, which is given no new object with controlled parts at first (3.3.1).
 fn is_frugal_declaration(types: &[TypeDefinition], declaration: &Declaration) -> bool
@@ -49,12 +60,21 @@ pub(crate) fn is_frugal_call(frugal: &[bool], procedure: ProcedureNo) -> bool
     }
 }
 
-/// Whether a statement assigns no record with controlled parts as a whole (5.2), allocates and frees no object with some (4.8, 13.11.2),
-/// and calls procedures with frugal bodies alone (6.4).
+/// Whether objects of an access type may be freed (13.11.2): they have no controlled parts, or those that have some may be, too.
+fn may_end(thrift: Thrift<'_>, access: TypeNo) -> bool
+    ensures { let by = thrift_in thrift.entry.types.now thrift.entry.ends_parts thrift.entry.procedures.now in
+        result ≡ rules.may_end by access.0 }
+{
+    thrift.ends_parts || has_bare_objects(thrift.types, access)
+}
+
+/// Whether a statement assigns no record with controlled parts as a whole (5.2), allocates no object with some (4.8), frees none with some
+/// unless it may (13.11.2), and calls procedures with frugal bodies alone (6.4).
 #[cycle(statements)]
 #[tactic(auto, using(std::proofs::lemmas::Grind::common_steps, ada_program::specs::Form::statement_rules))]
-fn is_frugal_stmt(types: &[TypeDefinition], frugal: &[bool], statement: &Stmt) -> bool
-    ensures { result ≡ rules.is_frugal_stmt (thrift_in types.now frugal.now) (stmt_form statement.now) }
+fn is_frugal_stmt(thrift: Thrift<'_>, statement: &Stmt) -> bool
+    ensures { let by = thrift_in thrift.entry.types.now thrift.entry.ends_parts thrift.entry.procedures.now in
+        result ≡ rules.is_frugal_stmt by (stmt_form statement.now) }
 {
     match statement {
         Stmt::Null
@@ -65,47 +85,48 @@ fn is_frugal_stmt(types: &[TypeDefinition], frugal: &[bool], statement: &Stmt) -
         | Stmt::Return(_)
         | Stmt::Raise(_) => true,
         Stmt::AssignRecord { target, items: _ } => {
-            finalization_of(types, target.record.0).is_none()
+            finalization_of(thrift.types, target.record.0).is_none()
         }
-        Stmt::Assign { target: _, value } => allocates_bare(types, value),
-        Stmt::Free { access, path: _ } => has_bare_objects(types, *access),
+        Stmt::Assign { target: _, value } => allocates_bare(thrift.types, value),
+        Stmt::Free { access, path: _ } => may_end(thrift, *access),
         Stmt::Call {
             procedure,
             actuals: _,
-        } => is_frugal_call(frugal, *procedure),
+        } => is_frugal_call(thrift.procedures, *procedure),
         Stmt::If {
             branches,
             otherwise,
-        } => are_frugal_branches(types, frugal, branches) && are_frugal(types, frugal, otherwise),
+        } => are_frugal_branches(thrift, branches) && are_frugal(thrift, otherwise),
         Stmt::Loop {
             condition: _,
             statements,
             end: _,
-        } => are_frugal(types, frugal, statements),
+        } => are_frugal(thrift, statements),
         Stmt::For {
             parameter: _,
             first: _,
             last: _,
             statements,
             end: _,
-        } => are_frugal(types, frugal, statements),
+        } => are_frugal(thrift, statements),
         Stmt::Block {
             declarations,
             statements,
             handlers,
-        } => are_frugal_declarations(types, declarations)
-            && are_frugal(types, frugal, statements)
-            && are_frugal_handlers(types, frugal, handlers),
+        } => are_frugal_declarations(thrift.types, declarations)
+            && are_frugal(thrift, statements)
+            && are_frugal_handlers(thrift, handlers),
     }
 }
 
 /// Whether statements are frugal.
 #[cycle(statements)]
-fn are_frugal(types: &[TypeDefinition], frugal: &[bool], statements: &[Stmt]) -> bool
-    ensures { result ≡ rules.are_frugal (thrift_in types.now frugal.now) (stmts_form statements.now) }
+fn are_frugal(thrift: Thrift<'_>, statements: &[Stmt]) -> bool
+    ensures { let by = thrift_in thrift.entry.types.now thrift.entry.ends_parts thrift.entry.procedures.now in
+        result ≡ rules.are_frugal by (stmts_form statements.now) }
 {
     'statements: for statement in statements {
-        if !is_frugal_stmt(types, frugal, statement) {
+        if !is_frugal_stmt(thrift, statement) {
             return false;
         }
     }
@@ -114,12 +135,12 @@ fn are_frugal(types: &[TypeDefinition], frugal: &[bool], statements: &[Stmt]) ->
 
 /// Whether branches are (5.3).
 #[cycle(statements)]
-fn are_frugal_branches(types: &[TypeDefinition], frugal: &[bool], branches: &[Branch]) -> bool
-    ensures { (others : StmtsForm) →
-        rules.are_frugal_branches (thrift_in types.now frugal.now) (branches_form branches.now others) ≡ (result && rules.are_frugal (thrift_in types.now frugal.now) others) }
+fn are_frugal_branches(thrift: Thrift<'_>, branches: &[Branch]) -> bool
+    ensures { let by = thrift_in thrift.entry.types.now thrift.entry.ends_parts thrift.entry.procedures.now in
+        (others : StmtsForm) → rules.are_frugal_branches by (branches_form branches.now others) ≡ (result && rules.are_frugal by others) }
 {
     'branches: for branch in branches {
-        if !are_frugal(types, frugal, &branch.statements) {
+        if !are_frugal(thrift, &branch.statements) {
             return false;
         }
     }
@@ -128,28 +149,26 @@ fn are_frugal_branches(types: &[TypeDefinition], frugal: &[bool], branches: &[Br
 
 /// Whether handlers are (11.2).
 #[cycle(statements)]
-fn are_frugal_handlers(types: &[TypeDefinition], frugal: &[bool], handlers: &[Handler]) -> bool
-    ensures { result ≡ rules.are_frugal_handlers (thrift_in types.now frugal.now) (handlers_form handlers.now) }
+fn are_frugal_handlers(thrift: Thrift<'_>, handlers: &[Handler]) -> bool
+    ensures { let by = thrift_in thrift.entry.types.now thrift.entry.ends_parts thrift.entry.procedures.now in
+        result ≡ rules.are_frugal_handlers by (handlers_form handlers.now) }
 {
     'handlers: for handler in handlers {
-        if !are_frugal(types, frugal, &handler.statements) {
+        if !are_frugal(thrift, &handler.statements) {
             return false;
         }
     }
     true
 }
 
-/// Whether a body is frugal: it allocates, moves, follows and frees objects without controlled parts; it calls procedures with frugal
-/// bodies alone, assigns no record with controlled parts as a whole, and declares variables alone. An exception may come out of it.
-/// Linear in the body.
-pub(crate) fn is_frugal_body(
-    types: &[TypeDefinition],
-    frugal: &[bool],
-    procedure: &Procedure,
-) -> bool
-    ensures { result ≡ rules.is_frugal_body (thrift_in types.now frugal.now) (body_form procedure.now) }
+/// Whether a body is frugal: it allocates, moves and follows objects without controlled parts, and frees some, and those with controlled
+/// parts where it may; it calls procedures with frugal bodies alone, assigns no record with controlled parts as a whole, and declares
+/// variables alone. An exception may come out of it. Linear in the body.
+pub(crate) fn is_frugal_body(thrift: Thrift<'_>, procedure: &Procedure) -> bool
+    ensures { let by = thrift_in thrift.entry.types.now thrift.entry.ends_parts thrift.entry.procedures.now in
+        result ≡ rules.is_frugal_body by (body_form procedure.now) }
 {
-    are_frugal_declarations(types, &procedure.declarations)
-        && are_frugal(types, frugal, &procedure.statements)
-        && are_frugal_handlers(types, frugal, &procedure.handlers)
+    are_frugal_declarations(thrift.types, &procedure.declarations)
+        && are_frugal(thrift, &procedure.statements)
+        && are_frugal_handlers(thrift, &procedure.handlers)
 }

@@ -1,9 +1,11 @@
 //! Plain and quiet operations: those procedures that override Initialize, Adjust or Finalize of a controlled type (7.6), read and write
 //! Integers and Booleans alone, and call nothing, are plain; and quiet, where they let no exception out. An Initialize or a Finalize
-//! is frugal that allocates and frees objects without controlled parts alone, moves and follows, and calls procedures with frugal
-//! bodies, but assigns no record with controlled parts as a whole, and declares variables alone, which may be given what it allocates. An
-//! exception may come out of a frugal Initialize; a Finalize is to be silent too: none comes out. What procedures may raise, and which are
-//! frugal, is found once for all, in the order in which they call each other.
+//! is frugal that allocates and frees objects without controlled parts, moves and follows, and calls procedures with frugal bodies, but
+//! allocates no object with controlled parts, assigns no record with some as a whole, and declares variables alone, which may be given what
+//! it allocates. A Finalize, and what it calls, may free objects with controlled parts, too (13.11.2): the operations that end these run
+//! inside it. An exception may come out of a frugal Initialize; a Finalize is to be silent too: none comes out. What procedures may raise,
+//! and which are frugal, where none may free objects with controlled parts and where some may, is found once for all, in the order in which
+//! they call each other.
 //!
 //! Where nothing in the text of a program creates an object with controlled parts (3.3.1, 4.8), or assigns a record with some (5.2), no
 //! operation is called: operations are idle, and each is in use, whatever its body does. Where nothing in it copies such a record, no
@@ -22,11 +24,12 @@
 //! of the objects that are not calm. An object is calm, if no operation that touches storage may be called for it, or for a part of it,
 //! where it begins or ends: each Initialize is plain, and each Finalize is quiet. The other objects are freed by variables and followed
 //! values alone (13.11.2), so by no component of a record object or of a formal parameter, though components may own them before: then no
-//! component names one that is finalized but the one that is freed, which lies in an object that an access value names. And where the
-//! objects of a collection are not calm, neither they nor the objects of an older collection have a component of their access type, or of
-//! one whose collection is created later in the text (7.6.1): then, where a master is left and newer collections go before older ones,
-//! they are finalized while each component still names what is there. Nothing of this is asked of calm objects: no operation follows a
-//! component while one of them is finalized.
+//! component names one that is finalized but the one that is freed, which lies in an object that an access value names. By such a component
+//! an object is freed only if the operations that end it call none themselves: each Finalize is quiet, or frees no object with controlled
+//! parts. And where the objects of a collection are not calm, neither they nor the objects of an older collection have a component of
+//! their access type, or of one whose collection is created later in the text (7.6.1): then, where a master is left and newer collections
+//! go before older ones, they are finalized while each component still names what is there. Nothing of this is asked of calm objects: no
+//! operation follows a component while one of them is finalized.
 //!
 //! In all these programs operations are to stand apart. No procedure that overrides an Adjust of a type with a component of an access
 //! type, declared in it directly, is called or overrides another operation: so it runs nowhere else. And no allocator gives values to
@@ -44,13 +47,15 @@
 //! stay, and do so where nothing is freed. Where each record has at most one controlled part, none is left to be adjusted later.
 //!
 //! A program with another body is refused (F23), since no theorem covers it so far: an Initialize, an Adjust or a Finalize that
-//! touches storage in another program, allocates or frees objects with controlled parts, or assigns records with some, an Adjust that
-//! touches storage of a type without such a component, operations that call procedures that are not frugal, an Adjust that calls, or
-//! copies records, or frees objects where a record has two controlled parts, and an Adjust or a Finalize that lets an exception out.
+//! touches storage in another program, allocates objects with controlled parts, or assigns records with some, an Initialize or an Adjust
+//! that frees objects with controlled parts, an Adjust that touches storage of a type without such a component, operations that call
+//! procedures that are not frugal, an Adjust that calls, or copies records, or frees objects where a record has two controlled parts, and an
+//! Adjust or a Finalize that lets an exception out.
 #![tactic(auto)]
 
 mod apart;
 mod bare;
+mod barely;
 mod bodies;
 mod calm;
 mod collections;

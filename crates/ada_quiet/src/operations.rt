@@ -1,6 +1,6 @@
 //! The bodies that override operations of controlled types (7.6), where they are plain, quiet, frugal or silent.
 
-ghost use Rattle.std.specs.Prelude.{◌≡◌, ◌&&◌, Some, is_some, map, not, IfOk};
+ghost use Rattle.std.specs.Prelude.{◌≡◌, ◌&&◌, Bool, Some, is_some, map, not, IfOk};
 ghost use Rattle.std.specs.List.{list_any, slice_get};
 ghost use Rattle.ada_program.specs.Kept.{types_in};
 ghost use Rattle.ada_program.specs.ProgramForm.{ProgramForm, part_form, program_form, type_form};
@@ -51,13 +51,13 @@ pub(crate) fn is_quiet_operation(
     is_quiet_body(alloc, &program.types, procedure)
 }
 
-/// Whether it has a frugal one, by what is known of the bodies of the program.
-pub(crate) fn is_frugal_operation(known: Known<'_>, operation: Option<ProcedureNo>) -> bool
-    ensures { (p : ProgramForm) → IsKnown p known.entry → result ≡ frugal.is_frugal_operation p operation }
+/// Whether it has a frugal one, by the procedures whose bodies are so where objects with controlled parts may be freed, or may not.
+pub(crate) fn is_frugal_operation(procedures: &[bool], operation: Option<ProcedureNo>) -> bool
+    ensures { (p : ProgramForm) (ends : Bool) → procedures.now ≡ frugal.frugal_procedures p ends → result ≡ frugal.is_frugal_operation p ends operation }
 {
     match operation {
         None => true,
-        Some(procedure) => is_frugal_call(known.frugal, procedure),
+        Some(procedure) => is_frugal_call(procedures, procedure),
     }
 }
 

@@ -22,10 +22,17 @@ fn is_led(path: &Path) -> bool
     is_variable(path) || path_raises(path)
 }
 
+/// Whether a path to what is freed is a variable, or it follows an access value, and the operations that end the object call none themselves.
+fn leads_barely(path: &Path, barely: bool) -> bool
+    ensures { result ≡ rules.leads_barely (path_form path.now) barely }
+{
+    is_variable(path) || is_led(path) && barely
+}
+
 /// Whether a path leads so to what is freed, or the object is calm, where paths lead so to all objects for which an operation may be called
 /// that touches storage.
-pub(crate) fn frees_led(led: bool, path: &Path, calm: bool) -> bool
-    ensures { result ≡ rules.frees_led led (path_form path.now) calm }
+pub(crate) fn frees_led(led: bool, path: &Path, calm: bool, barely: bool) -> bool
+    ensures { result ≡ rules.frees_led led (path_form path.now) calm barely }
 {
-    !led || is_led(path) || calm
+    !led || leads_barely(path, barely) || calm
 }

@@ -45,8 +45,9 @@ fn allocates_no_parts(program: &Program) -> bool
 }
 
 /// Whether objects with controlled parts may be allocated beside operations that touch storage: those that are not calm are freed by
-/// variables and followed values alone, and collections are created in order: neither such objects nor those of an older collection have a
-/// component of their access type, or of one whose collection is created later. Linear in the types, their components, and all bodies.
+/// variables and, if the operations that end them call none themselves, by components behind followed values; and collections are created
+/// in order: neither such objects nor those of an older collection have a component of their access type, or of one whose collection is
+/// created later. Linear in the types, their components, and all bodies.
 ///
 /// # Errors
 /// `AllocError` where memory was refused.
@@ -70,7 +71,7 @@ pub(crate) fn may_be_frugal(alloc: Global, program: &Program) -> Result<bool, Al
     )
 }
 
-/// Whether what overrides Initialize is plain, or frugal, where it may be.
+/// Whether what overrides Initialize is plain, or frugal, where it may be, and frees no object with controlled parts.
 pub(crate) fn uses_initialize(
     program: &Program,
     known: Known<'_>,
@@ -80,12 +81,13 @@ pub(crate) fn uses_initialize(
     requires { IsKnown (program_form program.now) known }
     ensures { result ≡ first.initializes (program_form program.now) frugal operation }
 {
-    is_plain_operation(program, operation) || frugal && is_frugal_operation(known, operation)
+    is_plain_operation(program, operation)
+        || frugal && is_frugal_operation(known.sparing, operation)
 }
 
-/// Whether what overrides Adjust is frugal, where no Adjust is called; else whether it is simple and silent, where it may track, if it is
-/// a body, and its type has a component of an access type, declared in it directly; of another type, whether it is quiet. What tracks may
-/// free objects where the copy of a record adjusts one controlled part alone, and there only.
+/// Whether what overrides Adjust is frugal, where no Adjust is called, and frees no object with controlled parts; else whether it is simple
+/// and silent, where it may track, if it is a body, and its type has a component of an access type, declared in it directly; of another
+/// type, whether it is quiet. What tracks may free objects where the copy of a record adjusts one controlled part alone, and there only.
 ///
 /// # Errors
 /// `AllocError` where memory for the exceptions that it raises was refused.
@@ -102,7 +104,7 @@ pub(crate) fn uses_adjust(
     requires { IsKnown (program_form program.now) known }
     ensures { IfOk result (λ answer. answer ≡ first.adjusts (program_form program.now) nothing tracks alone owns operation) }
 {
-    if nothing && is_frugal_operation(known, operation) {
+    if nothing && is_frugal_operation(known.sparing, operation) {
         return Ok(true);
     }
     if !(owns && is_overridden(program, operation)) {
@@ -115,7 +117,7 @@ pub(crate) fn uses_adjust(
     )
 }
 
-/// Whether what overrides Finalize is quiet, or frugal and silent, where it may be.
+/// Whether what overrides Finalize is quiet, or frugal and silent, where it may be: then it may free objects with controlled parts.
 ///
 /// # Errors
 /// `AllocError` where memory for the exceptions that it raises was refused.
@@ -132,7 +134,7 @@ pub(crate) fn uses_finalize(
     if is_quiet_operation(alloc, program, operation)? {
         return Ok(true);
     }
-    if !(frugal && is_frugal_operation(known, operation)) {
+    if !(frugal && is_frugal_operation(known.ending, operation)) {
         return Ok(false);
     }
     is_silent_operation(alloc, program, known, operation)

@@ -146,26 +146,29 @@ module _ (program : Program) (well : IsWellFormed (program_form program)) where
       rw (declaration_frugal d (left_of here later frugal)) (declarations_frugal ds (right_of here later frugal))
 
   -- Nor does one of a frugal body.
-  body_frugal : (known : List Bool) (b : BodyForm) → is_frugal_body (record { types = p.types; procedures = known }) b ≡ true → declarations_create tds b.declarations ≡ false
-  body_frugal known b frugal =
-      let thrift : Thrift = record { types = p.types; procedures = known } in
+  body_frugal : (ends : Bool) (known : List Bool) (b : BodyForm) → is_frugal_body (record { types = p.types; ends_parts = ends; procedures = known }) b ≡ true →
+      declarations_create tds b.declarations ≡ false
+  body_frugal ends known b frugal =
+      let thrift : Thrift = record { types = p.types; ends_parts = ends; procedures = known } in
       let declarations = are_frugal_declarations p.types b.declarations in
       let statements = are_frugal thrift b.statements in
       let handlers = are_frugal_handlers thrift b.handlers in
       declarations_frugal b.declarations (left_of declarations statements (left_of (declarations && statements) handlers frugal))
 
-  procedure_frugal : (n : ℕ) (found : Option BodyForm) → slice_index_or (frugal_procedures p) n false ≡ true → slice_get p.bodies n ≡ found → body_creates tds found ≡ false
-  procedure_frugal n None frugal at = refl
-  procedure_frugal n (Some b) frugal at = body_frugal (frugal_procedures p) b (frugal_at p n b frugal at)
+  procedure_frugal : (ends : Bool) (n : ℕ) (found : Option BodyForm) → slice_index_or (frugal_procedures p ends) n false ≡ true → slice_get p.bodies n ≡ found →
+      body_creates tds found ≡ false
+  procedure_frugal ends n None frugal at = refl
+  procedure_frugal ends n (Some b) frugal at = body_frugal ends (frugal_procedures p ends) b (frugal_at p ends n b frugal at)
 
-  operation_frugal : (o : Option ProcedureNo) → is_frugal_operation p o ≡ true → operation_creates tds p.bodies o ≡ false
-  operation_frugal None frugal = refl
-  operation_frugal (Some procedure) frugal = procedure_frugal procedure.0 (slice_get p.bodies procedure.0) frugal refl
+  operation_frugal : (ends : Bool) (o : Option ProcedureNo) → is_frugal_operation p ends o ≡ true → operation_creates tds p.bodies o ≡ false
+  operation_frugal ends None frugal = refl
+  operation_frugal ends (Some procedure) frugal = procedure_frugal ends procedure.0 (slice_get p.bodies procedure.0) frugal refl
 
   -- Nor does one of a simple body, which is frugal, whatever is known of procedures, and whether it may free objects or not.
   procedure_simple : (may_free : Bool) (found : Option BodyForm) → is_simple_procedure p.types may_free found ≡ true → body_creates tds found ≡ false
   procedure_simple may_free None simple = refl
-  procedure_simple may_free (Some b) simple = body_frugal [] b (simple_frugal (record { types = p.types; procedures = [] }) b (simple_with p.types may_free b simple))
+  procedure_simple may_free (Some b) simple =
+      body_frugal false [] b (simple_frugal (record { types = p.types; ends_parts = false; procedures = [] }) b (simple_with p.types may_free b simple))
 
   operation_simple : (may_free : Bool) (o : Option ProcedureNo) → is_simple_operation p may_free o ≡ true → operation_creates tds p.bodies o ≡ false
   operation_simple may_free None simple = refl
@@ -174,20 +177,21 @@ module _ (program : Program) (well : IsWellFormed (program_form program)) where
   -- So it is with an Initialize and a Finalize that are in use.
   initialize_used : (o : Option ProcedureNo) → uses_initialize p o ≡ true → operation_creates tds p.bodies o ≡ false
   initialize_used o used =
-      operation_either p tds o (is_plain_operation p o) (may_be_frugal p && is_frugal_operation p o) (operation_plain p tds o)
-      (λ both. operation_frugal o (right_of (may_be_frugal p) (is_frugal_operation p o) both)) used
+      operation_either p tds o (is_plain_operation p o) (may_be_frugal p && is_frugal_operation p false o) (operation_plain p tds o)
+      (λ both. operation_frugal false o (right_of (may_be_frugal p) (is_frugal_operation p false o) both)) used
 
   finalize_used : (o : Option ProcedureNo) → uses_finalize p o ≡ true → operation_creates tds p.bodies o ≡ false
   finalize_used o used =
-      let frugal = may_be_frugal p && is_frugal_operation p o in
+      let frugal = may_be_frugal p && is_frugal_operation p true o in
       operation_either p tds o (is_quiet_operation p o) (frugal && is_silent_operation p o) (λ quiet. operation_plain p tds o (plain_operation p o quiet))
-      (λ both. operation_frugal o (right_of (may_be_frugal p) (is_frugal_operation p o) (left_of frugal (is_silent_operation p o) both))) used
+      (λ both. operation_frugal true o (right_of (may_be_frugal p) (is_frugal_operation p true o) (left_of frugal (is_silent_operation p o) both))) used
 
   -- So it is with an Adjust that is in use: it is simple, where it may track, or quiet.
   adjust_used : (owns : Bool) (o : Option ProcedureNo) → uses_adjust p owns o ≡ true → operation_creates tds p.bodies o ≡ false
   adjust_used owns o used =
-      operation_either p tds o (adjusts_nothing p && is_frugal_operation p o) (uses_called_adjust p owns o)
-      (λ nothing. operation_frugal o (right_of (adjusts_nothing p) (is_frugal_operation p o) nothing)) (λ called. by (owns && is_some (operation_body p o)) called) used
+      operation_either p tds o (adjusts_nothing p && is_frugal_operation p false o) (uses_called_adjust p owns o)
+      (λ nothing. operation_frugal false o (right_of (adjusts_nothing p) (is_frugal_operation p false o) nothing))
+      (λ called. by (owns && is_some (operation_body p o)) called) used
     where
       by : (tracks : Bool)
           → (if tracks then may_track p && is_simple_operation p (adjusts_alone p) o && is_silent_operation p o else is_quiet_operation p o) ≡ true

@@ -1,7 +1,7 @@
 -- The body of an Adjust runs that tracks components of its formal parameter (7.6), after a copy of a record: what holds of the state that stands for the real one,
 -- which has a variable for each of them.
 
-use Rattle.std.proofs.Common.{◌≡◌, ℕ, ◌==◌, Bool, true, false, List, [], ◌∷◌, length, drop, ◌⊎◌}
+use Rattle.std.proofs.Common.{◌≡◌, ◌≢◌, ℕ, ◌==◌, Bool, true, false, List, [], ◌∷◌, length, drop, ◌⊎◌}
 use Rattle.std.specs.Prelude.{Option, Some}
 use Rattle.std.specs.List.{list_any, slice_get}
 use Rattle.ada_parts.specs.Part as parts
@@ -16,7 +16,7 @@ use Rattle.ada_meaning.specs.declared.event.Birth.TheVariants.{Copy, Adjustment}
 use Rattle.ada_meaning.specs.declared.state.Id.{Id}
 use Rattle.ada_meaning.specs.declared.state.Place.{Place}
 use Rattle.ada_meaning.specs.declared.state.Value.{Value}
-use Rattle.ada_meaning.specs.declared.state.Value.TheVariants.{Part}
+use Rattle.ada_meaning.specs.declared.state.Value.TheVariants.{Names, Part}
 use Rattle.ada_meaning.specs.Frame.{begins}
 use Rattle.ada_meaning.specs.Named.{Object, State, object_at}
 use Rattle.ada_meaning.specs.State.{Master}
@@ -27,8 +27,10 @@ use Rattle.ada_judged.specs.Fitting.{TracksComponents}
 use Rattle.ada_judged.specs.Obeying.{BodyIsOrderly}
 use Rattle.ada_quiet.specs.InUse.{may_be_frugal, may_track}
 use Rattle.ada_quiet.specs.Calm.{are_calmly_copied_in, calm_types}
+use Rattle.ada_quiet.specs.Frugal.{barely_ending_types}
 use Rattle.ada_beside.specs.Confined.{IsConfined}
 use Rattle.ada_beside.specs.Law.{LieBeside}
+use Rattle.ada_finalized.specs.Law.{NothingBegins}
 use Rattle.ada_tracked.specs.Frames.{View, blanked, values_at}
 use Rattle.ada_tracked.specs.Seen.{Seen}
 use Rattle.ada_tracked.specs.Staying.{BodyIsSimple}
@@ -98,6 +100,7 @@ pub record Adjusting (program : Program) (s : State) : Type 0 where
   pub holds : Holds
   pub frugal : Frugally (calling_none (program_form program).types) lower behind t
   pub waits : Paused (known_in program procedure suspensions) object access places after lower rooms holds
+  pub untreated : (v : Value) → v ≢ Names object → NothingBegins v after
   pub rests : RunsOn (known_in program procedure suspensions) after rooms holds
   pub aside : AdjustsAside (known_in program procedure suspensions) access record_type holds
   pub calm : IsCalm (behind_call behind)
@@ -110,7 +113,7 @@ pub record Adjusting (program : Program) (s : State) : Type 0 where
   pub bodies : AreOf program (older s.activations) (resting procedure places (begins by done) object access [] place behind lower kept rooms holds ∷ suspensions)
   pub standing : Standing (known_judged program number w.tracks (resting procedure places (begins by done) object access [] place behind lower kept rooms holds ∷ suspensions)) t
   pub typed : typed.TypedIn (known_judged program number w.tracks []).program t
-  pub apart : CallApart (program_form program).types (calm_types (program_form program)) (is_tracker (program_form program)) false t.control
+  pub apart : CallApart (program_form program).types (calm_types (program_form program)) (barely_ending_types (program_form program)) (is_tracker (program_form program)) false t.control
   pub ready : Ready (known_judged program number w.tracks (resting procedure places (begins by done) object access [] place behind lower kept rooms holds ∷ suspensions)) t
 
 -- The activation that waits for the body.

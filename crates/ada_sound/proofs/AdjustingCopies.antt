@@ -112,7 +112,7 @@ module _ (program : Program) (well : IsWellFormed (program_form program)) (s : S
   -- In the real state, nothing begins of another object.
   begins_nothing : (v : Value) → (v ≢ Names f.object) → NothingBegins v s.control
   begins_nothing v ne =
-      let behind : NothingBegins v f.behind = subst (NothingBegins v) (sym f.awaited.1) ((λ same. ne (sym same)), f.waits.untreated v ne) in
+      let behind : NothingBegins v f.behind = subst (NothingBegins v) (sym f.awaited.1) ((λ same. ne (sym same)), f.untreated v ne) in
       simple_begins f.w.tracks.first v s.control f.behind f.simple f.ends behind
 
   -- The object that is adjusted has controlled parts.

@@ -42,7 +42,7 @@ use Rattle.ada_sound.proofs.Blanked.{stored_unblanked}
 use Rattle.ada_sound.proofs.Callers.{AreOf}
 use Rattle.ada_sound.proofs.CopiedOwners.{CopiesWell}
 use Rattle.ada_sound.proofs.FrugalControl.{Frugal, Frugally, frugal_ends, is_return_first}
-use Rattle.ada_sound.proofs.Invariant.{Control, GoesOn, IsAwaited, Ready, ReadyIn, Rooms}
+use Rattle.ada_sound.proofs.Invariant.{Control, GoesOn, Ready, ReadyIn, Rooms}
 use Rattle.ada_sound.proofs.AdjustingSeen.{stands_for}
 use Rattle.ada_sound.proofs.Stored.{Stored}
 use Rattle.ada_sound.proofs.StoredStates.{IsStored, ready_stored}
@@ -167,8 +167,8 @@ module _ (program : Program) (s : State) (f : Adjusting program s) (ends_now : s
   pub lower_left : s.masters ≡ f.lower
   lower_left =
       let last : Frugal (calling_none (program_form program).types) f.behind s.mode (Returns [] [] ∷ f.behind) frugal_now.upper = subst (λ (k : Control). Frugal (calling_none (program_form program).types) f.behind s.mode (seen_control f.w k) frugal_now.upper) ends_now frugal_now.frugal in
-      let end = frugal_ends (calling_none (program_form program).types) f.behind s.mode [] [] f.behind frugal_now.upper (subst IsAwaited (sym f.awaited.1) tt) last in
-      frugal_now.masters ∙ ap (λ (upper : List Master). upper ++ f.lower) end.3
+      let end = frugal_ends (calling_none (program_form program).types) f.behind s.mode [] [] f.behind frugal_now.upper refl last in
+      frugal_now.masters ∙ ap (λ (upper : List Master). upper ++ f.lower) end.2
 
 -- The activation that waits is the next one.
 record TwoActive (acts : List (Activation Value)) : Type 0 where

@@ -27,7 +27,7 @@ use Rattle.ada_typed.proofs.KeptSteps.{pass_keeps, step_keeps}
 use Rattle.ada_quiet.specs.Frugal.{Thrift}
 use Rattle.ada_sound.proofs.FrugalBodies.{calling_none}
 use Rattle.ada_sound.proofs.FrugalControl.{Frugal, FrugalLeads, FrugalLeaves, is_return_first}
-use Rattle.ada_sound.proofs.FrugalSteps.{is_call_first}
+use Rattle.ada_sound.proofs.FrugalSteps.{is_call_first, treats_none}
 use Rattle.ada_sound.proofs.Invariant.{Control}
 use Rattle.ada_sound.proofs.Steps as inside
 
@@ -274,25 +274,21 @@ module _ (types : List TypeDefinition) (bodies : List BodyForm) (w : View) where
   no_treatment getting c k l v treatment tasks e = absurd (cc e)
   no_treatment (freeing access) c k l v treatment tasks e = absurd (cc e)
 
-  treats_first : (marks : Thrift) (back : Control) (mode : Mode) (v : Value) (treatment : frame.Treatment) (tasks : List Task) (k : Control) (ms : List Master) → Frugal marks back mode (frame.Treats v treatment tasks ∷ k) ms → ⊥
-  treats_first marks back mode v treatment tasks k ms (inl q) = q.0
-  treats_first marks back mode v treatment tasks k ms (inr (runs, q)) = q
-
-  -- So none is, where the other one is frugal.
-  treated_not : (marks : Thrift) (back : Control) (s t : State) (ms : List Master) (v : Value) (treatment : frame.Treatment) (tasks : List Task) (k : Control) → Seen types bodies w s t → Frugal marks back t.mode t.control ms → s.control ≡ frame.Treats v treatment tasks ∷ k → ⊥
-  treated_not marks back s t ms v treatment tasks k (plainly others is) frugal e =
+  -- So none is, where the other one is frugal, and frees no objects with controlled parts.
+  treated_not : (marks : Thrift) → marks.ends_parts ≡ false → (back : Control) (s t : State) (ms : List Master) (v : Value) (treatment : frame.Treatment) (tasks : List Task) (k : Control) → Seen types bodies w s t → Frugal marks back t.mode t.control ms → s.control ≡ frame.Treats v treatment tasks ∷ k → ⊥
+  treated_not marks none_parts back s t ms v treatment tasks k (plainly others is) frugal e =
       let control : t.control ≡ frame.Treats v treatment tasks ∷ seen_control w k = rw (is, e) refl in
-      treats_first marks back t.mode v treatment tasks (seen_control w k) ms (rw control at frugal)
-  treated_not marks back s t ms v treatment tasks k (following c cs j running_is control_is others l vs is goes_on) frugal e = absurd (cc (control_is, e))
-  treated_not marks back s t ms v treatment tasks k (elsewhere waiting c j vs running_is control_is operands_are others none is) frugal e =
+      treats_none marks none_parts back t.mode t.control ms frugal v treatment tasks (seen_control w k) control
+  treated_not marks none_parts back s t ms v treatment tasks k (following c cs j running_is control_is others l vs is goes_on) frugal e = absurd (cc (control_is, e))
+  treated_not marks none_parts back s t ms v treatment tasks k (elsewhere waiting c j vs running_is control_is operands_are others none is) frugal e =
       no_treatment waiting c j k v treatment tasks (sym control_is ∙ e)
-  treated_not marks back s t ms v treatment tasks k (delayed waiting c x spot fs j vs running_is control_is operands_are others is stood) frugal e =
+  treated_not marks none_parts back s t ms v treatment tasks k (delayed waiting c x spot fs j vs running_is control_is operands_are others is stood) frugal e =
       no_treatment waiting c (Does fs ∷ j) k v treatment tasks (sym control_is ∙ e)
 
   -- So what is left to do stays simple.
-  pub simple_still : (marks : Thrift) (back : Control) (s t : State) (ms : List Master) → Seen types bodies w s t → Frugal marks back t.mode t.control ms → StaysSimple w.tracks.first s.control → BodyIsSimple w.tracks.first s.control
-  simple_still marks back s t ms seen frugal (at_once simple) = simple
-  simple_still marks back s t ms seen frugal (behind_treatment v treatment tasks k is simple) = absurd (treated_not marks back s t ms v treatment tasks k seen frugal is)
+  pub simple_still : (marks : Thrift) → marks.ends_parts ≡ false → (back : Control) (s t : State) (ms : List Master) → Seen types bodies w s t → Frugal marks back t.mode t.control ms → StaysSimple w.tracks.first s.control → BodyIsSimple w.tracks.first s.control
+  simple_still marks none_parts back s t ms seen frugal (at_once simple) = simple
+  simple_still marks none_parts back s t ms seen frugal (behind_treatment v treatment tasks k is simple) = absurd (treated_not marks none_parts back s t ms v treatment tasks k seen frugal is)
 
   -- Where the real state leaves a master, the other one does.
   no_leaving : (waiting : Waiting) (c : ℕ) (k l : Control) (mode : Mode) → waiting_frame waiting c ∷ k ≡ Leaves mode ∷ l → ⊥

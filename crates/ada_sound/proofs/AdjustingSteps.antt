@@ -1,7 +1,7 @@
 -- Each step of the body of an Adjust that tracks components of its formal parameter (7.6), but its end: the state that stands for the real one takes a step, too, or
 -- stays as it is, and keeps what is known of it.
 
-use Rattle.std.proofs.Common.{◌≡◌, ℕ, Bool, true, false, ◌&&◌, not, List, [], ◌∷◌, refl, sym, ◌∙◌, subst, inl, inr}
+use Rattle.std.proofs.Common.{◌≡◌, ℕ, Bool, true, false, ◌&&◌, not, List, [], ◌∷◌, refl, sym, ◌∙◌, subst}
 use Rattle.std.specs.Prelude.{Option, Some}
 use Rattle.std.specs.List.{AllPairs}
 use Rattle.ada_deeds.specs.Implicit.{implicit_of}
@@ -38,6 +38,7 @@ use Rattle.ada_quiet.specs.Apart.{is_tracker}
 use Rattle.ada_quiet.specs.Bare.{has_bare_objects}
 use Rattle.ada_quiet.specs.InUse.{may_be_frugal}
 use Rattle.ada_quiet.specs.Calm.{are_calm_in, calm_types}
+use Rattle.ada_quiet.specs.Frugal.{barely_ending_types}
 use Rattle.ada_sound.proofs.CalmObjects.{calm_if_bare}
 use Rattle.ada_sound.proofs.CallsApart.{CallApart, AllCallApart}
 use Rattle.ada_sound.proofs.CallsApartSteps.{calls_stay_apart}
@@ -54,7 +55,7 @@ use Rattle.ada_sound.proofs.Blanked.{alters_unblanked, ends_unblanked, says_unbl
 use Rattle.ada_sound.proofs.Callers.{AreOf}
 use Rattle.ada_sound.proofs.FrugalControl.{Frugal, Frugally, GoesFrugally, is_return_first}
 use Rattle.ada_sound.proofs.FrugalLeaves.{held_in_none, innermost_houses_none, leaves_own}
-use Rattle.ada_sound.proofs.FrugalSteps.{is_call_first, frugal_crosses, frugal_steps, none_ends}
+use Rattle.ada_sound.proofs.FrugalSteps.{is_call_first, frugal_crosses, frugal_steps, none_ends, treats_none}
 use Rattle.ada_sound.proofs.Homes.{NoneIsUnder}
 use Rattle.ada_sound.proofs.Invariant.{Control, EndsWell, Fine, IsFollowed, Known, Parting, Ready, RunsOn, Says, Standing, Stepped, innermost, outers}
 use Rattle.ada_sound.proofs.Judged.{known_judged}
@@ -62,13 +63,12 @@ use Rattle.ada_sound.proofs.Leavings.{AreInOrder, HeldIn, NamedBelow}
 use Rattle.ada_sound.proofs.Operating.{AreVariables, InBody, StepsTo}
 use Rattle.ada_sound.proofs.Returns.{same_types}
 use Rattle.ada_sound.proofs.FrugalBodies.{calling_none}
-use Rattle.ada_sound.proofs.FrugalFrees.{bare_by, records_bare_by}
+use Rattle.ada_sound.proofs.FrugalFrees.{bare_by, frees_bare, records_bare_by}
 use Rattle.ada_sound.proofs.Standing.{AllStand, FinalizesBy, FinalizesIn, FreesAmong}
-use Rattle.ada_sound.proofs.TouchingStands.{frees_bare}
 use Rattle.ada_sound.proofs.Steps as inside
 use Rattle.ada_sound.proofs.Stored.{IsUnder, Stored}
 use Rattle.ada_sound.proofs.StoredStates.{ready_stored}
-use Rattle.ada_sound.proofs.Touched.{FreesLed, touches_in}
+use Rattle.ada_sound.proofs.Touched.{FreesLed, ends_barely_in, touches_in}
 use Rattle.ada_sound.proofs.Trackers.{tracks_apart}
 use Rattle.ada_sound.proofs.TracksWell.{tracked_bare}
 
@@ -147,7 +147,7 @@ module _
   firsts = seen_within tds bodies f.w s f.t f.seen f.simple inner some_waits
 
   none_crosses : inside.crosses f.t.mode f.t.control ≡ false
-  none_crosses = frugal_crosses (calling_none p.types) f.behind f.t.mode f.t.control f.frugal.upper f.frugal.frugal firsts.0 (λ runs. firsts.1)
+  none_crosses = frugal_crosses (calling_none p.types) refl f.behind f.t.mode f.t.control f.frugal.upper f.frugal.frugal firsts.0 (λ runs. firsts.1)
 
   alone_there : calls_or_copies f.t.control ≡ false
   alone_there = frugal_alone p.types f.behind f.t.mode f.t.control f.frugal.upper f.frugal.frugal
@@ -168,8 +168,7 @@ module _
       by_frame : (g : Frame Value) (k : Control) (mode : Mode) (ms : List Master) → Frugal (calling_none p.types) f.behind mode (g ∷ k) ms → FinalizesBy bare_types known.program.types tds bodies g (record f.t { mode = Running; control = k })
       by_frame (frame.Does fs) k mode ms q = alive
       by_frame (frame.FreesIn access c) k mode ms q = alive
-      by_frame (frame.Treats v treatment tasks) k mode ms (inl q) = absurd q.0
-      by_frame (frame.Treats v treatment tasks) k mode ms (inr (runs, leaving)) = absurd leaving
+      by_frame (frame.Treats v treatment tasks) k mode ms q = absurd (treats_none (calling_none p.types) refl f.behind mode (frame.Treats v treatment tasks ∷ k) ms q v treatment tasks k refl)
       by_frame g k mode ms q = tt
 
       by : (mode : Mode) (k : Control) (ms : List Master) → Frugal (calling_none p.types) f.behind mode k ms → FinalizesIn bare_types known.program.types tds bodies mode k f.t
@@ -190,7 +189,7 @@ module _
 
   -- What is freed next is bare.
   freely : FreesAmong bare_types f.t.control
-  freely = frees_bare (calling_none p.types) f.behind f.t.mode f.t.control f.frugal.upper f.frugal.frugal
+  freely = frees_bare (calling_none p.types) refl f.behind f.t.mode f.t.control f.frugal.upper f.frugal.frugal
 
   none_is_under : NoneIsUnder bare_types (outers known).under f.t.heap
   none_is_under o x under found = let none : IsUnder [] o = subst (λ (all : List Id). IsUnder all o) f.settled under in absurd none
@@ -204,21 +203,21 @@ module _
       by false touches = cc touches
 
   -- And nothing is asked of the path to it.
-  frees_next_led : (k : Control) → FreesAmong bare_types k → FreesLed p.types (touches_in p) k
+  frees_next_led : (k : Control) → FreesAmong bare_types k → FreesLed p.types (touches_in p) (ends_barely_in p) k
   frees_next_led [] freely' = tt
   frees_next_led (frame.Does (a_stmt (frees access path) fs) ∷ k) freely' = λ is touches. absurd (bare_untouched access freely' touches)
   frees_next_led (g ∷ k) freely' = tt
 
   -- No allocator copies a record with controlled parts, or makes an object with some from items.
-  bare_there : AllocatesBare known.program known.touches f.t.control
+  bare_there : AllocatesBare known.program known.touches known.barely f.t.control
   bare_there =
       tracked_bare program well (tracks_apart (program_form program) f.tracking) known.program types_are judged.fits f.t (frees_next_led f.t.control freely) (λ stand. f.apart)
 
   places_on : AllSamePlaces s (next tds bodies s)
   places_on = places_stay tds bodies f.w.tracks.first s (within f.w.tracks.first s.control f.simple inner)
 
-  apart_on : AllCallApart p.types (calm_types p) (is_tracker p) false (next tds bodies f.t)
-  apart_on = calls_stay_apart tds bodies p.types (calm_types p) (is_tracker p) false judged.apart f.t f.apart
+  apart_on : AllCallApart p.types (calm_types p) (barely_ending_types p) (is_tracker p) false (next tds bodies f.t)
+  apart_on = calls_stay_apart tds bodies p.types (calm_types p) (barely_ending_types p) (is_tracker p) false judged.apart f.t f.apart
 
   -- So the other one takes its step well.
   fine_on : Fine known f.t.heap f.t.masters (next tds bodies f.t)
@@ -229,10 +228,11 @@ module _
   frugal_on : GoesFrugally (calling_none p.types) f.lower f.behind (next tds bodies f.t)
   frugal_on =
       frugal_steps known.program judged.owns tds bodies (calling_none p.types) (bare_by program) (records_bare_by program) (λ number b there told. absurd (cc told)) f.behind f.lower f.t f.frugal
-      (λ actuals references k is. absurd (let first = firsts.0 in cc (rw is at first))) f.typed
+      (λ actuals references k is. absurd (let first = firsts.0 in cc (rw is at first))) (λ runs. treats_none (calling_none p.types) refl f.behind f.t.mode f.t.control f.frugal.upper f.frugal.frugal) f.typed
+      bare_types (λ runs. freely) (λ o x found listed among never. absurd (cc never))
 
   typed_on : Each (typed.TypedIn known.program) (next tds bodies f.t)
-  typed_on = judged.stays f.t f.typed alone_there none_crosses (none_ends (calling_none p.types) f.behind f.t.mode f.t.control f.frugal.upper f.frugal.frugal)
+  typed_on = judged.stays f.t f.typed alone_there none_crosses (none_ends (calling_none p.types) refl f.behind f.t.mode f.t.control f.frugal.upper f.frugal.frugal)
 
   -- And the real one takes a step to which it does.
   real_on : Each (SameRun s) (next tds bodies s)
@@ -266,7 +266,7 @@ module _
   Runs after = SameRun s after × SamePlaces s after
 
   abbrev Kept : State → Type 0
-  Kept stands = typed.TypedIn known.program stands × CallApart p.types (calm_types p) (is_tracker p) false stands.control
+  Kept stands = typed.TypedIn known.program stands × CallApart p.types (calm_types p) (barely_ending_types p) (is_tracker p) false stands.control
 
   -- What holds behind a step.
   adjusting_by :
@@ -289,7 +289,7 @@ module _
             lone = f.lone;
             t = stands;
             seen = seen;
-            simple = simple_still tds bodies f.w (calling_none p.types) f.behind after stands frugal.upper seen frugal.frugal simple;
+            simple = simple_still tds bodies f.w (calling_none p.types) refl f.behind after stands frugal.upper seen frugal.frugal simple;
             procedure = f.procedure;
             places = f.places;
             suspensions = f.suspensions;
@@ -319,6 +319,7 @@ module _
             holds = f.holds;
             frugal = frugal;
             waits = f.waits;
+            untreated = f.untreated;
             rests = f.rests;
             aside = f.aside;
             calm = f.calm;
@@ -380,7 +381,7 @@ module _
   pub step_on : GoesAdjusting program s f (next tds bodies s)
   step_on =
       next_on (next tds bodies s) (next tds bodies f.t) shown (each_both (SameRun s) (SamePlaces s) (next tds bodies s) real_on (each_next (SamePlaces s) (next tds bodies s) places_on)) simple_on fine_on frugal_on
-      (each_both (typed.TypedIn known.program) (λ stands. CallApart p.types (calm_types p) (is_tracker p) false stands.control) (next tds bodies f.t) typed_on (each_next (λ (stands : State). CallApart p.types (calm_types p) (is_tracker p) false stands.control) (next tds bodies f.t) apart_on))
+      (each_both (typed.TypedIn known.program) (λ stands. CallApart p.types (calm_types p) (barely_ending_types p) (is_tracker p) false stands.control) (next tds bodies f.t) typed_on (each_next (λ (stands : State). CallApart p.types (calm_types p) (barely_ending_types p) (is_tracker p) false stands.control) (next tds bodies f.t) apart_on))
 
 -- Each step of the body but its end keeps all that is known while it runs.
 pub adjusting_step :

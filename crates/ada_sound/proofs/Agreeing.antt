@@ -52,8 +52,9 @@ use Rattle.ada_sound.proofs.Invariant.{Known, Control, RunsOn, Working, Half, Re
 use Rattle.ada_typed.proofs.Bodies.{SeenFits, seen_fits}
 use Rattle.ada_sound.proofs.Callers.{Suspension, rest_of, known_in}
 use Rattle.ada_sound.proofs.Returns.{same_types}
-use Rattle.ada_sound.proofs.Touching.{Touching, waiting_for}
-use Rattle.ada_sound.proofs.Operating.{IsCalm, Sight, WaitsFor, Quietly, Comes, Body, Operates}
+use Rattle.ada_sound.proofs.Touching.{Touching}
+use Rattle.ada_sound.proofs.Operating.{IsCalm, Sight, WaitsFor, Quietly, Comes, Body}
+use Rattle.ada_sound.proofs.Operates.{Operates}
 use Rattle.ada_sound.proofs.Starts.{Ordinary, Sound}
 use Rattle.ada_sound.proofs.Adjusting.{AdjustingCopy}
 use Rattle.ada_typed.proofs.Kept.{behind_call}
@@ -320,5 +321,5 @@ agrees_at program s sound b spoken = by sound.goes
         resumes_agrees program s o.suspensions (seen_fits (program_form program) sound.well (running_procedure s)) sound.typed.inside o.stands.behind b (rw (b.runs, b.first) at (o.ready.1))
     by (inr (inr (inr d))) = absurd (untold d spoken)
     by (inr (inr (inl f))) =
-        resumes_agrees program s (waiting_for program s f) (seen_fits (program_form program) sound.well (running_procedure s)) sound.typed.inside f.stands.behind b (rw (b.runs, b.first) at (f.ready.1))
+        resumes_agrees program s f.suspensions (seen_fits (program_form program) sound.well (running_procedure s)) sound.typed.inside f.stands.behind b (rw (b.runs, b.first) at (f.ready.1))
     by (inr (inl o)) = absurd (unspoken o spoken)

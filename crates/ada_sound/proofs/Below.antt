@@ -87,7 +87,7 @@ referred_low heap implicit body (w ∷ ws) waits low o t object is found =
     lower_or_here heap w ws low.1 o t object found (waits_roomed waits.0) (λ before. referred_low heap w.implicit w.program ws waits.1 low.3 o t object before found) (referred_either w.referenced (referenced_in ws) o t is)
 
 -- So does what is under way in it.
-either_one : (us vs : List Id) (o : Id) → IsUnder (us ++ vs) o → IsUnder us o ⊎ IsUnder vs o
+pub either_one : (us vs : List Id) (o : Id) → IsUnder (us ++ vs) o → IsUnder us o ⊎ IsUnder vs o
 either_one [] vs o is = inr is
 either_one (u ∷ us) vs o (inl same) = inl (inl same)
 either_one (u ∷ us) vs o (inr is) = elim (either_one us vs o is) [ inl first ↦ inl (inr first) | inr later ↦ inr later ]

@@ -17,45 +17,45 @@ use Rattle.ada_sound.proofs.CallsApart.{CallApart, elaborates_apart}
 use Rattle.ada_sound.proofs.CallsApartSteps.{calls_stay_apart}
 use Rattle.ada_idle.proofs.Coming.{led_next}
 
-module _ (forms : List TypeForm) (calm : List Bool) (tracks : ℕ → Bool) (led : Bool) where
-  -- Where paths lead by variables and followed values alone to all objects that are freed and not calm (13.11.2), the one of a statement that is next does, or
-  -- what it frees is calm.
-  pub freed_next_led : (access : ℕ) (path : PathForm) (fs : StmtsForm) (k : List (Frame Value)) → CallApart forms calm tracks led (frame.Does (a_stmt (frees access path) fs) ∷ k)
-      → frees_led led path (has_calm_objects forms calm access) ≡ true
-  freed_next_led access path fs k apart = (and_parts (calls_apart forms calm tracks led (frees access path)) (all_call_apart forms calm tracks led fs) apart.0).0
+module _ (forms : List TypeForm) (calm barely : List Bool) (tracks : ℕ → Bool) (led : Bool) where
+  -- Where paths lead by variables and followed values alone to all objects that are freed and not calm (13.11.2), the one of a statement that is next is a variable, or it
+  -- follows a value, and no operation is called that calls another one, as the object ends; or what it frees is calm.
+  pub freed_next_led : (access : ℕ) (path : PathForm) (fs : StmtsForm) (k : List (Frame Value)) → CallApart forms calm barely tracks led (frame.Does (a_stmt (frees access path) fs) ∷ k)
+      → frees_led led path (has_calm_objects forms calm access) (has_calm_objects forms barely access) ≡ true
+  freed_next_led access path fs k apart = (and_parts (calls_apart forms calm barely tracks led (frees access path)) (all_call_apart forms calm barely tracks led fs) apart.0).0
 
   -- A call that is next is of no procedure that tracks.
   pub no_tracker_called : (s : State) (number : ℕ) (b : BodyForm) (actuals : List ActualForm) (k : List (Frame Value))
-      → s.control ≡ frame.Calls number b actuals ∷ k → CallApart forms calm tracks led s.control → tracks number ≡ false
-  no_tracker_called s number b actuals k first apart = (subst (CallApart forms calm tracks led) first apart).0.0
+      → s.control ≡ frame.Calls number b actuals ∷ k → CallApart forms calm barely tracks led s.control → tracks number ≡ false
+  no_tracker_called s number b actuals k first apart = (subst (CallApart forms calm barely tracks led) first apart).0.0
 
   -- What is evaluated next, as what is assigned is, makes no object with controlled parts from the items of an allocator, and copies no record with some in
   -- one (4.8).
-  pub no_record_allocated : (s : State) (right : RightForm) (k : List (Frame Value)) → s.control ≡ frame.Evaluates right ∷ k → CallApart forms calm tracks led s.control
+  pub no_record_allocated : (s : State) (right : RightForm) (k : List (Frame Value)) → s.control ≡ frame.Evaluates right ∷ k → CallApart forms calm barely tracks led s.control
       → is_bare_right forms right ≡ true
-  no_record_allocated s right k first apart = (subst (CallApart forms calm tracks led) first apart).0
+  no_record_allocated s right k first apart = (subst (CallApart forms calm barely tracks led) first apart).0
 
-  module _ (program : Program) (each : list_all (body_calls_apart forms calm tracks led) (body_forms program) ≡ true) where
+  module _ (program : Program) (each : list_all (body_calls_apart forms calm barely tracks led) (body_forms program) ≡ true) where
     -- A step of the program keeps that.
-    pub step_apart : (s after : State) (choice : Choice) (e : Event) → CallApart forms calm tracks led s.control → Step program s choice e after
-        → CallApart forms calm tracks led after.control
+    pub step_apart : (s after : State) (choice : Choice) (e : Event) → CallApart forms calm barely tracks led s.control → Step program s choice e after
+        → CallApart forms calm barely tracks led after.control
     step_apart s after choice e apart step =
-        led_next (λ (coming : State). CallApart forms calm tracks led coming.control) (next program.types.items (body_forms program) s) choice e after
-        (calls_stay_apart program.types.items (body_forms program) forms calm tracks led each s apart) step
+        led_next (λ (coming : State). CallApart forms calm barely tracks led coming.control) (next program.types.items (body_forms program) s) choice e after
+        (calls_stay_apart program.types.items (body_forms program) forms calm barely tracks led each s apart) step
 
     -- So do some steps.
-    pub run_apart : (s last : State) (events : List Event) → CallApart forms calm tracks led s.control → Run program s events last → CallApart forms calm tracks led last.control
+    pub run_apart : (s last : State) (events : List Event) → CallApart forms calm barely tracks led s.control → Run program s events last → CallApart forms calm barely tracks led last.control
     run_apart s last events apart here = apart
     run_apart s last (e ∷ events) apart (there choice mid step rest) = run_apart mid last events (step_apart s mid choice e apart step) rest
 
-    module _ (main : body_calls_apart forms calm tracks led (main_body (program_form program)) ≡ true) where
+    module _ (main : body_calls_apart forms calm barely tracks led (main_body (program_form program)) ≡ true) where
       -- So it is in the first state.
-      pub first_apart : (input : List ℤ) → CallApart forms calm tracks led (first_state program input).control
-      first_apart input = (elaborates_apart forms calm tracks led (declaration_forms program) (stmt_forms program) (handler_forms program) main, tt)
+      pub first_apart : (input : List ℤ) → CallApart forms calm barely tracks led (first_state program input).control
+      first_apart input = (elaborates_apart forms calm barely tracks led (declaration_forms program) (stmt_forms program) (handler_forms program) main, tt)
 
       -- So it is in each state of a run.
       pub calls_apart_in_runs : (input : List ℤ) (events : List Event) (last : State) → Run program (first_state program input) events last
-          → CallApart forms calm tracks led last.control
+          → CallApart forms calm barely tracks led last.control
       calls_apart_in_runs input events last run = run_apart (first_state program input) last events (first_apart input) run
 
       -- What tracks is never called.

@@ -23,7 +23,7 @@ use Rattle.ada_meaning.specs.Step.{halts, moves, tells, asks, picks}
 use Rattle.ada_meaning.specs.Named.{State, Next, next}
 use Rattle.ada_meaning.specs.Run.{Event, Choice, settled, grants, takes, Leads, Run, here, there, Halts, first_state}
 use Rattle.ada_quiet.specs.InUse.{operations_are_in_use}
-use Rattle.ada_sound.specs.Always.{IsChecked, Breaks, IsIllFormed, IsIllNested, FreesOthers, NotInUse, InSomeRun, is_seen, IsFineAtEnds, HaltsAfter, HaltsSomewhere}
+use Rattle.ada_sound.specs.Always.{IsChecked, spare_own_types, SparesOwn, Breaks, IsIllFormed, IsIllNested, FreesOthers, NotInUse, InSomeRun, is_seen, IsFineAtEnds, HaltsAfter, HaltsSomewhere}
 
 -- Events, and the state that they lead to.
 abbrev pub Came : Type 0
@@ -146,9 +146,10 @@ is_formed p =
 abbrev pub fits : ProgramForm → Bool
 fits p = list_all (components_lie p.types) p.types && (have_operations p.types (callable_in p) 0 p.types && is_formed p)
 
--- Whether what overrides its operations is in use, too; whether its collections nest; and whether it frees by the instances for what it frees.
+-- Whether what overrides its operations is in use, too, and spares the access types of the objects that it is called for; whether its collections nest; and
+-- whether it frees by the instances for what it frees.
 abbrev pub is_fine : ProgramForm → Bool
-is_fine p = operations_are_in_use p && fits p
+is_fine p = operations_are_in_use p && (spare_own_types (implicit_of p) 0 p.types && fits p)
 
 abbrev pub is_nested : ProgramForm → Bool
 is_nested p =
@@ -197,7 +198,10 @@ fits_is p e =
     }
 
 fine_is : (p : ProgramForm) → is_fine p ≡ true → IsWellFormed p
-fine_is p e = fits_is p (and_parts _ _ e).1
+fine_is p e = fits_is p (and_parts _ _ (and_parts _ _ e).1).1
+
+spares_is : (p : ProgramForm) → is_fine p ≡ true → spare_own_types (implicit_of p) 0 p.types ≡ true
+spares_is p e = (and_parts _ _ (and_parts _ _ e).1).0
 
 nested_is : (p : ProgramForm) → is_nested p ≡ true → CollectionsNest p
 nested_is p e =
@@ -229,6 +233,13 @@ module _ (program : Program) (bodies : List BodyForm) (fs : StmtsForm) (hs : Han
   in_use_in : is_fine (form_with program bodies fs hs) ≡ true → operations_are_in_use (program_form program) ≡ true
   in_use_in e = subst (λ (p : ProgramForm). operations_are_in_use p ≡ true) (sym form_is) (in_use_is (form_with program bodies fs hs) e)
 
+  -- Whether the ends of its objects spare their own access types.
+  pub spares_with : (b : Bool) → spare_own_types (implicit_of (form_with program bodies fs hs)) 0 (form_with program bodies fs hs).types ≡ b → spare_own_types (implicit_of (program_form program)) 0 (program_form program).types ≡ b
+  spares_with b e = subst (λ (p : ProgramForm). spare_own_types (implicit_of p) 0 p.types ≡ b) (sym form_is) e
+
+  spares_in : is_fine (form_with program bodies fs hs) ≡ true → SparesOwn program
+  spares_in e = spares_with true (spares_is (form_with program bodies fs hs) e)
+
   nested_in : is_nested (form_with program bodies fs hs) ≡ true → CollectionsNest (program_form program)
   nested_in e = subst CollectionsNest (sym form_is) (nested_is (form_with program bodies fs hs) e)
 
@@ -245,6 +256,7 @@ module _ (program : Program) (bodies : List BodyForm) (fs : StmtsForm) (hs : Han
         in_use = in_use_in fine;
         nests = nested_in both.0;
         frees_own = own_in both.1;
+        spares_own = spares_in fine;
         obeys = (normal, raising, flow_in (goes normal raising) e);
       }
 
@@ -257,6 +269,7 @@ module _ (program : Program) (bodies : List BodyForm) (fs : StmtsForm) (hs : Han
         in_use = in_use_in fine;
         nests = nested_in both.0;
         frees_own = own_in both.1;
+        spares_own = spares_in fine;
         spot = spot;
         faults_there = flow_in (faults spot rule) e;
       }
@@ -329,14 +342,15 @@ module _ (program : Program) (fs : StmtsForm) (hs : HandlersForm) (is : stmt_for
 
   pub ill_formed_by : (normal raising : Option Holds)
       → stmts_fit whole.types whole.variables whole.texts whole.exceptions (callable_in whole) false fs ≡ false → operations_are_in_use whole ≡ true
-      → is_kept whole ≡ true → flow_of (implicit_of whole) whole ≡ goes normal raising → IsIllFormed program
-  ill_formed_by normal raising unfit uses kept e = record {
+      → spare_own_types (implicit_of whole) 0 whole.types ≡ true → is_kept whole ≡ true → flow_of (implicit_of whole) whole ≡ goes normal raising → IsIllFormed program
+  ill_formed_by normal raising unfit uses spares kept e = record {
     ill_formed = λ w.
         let fits : stmts_fit whole.types whole.variables whole.texts whole.exceptions (callable_in whole) false fs ≡ true = rw is at (w.statements_fit) in
         cc (unfit, fits);
     in_use = subst (λ (p : ProgramForm). operations_are_in_use p ≡ true) (sym (form_is program (body_forms program) fs hs refl is has)) uses;
     nests = nested_in program (body_forms program) fs hs refl is has (and_parts _ _ kept).0;
     frees_own = own_in program (body_forms program) fs hs refl is has (and_parts _ _ kept).1;
+    spares_own = spares_with program (body_forms program) fs hs refl is has true spares;
     obeys = (normal, raising, flow_in program (body_forms program) fs hs refl is has (goes normal raising) e);
   }
 
@@ -347,6 +361,7 @@ module _ (program : Program) (fs : StmtsForm) (hs : HandlersForm) (is : stmt_for
     in_use = in_use_in program (body_forms program) fs hs refl is has fine;
     ill_nested = λ w. cc (unnested, w.declarations);
     frees_own = own_in program (body_forms program) fs hs refl is has own;
+    spares_own = spares_in program (body_forms program) fs hs refl is has fine;
     obeys = (normal, raising, flow_in program (body_forms program) fs hs refl is has (goes normal raising) e);
   }
 
@@ -359,6 +374,7 @@ module _ (program : Program) (fs : StmtsForm) (hs : HandlersForm) (is : stmt_for
     frees_others = λ w.
         let own : statements_free_own whole.types whole.variables fs ≡ true = rw is at (w.statements) in
         cc (other, own);
+    spares_own = spares_in program (body_forms program) fs hs refl is has fine;
     obeys = (normal, raising, flow_in program (body_forms program) fs hs refl is has (goes normal raising) e);
   }
 

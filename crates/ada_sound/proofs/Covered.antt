@@ -29,8 +29,9 @@ use Rattle.ada_sound.proofs.Bodies.{IsBody, seen_is, effect_at}
 use Rattle.ada_sound.proofs.Invariant.{Control, Rooms, Working, GoesOn, ReadyIn, Says, CoveredIn, AllWait, waits_covers, body_among}
 use Rattle.ada_sound.proofs.Callers.{Suspension, callers_of, known_in, AreOf, Stands}
 use Rattle.ada_sound.proofs.Starts.{Ordinary, Sound, sound_first}
-use Rattle.ada_sound.proofs.Touching.{Touching, waiting_for}
-use Rattle.ada_sound.proofs.Operating.{Sight, Comes, Body, Operates}
+use Rattle.ada_sound.proofs.Touching.{Touching}
+use Rattle.ada_sound.proofs.Operating.{Sight, Comes, Body}
+use Rattle.ada_sound.proofs.Operates.{Operates}
 use Rattle.ada_sound.proofs.Uncalled.{body_called}
 use Rattle.ada_sound.proofs.Judged.{judged_in}
 use Rattle.ada_sound.proofs.Adjusting.{AdjustingCopy, put_aside, waiting}
@@ -130,7 +131,7 @@ module _ (program : Program) where
 
 module _ (program : Program) (accepted : IsChecked program) where
   first : (input : List ℤ) → Sound program (first_state program input)
-  first input = sound_first program input accepted.well_formed accepted.in_use accepted.nests accepted.frees_own accepted.obeys
+  first input = sound_first program input accepted.well_formed accepted.in_use accepted.nests accepted.frees_own accepted.spares_own accepted.obeys
 
   pub frees : FreesAreCovered program
   frees input events before after choice e run step depth a number at is =
@@ -139,7 +140,7 @@ module _ (program : Program) (accepted : IsChecked program) where
       by : Led program before.heap e after → IsCovered program number e
       by (inl (c, calm, settled)) = covered_by program e before.heap after c.suspensions c.stands c.stepped.says depth a number at is
       by (inr (inl c)) = c.covered number
-      by (inr (inr (inl c))) = covered_by program e before.heap after (waiting_for program after c.body) c.body.stands c.says depth a number at is
+      by (inr (inr (inl c))) = covered_by program e before.heap after c.body.suspensions c.body.stands c.says depth a number at is
       by (inr (inr (inr c))) = adjusting_covered program e before.heap after c depth a number at is
 
   raises_in : (s : State) → Ordinary program s ⊎ (Operates program s ⊎ (Touching program s ⊎ AdjustingCopy program s)) → (procedure : Option ℕ) (number : ℕ) (e : Exception) → running_procedure s ≡ procedure → procedure ≡ Some number → EndsBody s → s.mode ≡ Raising e → call_raises (callees.effect_at program number) (is_same e) ≡ true
@@ -148,7 +149,7 @@ module _ (program : Program) (accepted : IsChecked program) where
       called_raises program number e (rw (runs ∙ is) at (o.stands.body)) (rw (runs ∙ is) at may)
   raises_in s (inr (inr (inr d))) procedure number e runs is ends mode = absurd (none_leaves program s d e mode (rw ends.first refl))
   raises_in s (inr (inr (inl f))) procedure number e runs is ends mode =
-      let may = leaves_by program (running_procedure s) (waiting_for program s f) e ends.actuals ends.references ends.outer s.control s.mode s.heap _ _ s.masters (f.ready.1) mode ends.first in
+      let may = leaves_by program (running_procedure s) f.suspensions e ends.actuals ends.references ends.outer s.control s.mode s.heap _ _ s.masters (f.ready.1) mode ends.first in
       called_raises program number e (rw (runs ∙ is) at (f.stands.body)) (rw (runs ∙ is) at may)
   raises_in s (inr (inl o)) procedure number e runs is ends mode =
       let body : Body (record { program = seen_in (Some o.procedure) (program_form program); object = o.object; access = o.access }) o.behind o.upper s.heap o.places o.operands (Raising e) (Returns ends.actuals ends.references ∷ ends.outer) = rw (mode, ends.first) at o.body in

@@ -1,26 +1,40 @@
--- The body of an operation runs that touches storage, a frugal one (7.6, 7.6.1, 13.11.2), or one that it calls (6.4): what is left before its end. Nothing in that
--- is adjusted, initialized or finalized.
+-- The body of an operation runs that touches storage, a frugal one (7.6, 7.6.1, 13.11.2), or one that it calls (6.4), or the operation of an object that it frees: what
+-- is left before its end. Nothing in that is adjusted or initialized; where bodies may free objects with controlled parts, these are finalized.
 
-use Rattle.std.proofs.Common.{◌≡◌, ℕ, Bool, true, false, List, [], ◌∷◌, ◌++◌, refl, sym, subst, ◌⊎◌, inl, inr}
+use Rattle.std.proofs.Common.{◌≡◌, ℕ, suc, ◌≤◌, Bool, true, false, List, [], ◌∷◌, ◌++◌, length, refl, sym, ap, subst, ◌⊎◌, inl, inr, arith}
 use Rattle.ada_program.specs.Form.{ActualForm}
+use Rattle.ada_finalized.specs.Law.{NoOperationRunsOn, finalized_before}
 use Rattle.ada_program.specs.ProgramForm.{BodyForm}
 use Rattle.ada_meaning.specs.declared.state.Value.{Value}
 use Rattle.ada_meaning.specs.declared.state.Mode.{Mode}
 use Rattle.ada_meaning.specs.declared.state.Mode.TheVariants.{Running}
-use Rattle.ada_meaning.specs.Frame.{Frame, is_return, Elaborates, Does, Decides, Repeats, Turns, Ranges, Counts, Exits, Handles, Closes, Leaves, Calls, Returns, Evaluates, Computes, Follows, TestsNull, Refers, RefersIn, Opens, OpensIn, Continues, Applies, AppliesAlone, Stores, Targets, StoresIn, TargetsRecord, StoresRecord, Receives, Fills, Copies, Creates, FreesIn, Declares, Writes, Ends, GivesBack, Clears, ClearsIn}
+use Rattle.ada_meaning.specs.declared.event.Cause.TheVariants.{Leaving, Freeing, Assigning, Undoing}
+use Rattle.ada_meaning.specs.Frame.{Frame, is_return, Elaborates, Does, Decides, Repeats, Turns, Ranges, Counts, Exits, Handles, Closes, Leaves, Calls, Returns, Evaluates, Computes, Follows, TestsNull, Refers, RefersIn, Opens, OpensIn, Continues, Applies, AppliesAlone, Stores, Targets, StoresIn, TargetsRecord, StoresRecord, Receives, Fills, Copies, Creates, FreesIn, Declares, Writes, Ends, GivesBack, Clears, ClearsIn, Treatment, begins, ends}
 use Rattle.ada_meaning.specs.Frame as frame
 use Rattle.ada_meaning.specs.State.{Master}
-use Rattle.ada_meaning.specs.Step.{operating, halts, moves, tells, asks, picks}
+use Rattle.ada_meaning.specs.Step.{operating, treating, halts, moves, tells, asks, picks}
 use Rattle.ada_meaning.specs.Named.{State, Next, named}
+use Rattle.ada_parts.specs.Task.{Task}
 use Rattle.ada_quiet.specs.Bare.{allocates_bare, has_bare_objects}
-use Rattle.ada_quiet.specs.Frugal.{Thrift, are_frugal_declarations, are_frugal, are_frugal_branches, are_frugal_handlers, is_frugal_body}
+use Rattle.ada_quiet.specs.Frugal.{Thrift, may_end, are_frugal_declarations, are_frugal, are_frugal_branches, are_frugal_handlers, is_frugal_body}
+use Rattle.ada_typed.proofs.Control.{is_operation}
+use Rattle.ada_typed.proofs.Kept.{is_treatment}
 use Rattle.ada_sound.proofs.Invariant.{Control, IsAwaited}
 use Rattle.ada_sound.proofs.FrugalBodies.{frugal_parts}
 use Rattle.ada_sound.proofs.Operating.{OwnVariables}
 
+-- An object ends that is freed (13.11.2).
+abbrev pub IsFreed : Treatment → Type 0
+IsFreed (begins by done) = ⊥
+IsFreed (ends (Leaving m item)) = ⊥
+IsFreed (ends (Freeing number)) = Unit {0}
+IsFreed (ends (Assigning number)) = ⊥
+IsFreed (ends (Undoing number)) = ⊥
+
 -- What the frugal bodies of the program go by.
 module _ (frugal : Thrift) where
-  -- What a frame of such a body does, or of one that it calls: what it allocates or frees has no controlled parts. While a master is left, that is the first frame: below.
+  -- What a frame of such a body does, or of one that it calls: what it allocates has no controlled parts, and what it frees has none, unless bodies may free others. While
+  -- a master is left, that is the first frame: below.
   abbrev pub FrugalFrame : Frame Value → Type 0
   FrugalFrame (Elaborates ds fs hs) = (are_frugal_declarations frugal.types ds ≡ true) × (are_frugal frugal fs ≡ true) × (are_frugal_handlers frugal hs ≡ true)
   FrugalFrame (Does fs) = (are_frugal frugal fs ≡ true)
@@ -53,7 +67,7 @@ module _ (frugal : Thrift) where
   FrugalFrame (Fills items) = Unit {0}
   FrugalFrame (Copies first t) = Unit {0}
   FrugalFrame (Creates access count) = (has_bare_objects frugal.types access ≡ true)
-  FrugalFrame (FreesIn access c) = (has_bare_objects frugal.types access ≡ true)
+  FrugalFrame (FreesIn access c) = (may_end frugal access ≡ true)
   FrugalFrame (Declares x) = Unit {0}
   FrugalFrame Writes = Unit {0}
   FrugalFrame (Ends v) = Unit {0}
@@ -61,6 +75,14 @@ module _ (frugal : Thrift) where
   FrugalFrame (Clears x) = Unit {0}
   FrugalFrame (ClearsIn v c) = Unit {0}
   FrugalFrame f = ⊥
+
+  -- An object is finalized that is freed, ceases to exist behind that, and no operation of it runs there.
+  abbrev pub EndsFreed : Value → Treatment → Control → Type 0
+  EndsFreed v treatment k = IsFreed treatment × (frugal.ends_parts ≡ true) × (finalized_before k ≡ v) × NoOperationRunsOn v k
+
+  -- The operation of such an object runs in front of this, and behind what is left of that no other one of the object does.
+  abbrev pub EndsOperation : Control → Type 0
+  EndsOperation k = (frugal.ends_parts ≡ true) × NoOperationRunsOn (finalized_before k) k
 
   -- What is left to do of the body, and of those that it calls, in these masters of their own, before this. A variable is declared in one of them. Where a body
   -- comes to its end, that is the end of all of it, or of one that is called.
@@ -73,6 +95,8 @@ module _ (frugal : Thrift) where
   FrugalLeads behind (Closes ∷ k) (m ∷ ms) = FrugalFrame Closes × FrugalLeads behind k ms
   FrugalLeads behind (Declares x ∷ k) [] = ⊥
   FrugalLeads behind (Declares x ∷ k) (m ∷ ms) = FrugalFrame (Declares x) × FrugalLeads behind k (m ∷ ms)
+  FrugalLeads behind (frame.Treats v treatment tasks ∷ k) ms = EndsFreed v treatment k × FrugalLeads behind k ms
+  FrugalLeads behind (frame.Confines ∷ k) ms = EndsOperation k × FrugalLeads behind k ms
   FrugalLeads behind (f ∷ k) ms = FrugalFrame f × FrugalLeads behind k ms
 
   -- The innermost master is being left, and then this is left to do.
@@ -99,13 +123,13 @@ module _ (marks : Thrift) (lower : List Master) (behind : Control) where
     pub own : OwnVariables upper
     pub frugal : Frugal marks behind after.mode after.control upper
 
-  -- So it does whatever comes next, if the run does not end: nothing is picked.
+  -- So it does whatever comes next, if the run does not end.
   abbrev pub GoesFrugally : Next → Type 0
   GoesFrugally (halts halt) = Unit {0}
   GoesFrugally (moves e after) = Frugally after
   GoesFrugally (tells request e after) = Frugally after
   GoesFrugally (asks request answered) = (granted : Bool) → Frugally (answered granted)
-  GoesFrugally (picks n taken) = ⊥
+  GoesFrugally (picks n taken) = (i : ℕ) → suc i ≤ n → Frugally (taken i)
 
 -- It begins, in a master of its own.
 pub frugal_begins : {mode : Mode} (frugal : Thrift) (b : BodyForm) → is_frugal_body frugal b ≡ true → (behind : Control) (m : Master) → Frugal frugal behind mode (Elaborates b.declarations b.statements b.handlers ∷ Returns [] [] ∷ behind) (m ∷ [])
@@ -121,35 +145,95 @@ frugal_starts frugal procedure b is reference behind s = record {
   frugal = frugal_begins frugal b is behind (record { number = s.next; items = [] });
 }
 
--- Each frame in front of its end is one of such a body.
-pub first_frugal : (frugal : Thrift) (behind : Control) (f : Frame Value) (k : Control) (ms : List Master) → is_return f ≡ false → FrugalLeads frugal behind (f ∷ k) ms → FrugalFrame frugal f
-first_frugal frugal behind (Returns actuals references) k ms inner q = absurd (cc inner)
-first_frugal frugal behind (Elaborates ds fs hs) k [] inner q = absurd q
-first_frugal frugal behind (Elaborates ds fs hs) k (m ∷ ms) inner q = q.0
-first_frugal frugal behind Closes k [] inner q = absurd q
-first_frugal frugal behind Closes k (m ∷ ms) inner q = q.0
-first_frugal frugal behind (Declares x) k [] inner q = absurd q
-first_frugal frugal behind (Declares x) k (m ∷ ms) inner q = q.0
-first_frugal frugal behind f k ms inner q = q.0
+-- In front of what is left to do already, the body of another operation begins so.
+pub frugal_starts_inside :
+    (frugal : Thrift) (back : Control) (upper lower : List Master) (procedure : ℕ) (b : BodyForm) → is_frugal_body frugal b ≡ true → (reference : Value) (behind : Control) (s : State)
+    → s.masters ≡ upper ++ lower → OwnVariables upper → FrugalLeads frugal back behind upper → Frugally frugal lower back (operating named procedure b reference behind s)
+frugal_starts_inside frugal back upper lower procedure b is reference behind s masters own leads = record {
+  upper = record { number = s.next; items = [] } ∷ upper;
+  masters = ap (λ (ms : List Master). record { number = s.next; items = [] } ∷ ms) masters;
+  own = (tt, own);
+  frugal = inl (frugal_parts frugal b is, inr leads);
+}
 
--- Nothing frugal awaits an operation.
-pub never_awaited : (frugal : Thrift) (behind k : Control) (ms : List Master) → IsAwaited k → FrugalLeads frugal behind k ms → ⊥
-never_awaited frugal behind [] ms awaited q = q
-never_awaited frugal behind (frame.Awaits v by done of part tasks ∷ k) ms awaited q = q.0
-never_awaited frugal behind (frame.Confines ∷ k) ms awaited q = q.0
-never_awaited frugal behind (f ∷ k) ms awaited q = awaited
+-- An object that is freed is finalized before this.
+pub treating_leads :
+    (frugal : Thrift) (back : Control) (v : Value) (treatment : Treatment) (tasks : List Task) (k : Control) (ms : List Master) → EndsFreed frugal v treatment k → FrugalLeads frugal back k ms
+    → FrugalLeads frugal back (treating v treatment tasks k) ms
+treating_leads frugal back v treatment [] k ms ending q = q
+treating_leads frugal back v treatment (task ∷ tasks) k ms ending q = (ending, q)
 
--- Where the end of a body is next that was called in front of an operation's, the masters have been left, and what is behind it goes on then.
-pub frugal_ends : (frugal : Thrift) (behind : Control) (mode : Mode) (actuals : List ActualForm) (references : List Value) (k : Control) (ms : List Master) → IsAwaited k → Frugal frugal behind mode (Returns actuals references ∷ k) ms → (actuals ≡ []) × (references ≡ []) × (k ≡ behind) × (ms ≡ [])
-frugal_ends frugal behind mode actuals references k ms awaited (inl (inl q)) = (q.0.0, q.0.1, q.2, q.1)
-frugal_ends frugal behind mode actuals references k ms awaited (inl (inr q)) = absurd (never_awaited frugal behind k ms awaited q)
-frugal_ends frugal behind mode actuals references k ms awaited (inr (runs, leaving)) = absurd leaving
+-- The operation of one of its parts is called: the others are finalized behind that.
+pub ends_leads :
+    (frugal : Thrift) (back : Control) (v : Value) (treatment : Treatment) (tasks : List Task) (k : Control) (ms : List Master) → EndsFreed frugal v treatment k → FrugalLeads frugal back k ms
+    → FrugalLeads frugal back (frame.Confines ∷ treating v treatment tasks k) ms
+ends_leads frugal back v treatment tasks k ms ending q = ((ending.1, by tasks), treating_leads frugal back v treatment tasks k ms ending q)
+  where
+    by : (left : List Task) → NoOperationRunsOn (finalized_before (treating v treatment left k)) (treating v treatment left k)
+    by [] = subst (λ (w : Value). NoOperationRunsOn w k) (sym ending.2) ending.3
+    by (task ∷ left) = ending.3
 
--- Where that of another one is next, that one goes on which called it.
+-- Each frame in front of its end is one of such a body, but where an object is finalized.
+pub first_frugal :
+    (frugal : Thrift) (behind : Control) (f : Frame Value) (k : Control) (ms : List Master) → is_return f ≡ false → is_treatment f ≡ false → is_operation f ≡ false → FrugalLeads frugal behind (f ∷ k) ms
+    → FrugalFrame frugal f
+first_frugal frugal behind (Returns actuals references) k ms inner plain calm q = absurd (cc inner)
+first_frugal frugal behind (Elaborates ds fs hs) k [] inner plain calm q = absurd q
+first_frugal frugal behind (Elaborates ds fs hs) k (m ∷ ms) inner plain calm q = q.0
+first_frugal frugal behind Closes k [] inner plain calm q = absurd q
+first_frugal frugal behind Closes k (m ∷ ms) inner plain calm q = q.0
+first_frugal frugal behind (Declares x) k [] inner plain calm q = absurd q
+first_frugal frugal behind (Declares x) k (m ∷ ms) inner plain calm q = q.0
+first_frugal frugal behind (frame.Treats v treatment tasks) k ms inner plain calm q = absurd (cc plain)
+first_frugal frugal behind frame.Confines k ms inner plain calm q = absurd (cc calm)
+first_frugal frugal behind f k ms inner plain calm q = q.0
+
+-- Where no object with controlled parts is freed, none is finalized, and no operation ends.
+pub none_treated : (frugal : Thrift) → frugal.ends_parts ≡ false → (behind : Control) (f : Frame Value) (k : Control) (ms : List Master) → FrugalLeads frugal behind (f ∷ k) ms → (is_treatment f ≡ false) × (is_operation f ≡ false)
+none_treated frugal none behind (frame.Treats v treatment tasks) k ms q = let ends_parts = q.0.1 in absurd (cc (none, ends_parts))
+none_treated frugal none behind frame.Confines k ms q = let ends_parts = q.0.0 in absurd (cc (none, ends_parts))
+none_treated frugal none behind (frame.Awaits v by done of part tasks) k ms q = absurd q.0
+none_treated frugal none behind f k ms q = (refl, refl)
+
+-- There is more to do than what is behind all of it.
+leads_longer : (frugal : Thrift) (behind k : Control) (ms : List Master) → FrugalLeads frugal behind k ms → suc (length behind) ≤ length k
+leads_longer frugal behind [] ms q = absurd q
+leads_longer frugal behind (Returns actuals references ∷ k) ms (inl q) = let same = ap length q.2 in omega (arith, same)
+leads_longer frugal behind (Returns actuals references ∷ k) ms (inr q) = let longer = leads_longer frugal behind k ms q in omega (arith, longer)
+leads_longer frugal behind (Elaborates ds fs hs ∷ k) [] q = absurd q
+leads_longer frugal behind (Elaborates ds fs hs ∷ k) (m ∷ ms) q = let longer = leads_longer frugal behind k ms q.1 in omega (arith, longer)
+leads_longer frugal behind (Closes ∷ k) [] q = absurd q
+leads_longer frugal behind (Closes ∷ k) (m ∷ ms) q = let longer = leads_longer frugal behind k ms q.1 in omega (arith, longer)
+leads_longer frugal behind (Declares x ∷ k) [] q = absurd q
+leads_longer frugal behind (Declares x ∷ k) (m ∷ ms) q = let longer = leads_longer frugal behind k (m ∷ ms) q.1 in omega (arith, longer)
+leads_longer frugal behind (f ∷ k) ms q = let longer = leads_longer frugal behind k ms q.1 in omega (arith, longer)
+
+pub shorter : (frugal : Thrift) (back k : Control) (ms : List Master) → FrugalLeads frugal back k ms → k ≡ back → ⊥
+shorter frugal back k ms q is =
+    let longer = leads_longer frugal back k ms q in
+    let same = ap length is in
+    omega (arith, longer, same)
+
+-- Where the end of the operation's own body is next, the masters have been left.
+pub frugal_ends :
+    (frugal : Thrift) (back : Control) (mode : Mode) (actuals : List ActualForm) (references : List Value) (k : Control) (ms : List Master) → k ≡ back → Frugal frugal back mode (Returns actuals references ∷ k) ms
+    → (actuals ≡ []) × (references ≡ []) × (ms ≡ [])
+frugal_ends frugal back mode actuals references k ms last (inl (inl q)) = (q.0.0, q.0.1, q.1)
+frugal_ends frugal back mode actuals references k ms last (inl (inr q)) = absurd (shorter frugal back k ms q last)
+frugal_ends frugal back mode actuals references k ms last (inr (runs, leaving)) = absurd leaving
+
+-- Where that of another one is next, what is behind that goes on: the body that called it, or the end of the object of which it is an operation.
+pub frugal_returns_inside :
+    (frugal : Thrift) (back : Control) (mode : Mode) (actuals : List ActualForm) (references : List Value) (k : Control) (ms : List Master) → (k ≡ back → ⊥) → Frugal frugal back mode (Returns actuals references ∷ k) ms
+    → FrugalLeads frugal back k ms
+frugal_returns_inside frugal back mode actuals references k ms inside (inl (inl q)) = absurd (inside q.2)
+frugal_returns_inside frugal back mode actuals references k ms inside (inl (inr q)) = q
+frugal_returns_inside frugal back mode actuals references k ms inside (inr (runs, leaving)) = absurd leaving
+
+-- So it is with one that was called.
 pub frugal_returns : (frugal : Thrift) (behind : Control) (mode : Mode) (actuals : List ActualForm) (references : List Value) (k : Control) (ms : List Master) → IsAwaited behind → (IsAwaited k → ⊥) → Frugal frugal behind mode (Returns actuals references ∷ k) ms → FrugalLeads frugal behind k ms
-frugal_returns frugal behind mode actuals references k ms awaited calls (inl (inl q)) = absurd (calls (subst IsAwaited (sym q.2) awaited))
-frugal_returns frugal behind mode actuals references k ms awaited calls (inl (inr q)) = q
-frugal_returns frugal behind mode actuals references k ms awaited calls (inr (runs, leaving)) = absurd leaving
+frugal_returns frugal behind mode actuals references k ms awaited calls frugally =
+    frugal_returns_inside frugal behind mode actuals references k ms (λ last. calls (subst IsAwaited (sym last) awaited)) frugally
 
 -- Which items a master owns does not matter.
 pub same_masters : (frugal : Thrift) (behind : Control) (j : Control) (m n : Master) (ms : List Master) → FrugalLeads frugal behind j (m ∷ ms) → FrugalLeads frugal behind j (n ∷ ms)

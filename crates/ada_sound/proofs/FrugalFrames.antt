@@ -1,5 +1,5 @@
--- A frugal body (7.6, 7.6.1, 13.11.2) comes to what is left of an expression, an assignment, an allocator, a Free, a call or a statement: nothing is treated next,
--- and what is called is frugal, too (6.4).
+-- A frugal body (7.6, 7.6.1, 13.11.2) comes to what is left of an expression, an assignment, an allocator, a Free, a call or a statement: nothing is treated next but
+-- an object that is freed, and what is called is frugal, too (6.4).
 
 use Rattle.std.proofs.Common.{◌≡◌, ℕ, Bool, true, false, List, [], ◌∷◌, ◌++◌, refl, inl, inr}
 use Rattle.std.specs.Prelude.{ℤ, Option, Some, None, drop, Result, Ok, Err, ◌&&◌, int_le, if◌then◌else◌}
@@ -14,6 +14,7 @@ use Rattle.ada_program.specs.Form.{RecordPathForm, ActualForm, in_value, in_null
 use Rattle.ada_program.specs.ProgramForm.{BodyForm}
 use Rattle.ada_parts.specs.declared.tasks.Direction.TheVariants.{PartsFirst, WholeFirst}
 use Rattle.ada_meaning.specs.declared.event.Cause.{Cause}
+use Rattle.ada_meaning.specs.declared.event.Cause.TheVariants.{Freeing}
 use Rattle.ada_meaning.specs.declared.event.Halt.TheVariants.{Erroneous}
 use Rattle.ada_meaning.specs.declared.event.Why.TheVariants.{GivesElsewhere}
 use Rattle.ada_meaning.specs.declared.state.Place.{Place}
@@ -23,19 +24,19 @@ use Rattle.ada_meaning.specs.declared.state.Mode.{Mode}
 use Rattle.ada_meaning.specs.declared.state.Mode.TheVariants.{Running, Raising, Exiting, Returning}
 use Rattle.ada_meaning.specs.Event.{Event, Followed, Quiet}
 use Rattle.ada_meaning.specs.Heap.{Cell, Found, on_null, on_gone, on_other, finds}
-use Rattle.ada_meaning.specs.Frame.{Frame, Elaborates, Leaves, Calls, TestsNull, RefersIn, OpensIn, Fills, Copies, Targets, Receives, FreesIn, Declares, Clears, ClearsIn, TargetsRecord}
+use Rattle.ada_meaning.specs.Frame.{Frame, Elaborates, Leaves, Calls, TestsNull, RefersIn, OpensIn, Fills, Copies, Targets, Receives, FreesIn, Declares, Ends, GivesBack, Clears, ClearsIn, TargetsRecord, ends}
 use Rattle.ada_meaning.specs.State.{Activation, Item, Master, Owned, declared, collection, record_object, storage_pool, Destination, height, home_of, pool_freed_to}
 use Rattle.ada_meaning.specs.Step.{first_or, older, places_of, operands_of, with_operands, begun, record_holder_next, referred_next, refers_next, open_next, opened_next, opens_next, storing, returned, computing, call_next, entered, all_tasks, halts, moves, same_pool, raised, jumping, computed, put, owned, at, reading, component_next, follow_next, path_next, selected, named_next, before_last, last_of, holder_next, expression_next, null_test_next, is_decided, link_next, links_next, outcome_next, place_in, record_in, item_next, items_next, copied_next, copies_next, answered, new_next, right_next, freeing, freeing_next, free_next, end_next, told_back, given_back, back_next, assign_next, target_next, stored_next, store_next, record_target_next, record_stored_next, newest_ones, store_record_next, record_assign_next, has_parts, frees_next, freed_next, free_component_next, free_in_next, branches_next, decided_next, turn_next, repeats_next, turned_next, count_turn_next, counts_next, ranges_next, gets_next, received_next, receive_next, exit_next, exited_next, stmt_next, line_next, declarations_next, leave_next, master_leave_next, item_leave_next}
 use Rattle.ada_meaning.specs.Named.{State, Next, named, whole, look, standing}
-use Rattle.ada_quiet.specs.Bare.{allocates_bare, has_bare_objects}
-use Rattle.ada_quiet.specs.Frugal.{Thrift, is_frugal_declaration, are_frugal_declarations, is_frugal_stmt, are_frugal, are_frugal_branches, are_frugal_handlers, is_frugal_body}
+use Rattle.ada_quiet.specs.Bare.{allocates_bare}
+use Rattle.ada_quiet.specs.Frugal.{Thrift, may_end, is_frugal_declaration, are_frugal_declarations, is_frugal_stmt, are_frugal, are_frugal_branches, are_frugal_handlers, is_frugal_body}
 use Rattle.ada_sound.proofs.Fits.{place_at}
 use Rattle.ada_sound.proofs.Invariant.{Control}
 use Rattle.ada_sound.proofs.OperationStarts.{apart}
 use Rattle.ada_sound.proofs.Operating.{IsVariable, AreVariables, OwnVariables}
 use Rattle.ada_sound.proofs.FrugalBodies.{frugal_parts}
-use Rattle.ada_sound.proofs.FrugalControl.{FrugalLeads, FrugalLeaves, Frugally, GoesFrugally, same_masters}
-use Rattle.ada_sound.proofs.FrugalFrees.{IsBare, RecordIsBare, StmtIsBare}
+use Rattle.ada_sound.proofs.FrugalControl.{FrugalLeads, FrugalLeaves, Frugally, GoesFrugally, same_masters, treating_leads}
+use Rattle.ada_sound.proofs.FrugalFrees.{RecordIsBare, IsFreely, StmtIsFreely}
 
 module _ (marks : Thrift) (lower : List Master) (behind : Control) (tds : List TypeDefinition) (bodies : List BodyForm) (s : State) where
   abbrev pub Fine : Next → Type 0
@@ -214,42 +215,46 @@ module _ (marks : Thrift) (lower : List Master) (behind : Control) (tds : List T
     pub puts_on : (x : ℕ) (v : Value) (all : List (Activation Value)) → (k : Control) → Left k → Goes (put x v (now all k ms))
     puts_on x v all k q = on _ refl q
 
-    -- A Free: nothing is to be done for its object, which is to cease to exist.
-    freeing_on : (access : ℕ) (v : Value) (cell : Cell Value) (clears : Frame Value) → all_tasks tds cell.access WholeFirst ≡ [] → (all : List (Activation Value)) → (k : Control) → Left (clears ∷ k) → Goes (freeing named tds access v cell clears (now all k ms))
-    freeing_on access v cell clears none all k q = rw none (on _ refl (tt, (tt, q)))
+    -- A Free: nothing is to be done for its object, which is to cease to exist, or that is finalized first.
+    freeing_on : (access : ℕ) (v : Value) (cell : Cell Value) (clears : Frame Value) → (all : List (Activation Value)) → (k : Control) → IsFreely marks tds (clears ∷ k) v (finds cell) → Left (clears ∷ k) → Goes (freeing named tds access v cell clears (now all k ms))
+    freeing_on access v cell clears all k (inl none) q = rw none (on _ refl (tt, (tt, q)))
+    freeing_on access v cell clears all k (inr (ends_parts, alone)) q =
+        on (freeing named tds access v cell clears (now all k ms)) refl
+        (treating_leads marks behind v (ends (Freeing s.next)) (all_tasks tds cell.access WholeFirst)
+        (Ends v ∷ GivesBack v (Freeing s.next) (Some (pool_freed_to (home_of access (ms ++ lower)))) ∷ clears ∷ k) ms (tt, ends_parts, refl, alone) (tt, (tt, q)))
 
-    freeing_next_on : (access : ℕ) (v : Value) (cell : Cell Value) (clears : Frame Value) (event : Event Value) → all_tasks tds cell.access WholeFirst ≡ [] → (all : List (Activation Value)) → (k : Control) → Left (clears ∷ k) → Fine (freeing_next named tds access v cell clears event (now all k ms))
-    freeing_next_on access v cell clears event none all k q = by (same_pool (Some (pool_freed_to (home_of access (ms ++ lower)))) cell.home.pool)
+    freeing_next_on : (access : ℕ) (v : Value) (cell : Cell Value) (clears : Frame Value) (event : Event Value) → (all : List (Activation Value)) → (k : Control) → IsFreely marks tds (clears ∷ k) v (finds cell) → Left (clears ∷ k) → Fine (freeing_next named tds access v cell clears event (now all k ms))
+    freeing_next_on access v cell clears event all k freely q = by (same_pool (Some (pool_freed_to (home_of access (ms ++ lower)))) cell.home.pool)
       where
         by : (one : Bool) → Fine (if one then moves event (freeing named tds access v cell clears (now all k ms)) else halts (Erroneous GivesElsewhere))
-        by true = freeing_on access v cell clears none all k q
+        by true = freeing_on access v cell clears all k freely q
         by false = tt
 
-    free_on : (access x : ℕ) (v : Value) (found : Found (Cell Value)) → IsBare marks.types tds found → (all : List (Activation Value)) → (k : Control) → Left k → Fine (free_next named tds access x v found (now all k ms))
-    free_on access x v on_null bare all k q = on _ refl q
-    free_on access x v on_gone bare all k q = tt
-    free_on access x v on_other bare all k q = tt
-    free_on access x v (finds cell) bare all k q = freeing_next_on access v cell (Clears x) Quiet bare all k (tt, q)
+    free_on : (access x : ℕ) (v : Value) (found : Found (Cell Value)) (all : List (Activation Value)) → (k : Control) → IsFreely marks tds k v found → Left k → Fine (free_next named tds access x v found (now all k ms))
+    free_on access x v on_null all k freely q = on _ refl q
+    free_on access x v on_gone all k freely q = tt
+    free_on access x v on_other all k freely q = tt
+    free_on access x v (finds cell) all k freely q = freeing_next_on access v cell (Clears x) Quiet all k freely (tt, q)
 
-    frees_on : (cs : List ℕ) (access x : ℕ) (all : List (Activation Value)) → has_bare_objects marks.types access ≡ true → (cs ≡ [] → IsBare marks.types tds (standing s.heap (place_at (places_of all) x))) → (k : Control) → Left k → Fine (frees_next named tds cs access x (now all k ms))
-    frees_on [] access x all is bare k q = free_on access x (place_at (places_of all) x) (standing s.heap (place_at (places_of all) x)) (bare refl) all k q
-    frees_on (c ∷ cs) access x all is bare k q = holder_on c cs x (λ last. FreesIn access last) all k (λ last. (is, q))
+    frees_on : (cs : List ℕ) (access x : ℕ) (all : List (Activation Value)) → may_end marks access ≡ true → (k : Control) → (cs ≡ [] → IsFreely marks tds k (place_at (places_of all) x) (standing s.heap (place_at (places_of all) x))) → Left k → Fine (frees_next named tds cs access x (now all k ms))
+    frees_on [] access x all is k freely q = free_on access x (place_at (places_of all) x) (standing s.heap (place_at (places_of all) x)) all k (freely refl) q
+    frees_on (c ∷ cs) access x all is k freely q = holder_on c cs x (λ last. FreesIn access last) all k (λ last. (is, q))
 
-    freed_on : (access : ℕ) (o : Value) (c : ℕ) (v : Value) (found : Found (Cell Value)) → IsBare marks.types tds found → (all : List (Activation Value)) → (k : Control) → Left k → Fine (freed_next named tds access o c v found (now all k ms))
-    freed_on access o c v on_null bare all k q = on _ refl q
-    freed_on access o c v on_gone bare all k q = tt
-    freed_on access o c v on_other bare all k q = tt
-    freed_on access o c v (finds cell) bare all k q = freeing_next_on access v cell (ClearsIn o c) (Followed o) bare all k (tt, q)
+    freed_on : (access : ℕ) (o : Value) (c : ℕ) (v : Value) (found : Found (Cell Value)) (all : List (Activation Value)) → (k : Control) → IsFreely marks tds k v found → Left k → Fine (freed_next named tds access o c v found (now all k ms))
+    freed_on access o c v on_null all k freely q = on _ refl q
+    freed_on access o c v on_gone all k freely q = tt
+    freed_on access o c v on_other all k freely q = tt
+    freed_on access o c v (finds cell) all k freely q = freeing_next_on access v cell (ClearsIn o c) (Followed o) all k freely (tt, q)
 
-    free_component_on : (access : ℕ) (o : Value) (c : ℕ) (found : Option Value) → ((w : Value) → found ≡ Some w → IsBare marks.types tds (standing s.heap w)) → (all : List (Activation Value)) → (k : Control) → Left k → Fine (free_component_next named tds access o c found (now all k ms))
-    free_component_on access o c None bare all k q = tt
-    free_component_on access o c (Some v) bare all k q = freed_on access o c v (standing s.heap v) (bare v refl) all k q
+    free_component_on : (access : ℕ) (o : Value) (c : ℕ) (found : Option Value) (all : List (Activation Value)) → (k : Control) → ((w : Value) → found ≡ Some w → IsFreely marks tds k w (standing s.heap w)) → Left k → Fine (free_component_next named tds access o c found (now all k ms))
+    free_component_on access o c None all k freely q = tt
+    free_component_on access o c (Some v) all k freely q = freed_on access o c v (standing s.heap v) all k (freely v refl) q
 
-    pub free_in_on : (access : ℕ) (o : Value) (c : ℕ) (found : Found (Cell Value)) → ((cell : Cell Value) (w : Value) → found ≡ finds cell → slice_get cell.values c ≡ Some w → IsBare marks.types tds (standing s.heap w)) → (all : List (Activation Value)) → (k : Control) → Left k → Fine (free_in_next named tds access o c found (now all k ms))
-    free_in_on access o c on_null bare all k q = raises_on ConstraintError all k q
-    free_in_on access o c on_gone bare all k q = tt
-    free_in_on access o c on_other bare all k q = tt
-    free_in_on access o c (finds cell) bare all k q = free_component_on access o c (slice_get cell.values c) (λ w. bare cell w refl) all k q
+    pub free_in_on : (access : ℕ) (o : Value) (c : ℕ) (found : Found (Cell Value)) (all : List (Activation Value)) → (k : Control) → ((cell : Cell Value) (w : Value) → found ≡ finds cell → slice_get cell.values c ≡ Some w → IsFreely marks tds k w (standing s.heap w)) → Left k → Fine (free_in_next named tds access o c found (now all k ms))
+    free_in_on access o c on_null all k freely q = raises_on ConstraintError all k q
+    free_in_on access o c on_gone all k freely q = tt
+    free_in_on access o c on_other all k freely q = tt
+    free_in_on access o c (finds cell) all k freely q = free_component_on access o c (slice_get cell.values c) all k (λ w. freely cell w refl) q
 
     pub end_on : (v : Value) (found : Found (Cell Value)) (all : List (Activation Value)) → (k : Control) → Left k → Fine (end_next named v found (now all k ms))
     end_on v on_null all k q = tt
@@ -420,23 +425,23 @@ module _ (marks : Thrift) (lower : List Master) (behind : Control) (tds : List T
     returned_on actuals references all k q = on _ refl (storing_left references k q)
 
     -- Statements.
-    pub stmt_on : (f : StmtForm) → ((number : ℕ) (b : BodyForm) → slice_get bodies number ≡ Some b → slice_index_or marks.procedures number false ≡ true → is_frugal_body marks b ≡ true) → RecordIsBare marks.types tds → is_frugal_stmt marks f ≡ true → (all : List (Activation Value)) → StmtIsBare marks.types tds f s.heap (places_of all) → (k : Control) → Left k → Fine (stmt_next named tds bodies f (now all k ms))
-    stmt_on skips finds_frugal records_bare frugal all bare k q = on _ refl q
-    stmt_on (assigns target right) finds_frugal records_bare frugal all bare k q = assigns_on target.selectors target.root right frugal all k q
-    stmt_on (assigns_record target items) finds_frugal records_bare frugal all bare k q =
+    pub stmt_on : (f : StmtForm) → ((number : ℕ) (b : BodyForm) → slice_get bodies number ≡ Some b → slice_index_or marks.procedures number false ≡ true → is_frugal_body marks b ≡ true) → RecordIsBare marks.types tds → is_frugal_stmt marks f ≡ true → (all : List (Activation Value)) → (k : Control) → StmtIsFreely marks tds f k s.heap (places_of all) → Left k → Fine (stmt_next named tds bodies f (now all k ms))
+    stmt_on skips finds_frugal records_bare frugal all k freely q = on _ refl q
+    stmt_on (assigns target right) finds_frugal records_bare frugal all k freely q = assigns_on target.selectors target.root right frugal all k q
+    stmt_on (assigns_record target items) finds_frugal records_bare frugal all k freely q =
         record_assign_on (has_parts tds target.record_type) (records_bare target.record_type frugal) target items all k q
-    stmt_on (frees access path) finds_frugal records_bare frugal all bare k q = frees_on path.selectors access path.root all frugal (bare frugal) k q
-    stmt_on (gets target) finds_frugal records_bare frugal all bare k q = gets_on target.selectors target.root s.input all k q
-    stmt_on (writes e) finds_frugal records_bare frugal all bare k q = on _ refl (tt, (tt, q))
-    stmt_on (writes_text text) finds_frugal records_bare frugal all bare k q = on _ refl q
-    stmt_on (chooses branches) finds_frugal records_bare frugal all bare k q = branches_on branches frugal all k q
-    stmt_on (repeats condition fs spot) finds_frugal records_bare frugal all bare k q = on _ refl (frugal, q)
-    stmt_on (counts x low high fs spot) finds_frugal records_bare frugal all bare k q = on _ refl (tt, (tt, (frugal, q)))
-    stmt_on (exits condition spot) finds_frugal records_bare frugal all bare k q = exit_on condition all k q
-    stmt_on (calls number actuals) finds_frugal records_bare frugal all bare k q = call_on number actuals (slice_get bodies number) (λ b there. finds_frugal number b there frugal) all k q
-    stmt_on (returns spot) finds_frugal records_bare frugal all bare k q = jumps_on Returning all k q
-    stmt_on (raises e) finds_frugal records_bare frugal all bare k q = raises_on e all k q
-    stmt_on (encloses ds fs hs) finds_frugal records_bare frugal all bare k q = encloses_on ds fs hs frugal all k q
+    stmt_on (frees access path) finds_frugal records_bare frugal all k freely q = frees_on path.selectors access path.root all frugal k freely q
+    stmt_on (gets target) finds_frugal records_bare frugal all k freely q = gets_on target.selectors target.root s.input all k q
+    stmt_on (writes e) finds_frugal records_bare frugal all k freely q = on _ refl (tt, (tt, q))
+    stmt_on (writes_text text) finds_frugal records_bare frugal all k freely q = on _ refl q
+    stmt_on (chooses branches) finds_frugal records_bare frugal all k freely q = branches_on branches frugal all k q
+    stmt_on (repeats condition fs spot) finds_frugal records_bare frugal all k freely q = on _ refl (frugal, q)
+    stmt_on (counts x low high fs spot) finds_frugal records_bare frugal all k freely q = on _ refl (tt, (tt, (frugal, q)))
+    stmt_on (exits condition spot) finds_frugal records_bare frugal all k freely q = exit_on condition all k q
+    stmt_on (calls number actuals) finds_frugal records_bare frugal all k freely q = call_on number actuals (slice_get bodies number) (λ b there. finds_frugal number b there frugal) all k q
+    stmt_on (returns spot) finds_frugal records_bare frugal all k freely q = jumps_on Returning all k q
+    stmt_on (raises e) finds_frugal records_bare frugal all k freely q = raises_on e all k q
+    stmt_on (encloses ds fs hs) finds_frugal records_bare frugal all k freely q = encloses_on ds fs hs frugal all k q
 
   -- The declarations of a block, or of the body.
   declaration_on : (m : Master) (ms : List Master) → OwnVariables (m ∷ ms) → (d : DeclarationForm) (ds : List DeclarationForm) (fs : StmtsForm) (hs : HandlersForm) → is_frugal_declaration marks.types d ≡ true → (are_frugal_declarations marks.types ds ≡ true) × (are_frugal marks fs ≡ true) × (are_frugal_handlers marks hs ≡ true) → (all : List (Activation Value)) → (k : Control) → FrugalLeads marks behind k ms → Fine (declarations_next named tds (d ∷ ds) fs hs (now all k (m ∷ ms)))

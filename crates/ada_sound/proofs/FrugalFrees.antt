@@ -1,8 +1,8 @@
--- What a frugal body allocates or frees has no controlled parts (4.8, 7.6, 7.6.1, 13.11.2), as the access types say that it names, nor has a record that it assigns (5.2):
--- its allocators, its Free and its assignments treat nothing.
+-- What a frugal body allocates has no controlled parts (4.8, 7.6), as the access types say that it names, nor has a record that it assigns (5.2): its allocators and its
+-- assignments treat nothing. What it frees has none, either, or no operation of that object runs (7.6.1, 13.11.2).
 
-use Rattle.std.proofs.Common.{◌≡◌, ℕ, zero, suc, Bool, true, false, ◌&&◌, if◌then◌else◌, List, [], ◌∷◌, refl, sym, ap, ◌∙◌}
-use Rattle.std.specs.Prelude.{Option, Some, None, is_some, not}
+use Rattle.std.proofs.Common.{◌≡◌, ℕ, zero, suc, Bool, true, false, ◌&&◌, if◌then◌else◌, List, [], ◌∷◌, refl, sym, ap, ◌∙◌, subst, ◌⊎◌, inl, inr}
+use Rattle.std.specs.Prelude.{Option, Some, None, is_some, not, ◌||◌}
 use Rattle.std.specs.List.{list_all, slice_get}
 use Rattle.ada_program.specs.declared.program.ComponentKind.{ComponentKind}
 use Rattle.ada_program.specs.declared.program.ComponentKind.TheVariants as component
@@ -19,17 +19,20 @@ use Rattle.ada_program.specs.ProgramForm.{TypeForm, record_of, access_to, object
 use Rattle.ada_program.specs.WellFormed.{is_access, is_this, finalization_of, kind_among, kind_fits, reached_components, components_in, components_reached, named_in, type_fits, access_of, path_access, variable_kind, selected_kind, selectors_kind}
 use Rattle.ada_program.specs.Freed.{statement_frees_own, statements_free_own}
 use Rattle.ada_quiet.specs.Bare.{has_bare_objects, is_bare_access}
+use Rattle.ada_quiet.specs.Frugal.{Thrift, may_end, are_frugal}
+use Rattle.ada_finalized.specs.Law.{NoOperationRunsOn}
 use Rattle.ada_parts.specs.declared.tasks.Direction.{Direction}
 use Rattle.ada_parts.specs.declared.tasks.Direction.TheVariants.{WholeFirst}
 use Rattle.ada_meaning.specs.declared.state.Id.{Id}
 use Rattle.ada_meaning.specs.declared.state.Stage.{Stage}
 use Rattle.ada_meaning.specs.declared.state.Stage.TheVariants.{Building, Existing, Gone}
+use Rattle.ada_meaning.specs.declared.state.Mode.{Mode}
 use Rattle.ada_meaning.specs.declared.state.Mode.TheVariants.{Running}
 use Rattle.ada_meaning.specs.declared.state.Value.{Value}
 use Rattle.ada_meaning.specs.declared.state.Value.TheVariants.{Null, Names, Scalar, Part}
 use Rattle.ada_meaning.specs.Frame.{Frame, Does, FreesIn}
 use Rattle.ada_meaning.specs.Heap.{Cell, Found, on_null, on_gone, on_other, finds}
-use Rattle.ada_meaning.specs.State.{Activation}
+use Rattle.ada_meaning.specs.State.{Activation, Master}
 use Rattle.ada_meaning.specs.Step.{has_parts, all_tasks, tasks_for, first_or, places_of, operands_of, places, operands}
 use Rattle.ada_meaning.specs.Named.{Object, State, object_at, look, seen, existing, all_alive, standing, standing_by}
 use Rattle.ada_typed.specs.Holding.{Cells, Designates, IsAccess, HasKind, cells_of}
@@ -44,8 +47,10 @@ use Rattle.ada_typed.proofs.Values.{OperandKind, of_kind, AreComputed}
 use Rattle.ada_sound.proofs.Assigned.{access_from, this_is}
 use Rattle.ada_sound.proofs.Calm.{ends_operation, operation_ends_there}
 use Rattle.ada_sound.proofs.Fits.{place_at}
+use Rattle.ada_sound.proofs.FrugalControl.{Frugal, FrugalLeads}
 use Rattle.ada_sound.proofs.Invariant.{Control}
 use Rattle.ada_sound.proofs.OperationStarts.{apart}
+use Rattle.ada_sound.proofs.Standing.{FreesAmong}
 
 -- There is nothing to do for an object of an access type that designates a record type without controlled parts, neither to initialize nor to finalize it.
 abbrev pub AccessIsBare : List TypeForm → List TypeDefinition → Type 0
@@ -111,39 +116,35 @@ module _ (types : List TypeForm) (fit : list_all (type_fits types) types ≡ tru
   pub component_access : (holder : ℕ) (c : ℕ) (own : TypeNo) → kind_among (reached_components types holder) c ≡ Some (variable.Access own) → is_access types own.0 ≡ true
   component_access holder c own is = accepted_access holder c own.0 (ap access_of is)
 
--- Where an object is found that is freed, nothing is to be done for it.
-module _ (types : List TypeForm) (tds : List TypeDefinition) where
-  abbrev pub IsBare : Found (Cell Value) → Type 0
-  IsBare on_null = Unit {0}
-  IsBare on_gone = Unit {0}
-  IsBare on_other = Unit {0}
-  IsBare (finds cell) = (all_tasks tds cell.access WholeFirst ≡ [])
+-- An object that is found where one is freed is of the access type for which the instance is.
+abbrev pub IsOf : (access : ℕ) → Found (Cell Value) → Type 0
+IsOf access on_null = Unit {0}
+IsOf access on_gone = Unit {0}
+IsOf access on_other = Unit {0}
+IsOf access (finds cell) = (cell.access ≡ access)
 
-  -- So it is of the object that a statement frees that a variable names, where the objects of the instance's access type are bare.
-  abbrev pub StmtIsBare : StmtForm → List Object → (places : List Value) → Type 0
-  StmtIsBare (frees access path) heap places = has_bare_objects types access ≡ true → path.selectors ≡ [] → IsBare (standing heap (place_at places path.root))
-  StmtIsBare f heap places = Unit {0}
+-- So is the one that a statement frees that a variable names.
+abbrev pub StmtFreesOwn : StmtForm → List Object → (places : List Value) → Type 0
+StmtFreesOwn (frees access path) heap places = path.selectors ≡ [] → IsOf access (standing heap (place_at places path.root))
+StmtFreesOwn f heap places = Unit {0}
 
-  -- And of the one that a frame frees that a component names.
-  abbrev pub FrameIsBare : Frame Value → List Object → (places operands : List Value) → Type 0
-  FrameIsBare (Does (a_stmt f fs)) heap places operands = StmtIsBare f heap places
-  FrameIsBare (FreesIn access c) heap places operands =
-      has_bare_objects types access ≡ true → (cell : Cell Value) (w : Value) → look heap (first_or Null operands) ≡ finds cell → slice_get cell.values c ≡ Some w → IsBare (standing heap w)
-  FrameIsBare f heap places operands = Unit {0}
+-- And the one that a frame frees that a component names.
+abbrev pub FrameFreesOwn : Frame Value → List Object → (places operands : List Value) → Type 0
+FrameFreesOwn (Does (a_stmt f fs)) heap places operands = StmtFreesOwn f heap places
+FrameFreesOwn (FreesIn access c) heap places operands =
+    (cell : Cell Value) (w : Value) → look heap (first_or Null operands) ≡ finds cell → slice_get cell.values c ≡ Some w → IsOf access (standing heap w)
+FrameFreesOwn f heap places operands = Unit {0}
 
-  -- And of the first frame.
-  abbrev pub NextIsBare : Control → List Object → (places operands : List Value) → Type 0
-  NextIsBare [] heap places operands = Unit {0}
-  NextIsBare (f ∷ k) heap places operands = FrameIsBare f heap places operands
+-- And the one that the first frame frees.
+abbrev pub NextFreesOwn : Control → List Object → (places operands : List Value) → Type 0
+NextFreesOwn [] heap places operands = Unit {0}
+NextFreesOwn (f ∷ k) heap places operands = FrameFreesOwn f heap places operands
 
 -- Typing says so, where each Free is by the instance for the access type of what it frees.
-module _ (p : ProgramForm) (whole : OwnBody p) (types : List TypeForm) (tds : List TypeDefinition) (bare : AccessIsBare types tds) where
-  abbrev Bare : Found (Cell Value) → Type 0
-  Bare found = IsBare types tds found
-
-  object_bare : (heap : List Object) (t : ℕ) (o : Id) (found : Option Object) → object_at heap o ≡ found → has_bare_objects types t ≡ true → Designates (cells_of heap) t o → Bare (standing_by found)
-  object_bare heap t o None at is named = tt
-  object_bare heap t o (Some x) at is named = by (x.listed && all_alive x.cell.parts)
+module _ (p : ProgramForm) (whole : OwnBody p) where
+  object_of_access : (heap : List Object) (t : ℕ) (o : Id) (found : Option Object) → object_at heap o ≡ found → Designates (cells_of heap) t o → IsOf t (standing_by found)
+  object_of_access heap t o None at named = tt
+  object_of_access heap t o (Some x) at named = by (x.listed && all_alive x.cell.parts)
     where
       some_same : {c d : Cell Value} → Some c ≡ Some d → c ≡ d
       some_same e = cc e
@@ -151,42 +152,42 @@ module _ (p : ProgramForm) (whole : OwnBody p) (types : List TypeForm) (tds : Li
       of : x.cell.access ≡ t
       of = let one : named.0 ≡ x.cell = some_same (sym named.1 ∙ cell_at heap o.0 x at) in rw (← one) named.2
 
-      by : (stands : Bool) → Bare (if stands then finds x.cell else on_gone)
-      by true = bare x.cell.access WholeFirst (rw of is)
+      by : (stands : Bool) → IsOf t (if stands then finds x.cell else on_gone)
+      by true = of
       by false = tt
 
-  value_bare : (heap : List Object) (t : ℕ) (v : Value) → has_bare_objects types t ≡ true → IsAccess (cells_of heap) t v → Bare (standing heap v)
-  value_bare heap t Null is has = tt
-  value_bare heap t (Names o) is has = object_bare heap t o (object_at heap o) refl is has
-  value_bare heap t (Scalar n) is has = tt
-  value_bare heap t (Part o place) is has = tt
+  value_of_access : (heap : List Object) (t : ℕ) (v : Value) → IsAccess (cells_of heap) t v → IsOf t (standing heap v)
+  value_of_access heap t Null has = tt
+  value_of_access heap t (Names o) has = object_of_access heap t o (object_at heap o) refl has
+  value_of_access heap t (Scalar n) has = tt
+  value_of_access heap t (Part o place) has = tt
 
   -- What a variable holds.
-  kind_bare : (heap : List Object) (t : ℕ) (kind : VariableKind) (v : Value) → access_of (Some kind) ≡ Some t → has_bare_objects types t ≡ true → HasKind p.types (cells_of heap) kind v → Bare (standing heap v)
-  kind_bare heap t variable.Integer v of is has = absurd (cc of)
-  kind_bare heap t variable.Boolean v of is has = absurd (cc of)
-  kind_bare heap t (variable.Access access) v of is has = let one : access.0 ≡ t = cc of in value_bare heap t v is (rw one at has)
-  kind_bare heap t (variable.Record object) Null of is has = tt
-  kind_bare heap t (variable.Record object) (Names o) of is has = let one : object.0 ≡ t = cc of in value_bare heap t (Names o) is (rw one at has)
-  kind_bare heap t (variable.Record object) (Scalar n) of is has = tt
-  kind_bare heap t (variable.Record object) (Part o place) of is has = tt
+  kind_of_access : (heap : List Object) (t : ℕ) (kind : VariableKind) (v : Value) → access_of (Some kind) ≡ Some t → HasKind p.types (cells_of heap) kind v → IsOf t (standing heap v)
+  kind_of_access heap t variable.Integer v of has = absurd (cc of)
+  kind_of_access heap t variable.Boolean v of has = absurd (cc of)
+  kind_of_access heap t (variable.Access access) v of has = let one : access.0 ≡ t = cc of in value_of_access heap t v (rw one at has)
+  kind_of_access heap t (variable.Record object) Null of has = tt
+  kind_of_access heap t (variable.Record object) (Names o) of has = let one : object.0 ≡ t = cc of in value_of_access heap t (Names o) (rw one at has)
+  kind_of_access heap t (variable.Record object) (Scalar n) of has = tt
+  kind_of_access heap t (variable.Record object) (Part o place) of has = tt
 
-  variable_bare : (s : State) (t x : ℕ) (kind : Option VariableKind) → typed.TypedIn p s → variable_kind p.variables x ≡ kind → access_of kind ≡ Some t → has_bare_objects types t ≡ true → Bare (standing s.heap (place_at (places_of s.activations) x))
-  variable_bare s t x None typing' at of is = absurd (cc of)
-  variable_bare s t x (Some kind) typing' at of is = kind_bare s.heap t kind (place_at (places_of s.activations) x) of is (typed_holds p s x kind typing' at).1
+  variable_of_access : (s : State) (t x : ℕ) (kind : Option VariableKind) → typed.TypedIn p s → variable_kind p.variables x ≡ kind → access_of kind ≡ Some t → IsOf t (standing s.heap (place_at (places_of s.activations) x))
+  variable_of_access s t x None typing' at of = absurd (cc of)
+  variable_of_access s t x (Some kind) typing' at of = kind_of_access s.heap t kind (place_at (places_of s.activations) x) of (typed_holds p s x kind typing' at).1
 
   stands_so : (kind : Option VariableKind) (cs : List ℕ) (t : ℕ) → cs ≡ [] → access_of (selectors_kind p.types kind cs) ≡ Some t → access_of kind ≡ Some t
   stands_so kind [] t alone of = of
   stands_so kind (c ∷ cs) t alone of = absurd (cc alone)
 
-  path_bare : (s : State) (access : ℕ) (path : PathForm) → typed.TypedIn p s → is_this access (path_access p.types p.variables path) ≡ true → has_bare_objects types access ≡ true → path.selectors ≡ [] → Bare (standing s.heap (place_at (places_of s.activations) path.root))
-  path_bare s access path typing' own is alone =
+  path_own : (s : State) (access : ℕ) (path : PathForm) → typed.TypedIn p s → is_this access (path_access p.types p.variables path) ≡ true → path.selectors ≡ [] → IsOf access (standing s.heap (place_at (places_of s.activations) path.root))
+  path_own s access path typing' own alone =
       let of = access_from p.types p.variables path access (this_is access (path_access p.types p.variables path) own) in
-      variable_bare s access path.root (variable_kind p.variables path.root) typing' refl (stands_so (variable_kind p.variables path.root) path.selectors access alone of) is
+      variable_of_access s access path.root (variable_kind p.variables path.root) typing' refl (stands_so (variable_kind p.variables path.root) path.selectors access alone of)
 
-  stmt_bare : (s : State) (f : StmtForm) → typed.TypedIn p s → statement_frees_own p.types p.variables f ≡ true → StmtIsBare types tds f s.heap (places_of s.activations)
-  stmt_bare s (frees access path) typing' own = path_bare s access path typing' own
-  stmt_bare s f typing' own = tt
+  stmt_own : (s : State) (f : StmtForm) → typed.TypedIn p s → statement_frees_own p.types p.variables f ≡ true → StmtFreesOwn f s.heap (places_of s.activations)
+  stmt_own s (frees access path) typing' own = path_own s access path typing' own
+  stmt_own s f typing' own = tt
 
   -- What is freed of a component.
   same_there : {v w : Value} → Some v ≡ Some w → v ≡ w
@@ -195,57 +196,146 @@ module _ (p : ProgramForm) (whole : OwnBody p) (types : List TypeForm) (tds : Li
   same_cell : {c d : Cell Value} → finds c ≡ finds d → c ≡ d
   same_cell e = cc e
 
-  held_bare : (s : State) (kinds : List OperandKind) (holder own : TypeNo) (o : Id) (x : Object) (c : ℕ) (w : Value) → typed.Ready p kinds s → object_at s.heap o ≡ Some x → Designates (cells_of s.heap) holder.0 o → selected_kind p.types (Some (variable.Access holder)) c ≡ Some (variable.Access own) → has_bare_objects types own.0 ≡ true → slice_get x.cell.values c ≡ Some w → Bare (standing s.heap w)
-  held_bare s kinds holder own o x c w ready at has leads is there =
+  held_own : (s : State) (kinds : List OperandKind) (holder own : TypeNo) (o : Id) (x : Object) (c : ℕ) (w : Value) → typed.Ready p kinds s → object_at s.heap o ≡ Some x → Designates (cells_of s.heap) holder.0 o → selected_kind p.types (Some (variable.Access holder)) c ≡ Some (variable.Access own) → slice_get x.cell.values c ≡ Some w → IsOf own.0 (standing s.heap w)
+  held_own s kinds holder own o x c w ready at has leads there =
       let held = component_there p o holder c (variable.Access own) x s kinds ready has at leads in
       let same : held.0 ≡ w = same_there (sym held.1 ∙ there) in
-      value_bare s.heap own.0 w is (rw same at held.2)
+      value_of_access s.heap own.0 w (rw same at held.2)
 
-  component_bare : (s : State) (kinds : List OperandKind) (holder own : TypeNo) (v : Value) (c : ℕ) (cell : Cell Value) (w : Value) → typed.Ready p kinds s → HasKind p.types (cells_of s.heap) (variable.Access holder) v → selected_kind p.types (Some (variable.Access holder)) c ≡ Some (variable.Access own) → has_bare_objects types own.0 ≡ true → look s.heap v ≡ finds cell → slice_get cell.values c ≡ Some w → Bare (standing s.heap w)
-  component_bare s kinds holder own Null c cell w ready has leads is found there = absurd (cc found)
-  component_bare s kinds holder own (Scalar n) c cell w ready has leads is found there = absurd (cc found)
-  component_bare s kinds holder own (Part o place) c cell w ready has leads is found there = absurd (cc found)
-  component_bare s kinds holder own (Names o) c cell w ready has leads is found there = by (object_at s.heap o) refl found
+  component_own : (s : State) (kinds : List OperandKind) (holder own : TypeNo) (v : Value) (c : ℕ) (cell : Cell Value) (w : Value) → typed.Ready p kinds s → HasKind p.types (cells_of s.heap) (variable.Access holder) v → selected_kind p.types (Some (variable.Access holder)) c ≡ Some (variable.Access own) → look s.heap v ≡ finds cell → slice_get cell.values c ≡ Some w → IsOf own.0 (standing s.heap w)
+  component_own s kinds holder own Null c cell w ready has leads found there = absurd (cc found)
+  component_own s kinds holder own (Scalar n) c cell w ready has leads found there = absurd (cc found)
+  component_own s kinds holder own (Part o place) c cell w ready has leads found there = absurd (cc found)
+  component_own s kinds holder own (Names o) c cell w ready has leads found there = by (object_at s.heap o) refl found
     where
       stays : (x : Object) (stage : Stage) → existing x stage ≡ finds cell → x.cell ≡ cell
       stays x Building found' = same_cell found'
       stays x Existing found' = same_cell found'
       stays x Gone found' = absurd (cc found')
 
-      by : (x : Option Object) → object_at s.heap o ≡ x → seen x ≡ finds cell → Bare (standing s.heap w)
+      by : (x : Option Object) → object_at s.heap o ≡ x → seen x ≡ finds cell → IsOf own.0 (standing s.heap w)
       by None at found' = absurd (cc found')
       by (Some x) at found' =
           let same = stays x x.stage found' in
-          held_bare s kinds holder own o x c w ready at has leads is (rw same there)
+          held_own s kinds holder own o x c w ready at has leads (rw same there)
 
-  operand_bare : (s : State) (kinds ks : List OperandKind) (holder own : TypeNo) (operands : List Value) (c : ℕ) (cell : Cell Value) (w : Value) → typed.Ready p kinds s → AreComputed p.types (cells_of s.heap) kinds operands → kinds ≡ of_kind (variable.Access holder) ∷ ks → selected_kind p.types (Some (variable.Access holder)) c ≡ Some (variable.Access own) → has_bare_objects types own.0 ≡ true → look s.heap (first_or Null operands) ≡ finds cell → slice_get cell.values c ≡ Some w → Bare (standing s.heap w)
-  operand_bare s kinds ks holder own [] c cell w ready computed same leads is found there = absurd (cc found)
-  operand_bare s kinds ks holder own (v ∷ vs) c cell w ready computed same leads is found there =
+  operand_own : (s : State) (kinds ks : List OperandKind) (holder own : TypeNo) (operands : List Value) (c : ℕ) (cell : Cell Value) (w : Value) → typed.Ready p kinds s → AreComputed p.types (cells_of s.heap) kinds operands → kinds ≡ of_kind (variable.Access holder) ∷ ks → selected_kind p.types (Some (variable.Access holder)) c ≡ Some (variable.Access own) → look s.heap (first_or Null operands) ≡ finds cell → slice_get cell.values c ≡ Some w → IsOf own.0 (standing s.heap w)
+  operand_own s kinds ks holder own [] c cell w ready computed same leads found there = absurd (cc found)
+  operand_own s kinds ks holder own (v ∷ vs) c cell w ready computed same leads found there =
       let all : AreComputed p.types (cells_of s.heap) (of_kind (variable.Access holder) ∷ ks) (v ∷ vs) = rw same at computed in
-      component_bare s kinds holder own v c cell w ready all.0 leads is found there
+      component_own s kinds holder own v c cell w ready all.0 leads found there
 
   active_computed : (cells : Cells) (kinds : List OperandKind) (all : List (Activation Value)) → typing.IsActive p.types cells p.variables kinds all → AreComputed p.types cells kinds (operands_of all)
   active_computed cells kinds [] active = absurd active
   active_computed cells kinds (a ∷ rest) active = active.1
 
-  frame_bare : (s : State) (f : Frame Value) (k : Control) (kinds : List OperandKind) → typed.TypedIn p s → typed.Ready p kinds s → typed.Fits p (cells_of s.heap) kinds (f ∷ k) → FrameIsBare types tds f s.heap (places_of s.activations) (operands_of s.activations)
-  frame_bare s (Does (a_stmt f fs)) k kinds typing' ready fitting =
-      stmt_bare s f typing' (apart (statement_frees_own p.types p.variables f) (statements_free_own p.types p.variables fs) (fitting.2.1 whole)).0
-  frame_bare s (FreesIn access c) k kinds typing' ready (ks, holder, own, same, leads, by_own, more) =
-      λ is cell w found there.
-      operand_bare s kinds ks holder own (operands_of s.activations) c cell w ready (active_computed (cells_of s.heap) kinds s.activations ready.active) same leads (rw (by_own whole) is) found there
-  frame_bare s f k kinds typing' ready fitting = tt
+  frame_own : (s : State) (f : Frame Value) (k : Control) (kinds : List OperandKind) → typed.TypedIn p s → typed.Ready p kinds s → typed.Fits p (cells_of s.heap) kinds (f ∷ k) → FrameFreesOwn f s.heap (places_of s.activations) (operands_of s.activations)
+  frame_own s (Does (a_stmt f fs)) k kinds typing' ready fitting =
+      stmt_own s f typing' (apart (statement_frees_own p.types p.variables f) (statements_free_own p.types p.variables fs) (fitting.2.1 whole)).0
+  frame_own s (FreesIn access c) k kinds typing' ready (ks, holder, own, same, leads, by_own, more) =
+      λ cell w found there.
+      subst (λ (t : ℕ). IsOf t (standing s.heap w)) (by_own whole)
+      (operand_own s kinds ks holder own (operands_of s.activations) c cell w ready (active_computed (cells_of s.heap) kinds s.activations ready.active) same leads found there)
+  frame_own s f k kinds typing' ready fitting = tt
 
-  by_control : (s : State) (k : Control) (kinds : List OperandKind) → typed.TypedIn p s → typed.Ready p kinds s → typed.Fits p (cells_of s.heap) kinds k → NextIsBare types tds k s.heap (places_of s.activations) (operands_of s.activations)
+  by_control : (s : State) (k : Control) (kinds : List OperandKind) → typed.TypedIn p s → typed.Ready p kinds s → typed.Fits p (cells_of s.heap) kinds k → NextFreesOwn k s.heap (places_of s.activations) (operands_of s.activations)
   by_control s [] kinds typing' ready fitting = tt
-  by_control s (f ∷ k) kinds typing' ready fitting = frame_bare s f k kinds typing' ready fitting
+  by_control s (f ∷ k) kinds typing' ready fitting = frame_own s f k kinds typing' ready fitting
 
-  -- What the next step frees has no controlled parts.
-  pub next_bare : (s : State) → typed.TypedIn p s → s.mode ≡ Running → ends_operation s.control ≡ false → NextIsBare types tds s.control s.heap (places_of s.activations) (operands_of s.activations)
-  next_bare s (typed.running kinds ready fitting) runs none = by_control s s.control kinds (typed.running kinds ready fitting) ready fitting
-  next_bare s (typed.operated kinds ready ended) runs none = let there = operation_ends_there p (cells_of s.heap) kinds s.control ended in absurd (cc (there, none))
-  next_bare s (typed.out_of_operation e kinds jumps ended) runs none = let there = operation_ends_there p (cells_of s.heap) kinds s.control ended in absurd (cc (there, none))
-  next_bare s (typed.on_jump mode jumps goes) runs none =
+  -- Where the operation of a controlled type has ended, nothing is freed next.
+  operated_own : (heap : List Object) (values results : List Value) (k : Control) → ends_operation k ≡ true → NextFreesOwn k heap values results
+  operated_own heap values results [] ended = tt
+  operated_own heap values results (Does fs ∷ k) ended = absurd (cc ended)
+  operated_own heap values results (FreesIn access c ∷ k) ended = absurd (cc ended)
+  operated_own heap values results (f ∷ k) ended = tt
+
+  -- What the next step frees is of the access type for which the instance is.
+  pub next_own : (s : State) → typed.TypedIn p s → s.mode ≡ Running → NextFreesOwn s.control s.heap (places_of s.activations) (operands_of s.activations)
+  next_own s (typed.running kinds ready fitting) runs = by_control s s.control kinds (typed.running kinds ready fitting) ready fitting
+  next_own s (typed.operated kinds ready ended) runs =
+      operated_own s.heap (places_of s.activations) (operands_of s.activations) s.control (operation_ends_there p (cells_of s.heap) kinds s.control ended)
+  next_own s (typed.out_of_operation e kinds jumps ended) runs =
+      operated_own s.heap (places_of s.activations) (operands_of s.activations) s.control (operation_ends_there p (cells_of s.heap) kinds s.control ended)
+  next_own s (typed.on_jump mode jumps goes) runs =
       let same : mode ≡ Running = sym jumps.jumps ∙ runs in
       let nowhere : typed.Goes p (cells_of s.heap) Running s.control = rw same at goes in
       absurd nowhere
+
+-- Where bodies may free objects with controlled parts, no object of these access types that is in its collection has an operation that runs behind this (7.6.1).
+abbrev pub ListedAlone : (may : ℕ → Bool) → (ends_parts : Bool) → List Object → Control → Type 0
+ListedAlone may ends_parts heap k =
+    (o : Id) (x : Object) → object_at heap o ≡ Some x → x.listed ≡ true → may x.cell.access ≡ true → ends_parts ≡ true → NoOperationRunsOn (Names o) k
+
+module _ (frugal : Thrift) (tds : List TypeDefinition) where
+  -- What is found of an object may be freed: nothing is to be done for it, or bodies may free what has controlled parts, and none of its operations runs behind this.
+  abbrev pub IsFreely : Control → Value → Found (Cell Value) → Type 0
+  IsFreely k v on_null = Unit {0}
+  IsFreely k v on_gone = Unit {0}
+  IsFreely k v on_other = Unit {0}
+  IsFreely k v (finds cell) = (all_tasks tds cell.access WholeFirst ≡ []) ⊎ ((frugal.ends_parts ≡ true) × NoOperationRunsOn v k)
+
+  -- So it is of the object that a statement frees that a variable names.
+  abbrev pub StmtIsFreely : StmtForm → Control → List Object → (places : List Value) → Type 0
+  StmtIsFreely (frees access path) k heap places = path.selectors ≡ [] → IsFreely k (place_at places path.root) (standing heap (place_at places path.root))
+  StmtIsFreely f k heap places = Unit {0}
+
+  -- And of the one that a frame frees that a component names.
+  abbrev pub FrameIsFreely : Frame Value → Control → List Object → (places operands : List Value) → Type 0
+  FrameIsFreely (Does (a_stmt f fs)) k heap places operands = StmtIsFreely f (Does fs ∷ k) heap places
+  FrameIsFreely (FreesIn access c) k heap places operands =
+      (cell : Cell Value) (w : Value) → look heap (first_or Null operands) ≡ finds cell → slice_get cell.values c ≡ Some w → IsFreely k w (standing heap w)
+  FrameIsFreely f k heap places operands = Unit {0}
+
+  -- And of the first frame.
+  abbrev pub NextIsFreely : Control → List Object → (places operands : List Value) → Type 0
+  NextIsFreely [] heap places operands = Unit {0}
+  NextIsFreely (f ∷ k) heap places operands = FrameIsFreely f k heap places operands
+
+  module _ (bare : AccessIsBare frugal.types tds) (may : ℕ → Bool) (heap : List Object) (k : Control) (alone : ListedAlone may frugal.ends_parts heap k) where
+    bare_freely : (v : Value) (access : ℕ) (found : Found (Cell Value)) → has_bare_objects frugal.types access ≡ true → IsOf access found → IsFreely k v found
+    bare_freely v access on_null has of = tt
+    bare_freely v access on_gone has of = tt
+    bare_freely v access on_other has of = tt
+    bare_freely v access (finds cell) has of = inl (bare cell.access WholeFirst (rw of has))
+
+    alone_freely : (v : Value) (access : ℕ) → frugal.ends_parts ≡ true → may access ≡ true → IsOf access (standing heap v) → IsFreely k v (standing heap v)
+    alone_freely Null access ends_parts freed of = tt
+    alone_freely (Scalar n) access ends_parts freed of = tt
+    alone_freely (Part o place) access ends_parts freed of = tt
+    alone_freely (Names o) access ends_parts freed of = by (object_at heap o) refl of
+      where
+        stands : (x : Object) → object_at heap o ≡ Some x → (listed alive : Bool) → x.listed ≡ listed → IsOf access (if listed && alive then finds x.cell else on_gone) → IsFreely k (Names o) (if listed && alive then finds x.cell else on_gone)
+        stands x at true true is of' = inr (ends_parts, alone o x at is (rw of' freed) ends_parts)
+        stands x at true false is of' = tt
+        stands x at false alive is of' = tt
+
+        by : (x : Option Object) → object_at heap o ≡ x → IsOf access (standing_by x) → IsFreely k (Names o) (standing_by x)
+        by None at of' = tt
+        by (Some x) at of' = stands x at x.listed (all_alive x.cell.parts) refl of'
+
+    is_freely : (v : Value) (access : ℕ) → may_end frugal access ≡ true → may access ≡ true → IsOf access (standing heap v) → IsFreely k v (standing heap v)
+    is_freely v access may_so freed of = by frugal.ends_parts refl may_so
+      where
+        by : (ends_parts : Bool) → frugal.ends_parts ≡ ends_parts → (ends_parts || has_bare_objects frugal.types access) ≡ true → IsFreely k v (standing heap v)
+        by true is either = alone_freely v access is freed of
+        by false is has = bare_freely v access (standing heap v) has of
+
+  -- What is freed next in a frugal body may be so, where it is among these access types.
+  pub next_freely :
+      AccessIsBare frugal.types tds → (may : ℕ → Bool) (behind : Control) (heap : List Object) (values results : List Value) (k : Control) (ms : List Master) → ListedAlone may frugal.ends_parts heap k
+      → FrugalLeads frugal behind k ms → FreesAmong may k → NextFreesOwn k heap values results → NextIsFreely k heap values results
+  next_freely bare may behind heap values results [] ms alone q freely own = tt
+  next_freely bare may behind heap values results (Does (a_stmt (frees access path) fs) ∷ k) ms alone q freely own =
+      λ stands. is_freely bare may heap (Does fs ∷ k) alone (place_at values path.root) access (apart (may_end frugal access) (are_frugal frugal fs) q.0).0 freely (own stands)
+  next_freely bare may behind heap values results (FreesIn access c ∷ k) ms alone q freely own =
+      λ cell w found there. is_freely bare may heap k alone w access q.0 freely (own cell w found there)
+  next_freely bare may behind heap values results (f ∷ k) ms alone q freely own = tt
+
+-- Where bodies free no objects with controlled parts, what is freed next has none.
+pub frees_bare : (frugal : Thrift) → frugal.ends_parts ≡ false → (behind : Control) (mode : Mode) (k : Control) (ms : List Master) → Frugal frugal behind mode k ms → FreesAmong (has_bare_objects frugal.types) k
+frees_bare frugal none behind mode [] ms q = tt
+frees_bare frugal none behind mode (Does (a_stmt (frees access path) fs) ∷ k) ms (inl q) = let may = (apart (may_end frugal access) (are_frugal frugal fs) q.0).0 in rw none at may
+frees_bare frugal none behind mode (Does (a_stmt (frees access path) fs) ∷ k) ms (inr (runs, leaving)) = absurd leaving
+frees_bare frugal none behind mode (FreesIn access c ∷ k) ms (inl q) = let may = q.0 in rw none at may
+frees_bare frugal none behind mode (FreesIn access c ∷ k) ms (inr (runs, leaving)) = absurd leaving
+frees_bare frugal none behind mode (f ∷ k) ms q = tt

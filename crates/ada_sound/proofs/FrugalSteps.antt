@@ -1,7 +1,7 @@
--- Any step of a frugal body (7.6, 7.6.1, 13.11.2) in front of its end leads on in it, or in one that it calls (6.4).
+-- Any step of a frugal body (7.6, 7.6.1, 13.11.2) in front of its end leads on in it, or in one that it calls (6.4), or to the end of an object that it frees.
 
-use Rattle.std.proofs.Common.{◌≡◌, ℕ, Bool, true, false, if◌then◌else◌, List, [], ◌∷◌, ◌++◌, refl, subst, inl, inr}
-use Rattle.std.specs.Prelude.{Option, Some, None, ◌||◌}
+use Rattle.std.proofs.Common.{◌≡◌, ℕ, suc, Bool, true, false, if◌then◌else◌, List, [], ◌∷◌, ◌++◌, length, refl, sym, ap, ◌∙◌, subst, ◌⊎◌, inl, inr}
+use Rattle.std.specs.Prelude.{Option, Some, None, ◌||◌, ◌==◌}
 use Rattle.std.specs.List.{slice_get, slice_index_or}
 use Rattle.ada_program.specs.declared.program.Exception.{Exception}
 use Rattle.ada_program.specs.declared.program.TypeDefinition.{TypeDefinition}
@@ -9,31 +9,42 @@ use Rattle.ada_program.specs.Form.{ActualForm, StmtsForm, no_stmts, a_stmt, Hand
 use Rattle.ada_program.specs.Handling.{handler_of, some_takes}
 use Rattle.ada_program.specs.ProgramForm.{BodyForm, ProgramForm, program_form, body_forms, seen_in}
 use Rattle.ada_parts.specs.declared.tasks.Direction.TheVariants.{PartsFirst}
+use Rattle.ada_parts.specs.declared.tasks.Next.{Next as NextTask}
+use Rattle.ada_parts.specs.declared.tasks.Next.TheVariants.{Done, Pick, Perform}
+use Rattle.ada_parts.specs.Task.{Task, performed, next as task_next}
+use Rattle.ada_program.specs.Controlled.{shapes_of, operations_of, procedure_number}
 use Rattle.ada_program.specs.Freed.{FreesItsOwn}
 use Rattle.ada_program.specs.Typed.{words_of, width_of}
 use Rattle.ada_program.specs.declared.program.Program.{Program}
+use Rattle.ada_meaning.specs.declared.event.Cause.{Cause}
+use Rattle.ada_meaning.specs.declared.event.Halt.TheVariants.{Erroneous, Stuck}
+use Rattle.ada_meaning.specs.declared.event.Why.TheVariants.{FinalizesTwice}
 use Rattle.ada_meaning.specs.declared.state.Value.{Value}
 use Rattle.ada_meaning.specs.declared.state.Value.TheVariants.{Null}
 use Rattle.ada_meaning.specs.declared.state.Mode.{Mode}
 use Rattle.ada_meaning.specs.declared.state.Mode.TheVariants.{Running, Raising, Exiting, Returning}
-use Rattle.ada_meaning.specs.Frame.{Frame, is_return, Elaborates, Does, Decides, Repeats, Turns, Ranges, Counts, Exits, Handles, Closes, Leaves, Calls, Returns, Evaluates, Computes, Follows, TestsNull, Refers, RefersIn, Opens, OpensIn, Continues, Applies, AppliesAlone, Fills, Copies, Creates, Stores, Targets, StoresIn, TargetsRecord, StoresRecord, Receives, FreesIn, Declares, Treats, Awaits, Confines, Writes, Ends, GivesBack, Clears, ClearsIn, handler_landing}
+use Rattle.ada_meaning.specs.Event.{Event, Finalized}
+use Rattle.ada_meaning.specs.Frame.{Frame, Treatment, begins, ends, is_return, Elaborates, Does, Decides, Repeats, Turns, Ranges, Counts, Exits, Handles, Closes, Leaves, Calls, Returns, Evaluates, Computes, Follows, TestsNull, Refers, RefersIn, Opens, OpensIn, Continues, Applies, AppliesAlone, Fills, Copies, Creates, Stores, Targets, StoresIn, TargetsRecord, StoresRecord, Receives, FreesIn, Declares, Treats, Awaits, Confines, Writes, Ends, GivesBack, Clears, ClearsIn, handler_landing}
+use Rattle.ada_meaning.specs.Heap.{PartState, Cell, Found, on_null, on_gone, on_other, finds}
 use Rattle.ada_meaning.specs.State.{Activation, Master, home_of}
-use Rattle.ada_meaning.specs.Step.{first_or, places_of, operands_of, operand_count, newest_ones, frame_next, landed, jump_next, mode_next}
-use Rattle.ada_meaning.specs.Named.{State, Next, named, next, look, lent}
+use Rattle.ada_meaning.specs.Step.{halts, picks, treating, direction_of, picked_task, treated_on, operation_next, ended_next, finalized_next, performed_next, treats_next, first_or, places_of, operands_of, operand_count, newest_ones, frame_next, landed, jump_next, mode_next}
+use Rattle.ada_meaning.specs.Named.{Object, State, Next, named, next, look, lent, finalize}
 use Rattle.ada_quiet.specs.Frugal.{Thrift, are_frugal, are_frugal_handlers, is_frugal_body, thrift_of}
 use Rattle.ada_quiet.proofs.FrugalAt.{frugal_at}
+use Rattle.ada_typed.specs.Holding.{cells_of}
 use Rattle.ada_typed.proofs.Bodies.{own_bodies}
 use Rattle.ada_typed.proofs.Control as typed
 use Rattle.ada_typed.proofs.Control.{OwnBody}
-use Rattle.ada_typed.proofs.Kept.{crosses as crosses_by, is_treatment}
+use Rattle.ada_typed.proofs.Kept.{Each, crosses as crosses_by, is_treatment}
 use Rattle.ada_sound.specs.Agreement.{running_procedure}
-use Rattle.ada_sound.proofs.Calm.{ends_operation}
-use Rattle.ada_sound.proofs.Invariant.{Control}
+use Rattle.ada_sound.proofs.Calm.{ends_operation, operation_ends_there}
+use Rattle.ada_sound.proofs.Invariant.{Control, IsAwaited}
 use Rattle.ada_sound.proofs.OperationStarts.{apart}
 use Rattle.ada_sound.proofs.Operating.{OwnVariables}
-use Rattle.ada_sound.proofs.FrugalControl.{FrugalFrame, FrugalLeads, FrugalLeaves, Frugal, is_return_first, first_frugal, Frugally, GoesFrugally}
+use Rattle.ada_sound.proofs.FrugalControl.{FrugalLeads, FrugalLeaves, EndsFreed, Frugal, is_return_first, none_treated, treating_leads, Frugally, GoesFrugally}
+use Rattle.ada_sound.proofs.Standing.{FreesAmong}
 use Rattle.ada_sound.proofs.Steps.{crosses}
-use Rattle.ada_sound.proofs.FrugalFrees.{AccessIsBare, bare_by, RecordIsBare, records_bare_by, FrameIsBare, NextIsBare, next_bare}
+use Rattle.ada_sound.proofs.FrugalFrees.{AccessIsBare, bare_by, RecordIsBare, records_bare_by, NextFreesOwn, next_own, ListedAlone, FrameIsFreely, NextIsFreely, next_freely}
 use Rattle.ada_sound.proofs.FrugalFrames as frames
 
 -- The statements of the handler that takes an exception.
@@ -51,6 +62,10 @@ handler_frugal marks (a_handler choices gs hs) e fs is frugal = by (some_takes e
 -- The body that a statement calls is frugal, where its procedure is.
 abbrev FindsFrugal : Thrift → List BodyForm → Type 0
 FindsFrugal marks bodies = (number : ℕ) (b : BodyForm) → slice_get bodies number ≡ Some b → slice_index_or marks.procedures number false ≡ true → is_frugal_body marks b ≡ true
+
+-- No object is treated next (7.6.1).
+abbrev pub TreatsNothing : Control → Type 0
+TreatsNothing k = (v : Value) (treatment : Treatment) (tasks : List Task) (j : Control) → k ≡ Treats v treatment tasks ∷ j → ⊥
 
 module _ (marks : Thrift) (lower : List Master) (behind : Control) (tds : List TypeDefinition) (bodies : List BodyForm) (access_bare : AccessIsBare marks.types tds) (records_bare : RecordIsBare marks.types tds) (finds_frugal : FindsFrugal marks bodies) (s : State) where
   abbrev Fine : Next → Type 0
@@ -72,73 +87,75 @@ module _ (marks : Thrift) (lower : List Master) (behind : Control) (tds : List T
   twice_without all = without (without all)
 
   -- What is left of the body goes on.
-  frame_on : (f : Frame Value) (k : Control) (ms : List Master) → OwnVariables ms → (all : List (Activation Value)) → IsInner f k ms → FrameIsBare marks.types tds f s.heap (places_of all) (operands_of all) → FrugalLeads marks behind (f ∷ k) ms → Fine (frame_next named tds bodies f (now all k ms))
-  frame_on (Elaborates ds fs hs) k ms own all inner bare q = frames.declarations_on marks lower behind tds bodies s ms own ds fs hs all k q
-  frame_on (Does no_stmts) k ms own all inner bare (frugal, q) = frames.on marks lower behind tds bodies s ms own _ refl q
-  frame_on (Does (a_stmt f fs)) k ms own all inner bare (frugal, q) =
+  frame_on : (f : Frame Value) (k : Control) (ms : List Master) → OwnVariables ms → (all : List (Activation Value)) → IsInner f k ms → is_treatment f ≡ false → FrameIsFreely marks tds f k s.heap (places_of all) (operands_of all) → FrugalLeads marks behind (f ∷ k) ms → Fine (frame_next named tds bodies f (now all k ms))
+  frame_on (Elaborates ds fs hs) k ms own all inner plain freely q = frames.declarations_on marks lower behind tds bodies s ms own ds fs hs all k q
+  frame_on (Does no_stmts) k ms own all inner plain freely (frugal, q) = frames.on marks lower behind tds bodies s ms own _ refl q
+  frame_on (Does (a_stmt f fs)) k ms own all inner plain freely (frugal, q) =
       let both = apart _ _ frugal in
-      frames.stmt_on marks lower behind tds bodies s ms own f finds_frugal records_bare both.0 all bare (Does fs ∷ k) (both.1, q)
-  frame_on (Decides fs branches) k ms own all inner bare (frugal, q) =
+      frames.stmt_on marks lower behind tds bodies s ms own f finds_frugal records_bare both.0 all (Does fs ∷ k) freely (both.1, q)
+  frame_on (Decides fs branches) k ms own all inner plain freely (frugal, q) =
       frames.decided_on marks lower behind tds bodies s ms own fs branches (named.reads_boolean (first_or Null (operands_of all))) frugal (without all) k q
-  frame_on (Repeats condition fs) k ms own all inner bare (frugal, q) = frames.repeats_on marks lower behind tds bodies s ms own condition fs frugal all k q
-  frame_on (Turns e fs) k ms own all inner bare (frugal, q) =
+  frame_on (Repeats condition fs) k ms own all inner plain freely (frugal, q) = frames.repeats_on marks lower behind tds bodies s ms own condition fs frugal all k q
+  frame_on (Turns e fs) k ms own all inner plain freely (frugal, q) =
       frames.turned_on marks lower behind tds bodies s ms own e fs (named.reads_boolean (first_or Null (operands_of all))) frugal (without all) k q
-  frame_on (Ranges x fs) k ms own all inner bare (frugal, q) =
+  frame_on (Ranges x fs) k ms own all inner plain freely (frugal, q) =
       frames.ranges_on marks lower behind tds bodies s ms own x fs (named.reads_integer (first_or Null (operands_of (without all)))) (named.reads_integer (first_or Null (operands_of all))) frugal
       (twice_without all) k q
-  frame_on (Counts x value last fs) k ms own all inner bare (frugal, q) = frames.counts_on marks lower behind tds bodies s ms own x value last fs frugal all k q
-  frame_on Exits k ms own all inner bare (frugal, q) =
+  frame_on (Counts x value last fs) k ms own all inner plain freely (frugal, q) = frames.counts_on marks lower behind tds bodies s ms own x value last fs frugal all k q
+  frame_on Exits k ms own all inner plain freely (frugal, q) =
       frames.exited_on marks lower behind tds bodies s ms own (named.reads_boolean (first_or Null (operands_of all))) (without all) k q
-  frame_on (Handles hs) k ms own all inner bare (frugal, q) = frames.on marks lower behind tds bodies s ms own _ refl q
-  frame_on Closes k [] own all inner bare q = absurd q
-  frame_on Closes k (m ∷ ms) own all inner bare q = frames.leaves_first marks lower behind tds bodies s (m ∷ ms) own Running k _ refl refl refl q.1
-  frame_on (Calls number b actuals) k ms own all inner bare (frugal, q) =
+  frame_on (Handles hs) k ms own all inner plain freely (frugal, q) = frames.on marks lower behind tds bodies s ms own _ refl q
+  frame_on Closes k [] own all inner plain freely q = absurd q
+  frame_on Closes k (m ∷ ms) own all inner plain freely q = frames.leaves_first marks lower behind tds bodies s (m ∷ ms) own Running k _ refl refl refl q.1
+  frame_on (Calls number b actuals) k ms own all inner plain freely (frugal, q) =
       frames.begun_on marks lower behind tds bodies s ms own number b actuals (newest_ones named (operand_count actuals) (now all k ms)) frugal all k q
-  frame_on (Returns actuals references) k ms own all inner bare q = frames.returned_on marks lower behind tds bodies s ms own actuals references all k inner
-  frame_on (Refers path) k ms own all inner bare (frugal, q) = frames.record_on marks lower behind tds bodies s ms own path all k q
-  frame_on (RefersIn place t) k ms own all inner bare (frugal, q) =
+  frame_on (Returns actuals references) k ms own all inner plain freely q = frames.returned_on marks lower behind tds bodies s ms own actuals references all k inner
+  frame_on (Refers path) k ms own all inner plain freely (frugal, q) = frames.record_on marks lower behind tds bodies s ms own path all k q
+  frame_on (RefersIn place t) k ms own all inner plain freely (frugal, q) =
       frames.refers_on marks lower behind tds bodies s ms own (first_or Null (operands_of all)) place (width_of tds t) (look s.heap (first_or Null (operands_of all))) (without all) k q
-  frame_on (Opens path) k ms own all inner bare (frugal, q) = frames.open_on marks lower behind tds bodies s ms own path.selectors path.root all k q
-  frame_on (OpensIn c) k ms own all inner bare (frugal, q) =
+  frame_on (Opens path) k ms own all inner plain freely (frugal, q) = frames.open_on marks lower behind tds bodies s ms own path.selectors path.root all k q
+  frame_on (OpensIn c) k ms own all inner plain freely (frugal, q) =
       frames.opens_on marks lower behind tds bodies s ms own (first_or Null (operands_of all)) c (look s.heap (first_or Null (operands_of all))) (without all) k q
-  frame_on (Evaluates right) k ms own all inner bare (frugal, q) = frames.right_on marks lower behind tds bodies s ms own right frugal all k q
-  frame_on (Computes e) k ms own all inner bare (frugal, q) = frames.expression_on marks lower behind tds bodies s ms own e all k q
-  frame_on (Follows cs) k ms own all inner bare (frugal, q) =
+  frame_on (Evaluates right) k ms own all inner plain freely (frugal, q) = frames.right_on marks lower behind tds bodies s ms own right frugal all k q
+  frame_on (Computes e) k ms own all inner plain freely (frugal, q) = frames.expression_on marks lower behind tds bodies s ms own e all k q
+  frame_on (Follows cs) k ms own all inner plain freely (frugal, q) =
       frames.path_on marks lower behind tds bodies s ms own cs (first_or Null (operands_of all)) (without all) k q
-  frame_on (TestsNull equal) k ms own all inner bare (frugal, q) =
+  frame_on (TestsNull equal) k ms own all inner plain freely (frugal, q) =
       frames.null_test_on marks lower behind tds bodies s ms own equal (named.reads_null (first_or Null (operands_of all))) (without all) k q
-  frame_on (Continues links) k ms own all inner bare (frugal, q) = frames.links_on marks lower behind tds bodies s ms own links all k q
-  frame_on (Applies operator) k ms own all inner bare (frugal, q) =
+  frame_on (Continues links) k ms own all inner plain freely (frugal, q) = frames.links_on marks lower behind tds bodies s ms own links all k q
+  frame_on (Applies operator) k ms own all inner plain freely (frugal, q) =
       frames.outcome_on marks lower behind tds bodies s ms own (named.binary operator (first_or Null (operands_of (without all))) (first_or Null (operands_of all))) (twice_without all) k q
-  frame_on (AppliesAlone operator) k ms own all inner bare (frugal, q) =
+  frame_on (AppliesAlone operator) k ms own all inner plain freely (frugal, q) =
       frames.outcome_on marks lower behind tds bodies s ms own (named.unary operator (first_or Null (operands_of all))) (without all) k q
-  frame_on (Fills items) k ms own all inner bare (frugal, q) = frames.items_on marks lower behind tds bodies s ms own items all k q
-  frame_on (Copies first t) k ms own all inner bare (frugal, q) =
+  frame_on (Fills items) k ms own all inner plain freely (frugal, q) = frames.items_on marks lower behind tds bodies s ms own items all k q
+  frame_on (Copies first t) k ms own all inner plain freely (frugal, q) =
       frames.copies_on marks lower behind tds bodies s ms own (first_or Null (operands_of all)) first (width_of tds t) (look s.heap (first_or Null (operands_of all))) (without all) k q
-  frame_on (Creates access count) k ms own all inner bare (frugal, q) =
+  frame_on (Creates access count) k ms own all inner plain freely (frugal, q) =
       frames.new_on marks lower behind tds bodies s ms own access count (words_of tds access) (home_of access (ms ++ lower)) (access_bare access PartsFirst frugal) all k q
-  frame_on (Stores x) k ms own all inner bare (frugal, q) =
+  frame_on (Stores x) k ms own all inner plain freely (frugal, q) =
       frames.puts_on marks lower behind tds bodies s ms own x (first_or Null (operands_of all)) (without all) k q
-  frame_on (Targets c right) k ms own all inner bare (frugal, q) =
+  frame_on (Targets c right) k ms own all inner plain freely (frugal, q) =
       frames.target_on marks lower behind tds bodies s ms own (first_or Null (operands_of all)) c right (look s.heap (first_or Null (operands_of all))) frugal (without all) k q
-  frame_on (StoresIn o c) k ms own all inner bare (frugal, q) =
+  frame_on (StoresIn o c) k ms own all inner plain freely (frugal, q) =
       frames.store_on marks lower behind tds bodies s ms own o c (first_or Null (operands_of all)) (look s.heap o) (without all) k q
-  frame_on (TargetsRecord first t items) k ms own all inner bare (frugal, q) =
+  frame_on (TargetsRecord first t items) k ms own all inner plain freely (frugal, q) =
       frames.record_target_on marks lower behind tds bodies s ms own (first_or Null (operands_of all)) first (width_of tds t) items (look s.heap (first_or Null (operands_of all))) (without all) k q
-  frame_on (StoresRecord o first count) k ms own all inner bare (frugal, q) =
+  frame_on (StoresRecord o first count) k ms own all inner plain freely (frugal, q) =
       frames.store_record_on marks lower behind tds bodies s ms own o first count (look s.heap o) all k q
-  frame_on (Receives c) k ms own all inner bare (frugal, q) =
+  frame_on (Receives c) k ms own all inner plain freely (frugal, q) =
       frames.receive_on marks lower behind tds bodies s ms own (first_or Null (operands_of all)) c (look s.heap (first_or Null (operands_of all))) (without all) k q
-  frame_on (FreesIn access c) k ms own all inner bare (frugal, q) =
-      frames.free_in_on marks lower behind tds bodies s ms own access (first_or Null (operands_of all)) c (look s.heap (first_or Null (operands_of all))) (bare frugal) (without all) k q
-  frame_on (Declares x) k ms own all inner bare q = frames.declares_on marks lower behind tds bodies s ms own x (first_or Null (operands_of all)) (without all) k q
-  frame_on Writes k ms own all inner bare (frugal, q) =
+  frame_on (FreesIn access c) k ms own all inner plain freely (frugal, q) =
+      frames.free_in_on marks lower behind tds bodies s ms own access (first_or Null (operands_of all)) c (look s.heap (first_or Null (operands_of all))) (without all) k freely q
+  frame_on (Declares x) k ms own all inner plain freely q = frames.declares_on marks lower behind tds bodies s ms own x (first_or Null (operands_of all)) (without all) k q
+  frame_on Writes k ms own all inner plain freely (frugal, q) =
       frames.line_on marks lower behind tds bodies s ms own (named.reads_integer (first_or Null (operands_of all))) (without all) k q
-  frame_on (Ends v) k ms own all inner bare (frugal, q) = frames.end_on marks lower behind tds bodies s ms own v (look s.heap v) all k q
-  frame_on (GivesBack v cause pool) k ms own all inner bare (frugal, q) = frames.back_on marks lower behind tds bodies s ms own v cause pool (lent s.heap v) all k q
-  frame_on (Clears x) k ms own all inner bare (frugal, q) = frames.puts_on marks lower behind tds bodies s ms own x Null all k q
-  frame_on (ClearsIn o c) k ms own all inner bare (frugal, q) = frames.store_on marks lower behind tds bodies s ms own o c Null (look s.heap o) all k q
-  frame_on f k ms own all inner bare q = absurd q.0
+  frame_on (Ends v) k ms own all inner plain freely (frugal, q) = frames.end_on marks lower behind tds bodies s ms own v (look s.heap v) all k q
+  frame_on (GivesBack v cause pool) k ms own all inner plain freely (frugal, q) = frames.back_on marks lower behind tds bodies s ms own v cause pool (lent s.heap v) all k q
+  frame_on (Clears x) k ms own all inner plain freely (frugal, q) = frames.puts_on marks lower behind tds bodies s ms own x Null all k q
+  frame_on (ClearsIn o c) k ms own all inner plain freely (frugal, q) = frames.store_on marks lower behind tds bodies s ms own o c Null (look s.heap o) all k q
+  frame_on (Treats v treatment tasks) k ms own all inner plain freely q = absurd (cc plain)
+  frame_on Confines k ms own all inner plain freely q = frames.on marks lower behind tds bodies s ms own _ refl q.1
+  frame_on f k ms own all inner plain freely q = absurd q.0
 
   leaving_on : (k : Control) (ms : List Master) → OwnVariables ms → (all : List (Activation Value)) → FrugalLeaves marks behind k ms → Fine (mode_next named tds bodies Running (now all k ms))
   leaving_on [] ms own all q = absurd q
@@ -162,7 +179,7 @@ module _ (marks : Thrift) (lower : List Master) (behind : Control) (tds : List T
   raising_on e (Handles hs) k ms own all inner q = handled_on e hs (handler_of e hs) refl q.0 k ms own all q.1
   raising_on e (Returns actuals references) k ms own all inner q = frames.on marks lower behind tds bodies s ms own _ refl inner
   raising_on e (Awaits v by done of part tasks) k ms own all inner q = absurd q.0
-  raising_on e Confines k ms own all inner q = absurd q.0
+  raising_on e Confines k ms own all inner q = tt
   raising_on e (Declares x) k [] own all inner q = absurd q
   raising_on e (Declares x) k (m ∷ ms) own all inner q = frames.on marks lower behind tds bodies s (m ∷ ms) own _ refl q.1
   raising_on e f k ms own all inner q = frames.on marks lower behind tds bodies s ms own _ refl q.1
@@ -174,7 +191,7 @@ module _ (marks : Thrift) (lower : List Master) (behind : Control) (tds : List T
   exiting_on Closes k (m ∷ ms) own all inner q = frames.leaves_first marks lower behind tds bodies s (m ∷ ms) own Exiting k _ refl refl refl q.1
   exiting_on (Returns actuals references) k ms own all inner q = frames.on marks lower behind tds bodies s ms own _ refl inner
   exiting_on (Awaits v by done of part tasks) k ms own all inner q = absurd q.0
-  exiting_on Confines k ms own all inner q = absurd q.0
+  exiting_on Confines k ms own all inner q = tt
   exiting_on (Declares x) k [] own all inner q = absurd q
   exiting_on (Declares x) k (m ∷ ms) own all inner q = frames.on marks lower behind tds bodies s (m ∷ ms) own _ refl q.1
   exiting_on f k ms own all inner q = frames.on marks lower behind tds bodies s ms own _ refl q.1
@@ -186,7 +203,7 @@ module _ (marks : Thrift) (lower : List Master) (behind : Control) (tds : List T
   returning_on Closes k (m ∷ ms) own all inner q = frames.leaves_first marks lower behind tds bodies s (m ∷ ms) own Returning k _ refl refl refl q.1
   returning_on (Returns actuals references) k ms own all inner q = frames.on marks lower behind tds bodies s ms own _ refl (frames.storing_left marks lower behind tds bodies s ms own references k inner)
   returning_on (Awaits v by done of part tasks) k ms own all inner q = absurd q.0
-  returning_on Confines k ms own all inner q = absurd q.0
+  returning_on Confines k ms own all inner q = tt
   returning_on (Declares x) k [] own all inner q = absurd q
   returning_on (Declares x) k (m ∷ ms) own all inner q = frames.on marks lower behind tds bodies s (m ∷ ms) own _ refl q.1
   returning_on f k ms own all inner q = frames.on marks lower behind tds bodies s ms own _ refl q.1
@@ -196,59 +213,172 @@ module _ (marks : Thrift) (lower : List Master) (behind : Control) (tds : List T
   is_inner (Returns actuals references) k ms inner = inner actuals references k refl
   is_inner f k ms inner = tt
 
-  mode_on : (mode : Mode) (k : Control) (ms : List Master) → OwnVariables ms → (all : List (Activation Value)) → ((actuals : List ActualForm) (references : List Value) (j : Control) → k ≡ Returns actuals references ∷ j → FrugalLeads marks behind j ms) → (mode ≡ Running → NextIsBare marks.types tds k s.heap (places_of all) (operands_of all)) → Frugal marks behind mode k ms → Fine (mode_next named tds bodies mode (passing mode all k ms))
-  mode_on mode k ms own all inner bare (inr (runs, leaving)) = rw runs (leaving_on k ms own all leaving)
-  mode_on mode [] ms own all inner bare (inl q) = absurd q
-  mode_on Running (f ∷ k) ms own all inner bare (inl q) = frame_on f k ms own all (is_inner f k ms inner) (bare refl) q
-  mode_on (Raising e) (f ∷ k) ms own all inner bare (inl q) = raising_on e f k ms own all (is_inner f k ms inner) q
-  mode_on Exiting (f ∷ k) ms own all inner bare (inl q) = exiting_on f k ms own all (is_inner f k ms inner) q
-  mode_on Returning (f ∷ k) ms own all inner bare (inl q) = returning_on f k ms own all (is_inner f k ms inner) q
+  is_plain : (f : Frame Value) (k : Control) → TreatsNothing (f ∷ k) → is_treatment f ≡ false
+  is_plain (Treats v treatment tasks) k none = absurd (none v treatment tasks k refl)
+  is_plain f k none = refl
 
--- No operation of a controlled type ends in such a body.
-pub none_ends : (marks : Thrift) (behind : Control) (mode : Mode) (k : Control) (ms : List Master) → Frugal marks behind mode k ms → ends_operation k ≡ false
-none_ends marks behind mode [] ms frugal = refl
-none_ends marks behind mode (f ∷ k) ms (inl q) = first f ms q
-  where
-    first : (g : Frame Value) (ns : List Master) → FrugalLeads marks behind (g ∷ k) ns → typed.is_operation g ≡ false
-    first (Awaits v by done of part tasks) ns h = absurd h.0
-    first Confines ns h = absurd h.0
-    first g ns h = refl
-none_ends marks behind mode (Leaves left ∷ k) ms (inr (runs, q)) = refl
-none_ends marks behind mode (f ∷ k) ms (inr (runs, q)) = absurd q
+  mode_on : (mode : Mode) (k : Control) (ms : List Master) → OwnVariables ms → (all : List (Activation Value)) → ((actuals : List ActualForm) (references : List Value) (j : Control) → k ≡ Returns actuals references ∷ j → FrugalLeads marks behind j ms) → (mode ≡ Running → TreatsNothing k) → (mode ≡ Running → NextIsFreely marks tds k s.heap (places_of all) (operands_of all)) → Frugal marks behind mode k ms → Fine (mode_next named tds bodies mode (passing mode all k ms))
+  mode_on mode k ms own all inner none freely (inr (runs, leaving)) = rw runs (leaving_on k ms own all leaving)
+  mode_on mode [] ms own all inner none freely (inl q) = absurd q
+  mode_on Running (f ∷ k) ms own all inner none freely (inl q) = frame_on f k ms own all (is_inner f k ms inner) (is_plain f k (none refl)) (freely refl) q
+  mode_on (Raising e) (f ∷ k) ms own all inner none freely (inl q) = raising_on e f k ms own all (is_inner f k ms inner) q
+  mode_on Exiting (f ∷ k) ms own all inner none freely (inl q) = exiting_on f k ms own all (is_inner f k ms inner) q
+  mode_on Returning (f ∷ k) ms own all inner none freely (inl q) = returning_on f k ms own all (is_inner f k ms inner) q
 
 -- Where a body comes to its end next, it is one that was called: what called it goes on in these masters.
 abbrev pub EndsInner : (marks : Thrift) (behind : Control) → Control → List Master → Type 0
 EndsInner marks behind k ms = (actuals : List ActualForm) (references : List Value) (j : Control) → k ≡ Returns actuals references ∷ j → FrugalLeads marks behind j ms
 
--- While a frugal body runs, or one that it calls, and its own end is not next, nothing is treated: whatever comes next is in such a body, too. Each Free of what
--- runs is by the instance for the access type of what it frees (13.11.2).
+-- While a frugal body runs, or one that it calls, and its own end is not next, whatever comes next is in such a body, too, where no object is treated next. Each Free of
+-- what runs is by the instance for the access type of what it frees (13.11.2), among some types; and where bodies may free objects with controlled parts, no object of
+-- these types that is in its collection has an operation that runs.
 pub frugal_steps :
     (p : ProgramForm) → OwnBody p → (tds : List TypeDefinition) (bodies : List BodyForm) (marks : Thrift) → AccessIsBare marks.types tds → RecordIsBare marks.types tds → FindsFrugal marks bodies
     → (behind : Control) (lower : List Master) (s : State) (f : Frugally marks lower behind s)
-    → EndsInner marks behind s.control f.upper → typed.TypedIn p s → GoesFrugally marks lower behind (next tds bodies s)
+    → EndsInner marks behind s.control f.upper → (s.mode ≡ Running → TreatsNothing s.control) → typed.TypedIn p s
+    → (may : ℕ → Bool) → (s.mode ≡ Running → FreesAmong may s.control) → ListedAlone may marks.ends_parts s.heap s.control
+    → GoesFrugally marks lower behind (next tds bodies s)
 unfolding next
-frugal_steps p whole tds bodies marks bare records_bare finds_frugal behind lower s f inner typing =
+frugal_steps p whole tds bodies marks bare records_bare finds_frugal behind lower s f inner none typing may among alone =
     subst (λ (t : State). GoesFrugally marks lower behind (mode_next named tds bodies s.mode t)) state_is
-    (mode_on marks lower behind tds bodies bare records_bare finds_frugal s s.mode s.control f.upper f.own s.activations inner none f.frugal)
+    (mode_on marks lower behind tds bodies bare records_bare finds_frugal s s.mode s.control f.upper f.own s.activations inner none (λ runs. by f.frugal (among runs) (next_own p whole s typing runs)) f.frugal)
   where
-    none : s.mode ≡ Running → NextIsBare marks.types tds s.control s.heap (places_of s.activations) (operands_of s.activations)
-    none runs = next_bare p whole marks.types tds bare s typing runs (none_ends marks behind s.mode s.control f.upper f.frugal)
+    by : Frugal marks behind s.mode s.control f.upper → FreesAmong may s.control → NextFreesOwn s.control s.heap (places_of s.activations) (operands_of s.activations) → NextIsFreely marks tds s.control s.heap (places_of s.activations) (operands_of s.activations)
+    by (inl q) freely own = next_freely marks tds bare may behind s.heap (places_of s.activations) (operands_of s.activations) s.control f.upper alone q freely own
+    by (inr (runs, leaving)) freely own = leaving_freely s.control f.upper leaving
+      where
+        leaving_freely : (k : Control) (ms : List Master) → FrugalLeaves marks behind k ms → NextIsFreely marks tds k s.heap (places_of s.activations) (operands_of s.activations)
+        leaving_freely [] ms leaves = tt
+        leaving_freely (Leaves left ∷ k) ms leaves = tt
+        leaving_freely (g ∷ k) ms leaves = absurd leaves
 
     -- The state, by its parts.
     state_is : record s { masters = f.upper ++ lower } ≡ s
     state_is = subst (λ (ms : List Master). record s { masters = ms } ≡ s) f.masters refl
 
--- The body, or what it calls, runs on, unless its own end is next, in a run of a well-formed program.
+-- The body, or what it calls, runs on, unless its own end is next, or an object is treated, in a run of a well-formed program.
 pub frugal_goes :
-    (program : Program) → FreesItsOwn (program_form program)
-    → (lower : List Master) (behind : Control) (s : State) (f : Frugally (thrift_of (program_form program)) lower behind s)
-    → EndsInner (thrift_of (program_form program)) behind s.control f.upper
+    (program : Program) → FreesItsOwn (program_form program) → (ends_parts : Bool)
+    → (lower : List Master) (behind : Control) (s : State) (f : Frugally (thrift_of (program_form program) ends_parts) lower behind s)
+    → EndsInner (thrift_of (program_form program) ends_parts) behind s.control f.upper → (s.mode ≡ Running → TreatsNothing s.control)
     → typed.TypedIn (seen_in (running_procedure s) (program_form program)) s
-    → GoesFrugally (thrift_of (program_form program)) lower behind (next program.types.items (body_forms program) s)
-frugal_goes program whole lower behind s f inner typing =
+    → (may : ℕ → Bool) → (s.mode ≡ Running → FreesAmong may s.control) → ListedAlone may ends_parts s.heap s.control
+    → GoesFrugally (thrift_of (program_form program) ends_parts) lower behind (next program.types.items (body_forms program) s)
+frugal_goes program whole ends_parts lower behind s f inner none typing may among alone =
     let p = program_form program in
     let procedure = running_procedure s in
-    frugal_steps (seen_in procedure p) (own_bodies p whole procedure) program.types.items (body_forms program) (thrift_of p) (bare_by program) (records_bare_by program) (λ number b there told. frugal_at p number b told there) behind lower s f inner typing
+    frugal_steps (seen_in procedure p) (own_bodies p whole procedure) program.types.items (body_forms program) (thrift_of p ends_parts) (bare_by program) (records_bare_by program)
+    (λ number b there told. frugal_at p ends_parts number b told there) behind lower s f inner none typing may among alone
+
+-- An object is treated next that such a body frees (7.6.1): the body of a Finalize begins, or what is left to do is so behind that.
+module _ (marks : Thrift) (lower : List Master) (back : Control) (tds : List TypeDefinition) (bodies : List BodyForm) (s : State) where
+  abbrev pub GoesOrBegins : State → Type 0
+  GoesOrBegins after = Frugally marks lower back after ⊎ (length after.activations ≡ suc (length s.activations))
+
+  abbrev pub GoesTreating : Next → Type 0
+  GoesTreating n = Each GoesOrBegins n
+
+  module _ (v : Value) (treatment : Treatment) (k : Control) (f : Frugally marks lower back s) (ending : EndsFreed marks v treatment k) (leads : FrugalLeads marks back k f.upper) where
+    abbrev left_with : List Object → Control → State
+    left_with heap c = record s { heap = heap; control = c }
+
+    goes_on : (heap : List Object) (tasks : List Task) → GoesOrBegins (left_with heap (treating v treatment tasks k))
+    goes_on heap tasks = inl (record {
+      upper = f.upper;
+      masters = f.masters;
+      own = f.own;
+      frugal = inl (treating_leads marks back v treatment tasks k f.upper ending leads);
+    })
+
+    called_on : (heap : List Object) (tasks : List Task) (procedure : ℕ) (found : Option BodyForm) (reference : Value) (event : Event Value) → GoesTreating (operation_next named procedure found reference (Confines ∷ treating v treatment tasks k) event (left_with heap k))
+    called_on heap tasks procedure None reference event = tt
+    called_on heap tasks procedure (Some b) reference event = inr refl
+
+    ended_on : (heap : List Object) (tasks : List Task) (part : ℕ) (state : PartState) (operation : Option ℕ) (event : Event Value) → GoesTreating (ended_next named bodies v part state (treating v treatment tasks k) operation event (left_with heap k))
+    ended_on heap tasks part state None event = goes_on heap tasks
+    ended_on heap tasks part state (Some procedure) event = called_on heap tasks procedure (slice_get bodies procedure) _ event
+
+  module _ (v : Value) (k : Control) (f : Frugally marks lower back s) (leads : FrugalLeads marks back k f.upper) where
+    finalized_on : (cause : Cause) → EndsFreed marks v (ends cause) k → (of part : ℕ) (tasks : List Task) (operation : Option ℕ) (found : Option PartState) → GoesTreating (finalized_next named bodies v cause of part tasks operation found (record s { control = k }))
+    finalized_on cause ending of part tasks operation None = tt
+    finalized_on cause ending of part tasks operation (Some state) = by state.alive
+      where
+        by : (alive : Bool) → GoesTreating (if alive then ended_next named bodies v part state (treating v (ends cause) tasks k) operation (Finalized v part state.turn of state.number cause) (record s { heap = finalize s.heap v part; control = k }) else halts (Erroneous FinalizesTwice))
+        by true = ended_on v (ends cause) k f ending leads (finalize s.heap v part) tasks part state operation _
+        by false = tt
+
+    performed_on : (treatment : Treatment) → EndsFreed marks v treatment k → (of part : ℕ) (tasks : List Task) (found : Found (Cell Value)) → GoesTreating (performed_next named tds bodies v treatment of part tasks found (record s { control = k }))
+    performed_on treatment ending of part tasks on_null = tt
+    performed_on treatment ending of part tasks on_gone = tt
+    performed_on treatment ending of part tasks on_other = tt
+    performed_on (begins by done) ending of part tasks (finds cell) = absurd ending.0
+    performed_on (ends cause) ending of part tasks (finds cell) = finalized_on cause ending of part tasks (procedure_number (operations_of tds of).finalize) (slice_get cell.parts part)
+
+    treats_on : (treatment : Treatment) → EndsFreed marks v treatment k → (tasks : List Task) (n : NextTask) → GoesTreating (treats_next named tds bodies v treatment tasks n (record s { control = k }))
+    treats_on treatment ending tasks Done = goes_on v treatment k f ending leads s.heap []
+    treats_on treatment ending tasks (Pick count) = by (count == 0)
+      where
+        by : (none : Bool) → GoesTreating (if none then halts Stuck else picks count (λ i. treated_on named v treatment (picked_task (shapes_of tds) (direction_of treatment) tasks i) (record s { control = k })))
+        by true = tt
+        by false = λ i lt. goes_on v treatment k f ending leads s.heap (picked_task (shapes_of tds) (direction_of treatment) tasks i)
+    treats_on treatment ending tasks (Perform of part) = performed_on treatment ending of part (performed tasks) (look s.heap v)
+
+pub treats_frugally :
+    (marks : Thrift) (lower : List Master) (back : Control) (tds : List TypeDefinition) (bodies : List BodyForm) (s : State) → Frugally marks lower back s → s.mode ≡ Running
+    → (v : Value) (treatment : Treatment) (tasks : List Task) (k : Control) → s.control ≡ Treats v treatment tasks ∷ k → GoesTreating marks lower back tds bodies s (next tds bodies s)
+unfolding next
+treats_frugally marks lower back tds bodies s f runs v treatment tasks k first =
+    coming s.mode s.control runs first
+  where
+    by : Frugal marks back s.mode (Treats v treatment tasks ∷ k) f.upper → EndsFreed marks v treatment k × FrugalLeads marks back k f.upper
+    by (inl q) = q
+    by (inr (running, leaving)) = absurd leaving
+
+    leads : EndsFreed marks v treatment k × FrugalLeads marks back k f.upper
+    leads = by (subst (λ (j : Control). Frugal marks back s.mode j f.upper) first f.frugal)
+
+    coming : (mode : Mode) (c : Control) → mode ≡ Running → c ≡ Treats v treatment tasks ∷ k → GoesTreating marks lower back tds bodies s (mode_next named tds bodies mode (record s { control = c }))
+    coming mode c running is = rw (running, is) (treats_on marks lower back tds bodies s v k f leads.1 treatment leads.0 tasks (task_next tasks))
+
+-- No operation waits for the end of a call (6.4): typing says so.
+pub called_back : (p : ProgramForm) (s : State) (number : ℕ) (b : BodyForm) (given : List ActualForm) (k : Control) → typed.TypedIn p s → s.mode ≡ Running → s.control ≡ Calls number b given ∷ k → IsAwaited k → ⊥
+called_back p s number b given k (typed.running kinds ready fits) runs is awaited = behind_it k (by s.control is fits) awaited
+  where
+    by : (control : Control) → control ≡ Calls number b given ∷ k → typed.Fits p (cells_of s.heap) kinds control → typed.Fits p (cells_of s.heap) [] k
+    by control same fitting = (rw same at fitting).3
+
+    behind_it : (j : Control) → typed.Fits p (cells_of s.heap) [] j → IsAwaited j → ⊥
+    behind_it [] fitting waits = waits
+    behind_it (Awaits v by' done of part tasks ∷ j) fitting waits = fitting
+    behind_it (Confines ∷ j) fitting waits = fitting
+    behind_it (f ∷ j) fitting waits = waits
+called_back p s number b given k (typed.operated kinds ready ended) runs is awaited =
+    let there = operation_ends_there p (cells_of s.heap) kinds s.control ended in
+    let none : ends_operation s.control ≡ false = ap ends_operation is in
+    absurd (cc (there, none))
+called_back p s number b given k (typed.out_of_operation e kinds jumps ended) runs is awaited =
+    let there = operation_ends_there p (cells_of s.heap) kinds s.control ended in
+    let none : ends_operation s.control ≡ false = ap ends_operation is in
+    absurd (cc (there, none))
+called_back p s number b given k (typed.on_jump mode jumps goes) runs is awaited =
+    let same : mode ≡ Running = sym jumps.jumps ∙ runs in
+    let nowhere : typed.Goes p (cells_of s.heap) Running s.control = rw same at goes in
+    nowhere
+
+-- Where bodies free no objects with controlled parts, no object is treated.
+pub treats_none : (marks : Thrift) → marks.ends_parts ≡ false → (behind : Control) (mode : Mode) (k : Control) (ms : List Master) → Frugal marks behind mode k ms → TreatsNothing k
+treats_none marks none behind mode k ms (inl q) v treatment tasks j is =
+    let first = none_treated marks none behind (Treats v treatment tasks) j ms (rw is at q) in
+    let never : true ≡ false = first.0 in
+    absurd (cc never)
+treats_none marks none behind mode k ms (inr (runs, leaving)) v treatment tasks j is = let never : ⊥ = rw is at leaving in never
+
+-- No operation of a controlled type ends in such a body, either.
+pub none_ends : (marks : Thrift) → marks.ends_parts ≡ false → (behind : Control) (mode : Mode) (k : Control) (ms : List Master) → Frugal marks behind mode k ms → ends_operation k ≡ false
+none_ends marks none behind mode [] ms frugal = refl
+none_ends marks none behind mode (f ∷ k) ms (inl q) = (none_treated marks none behind f k ms q).1
+none_ends marks none behind mode (Leaves left ∷ k) ms (inr (runs, q)) = refl
+none_ends marks none behind mode (f ∷ k) ms (inr (runs, q)) = absurd q
 
 -- A call comes next.
 abbrev pub is_call_first : Control → Bool
@@ -256,23 +386,24 @@ is_call_first [] = false
 is_call_first (Calls number b actuals ∷ k) = true
 is_call_first (f ∷ k) = false
 
--- A frame of such a body calls nothing, but where it is a call.
-calls_nothing : (marks : Thrift) (f : Frame Value) (k : Control) → is_return f ≡ false → is_call_first (f ∷ k) ≡ false → FrugalFrame marks f → (crosses_by f || is_treatment f) ≡ false
-calls_nothing marks (Calls number b actuals) k inner none frugal = absurd (cc none)
-calls_nothing marks (Returns actuals references) k inner none frugal = absurd (cc inner)
-calls_nothing marks (Treats v treatment tasks) k inner none frugal = absurd frugal
-calls_nothing marks f k inner none frugal = refl
+-- A frame calls nothing, but where it is a call, or treats an object.
+calls_nothing : (f : Frame Value) (k : Control) → is_return f ≡ false → is_call_first (f ∷ k) ≡ false → is_treatment f ≡ false → (crosses_by f || is_treatment f) ≡ false
+calls_nothing (Calls number b actuals) k inner none plain = absurd (cc none)
+calls_nothing (Returns actuals references) k inner none plain = absurd (cc inner)
+calls_nothing (Treats v treatment tasks) k inner none plain = absurd (cc plain)
+calls_nothing f k inner none plain = refl
 
 leaving_crosses : (marks : Thrift) (behind : Control) (k : Control) (ms : List Master) → FrugalLeaves marks behind k ms → crosses Running k ≡ false
 leaving_crosses marks behind [] ms leaving = refl
 leaving_crosses marks behind (Leaves left ∷ k) ms leaving = refl
 leaving_crosses marks behind (f ∷ k) ms leaving = absurd leaving
 
--- Where neither the end of a body is next, nor the beginning of one, no body begins, none ends, and no operation is called.
-pub frugal_crosses : (marks : Thrift) (behind : Control) (mode : Mode) (k : Control) (ms : List Master) → Frugal marks behind mode k ms → is_return_first k ≡ false → (mode ≡ Running → is_call_first k ≡ false) → crosses mode k ≡ false
-frugal_crosses marks behind mode k ms (inr (runs, leaving)) inner none = rw runs (leaving_crosses marks behind k ms leaving)
-frugal_crosses marks behind mode [] ms (inl q) inner none = absurd q
-frugal_crosses marks behind Running (f ∷ k) ms (inl q) inner none = calls_nothing marks f k inner (none refl) (first_frugal marks behind f k ms inner q)
-frugal_crosses marks behind (Raising e) (f ∷ k) ms (inl q) inner none = inner
-frugal_crosses marks behind Exiting (f ∷ k) ms (inl q) inner none = inner
-frugal_crosses marks behind Returning (f ∷ k) ms (inl q) inner none = inner
+-- Where bodies free no objects with controlled parts, and neither the end of a body is next, nor the beginning of one, no body begins, none ends, and no operation is
+-- called.
+pub frugal_crosses : (marks : Thrift) → marks.ends_parts ≡ false → (behind : Control) (mode : Mode) (k : Control) (ms : List Master) → Frugal marks behind mode k ms → is_return_first k ≡ false → (mode ≡ Running → is_call_first k ≡ false) → crosses mode k ≡ false
+frugal_crosses marks ends_none behind mode k ms (inr (runs, leaving)) inner none = rw runs (leaving_crosses marks behind k ms leaving)
+frugal_crosses marks ends_none behind mode [] ms (inl q) inner none = absurd q
+frugal_crosses marks ends_none behind Running (f ∷ k) ms (inl q) inner none = calls_nothing f k inner (none refl) (none_treated marks ends_none behind f k ms q).0
+frugal_crosses marks ends_none behind (Raising e) (f ∷ k) ms (inl q) inner none = inner
+frugal_crosses marks ends_none behind Exiting (f ∷ k) ms (inl q) inner none = inner
+frugal_crosses marks ends_none behind Returning (f ∷ k) ms (inl q) inner none = inner

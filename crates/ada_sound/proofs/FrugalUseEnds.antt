@@ -45,7 +45,7 @@ module _ (program : Program) (well : IsWellFormed (program_form program)) where
   p = program_form program
 
   -- What an operation of a record does, that of an object in which it lies does.
-  lying_does : (d : Deed) (operation : Operation) (access r first part : ℕ) (o : Option ℕ) → named_in (slice_get p.types access) ≡ o → WalksTo p.types o (Some r) first part →
+  pub lying_does : (d : Deed) (operation : Operation) (access r first part : ℕ) (o : Option ℕ) → named_in (slice_get p.types access) ≡ o → WalksTo p.types o (Some r) first part →
       Does p d (callee.Parts operation (record { 0 = r })) → parts_do (does_by p d) operation (record_at p.types access) ≡ true
   lying_does d operation access r first part None named walks h = absurd walks
   lying_does d operation access r first part (Some u) named walks h =

@@ -84,8 +84,8 @@ Roomed below [] (gone ∷ rooms) = ⊥
 Roomed below (m ∷ ms) (gone ∷ rooms) = ItemsAmong m.items gone.types × Roomed below ms rooms
 
 -- A caller, whose activation is suspended: what is known of implicit calls; the program as its body sees it, for the objects of which items an operation may be
--- called that touches storage where a master is left, for objects of which types one may be called, and what is known where flow comes to a place in it; the
--- actual parameters of its call, their values, what refers to the components that get something back, the objects to which all that refers leads, those that
+-- called that touches storage where a master is left, for objects of which types one may be called, and for which none where they end that calls another one, and what
+-- is known where flow comes to a place in it; the actual parameters of its call, their values, what refers to the components that get something back, the objects to which all that refers leads, those that
 -- are under way, as a treatment finalizes them, and what an operation is called for, as if a variable held it; what the procedure keeps of the parameters; what
 -- is left to do once the call has come to its end, the masters that are entered then, and their rooms; what its variables hold, and what is known of them
 -- behind the call, as if nothing were handed over.
@@ -94,6 +94,7 @@ pub record Caller : Type 1 where
   pub program : ProgramForm
   pub ahead : Owned → Bool
   pub touches : (access : ℕ) → Bool
+  pub barely : (access : ℕ) → Bool
   pub At : Control → Holds → Type 0
   pub actuals : List ActualForm
   pub passed : List Value
@@ -113,12 +114,13 @@ abbrev pub waiting_holds : Caller → Holds
 waiting_holds w = left_unkept [] w.actuals w.before
 
 -- What is known of implicit calls, the program as the running body sees it, for the objects of which items an operation may be called that touches storage where a master is left (7.6.1),
--- for objects of which types one may be called (7.6), what is known where flow comes to a place in it, and its callers, the nearest one first; and which of its variables stand for components that the body tracks (7.6).
+-- for objects of which types one may be called, and for which none where they end that calls another one (7.6), what is known where flow comes to a place in it, and its callers, the nearest one first; and which of its variables stand for components that the body tracks (7.6).
 pub record Known : Type 1 where
   pub implicit : Implicit
   pub program : ProgramForm
   pub ahead : Owned → Bool
   pub touches : (access : ℕ) → Bool
+  pub barely : (access : ℕ) → Bool
   pub At : Control → Holds → Type 0
   pub callers : List Caller
   pub tracked : List ℕ
@@ -883,9 +885,9 @@ PassesNone types kind cs None = Unit {0}
 PassesNone types kind cs (Some t) = passes_type types kind cs t ≡ false
 
 -- An object of this access type lies aside where one of another type ends for which operations may be called that touch storage: these neither follow nor free
--- values of its type.
+-- values of its type, and call no others.
 abbrev pub EndsBeside : Known → (access holder : ℕ) → Type 0
-EndsBeside known t u = known.touches t ≡ true → (is_access known.program.types u ≡ true) × (known.implicit.end_reaches t u ≡ false)
+EndsBeside known t u = known.touches t ≡ true → (is_access known.program.types u ≡ true) × (known.implicit.end_reaches t u ≡ false) × (known.barely t ≡ true)
 
 -- Of what the end of an object of this access type may free, no suspended activation and no variable has an alias, and the running body may free it (7.6.1).
 abbrev pub EndsWellBy : Known → (access : ℕ) → Holds → Type 0
@@ -1581,7 +1583,7 @@ Ready known s = IsActive s.activations × ReadyIn known s.mode s.control s.heap 
 
 -- A caller as the body at work.
 abbrev pub known_of : Caller → List Caller → Known
-known_of w ws = record { implicit = w.implicit; program = w.program; ahead = w.ahead; touches = w.touches; At = w.At; callers = ws; tracked = [] }
+known_of w ws = record { implicit = w.implicit; program = w.program; ahead = w.ahead; touches = w.touches; barely = w.barely; At = w.At; callers = ws; tracked = [] }
 
 -- The variable that an actual parameter hands over to a formal one of mode `in out` of an access type, if it does; and that of a formal parameter, by its
 -- number.

@@ -41,9 +41,9 @@ module _ (types : List TypeForm) (tracks : Tracks) where
   declarations_same (d ∷ ds) = rw (declaration_same d, declarations_same ds) refl
 
   -- Statements call the same.
-  module _ (calm : List Bool) (apart : ℕ → Bool) where
+  module _ (calm barely : List Bool) (apart : ℕ → Bool) where
     mutual
-      stmt_same : (f : StmtForm) → calls_apart types calm apart false (seen_stmt tracks f) ≡ calls_apart types calm apart false f
+      stmt_same : (f : StmtForm) → calls_apart types calm barely apart false (seen_stmt tracks f) ≡ calls_apart types calm barely apart false f
       stmt_same skips = refl
       stmt_same (assigns target right) = rw (right_same right) refl
       stmt_same (assigns_record target items) = refl
@@ -60,26 +60,26 @@ module _ (types : List TypeForm) (tracks : Tracks) where
       stmt_same (raises e) = refl
       stmt_same (encloses ds fs hs) = rw (declarations_same ds, stmts_same fs, handlers_same hs) refl
 
-      stmts_same : (fs : StmtsForm) → all_call_apart types calm apart false (seen_stmts tracks fs) ≡ all_call_apart types calm apart false fs
+      stmts_same : (fs : StmtsForm) → all_call_apart types calm barely apart false (seen_stmts tracks fs) ≡ all_call_apart types calm barely apart false fs
       stmts_same no_stmts = refl
       stmts_same (a_stmt f fs) = rw (stmt_same f, stmts_same fs) refl
 
-      branches_same : (branches : BranchesForm) → branches_call_apart types calm apart false (seen_branches tracks branches) ≡ branches_call_apart types calm apart false branches
+      branches_same : (branches : BranchesForm) → branches_call_apart types calm barely apart false (seen_branches tracks branches) ≡ branches_call_apart types calm barely apart false branches
       branches_same (otherwise fs) = stmts_same fs
       branches_same (a_branch e fs branches) = rw (stmts_same fs, branches_same branches) refl
 
-      handlers_same : (hs : HandlersForm) → handlers_call_apart types calm apart false (seen_handlers tracks hs) ≡ handlers_call_apart types calm apart false hs
+      handlers_same : (hs : HandlersForm) → handlers_call_apart types calm barely apart false (seen_handlers tracks hs) ≡ handlers_call_apart types calm barely apart false hs
       handlers_same no_handlers = refl
       handlers_same (a_handler choices fs hs) = rw (stmts_same fs, handlers_same hs) refl
 
     body_same :
-        (b : BodyForm) → (declare_apart types (seen_declarations tracks b.declarations) && all_call_apart types calm apart false (seen_stmts tracks b.statements) && handlers_call_apart types calm apart false (seen_handlers tracks b.handlers))
-        ≡ body_calls_apart types calm apart false b
+        (b : BodyForm) → (declare_apart types (seen_declarations tracks b.declarations) && all_call_apart types calm barely apart false (seen_stmts tracks b.statements) && handlers_call_apart types calm barely apart false (seen_handlers tracks b.handlers))
+        ≡ body_calls_apart types calm barely apart false b
     body_same b = rw (declarations_same b.declarations, stmts_same b.statements, handlers_same b.handlers) refl
 
     -- So does a body whose declarations are next.
     pub judged_apart :
-        (b : BodyForm) → body_calls_apart types calm apart false b ≡ true
-        → ElaboratesApart types calm apart false (seen_declarations tracks b.declarations) (seen_stmts tracks b.statements) (seen_handlers tracks b.handlers)
+        (b : BodyForm) → body_calls_apart types calm barely apart false b ≡ true
+        → ElaboratesApart types calm barely apart false (seen_declarations tracks b.declarations) (seen_stmts tracks b.statements) (seen_handlers tracks b.handlers)
     judged_apart b own =
-        elaborates_apart types calm apart false (seen_declarations tracks b.declarations) (seen_stmts tracks b.statements) (seen_handlers tracks b.handlers) (body_same b ∙ own)
+        elaborates_apart types calm barely apart false (seen_declarations tracks b.declarations) (seen_stmts tracks b.statements) (seen_handlers tracks b.handlers) (body_same b ∙ own)

@@ -175,6 +175,10 @@ pub mod FrugalUseParts
 pub mod FrugalUseEnds
 pub mod FrugalUseLets
 mod FrugalUseFrees
+-- no object of its own access type is freed where an object ends, or is adjusted
+pub mod SparesOwn
+-- what is freed next is among what the running body may free
+pub mod FreesCovered
 -- what is finalized at an assignment
 pub mod AssignedParts
 -- the objects in which components lie that are freed
@@ -206,6 +210,10 @@ pub mod Touched
 -- what it is called for is held while it runs
 pub mod Held
 pub mod Touching
+-- a body runs that touches no storage, around which such a one may be under way
+pub mod Operates
+-- what waits for operations that touch storage stays as it is known
+pub mod Pauses
 -- a body that tracks components, as it is judged
 pub mod Judged
 -- the forms of such a body are of the kinds that are wanted
@@ -291,6 +299,13 @@ pub mod TouchingLeaves
 pub mod TouchingEnds
 -- what is watched while it runs
 pub mod TouchingWatched
+-- an object is treated next
+pub mod Treating
+-- whatever runs while such an operation is under way goes on
+pub mod TouchingGoes
+-- the operation begins of an object that it frees, or ends
+pub mod TouchingTreats
+pub mod TouchingReturns
 -- its steps, the end included
 pub mod TouchingSteps
 -- whole runs
@@ -361,6 +376,8 @@ pub mod ExampleOverwriting
 pub mod ExampleEmptying
 -- one in which a component frees such an object
 pub mod ExampleReleasing
+-- one whose Finalize frees an object whose Finalize frees, too
+pub mod ExampleNesting
 pub mod ExampleAllocating
 pub mod ExampleUndoing
 -- one whose Initialize allocates for what an allocator makes

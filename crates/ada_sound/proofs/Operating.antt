@@ -1,6 +1,6 @@
 -- The body of an operation runs (7.6): what holds there, and what is kept of all that waits for it.
 
-use Rattle.std.proofs.Common.{◌≡◌, ℕ, Bool, true, false, List, [], ◌∷◌, ◌++◌, ◌⊎◌}
+use Rattle.std.proofs.Common.{◌≡◌, ℕ, Bool, true, false, List, [], ◌∷◌, ◌⊎◌}
 use Rattle.std.specs.Prelude.{ℤ, drop, Option, Some, None}
 use Rattle.std.specs.List.{list_all, list_any, slice_get}
 use Rattle.ada_program.specs.declared.program.Exception.{Exception}
@@ -33,15 +33,13 @@ use Rattle.ada_parts.specs.Task.{Task}
 use Rattle.ada_meaning.specs.Step.{treating, beginning, halts, moves, tells, asks, picks}
 use Rattle.ada_meaning.specs.Named.{Object, State, Next, object_at}
 use Rattle.ada_meaning.specs.Run.{Event}
-use Rattle.ada_typed.proofs.Kept.{Behind, behind_call}
+use Rattle.ada_typed.proofs.Kept.{Behind}
 use Rattle.ada_finalized.specs.Law.{NoOperationRuns}
 use Rattle.ada_quiet.specs.Quiet.{is_elementary, holds_elementary, is_quiet_expression, are_quiet_links, is_quiet_condition, are_quiet_declarations, are_quiet, are_quiet_branches, are_quiet_handlers, is_plain_body}
 use Rattle.ada_sound.specs.Agreement.{running_procedure}
 use Rattle.ada_sound.proofs.Alters.{Alters}
-use Rattle.ada_sound.proofs.Bodies.{IsBody}
 use Rattle.ada_sound.proofs.Fits.{IsWithin, place_at}
-use Rattle.ada_sound.proofs.Invariant.{Control, EndsWell, Says, TreatsBy, under_in, IsOfCopied}
-use Rattle.ada_sound.proofs.Callers.{Suspension, callers_of, known_in, Stands}
+use Rattle.ada_sound.proofs.Invariant.{Control, EndsWell, Says, IsOfCopied}
 
 -- A value is an Integer or a Boolean, or null, where none has been computed: it names nothing.
 abbrev pub IsScalar : Value → Type 0
@@ -252,40 +250,6 @@ lets_out implicit access (begins Creation done) e = list_any (is_same e) (implic
 lets_out implicit access (begins Copy done) e = false
 lets_out implicit access (begins (Adjustment number) done) e = false
 lets_out implicit access (ends cause) e = false
-
--- The object that an operation is called for is treated; and what waits for it goes on behind that, whatever the body does. No object
--- is under way in what waits.
-pub record Suspended (program : Program) (object : Id) (treatment : Treatment) (caller : Activation Value) (rest : List (Activation Value)) (behind : Control) (lower : List Master) (s : State) : Type 0 where
-  pub suspensions : List Suspension
-  pub after : Control
-  pub of : ℕ
-  pub tasks : List Task
-  pub waits : WaitsFor (program_form program).types object of treatment tasks after behind
-  pub treats : TreatsBy (known_in program caller.procedure suspensions) (Names object) treatment tasks after s.heap caller.places caller.operands lower
-  pub stands : Stands program suspensions (behind_operation (caller ∷ rest) behind lower s)
-  pub calm : IsCalm (behind_call behind)
-  pub settled : under_in (callers_of program suspensions) ≡ []
-
--- The body of an operation runs that touches Integers and Booleans alone.
-pub record Operates (program : Program) (s : State) : Type 0 where
-  pub procedure : ℕ
-  pub is_body : IsBody (program_form program) (Some procedure)
-  pub plain : is_plain_body (program_form program).types is_body.0 ≡ true
-  pub places : List Value
-  pub operands : List Value
-  pub caller : Activation Value
-  pub rest : List (Activation Value)
-  pub active : s.activations ≡ record { procedure = Some procedure; places = places; operands = operands } ∷ caller ∷ rest
-  pub behind : Control
-  pub upper : List Master
-  pub lower : List Master
-  pub masters : s.masters ≡ upper ++ lower
-  pub object : Id
-  pub access : ℕ
-  pub body : Body (record { program = seen_in (Some procedure) (program_form program); object = object; access = access }) behind upper s.heap places operands s.mode s.control
-  pub treatment : Treatment
-  pub suspended : Suspended program object treatment caller rest behind lower s
-  pub prepared : (e : Exception) → body_raises no_calls (main_body (seen_in (Some procedure) (program_form program))) (is_same e) ≡ true → lets_out (implicit_of (program_form program)) access treatment e ≡ true
 
 -- What is known of a plain body, in which no exit leads out of the body.
 pub record PlainBody (types : List TypeForm) (b : BodyForm) : Type 0 where

@@ -1,7 +1,7 @@
 -- The body of an operation begins in a sound state: it is plain, its formal parameter stands for a record in the object that is treated, and what comes out of
 -- it comes out of the initialization of that object (7.6).
 
-use Rattle.std.proofs.Common.{false, ◌≡◌, ℕ, zero, suc, true, List, [], ◌∷◌, refl, sym, ap, subst, ◌∙◌}
+use Rattle.std.proofs.Common.{false, inl, ◌≡◌, ℕ, zero, suc, true, List, [], ◌∷◌, refl, sym, ap, subst, ◌∙◌}
 use Rattle.std.specs.Prelude.{Option, Some, None}
 use Rattle.std.specs.List.{slice_get}
 use Rattle.ada_program.specs.declared.program.ComponentKind.{ComponentKind}
@@ -25,11 +25,12 @@ use Rattle.ada_meaning.specs.declared.state.Id.{Id}
 use Rattle.ada_meaning.specs.declared.state.Place.{Place}
 use Rattle.ada_meaning.specs.declared.state.Value.{Value}
 use Rattle.ada_meaning.specs.declared.state.Value.TheVariants.{Null, Names, Scalar, Part}
-use Rattle.ada_meaning.specs.Frame.{Treatment, begins, ends, Returns}
+use Rattle.ada_meaning.specs.declared.state.Mode.TheVariants.{Running}
+use Rattle.ada_meaning.specs.Frame.{Treatment, begins, ends, Elaborates, Returns}
 use Rattle.ada_meaning.specs.Frame as frame
 use Rattle.ada_meaning.specs.State.{Activation}
 use Rattle.ada_meaning.specs.Heap.{Cell}
-use Rattle.ada_meaning.specs.Step.{operating, places, held}
+use Rattle.ada_meaning.specs.Step.{given_places, operating, places, held}
 use Rattle.ada_meaning.specs.Named.{Object, State, named, object_at}
 use Rattle.ada_meaning.specs.Run.{Event}
 use Rattle.ada_typed.specs.Holding.{Cells, HasKind, HaveKinds, LiesIn, cells_of}
@@ -41,19 +42,23 @@ use Rattle.ada_typed.proofs.Control as typed
 use Rattle.ada_typed.proofs.Kept.{behind_call}
 use Rattle.ada_typed.proofs.Runs.{typed_holds}
 use Rattle.ada_quiet.specs.Quiet.{holds_elementary}
+use Rattle.ada_sound.proofs.Alters.{Alters}
 use Rattle.ada_sound.proofs.Begins.{record_kind}
 use Rattle.ada_sound.proofs.Calm.{filled_in}
 use Rattle.ada_sound.proofs.Callers.{Suspension, known_in, Stands, callers_of}
 use Rattle.ada_sound.proofs.Fits.{IsWithin}
-use Rattle.ada_sound.proofs.Invariant.{Control, under_in}
-use Rattle.ada_sound.proofs.OperationStarts.{operation_begins}
-use Rattle.ada_sound.proofs.Operating.{Sight, WaitsFor, IsCalled, IsCalm, PlainBody, IsScalar, Holds, HoldScalars, lets_out, Operates}
+use Rattle.ada_sound.proofs.Invariant.{Control, TreatsBy, under_in}
+use Rattle.ada_sound.proofs.OperationStarts.{places_hold, starts, calm_behind}
+use Rattle.ada_sound.proofs.Operating.{Sight, StaysLive, WaitsFor, IsCalled, IsCalm, PlainBody, IsScalar, Holds, HoldScalars, Body, lets_out, behind_operation}
+use Rattle.ada_sound.proofs.Operates.{Operates}
 use Rattle.ada_sound.proofs.QuietOperations.{LetsNothingOut}
 use Rattle.ada_sound.proofs.Raising.{body_more}
 use Rattle.ada_sound.proofs.Ready.{running}
 use Rattle.ada_sound.proofs.Returns.{same_types}
 use Rattle.ada_sound.proofs.Started.{starts_raise}
+use Rattle.ada_sound.proofs.Touching.{Around}
 use Rattle.ada_sound.proofs.Treatments.{Begins}
+use Rattle.ada_sound.proofs.Waiting.{stands_kept}
 
 -- What lies in the object, where its Integers and Booleans are.
 module _ (types : List TypeForm) (cells : Cells) where
@@ -166,11 +171,74 @@ module _ (program : Program) (well : IsWellFormed (program_form program)) (of nu
   comes_out a rest o heap x found (begins (Adjustment n) done) tasks k behind quiet called types waits waiting e may = absurd (none_out quiet e may)
   comes_out a rest o heap x found (ends cause) tasks k behind quiet called types waits waiting e may = absurd (none_out quiet e may)
 
+-- The operation of a part of an object begins: what waits for it is behind the treatment of the object, and no other operation runs there, or one does that touches
+-- storage.
+module _ (program : Program) (number : ℕ) (b : BodyForm) (there : slice_get (body_forms program) number ≡ Some b) (plain : PlainBody (program_form program).types b) (caller : Activation Value) (rest : List (Activation Value)) (gs : List Suspension) (s : State) (stands : Stands program gs (record s { activations = caller ∷ rest })) (o : Id) (of : ℕ) (treatment : Treatment) (tasks : List Task) (k behind : Control) (reference : Value) where
+  abbrev pub looking : Object → Sight
+  looking x = record { program = seen_by number b (program_form program); object = o; access = x.cell.access }
+
+  pub operation_begins : (e : Event) (heap : List Object) (x : Object) → object_at heap o ≡ Some x → StaysLive x.stage → Alters s.heap e heap → WaitsFor (program_form program).types o of treatment tasks k behind
+      → TreatsBy (known_in program caller.procedure gs) (Names o) treatment tasks k heap caller.places caller.operands s.masters
+      → Holds (looking x) (variable_kind b.variables 0) reference → HoldScalars (looking x) x
+      → Around program gs (behind_operation (caller ∷ rest) behind s.masters (operating named number b reference behind (record s { activations = caller ∷ rest; heap = heap; mode = Running })))
+      → ((e' : Exception) → body_raises no_calls b (is_same e') ≡ true → lets_out (implicit_of (program_form program)) x.cell.access treatment e' ≡ true)
+      → Operates program (operating named number b reference behind (record s { activations = caller ∷ rest; heap = heap; mode = Running }))
+  operation_begins e heap x found live alters waits treats formal scalars around out =
+      let after = operating named number b reference behind (record s { activations = caller ∷ rest; heap = heap; mode = Running }) in
+      let body : Body (looking x) behind (record { number = s.next; items = [] } ∷ []) heap (given_places named (reference ∷ []) b.variables) [] Running (Elaborates b.declarations b.statements b.handlers ∷ Returns [] [] ∷ behind) = record {
+        x = x;
+        found = found;
+        live = live;
+        of_access = refl;
+        scalars = scalars;
+        holds = places_hold (looking x) b.variables reference plain.elementary formal;
+        own = (tt, tt);
+        comes = inl (tt, tt, starts (looking x) b refl (λ e' may. may) plain behind (record { number = s.next; items = [] }));
+      } in
+      record {
+        procedure = number;
+        is_body = (b, there);
+        plain = plain.plain;
+        places = given_places named (reference ∷ []) b.variables;
+        operands = [];
+        caller = caller;
+        rest = rest;
+        active = refl;
+        behind = behind;
+        upper = record { number = s.next; items = [] } ∷ [];
+        lower = s.masters;
+        masters = refl;
+        object = o;
+        access = x.cell.access;
+        body = rw (seen_as (program_form program) number b there) body;
+        treatment = treatment;
+        suspended = record {
+          suspensions = gs;
+          after = k;
+          of = of;
+          tasks = tasks;
+          waits = waits;
+          treats = treats;
+          stands = stands_kept program (record s { activations = caller ∷ rest }) (behind_operation (caller ∷ rest) behind s.masters after) gs stands e
+              (record { procedure = refl; suspended = refl }) alters;
+          around = around;
+        };
+        prepared = rw (seen_as (program_form program) number b there) out;
+      }
+
+-- Where no operation runs behind the treatment, none runs behind the body.
+pub calm_around : (program : Program) (a : Activation Value) (rest : List (Activation Value)) (gs : List Suspension) (s : State) (k : Control) (IsOperated : Treatment → Id → ℕ → Type 0) (e : Event) (after : State)
+    → (c : Begins (known_in program a.procedure gs) a rest s program.types.items (body_forms program) k IsOperated e after) → IsCalm (behind_call k) → under_in (callers_of program gs) ≡ []
+    → Around program gs (behind_operation (a ∷ rest) c.behind s.masters after)
+calm_around program a rest gs s k IsOperated e after c calm settled =
+    inl (calm_behind (known_in program a.procedure gs).program.types c.o c.of c.treatment c.tasks k c.behind c.waits calm, settled)
+
 -- The body begins.
 module _ (program : Program) (well : IsWellFormed (program_form program)) (a : Activation Value) (rest : List (Activation Value)) (gs : List Suspension) (s : State) (k : Control) where
-  pub begins_operation : (IsOperated : Treatment → Id → ℕ → Type 0) (e : Event) (after : State) → Stands program gs (record s { activations = a ∷ rest }) → IsCalm (behind_call k) → under_in (callers_of program gs) ≡ []
-      → typed.Typed (program_form program) after → (c : Begins (known_in program a.procedure gs) a rest s program.types.items (body_forms program) k IsOperated e after) → PlainBody (program_form program).types c.b × LetsNothingOut c.treatment c.b → Operates program after
-  begins_operation IsOperated e after stands calm settled typing c (plain, quiet) =
+  pub begins_operation : (IsOperated : Treatment → Id → ℕ → Type 0) (e : Event) (after : State) → Stands program gs (record s { activations = a ∷ rest })
+      → typed.Typed (program_form program) after → (c : Begins (known_in program a.procedure gs) a rest s program.types.items (body_forms program) k IsOperated e after)
+      → Around program gs (behind_operation (a ∷ rest) c.behind s.masters after) → PlainBody (program_form program).types c.b × LetsNothingOut c.treatment c.b → Operates program after
+  begins_operation IsOperated e after stands typing c around (plain, quiet) =
       let begun = operating named c.number c.b (Part c.o c.place) c.behind (record (running k a rest s) { heap = c.heap }) in
       let waits = subst (λ (types : List TypeForm). WaitsFor types c.o c.of c.treatment c.tasks k c.behind) (same_types a.procedure (program_form program)) c.waits in
       let now : typed.Typed (program_form program) begun = rw c.is at typing in
@@ -178,5 +246,5 @@ module _ (program : Program) (well : IsWellFormed (program_form program)) (a : A
       let own : typed.TypedIn (seen_by c.number c.b (program_form program)) begun = rw (seen_as (program_form program) c.number c.b c.there) at inside in
       rw c.is (operation_begins program c.number c.b c.there plain a rest gs s stands c.o c.of c.treatment c.tasks k c.behind (Part c.o c.place)
       e c.heap c.x c.found c.live c.alters waits c.treats
-      (formal_holds program c.number c.b c.o c.place begun (_, refl) c.x c.found own) (scalars_hold program c.number c.b c.o c.place begun (_, refl) c.x c.found own) calm settled
+      (formal_holds program c.number c.b c.o c.place begun (_, refl) c.x c.found own) (scalars_hold program c.number c.b c.o c.place begun (_, refl) c.x c.found own) (rw c.is at around)
       (comes_out program well c.of c.number c.b c.there a rest c.o c.heap c.x c.found c.treatment c.tasks k c.behind quiet c.called (program_form program).types waits (now.waiting)))

@@ -24,10 +24,12 @@ use Rattle.ada_meaning.specs.Named.{State, Next, named}
 use Rattle.ada_meaning.specs.Run.{Event}
 use Rattle.ada_sound.proofs.Invariant.{Control}
 use Rattle.ada_sound.proofs.Returns.{CrossesTo}
-use Rattle.ada_sound.proofs.OperationCalls.{goes_behind, raises_behind, waits_on, waits_written}
-use Rattle.ada_sound.proofs.Operating.{Sight, IsScalar, Finds, Comes, Body, Suspended, Operates, behind_operation}
+use Rattle.ada_sound.proofs.OperationCalls.{goes_behind, raises_behind, around_raising, waits_on, waits_written}
+use Rattle.ada_sound.proofs.Operating.{Sight, IsScalar, Finds, Comes, Body, behind_operation}
+use Rattle.ada_sound.proofs.Operates.{Suspended, Operates}
 use Rattle.ada_sound.proofs.OperationSteps.{acting, After, Wrote, GoesOnIn}
 use Rattle.ada_sound.proofs.OperationRuns.{running_on, raising_on, exiting_on, returning_on}
+use Rattle.ada_sound.proofs.Touching.{Around}
 
 -- What names nothing.
 nameless : (v : Value) → IsScalar v → (p : Id) → v ≡ Names p → ⊥
@@ -73,16 +75,19 @@ pub ends_is : (s : State) (a caller : Activation Value) (rest : List (Activation
     → returned named [] [] (record s { mode = Running; control = behind; activations = a ∷ caller ∷ rest; masters = lower }) ≡ behind_operation (caller ∷ rest) behind lower s
 ends_is s a caller rest behind lower = refl
 
--- So its caller goes on.
+-- So its caller goes on, and what was around the operation is around it.
 pub operation_ends : (program : Program) (s : State) (o : Operates program s)
-    → CrossesTo program o.suspended.suspensions s.heap Quiet (behind_operation (o.caller ∷ o.rest) o.behind o.lower s)
-operation_ends program s o = goes_behind program o.object o.treatment o.caller o.rest o.behind o.lower s o.body.x o.body.found o.body.live o.suspended
+    → CrossesTo program o.suspended.suspensions s.heap Quiet (behind_operation (o.caller ∷ o.rest) o.behind o.lower s) × Around program o.suspended.suspensions (behind_operation (o.caller ∷ o.rest) o.behind o.lower s)
+operation_ends program s o = (goes_behind program o.object o.treatment o.caller o.rest o.behind o.lower s o.body.x o.body.found o.body.live o.suspended, o.suspended.around)
 
 -- An exception comes out of it: the object that is treated is undone next (7.6.1).
 pub operation_raises : (program : Program) (s : State) (o : Operates program s) (x : Exception) → body_raises no_calls (main_body (seen_in (Some o.procedure) (program_form program))) (is_same x) ≡ true
     → CrossesTo program o.suspended.suspensions s.heap Quiet (record (behind_operation (o.caller ∷ o.rest) o.behind o.lower s) { mode = Raising x })
-operation_raises program s o x may =
-    raises_behind program o.object o.treatment o.caller o.rest o.behind o.lower s o.access x o.body.x o.body.found o.body.of_access o.body.live (o.prepared x may) o.suspended
+    × Around program o.suspended.suspensions (record (behind_operation (o.caller ∷ o.rest) o.behind o.lower s) { mode = Raising x })
+operation_raises program s o x may = (
+  raises_behind program o.object o.treatment o.caller o.rest o.behind o.lower s o.access x o.body.x o.body.found o.body.of_access o.body.live (o.prepared x may) o.suspended,
+  around_raising program o.object o.treatment o.caller o.rest o.behind o.lower s o.access x (o.prepared x may) o.suspended,
+)
 
 -- What comes next, in the body or behind it.
 module _ (sight : Sight) (procedure : ℕ) (caller : Activation Value) (rest : List (Activation Value)) (lower : List Master) (behind : Control) (tds : List TypeDefinition) (bodies : List BodyForm) (s : State) (places vs : List Value) where

@@ -1,42 +1,34 @@
--- The body of an operation begins (7.6).
+-- What is known where the body of an operation begins (7.6).
 
 use Rattle.std.proofs.Common.{◌≡◌, ℕ, zero, suc, Bool, true, false, List, [], ◌∷◌, drop, refl, sym, subst, ◌⊎◌, inl, inr}
 use Rattle.std.specs.Prelude.{Some, ◌||◌, ◌&&◌, not}
-use Rattle.std.specs.List.{list_all, slice_get}
+use Rattle.std.specs.List.{list_all}
 use Rattle.ada_parts.specs.Task.{Task}
 use Rattle.ada_program.specs.declared.program.Exception.{Exception}
-use Rattle.ada_program.specs.declared.program.Program.{Program}
 use Rattle.ada_program.specs.declared.program.VariableKind.{VariableKind}
 use Rattle.ada_program.specs.declared.program.VariableKind.TheVariants as variable
 use Rattle.ada_program.specs.Handling.{is_same, is_taken}
-use Rattle.ada_program.specs.ProgramForm.{VariableForm, BodyForm, main_body, program_form, body_forms, seen_by, TypeForm}
+use Rattle.ada_program.specs.ProgramForm.{VariableForm, BodyForm, main_body, TypeForm}
 use Rattle.ada_program.specs.WellFormed.{variable_kind}
 use Rattle.ada_program.specs.Form.{StmtsForm, HandlersForm}
-use Rattle.ada_deeds.specs.Implicit.{implicit_of}
 use Rattle.ada_effects.specs.Effects.{no_calls, no_implicit, untaken, declarations_raise, stmts_raise, handlers_raise, body_raises}
 use Rattle.ada_meaning.specs.declared.state.Id.{Id}
 use Rattle.ada_meaning.specs.declared.state.Value.{Value}
 use Rattle.ada_meaning.specs.declared.state.Value.TheVariants.{Names}
 use Rattle.ada_meaning.specs.declared.state.Stage.{Stage}
 use Rattle.ada_meaning.specs.declared.state.Stage.TheVariants.{Building, Existing, Gone}
-use Rattle.ada_meaning.specs.declared.state.Mode.TheVariants.{Running}
 use Rattle.ada_meaning.specs.Heap.{finds}
 use Rattle.ada_meaning.specs.Frame.{Treatment, begins, ends, Elaborates, Handles, Closes, Returns}
-use Rattle.ada_meaning.specs.State.{Activation, Master}
-use Rattle.ada_meaning.specs.Step.{blank, blanks, given_places, operating}
-use Rattle.ada_meaning.specs.Named.{Object, State, named, object_at, existing}
-use Rattle.ada_meaning.specs.Run.{Event}
+use Rattle.ada_meaning.specs.State.{Master}
+use Rattle.ada_meaning.specs.Step.{blank, blanks, given_places}
+use Rattle.ada_meaning.specs.Named.{Object, named, existing}
 use Rattle.ada_owners.specs.Places.{is_there}
-use Rattle.ada_typed.proofs.Bodies.{seen_as}
 use Rattle.ada_typed.proofs.Kept.{behind_call, behind_treating}
 use Rattle.ada_quiet.specs.Quiet.{is_elementary}
-use Rattle.ada_sound.proofs.Alters.{Alters}
-use Rattle.ada_sound.proofs.Callers.{Suspension, known_in, Stands, callers_of}
 use Rattle.ada_sound.proofs.Fits.{place_at}
-use Rattle.ada_sound.proofs.Invariant.{Control, IsAwaited, TreatsBy, under_in}
+use Rattle.ada_sound.proofs.Invariant.{Control, IsAwaited}
 use Rattle.ada_sound.proofs.Raising.{or_left, or_right, both, same_is, stmts_more}
-use Rattle.ada_sound.proofs.Waiting.{stands_kept}
-use Rattle.ada_sound.proofs.Operating.{Sight, StaysLive, StaysIn, WaitsFor, Holds, HoldScalars, Quietly, Body, lets_out, Operates, PlainBody, IsCalm, behind_operation}
+use Rattle.ada_sound.proofs.Operating.{Sight, StaysLive, StaysIn, WaitsFor, Holds, Quietly, PlainBody, IsCalm}
 
 -- Both of two.
 pub apart : (a b : Bool) → (a && b) ≡ true → (a ≡ true) × (b ≡ true)
@@ -67,7 +59,7 @@ blanks_hold sight [] all y = tt
 blanks_hold sight (v ∷ vs) all zero = blank_holds sight v.kind (apart (is_elementary v.kind) (list_all (λ x. is_elementary x.kind) vs) all).0
 blanks_hold sight (v ∷ vs) all (suc y) = blanks_hold sight vs (apart (is_elementary v.kind) (list_all (λ x. is_elementary x.kind) vs) all).1 y
 
-places_hold : (sight : Sight) (variables : List VariableForm) (reference : Value) → list_all (λ x. is_elementary x.kind) (drop 1 variables) ≡ true → Holds sight (variable_kind variables 0) reference → (x : ℕ) → Holds sight (variable_kind variables x) (place_at (given_places named (reference ∷ []) variables) x)
+pub places_hold : (sight : Sight) (variables : List VariableForm) (reference : Value) → list_all (λ x. is_elementary x.kind) (drop 1 variables) ≡ true → Holds sight (variable_kind variables 0) reference → (x : ℕ) → Holds sight (variable_kind variables x) (place_at (given_places named (reference ∷ []) variables) x)
 places_hold sight [] reference all formal x = tt
 places_hold sight (v ∷ vs) reference all formal zero = formal
 places_hold sight (v ∷ vs) reference all formal (suc y) = blanks_hold sight vs all y
@@ -81,7 +73,7 @@ block_stays sight fs hs k passes e may = by (is_taken hs e) refl
     by false is = inr (passes e (stmts_more no_calls tt fs (is_same e) (untaken hs (is_same e)) (λ f same. both (is_same e f) (not (is_taken hs f)) same (rw (← same_is e f same, is) refl)) may))
 
 -- A plain body begins, in a master of its own.
-starts : (sight : Sight) (b : BodyForm) → sight.program.variables ≡ b.variables → ((e : Exception) → body_raises no_calls b (is_same e) ≡ true → body_raises no_calls (main_body sight.program) (is_same e) ≡ true) → PlainBody sight.program.types b → (behind : Control) (m : Master) → Quietly sight behind (m ∷ []) (Elaborates b.declarations b.statements b.handlers ∷ Returns [] [] ∷ behind)
+pub starts : (sight : Sight) (b : BodyForm) → sight.program.variables ≡ b.variables → ((e : Exception) → body_raises no_calls b (is_same e) ≡ true → body_raises no_calls (main_body sight.program) (is_same e) ≡ true) → PlainBody sight.program.types b → (behind : Control) (m : Master) → Quietly sight behind (m ∷ []) (Elaborates b.declarations b.statements b.handlers ∷ Returns [] [] ∷ behind)
 starts sight b same out plain behind m = (
   (
     rw same plain.declarations,
@@ -112,57 +104,3 @@ calm_behind types o of (ends cause) tasks k behind (is, inside) calm = rw (is, b
 pub is_awaited : (types : List TypeForm) (o : Id) (of : ℕ) (treatment : Treatment) (tasks : List Task) (k behind : Control) → WaitsFor types o of treatment tasks k behind → IsAwaited behind
 is_awaited types o of (begins by done) tasks k behind (part, is) = subst IsAwaited (sym is) tt
 is_awaited types o of (ends cause) tasks k behind (is, inside) = subst IsAwaited (sym is) tt
-
--- The operation of a part of an object begins: what waits for it is behind the treatment of the object.
-module _ (program : Program) (number : ℕ) (b : BodyForm) (there : slice_get (body_forms program) number ≡ Some b) (plain : PlainBody (program_form program).types b) (caller : Activation Value) (rest : List (Activation Value)) (gs : List Suspension) (s : State) (stands : Stands program gs (record s { activations = caller ∷ rest })) (o : Id) (of : ℕ) (treatment : Treatment) (tasks : List Task) (k behind : Control) (reference : Value) where
-  abbrev pub sight : Object → Sight
-  sight x = record { program = seen_by number b (program_form program); object = o; access = x.cell.access }
-
-  pub operation_begins : (e : Event) (heap : List Object) (x : Object) → object_at heap o ≡ Some x → StaysLive x.stage → Alters s.heap e heap → WaitsFor (program_form program).types o of treatment tasks k behind
-      → TreatsBy (known_in program caller.procedure gs) (Names o) treatment tasks k heap caller.places caller.operands s.masters
-      → Holds (sight x) (variable_kind b.variables 0) reference → HoldScalars (sight x) x → IsCalm (behind_call k) → under_in (callers_of program gs) ≡ []
-      → ((e' : Exception) → body_raises no_calls b (is_same e') ≡ true → lets_out (implicit_of (program_form program)) x.cell.access treatment e' ≡ true)
-      → Operates program (operating named number b reference behind (record s { activations = caller ∷ rest; heap = heap; mode = Running }))
-  operation_begins e heap x found live alters waits treats formal scalars calm settled out =
-      let after = operating named number b reference behind (record s { activations = caller ∷ rest; heap = heap; mode = Running }) in
-      let body : Body (sight x) behind (record { number = s.next; items = [] } ∷ []) heap (given_places named (reference ∷ []) b.variables) [] Running (Elaborates b.declarations b.statements b.handlers ∷ Returns [] [] ∷ behind) = record {
-        x = x;
-        found = found;
-        live = live;
-        of_access = refl;
-        scalars = scalars;
-        holds = places_hold (sight x) b.variables reference plain.elementary formal;
-        own = (tt, tt);
-        comes = inl (tt, tt, starts (sight x) b refl (λ e' may. may) plain behind (record { number = s.next; items = [] }));
-      } in
-      record {
-        procedure = number;
-        is_body = (b, there);
-        plain = plain.plain;
-        places = given_places named (reference ∷ []) b.variables;
-        operands = [];
-        caller = caller;
-        rest = rest;
-        active = refl;
-        behind = behind;
-        upper = record { number = s.next; items = [] } ∷ [];
-        lower = s.masters;
-        masters = refl;
-        object = o;
-        access = x.cell.access;
-        body = rw (seen_as (program_form program) number b there) body;
-        treatment = treatment;
-        suspended = record {
-          suspensions = gs;
-          after = k;
-          of = of;
-          tasks = tasks;
-          waits = waits;
-          treats = treats;
-          stands = stands_kept program (record s { activations = caller ∷ rest }) (behind_operation (caller ∷ rest) behind s.masters after) gs stands e
-              (record { procedure = refl; suspended = refl }) alters;
-          calm = calm_behind (program_form program).types o of treatment tasks k behind waits calm;
-          settled = settled;
-        };
-        prepared = rw (seen_as (program_form program) number b there) out;
-      }

@@ -1,7 +1,7 @@
 -- Free (P.C): the object of the component is found, what the component names is to end, and the component becomes null.
 
 use Rattle.std.proofs.Common.{subst, ◌≡◌, ◌≢◌, ℕ, Bool, true, false, ◌||◌, ◌==◌, List, [], ◌∷◌, ◌++◌, refl, sym, ap, ◌∙◌, ◌⊎◌, inl, inr}
-use Rattle.std.proofs.lemmas.Bool.{eqb-true, eq-eqb}
+use Rattle.std.proofs.lemmas.Bool.{and_parts, eqb-true, eq-eqb}
 use Rattle.std.specs.Prelude.{Option, Some, None}
 use Rattle.std.specs.List.{slice_get, slice_set}
 use Rattle.ada_text.specs.declared.spot.Spot.{Spot}
@@ -11,7 +11,7 @@ use Rattle.ada_program.specs.declared.program.Exception.{Exception}
 use Rattle.ada_program.specs.declared.program.Exception.TheVariants.{ConstraintError}
 use Rattle.ada_program.specs.declared.program.VariableKind.{VariableKind}
 use Rattle.ada_program.specs.Form.{PathForm, StmtsForm}
-use Rattle.ada_quiet.specs.Apart.{is_led}
+use Rattle.ada_quiet.specs.Apart.{leads_barely}
 use Rattle.ada_effects.specs.Effects.{Implicit, path_raises, follows_value}
 use Rattle.ada_program.specs.ProgramForm.{TypeForm, VariableForm}
 use Rattle.ada_program.specs.WellFormed.{is_access, access_of, variable_kind, selected_kind, selectors_kind, root_kind, path_kind, path_access, is_this, is_freed_by}
@@ -124,7 +124,7 @@ passes_root types outer heap kind v b c cs to (Some t) leads spares passes = by 
 
 module _ (known : Known) (a : Activation Value) (rest : List (Activation Value)) (s : State) where
   -- A Free of a component begins: its object is found first.
-  pub free_begins : (c : ℕ) (cs : List ℕ) (access : ℕ) (path : PathForm) (fs : StmtsForm) (k : Control) (among : Exception → Bool) → (path_raises path ≡ true → among ConstraintError ≡ true) → is_freed_by known.program.types access (path_access known.program.types known.program.variables path) ≡ true → is_this access (path_access known.program.types known.program.variables path) ≡ true → Spares known (λ t. is_this t (path_access known.program.types known.program.variables path)) → path.selectors ≡ c ∷ cs → TablesFit known.program → (is_access known.program.types access ≡ true → known.touches access ≡ true → is_led path ≡ true) → Working known s.heap a.places s.masters (λ rooms holds. Goes (frees_seen known.program.types known.program.variables no_tracks false known.implicit (c ∷ cs) path holds) (To (FreesTo known access (Does fs ∷ k) rooms)) (Raised among (ways known k rooms))) → Fine known s.heap s.masters (path_next named (before_last (inside (place_at a.places path.root) c) cs) (begun a.places path) (running (FreesIn access (last_of (inside (place_at a.places path.root) c) cs) ∷ Does fs ∷ k) a rest s))
+  pub free_begins : (c : ℕ) (cs : List ℕ) (access : ℕ) (path : PathForm) (fs : StmtsForm) (k : Control) (among : Exception → Bool) → (path_raises path ≡ true → among ConstraintError ≡ true) → is_freed_by known.program.types access (path_access known.program.types known.program.variables path) ≡ true → is_this access (path_access known.program.types known.program.variables path) ≡ true → Spares known (λ t. is_this t (path_access known.program.types known.program.variables path)) → path.selectors ≡ c ∷ cs → TablesFit known.program → (is_access known.program.types access ≡ true → known.touches access ≡ true → leads_barely path (known.barely access) ≡ true) → Working known s.heap a.places s.masters (λ rooms holds. Goes (frees_seen known.program.types known.program.variables no_tracks false known.implicit (c ∷ cs) path holds) (To (FreesTo known access (Does fs ∷ k) rooms)) (Raised among (ways known k rooms))) → Fine known s.heap s.masters (path_next named (before_last (inside (place_at a.places path.root) c) cs) (begun a.places path) (running (FreesIn access (last_of (inside (place_at a.places path.root) c) cs) ∷ Does fs ∷ k) a rest s))
   free_begins c cs access path fs k among may freed by_own spares is tables led w =
       let types = known.program.types in
       let variables = known.program.variables in
@@ -148,10 +148,11 @@ module _ (known : Known) (a : Activation Value) (rest : List (Activation Value))
       let of_own : own ≡ Some access = this_is access own by_own in
       let same_type : (t : ℕ) → own ≡ Some t → t ≡ access = λ t same. cc (same, of_own) in
       let leads_on : selectors_kind types (root_kind path.of_record (variable_kind variables path.root)) (c ∷ cs) ≡ Some leads.0 = ap (λ (ds : List ℕ). selectors_kind types (root_kind path.of_record (variable_kind variables path.root)) ds) (sym is) ∙ leads.1 in
-      let follows_on : (t : ℕ) → own ≡ Some t → known.touches t ≡ true → follows_value path.of_record (c ∷ cs) ≡ true = λ t same touches. (
+      let leads_on_barely : (t : ℕ) → own ≡ Some t → known.touches t ≡ true → (follows_value path.of_record (c ∷ cs) ≡ true) × (known.barely t ≡ true) = λ t same touches. (
       let one = same_type t same in
-      let is_led_on = led (rw one at (is_own t same)) (rw one at touches) in
-      rw is at is_led_on
+      let led_so = led (rw one at (is_own t same)) (rw one at touches) in
+      let both = and_parts (follows_value path.of_record (c ∷ cs)) (known.barely access) (rw is at led_so) in
+      (both.0, rw one both.1)
       ) in
       finds_fine known a rest s a.operands (FreesIn access (last_of (inside v c) cs) ∷ Does fs ∷ k) (before_last (inside v c) cs) (begun a.places path)
       (at_work w (record {
@@ -168,9 +169,10 @@ module _ (known : Known) (a : Activation Value) (rest : List (Activation Value))
             (λ whole. object_there path.root path.spot kept.0 (root_object types variables path leads.0 leads.1 whole) w.fit)
             (λ raises. (let follows : path_raises path ≡ true = rw is raises in g.2 follows ConstraintError (may follows)));
         beside = λ t u same holder touches. (
-            let follows = follows_on t same touches in
+            let barely = leads_on_barely t same touches in
+            let follows = barely.0 in
             let of_holder : access_of (selectors_kind types (variable_kind variables path.root) (before_last c cs)) ≡ Some u = ap access_of (sym (holder_kind b path.of_record c cs leads.0 leads_on follows)) ∙ holder in
-            (holder_access known.program tables path.root path.of_record c cs leads.0 u leads_on follows of_holder, holder_spared types variables known.implicit path c cs own t u is same none_reached of_holder)
+            (holder_access known.program tables path.root path.of_record c cs leads.0 u leads_on follows of_holder, holder_spared types variables known.implicit path c cs own t u is same none_reached of_holder, barely.1)
             );
         runs = (g.1.0, g.1.1, (g.1.2.0, λ t same. rw (same_type t same) (g.1.2.1)));
       }))

@@ -1,9 +1,8 @@
 -- Runs keep the invariant, and what each step tells of objects adds up.
 
 use Rattle.std.proofs.Common.{◌≡◌, ℕ, suc, ◌≤◌, Bool, true, false, List, [], ◌∷◌, ◌++◌, refl, sym, ap, subst, ◌∙◌, ◌⊎◌, inl, inr, arith}
-use Rattle.std.specs.Prelude.{◌↔◌, not, ◌&&◌, Option, Some, None}
+use Rattle.std.specs.Prelude.{◌↔◌, Option, Some, None}
 use Rattle.std.specs.List.{All, AllPairs, slice_index_or}
-use Rattle.std.proofs.lemmas.Bool.{or_cases}
 use Rattle.std.proofs.lemmas.Option.{slice_get-get_or}
 use Rattle.std.proofs.lemmas.List.Elements.{All-nil, All-cons}
 use Rattle.std.proofs.lemmas.List.Kept.{AllPairs-cons}
@@ -11,7 +10,7 @@ use Rattle.ada_deeds.specs.Implicit.{implicit_of}
 use Rattle.ada_program.specs.declared.program.Program.{Program}
 use Rattle.ada_program.specs.Form.{ActualForm}
 use Rattle.ada_program.specs.ProgramForm.{TypeForm, ProgramForm, program_form, body_forms, seen_in}
-use Rattle.ada_parts.specs.Task.{Task, next as task_next, performs}
+use Rattle.ada_parts.specs.Task.{Task}
 use Rattle.ada_effects.specs.Effects.{Implicit}
 use Rattle.ada_meaning.specs.declared.state.Id.{Id}
 use Rattle.ada_meaning.specs.declared.state.Value.{Value}
@@ -34,7 +33,7 @@ use Rattle.ada_finalized.specs.Law.{NoOperationRuns}
 use Rattle.ada_sound.specs.Agreement.{running_procedure}
 use Rattle.ada_sound.specs.Callees.{IsCovered}
 use Rattle.ada_program.specs.declared.program.Exception.{Exception}
-use Rattle.ada_meaning.specs.Step.{halts, moves, tells, asks, picks, older, procedure_of, storing, frame_next, pass_next, jump_next, mode_next, picked_task}
+use Rattle.ada_meaning.specs.Step.{halts, moves, tells, asks, picks, older, procedure_of, storing, frame_next, pass_next, jump_next, mode_next}
 use Rattle.ada_meaning.specs.Named.{Object, State, Next, named, object_at, filled, next}
 use Rattle.ada_meaning.specs.Run.{Event, Choice, settled, grants, takes, Leads, Step, Run, here, there, Halts, run_more}
 use Rattle.ada_meaning.specs.Law.{named_by, back_of, followed_of, Differ, BackTwoObjects, FollowedBeforeBack, leaving_by, IsBackHome, GoesHome, GivesBackOf, Happened, IsBack, HasEnded, items_of}
@@ -49,13 +48,11 @@ use Rattle.ada_typed.proofs.Runs.{step_typed}
 use Rattle.ada_scopes.specs.Scopes.{InnermostHeldInside, is_innermost, Holds as HoldsName}
 use Rattle.ada_scopes.proofs.Components.{AreOfKinds, collect_two, held_outside, held_inside}
 use Rattle.ada_scopes.proofs.Runs.{step_nested}
-use Rattle.ada_scopes.proofs.Treatments.{TreatsFirst}
-use Rattle.ada_idle.proofs.Idle.{ControlIsIdle}
 use Rattle.ada_idle.proofs.Runs.{step_idle}
 use Rattle.ada_idle.proofs.UnadjustedRuns.{step_adjusts_none}
 use Rattle.ada_idle.specs.Law.{adjusts_copy}
-use Rattle.ada_quiet.specs.Idle.{copies_parts, makes_parts}
-use Rattle.ada_quiet.specs.InUse.{operations_are_idle, operations_may_be_called, operations_stand_in_order}
+use Rattle.ada_quiet.specs.Idle.{copies_parts}
+use Rattle.ada_quiet.specs.InUse.{operations_may_be_called}
 use Rattle.ada_sound.proofs.Items.{NoMaster, HasItem, has_after, items_fall}
 use Rattle.ada_sound.proofs.Stored.{IsUnder, Stored, there_listed}
 use Rattle.ada_sound.proofs.Leavings.{HeldIn}
@@ -66,7 +63,7 @@ use Rattle.ada_sound.proofs.TracksWell.{copies_at, allocates_at, called_apart}
 use Rattle.ada_sound.proofs.Trackers.{calls_stand_apart, stands_apart}
 use Rattle.ada_sound.proofs.TracksAs.{adjust_tracks}
 use Rattle.ada_sound.proofs.CopiedOwners.{BeginsCopy}
-use Rattle.ada_sound.proofs.CopySteps.{next_overrides, sees_to_none}
+use Rattle.ada_sound.proofs.CopySteps.{sees_to_none}
 use Rattle.ada_sound.proofs.Adjusting.{AdjustingCopy}
 use Rattle.ada_sound.proofs.AdjustingEnters.{filled_in_program}
 use Rattle.ada_sound.proofs.AdjustingStarts.{adjusting_starts}
@@ -75,16 +72,16 @@ use Rattle.ada_finalized.proofs.Standing.{nothing_begins, untreated_start}
 use Rattle.ada_sound.proofs.CallsApartRuns.{step_apart}
 use Rattle.ada_quiet.specs.Apart.{is_tracker}
 use Rattle.ada_quiet.specs.Calm.{calm_types}
+use Rattle.ada_quiet.specs.Frugal.{barely_ending_types}
 use Rattle.ada_sound.proofs.QuietOperations.{AdjustsCopy, IsUsedAs, operations_nest, used_as}
-use Rattle.ada_sound.proofs.TouchingStarts.{touching_starts}
-use Rattle.ada_sound.proofs.TouchingSteps.{InTouching, Went, touching_step}
-use Rattle.ada_sound.proofs.Touching.{Touching, waiting_for}
-use Rattle.ada_sound.proofs.Operated.{OperatedOn, operated_by, OperatedAs}
-use Rattle.ada_parts.specs.declared.tasks.Next.TheVariants.{Perform}
+use Rattle.ada_sound.proofs.TouchingStarts.{touching_outermost}
+use Rattle.ada_sound.proofs.TouchingSteps.{InTouching, Went, GoesTouching, touching_step}
+use Rattle.ada_sound.proofs.Touching.{Touching, Around}
+use Rattle.ada_sound.proofs.Operated.{OperatedAs}
 use Rattle.ada_sound.proofs.Alters.{BackIn, StaysItself, Alters, alters_same, alters_set}
-use Rattle.ada_sound.proofs.Invariant.{Known, Control, Working, CallsOn, Says, GoesOn, Stepped, EndsWell, Fine, outers, IsAwaited, under_in, IsOfAssigned, ReadyBy}
+use Rattle.ada_sound.proofs.Invariant.{Known, Control, Working, CallsOn, Says, GoesOn, Stepped, EndsWell, Fine, outers, IsAwaited, under_in, ReadyBy}
 use Rattle.ada_sound.proofs.Callers.{Suspension, callers_of, known_in, Stands}
-use Rattle.ada_sound.proofs.Returns.{Crosses, same_types, resumed_in, behind_call as behind_mode, behind_frames, behind_body, crosses_to, left_settled}
+use Rattle.ada_sound.proofs.Returns.{Crosses, CrossesTo, same_types, resumed_in, behind_call as behind_mode, behind_frames, behind_body, crosses_to, left_settled}
 use Rattle.ada_sound.proofs.Calls.{calls_to, references}
 use Rattle.ada_sound.proofs.Waiting.{SameBody, stands_kept}
 use Rattle.ada_sound.proofs.Ready.{at_work}
@@ -95,16 +92,14 @@ use Rattle.ada_sound.proofs.StoredStates.{IsStored, ready_stored}
 use Rattle.ada_sound.proofs.Finalization.{finalizes_in}
 use Rattle.ada_sound.proofs.Starts.{IsReached, Ordinary, Sound}
 use Rattle.ada_sound.proofs.Calm.{filled_in, typed_calm, behind_calm}
-use Rattle.ada_sound.proofs.AdjustsKept.{adjusts_picked}
-use Rattle.ada_sound.proofs.Treatments.{inside_left, TellsNothing, Begins, BeginsAdjust, StaysHere, TreatedIn, treats_fine}
-use Rattle.ada_typed.proofs.Parts.{shown_shapes, shapes_shown}
-use Rattle.ada_sound.proofs.Operating.{Sight, StaysLive, IsCalm, Operates, StepsTo, behind_operation}
-use Rattle.ada_sound.proofs.OperationBegins.{begins_operation}
+use Rattle.ada_sound.proofs.Treating.{told_says, told_covered, treats_in_use, treated_next}
+use Rattle.ada_sound.proofs.Treatments.{Begins, BeginsAdjust, StaysHere, TreatedIn}
+use Rattle.ada_sound.proofs.Operating.{Sight, StaysLive, IsCalm, StepsTo, behind_operation}
+use Rattle.ada_sound.proofs.Operates.{Operates, InOperation}
+use Rattle.ada_sound.proofs.OperationBegins.{begins_operation, calm_around}
 use Rattle.ada_sound.proofs.OperationSteps.{acting, Wrote, IsMild}
 use Rattle.ada_sound.proofs.OperationLaw.{operates_on, operation_ends, operation_raises, StepsOn, steps_on}
 use Rattle.ada_sound.proofs.CallBegins.{runs_called, placed_in}
-use Rattle.ada_program.specs.Controlled.{shapes_of}
-use Rattle.ada_sound.proofs.InsideRecords.{TasksInside, next_inside, picked_inside}
 
 -- An object whose words are out.
 OutIn : List Object → Id → Type 0
@@ -216,36 +211,19 @@ each_stays s mid (tells request shown after) p r b e = stays_by s mid after p r 
 each_stays s mid (asks request answers) p r b e = λ granted. stays_by s mid (answers granted) p r b (e granted)
 each_stays s mid (picks n taking) p r b e = λ i lt. stays_by s mid (taking i) p r b (e i lt)
 
--- The body of an operation runs behind a step that gives nothing back; and what that does to objects.
-pub record InOperation (program : Program) (before : List Object) (e : Event) (after : State) : Type 0 where
-  pub operates : Operates program after
-  pub alters : Alters before e after.heap
-  pub says : (implicit : Implicit) (p : ProgramForm) → Says implicit p e before after
-  pub covered : (number : ℕ) → IsCovered program number e
-
 -- What a step leads to: the ordinary invariant, or the body of an operation runs.
 abbrev pub Led : Program → List Object → Event → State → Type 0
 Led program before e after =
     ((c : Crosses program before e after) × IsCalm (behind_call after.control) × (under_in (callers_of program c.suspensions) ≡ [])) ⊎ (InOperation program before e after ⊎ (InTouching program before e after ⊎ InCopy program before e after))
 
--- What tells of no storage says nothing of objects, and covers nothing.
-told_says : (e : Event) (before : List Object) (after : State) → TellsNothing e → (implicit : Implicit) (p : ProgramForm) → Says implicit p e before after
-told_says (Born v part turn type number by) before after told implicit p = tt
-told_says (Finalized v part turn type number cause) before after told implicit p = tt
-told_says (Back v access number pool subpool cause) before after told implicit p = absurd told
-told_says (Followed v) before after told implicit p = absurd told
-told_says (Left master) before after told implicit p = tt
-told_says (Line line) before after told implicit p = tt
-told_says Quiet before after told implicit p = tt
-
-told_covered : (program : Program) (e : Event) → TellsNothing e → (number : ℕ) → IsCovered program number e
-told_covered program (Born v part turn type number by) told n = tt
-told_covered program (Finalized v part turn type number cause) told n = tt
-told_covered program (Back v access number pool subpool cause) told n = absurd told
-told_covered program (Followed v) told n = absurd told
-told_covered program (Left master) told n = tt
-told_covered program (Line line) told n = tt
-told_covered program Quiet told n = tt
+-- What goes on behind the end of an operation, by what is around it: no operation runs, or one that touches storage is under way.
+led_around : (program : Program) (before : List Object) (e : Event) (gs : List Suspension) (after : State) → CrossesTo program gs before e after → Around program gs after → Led program before e after
+led_around program before e gs after c (inl (calm, none)) = inl (crosses_to c, calm, none)
+led_around program before e gs after c (inr within) = inr (inr (inl (record {
+  body = record { suspensions = gs; ready = c.stepped.ready; stands = c.stands; within = within };
+  alters = c.stepped.alters;
+  says = c.stepped.says;
+})))
 
 -- A step that begins no call and ends none keeps what is known of callers.
 module _ (program : Program) (s after : State) (gs : List Suspension) (stands : Stands program gs s) (calm : IsCalm (behind_call s.control)) (none : under_in (callers_of program gs) ≡ []) (e : Event) (kept : Stays s after) where
@@ -301,25 +279,6 @@ held_there heap ms stored inside holder held (o, p, c, holds, names, at') =
 -- A state with these parts.
 abbrev state_with : Mode → Control → List (Activation Value) → State → State
 state_with mode k all s = record s { mode = mode; control = k; activations = all }
-
--- Where operations are idle, nothing is treated: so where something is, they are in use as operations that may be called.
-treats_in_use : (program : Program) (s : State) → Sound program s → (k : Control) → s.control ≡ k → TreatsFirst k → operations_may_be_called (program_form program) ≡ true
-treats_in_use program s sound [] is treats = absurd treats
-treats_in_use program s sound (Treats v treatment tasks ∷ k) is treats = by (or_cases (operations_are_idle p) (operations_may_be_called p) sound.in_use)
-  where
-    p : ProgramForm
-    p = program_form program
-
-    none : (made ordered : Bool) → (not made && ordered) ≡ true → made ≡ false
-    none true ordered idle = absurd (cc idle)
-    none false ordered idle = refl
-
-    by : (operations_are_idle p ≡ true) ⊎ (operations_may_be_called p ≡ true) → operations_may_be_called p ≡ true
-    by (inr called) = called
-    by (inl idle) =
-        let is_idle = sound.idle (none (makes_parts p) (operations_stand_in_order p) idle) in
-        absurd ((subst (λ (all : Control). ControlIsIdle p.types all) is is_idle.control).0)
-treats_in_use program s sound (f ∷ k) is treats = absurd treats
 
 -- A step that begins no call and ends none, and treats nothing.
 ordinary : (program : Program) (s : State) (sound : Sound program s) (o : Ordinary program s) → inside.crosses s.mode s.control ≡ false → (n : Next) → mode_next named program.types.items (body_forms program) s.mode s ≡ n → Each (Stays s) n → FineIn program s n
@@ -437,8 +396,8 @@ module _ (program : Program) (a : Activation Value) (rest : List (Activation Val
 
     begun_as : (e : Event) (after : State) → next program.types.items (body_forms program) whole ≡ moves e after → (c : Begins treater a rest s program.types.items (body_forms program) k IsOperated e after) → IsUsedAs (program_form program) c.of c.number c.treatment c.b → Led program s.heap e after
     begun_as e after is c (inl plain) = inr (inl (record {
-      operates = begins_operation program sound.well a rest o.suspensions s k IsOperated e after (restand Running (Treats v treatment tasks) o.suspensions o.stands) o.calm o.settled
-          (step_typed program sound.well whole after settled e sound.typed (rw is (refl, refl))) c plain;
+      operates = begins_operation program sound.well a rest o.suspensions s k IsOperated e after (restand Running (Treats v treatment tasks) o.suspensions o.stands)
+          (step_typed program sound.well whole after settled e sound.typed (rw is (refl, refl))) c (calm_around program a rest o.suspensions s k IsOperated e after c o.calm o.settled) plain;
       alters = rw c.is c.alters;
       says = told_says e s.heap after c.tells;
       covered = told_covered program e c.tells;
@@ -446,7 +405,7 @@ module _ (program : Program) (a : Activation Value) (rest : List (Activation Val
     begun_as e after is c (inr (inr (copies, tracks, own))) =
         absurd (sees_to_none program sound.well tracks.0 a rest s o.suspensions k IsOperated e after c copies own)
     begun_as e after is c (inr (inl (may_touch, may, frugal, silent, touches))) = inr (inr (inl (record {
-      body = touching_starts program a rest s k v treatment tasks o.suspensions whole refl refl sound calm_here o.calm o.settled (restand Running (Treats v treatment tasks) o.suspensions o.stands) e after c may_touch may silent frugal touches
+      body = touching_outermost program a rest s k v treatment tasks o.suspensions whole refl sound calm_here refl o.calm o.settled (restand Running (Treats v treatment tasks) o.suspensions o.stands) e after c may_touch may silent frugal touches
           (step_typed program sound.well whole after settled e sound.typed (rw is (refl, refl)));
       alters = rw c.is c.alters;
       says = told_says e s.heap after c.tells _ _;
@@ -464,26 +423,10 @@ module _ (program : Program) (a : Activation Value) (rest : List (Activation Val
     treated_led (asks request answered) is t = absurd t
     treated_led (picks n taken) is t = λ i lt. goes_here Quiet (taken i) (t i lt)
 
-    operated : IsOfAssigned treater.program.types treatment tasks k → (of part : ℕ) → task_next tasks ≡ Perform of part → (o : Id) → v ≡ Names o → IsOperated treatment o of
-    operated assigned of part next object named = (
-      refl,
-      subst (λ (types : List TypeForm). OperatedOn types (cells_of s.heap) object of) (same_types a.procedure (program_form program))
-          (operated_by (seen_in a.procedure (program_form program)) whole v treatment tasks k refl refl sound.typed.inside of part next object named),
-      subst (λ (types : List TypeForm). IsOfAssigned types treatment (performs of 0 ∷ []) k) (same_types a.procedure (program_form program))
-          (inside_left treater.program.types treatment tasks (performs of 0 ∷ []) k assigned (λ t inside. (next_inside treater.program.types t of part tasks inside next, tt))),
-      named,
-    )
-
     treating_by : ReadyBy treater (Treats v treatment tasks) k s.heap a.places a.operands s.masters → FineIn program whole (frame_next named program.types.items (body_forms program) (Treats v treatment tasks) (state_with Running k (a ∷ rest) s))
     unfolding next
     treating_by ready =
-        treated_led _ refl (treats_fine treater a rest s program.types.items (body_forms program) k IsOperated v
-        (subst (λ (types : List TypeForm). shown_shapes types ≡ shapes_of program.types.items) (sym (same_types a.procedure (program_form program))) (shapes_shown program.types.items (program_form program).types refl))
-        (λ left i at to. adjusts_picked program sound.well treater (same_types a.procedure (program_form program)) v left i k s.heap a.places s.masters at to)
-        (λ of part left to owns. next_overrides program sound.well a.procedure o.suspensions v k s.heap a.places s.masters of part left to owns)
-        (λ t direction left i inside. subst (λ (types : List TypeForm). TasksInside types t (picked_task (shapes_of program.types.items) direction left i)) (sym (same_types a.procedure (program_form program)))
-        (picked_inside program t direction left i (subst (λ (types : List TypeForm). TasksInside types t left) (same_types a.procedure (program_form program)) inside)))
-        (task_next tasks) treatment tasks refl (operated ready.1) (finalizes_in program sound.well whole sound.reached sound.typed o.calm treater.program.types) ready.0 ready.1)
+        treated_led _ refl (treated_next program a rest k s v treatment tasks sound o.suspensions (finalizes_in program sound.well whole sound.reached sound.typed o.calm treater.program.types) ready)
 
     treating_step : FineIn program whole (frame_next named program.types.items (body_forms program) (Treats v treatment tasks) (state_with Running k (a ∷ rest) s))
     treating_step = treating_by o.ready.1
@@ -553,7 +496,7 @@ module _ (program : Program) (s : State) (o : Operates program s) where
   object_out : o.body.x.out ≡ true
   object_out =
       let behind = behind_operation (o.caller ∷ o.rest) o.behind o.lower s in
-      let c = operation_ends program s o in
+      let c = (operation_ends program s o).0 in
       let stored = ready_stored (known_in program o.caller.procedure o.suspended.suspensions) behind c.stepped.ready in
       by o.body.x.out refl o.body.x.stage o.body.live (stored.1.sane o.object o.body.x o.body.found).back_gone
     where
@@ -591,8 +534,8 @@ module _ (program : Program) (s : State) (o : Operates program s) where
     says = λ implicit p. mild_says implicit p e after a.mild;
     covered = mild_covered e a.mild;
   }))
-  led_on (moves e after) (inr (quiet, inl is)) = rw (quiet, is) (inl (crosses_to (operation_ends program s o), o.suspended.calm, o.suspended.settled))
-  led_on (moves e after) (inr (quiet, inr (x, may, is))) = rw (quiet, is) (inl (crosses_to (operation_raises program s o x may), o.suspended.calm, o.suspended.settled))
+  led_on (moves e after) (inr (quiet, inl is)) = rw (quiet, is) (led_around program s.heap Quiet o.suspended.suspensions (behind_operation (o.caller ∷ o.rest) o.behind o.lower s) (operation_ends program s o).0 (operation_ends program s o).1)
+  led_on (moves e after) (inr (quiet, inr (x, may, is))) = rw (quiet, is) (led_around program s.heap Quiet o.suspended.suspensions (record (behind_operation (o.caller ∷ o.rest) o.behind o.lower s) { mode = Raising x }) (operation_raises program s o x may).0 (operation_raises program s o x may).1)
   led_on (tells request e after) is = absurd is
   led_on (asks request answered) is = absurd is
   led_on (picks n taken) is = absurd is
@@ -613,7 +556,8 @@ module _ (program : Program) (s : State) (o : Operates program s) where
 -- A step of the body of an operation that touches storage.
 led_went : (program : Program) (before : List Object) (e : Event) (after : State) → Went program before e after → Led program before e after
 led_went program before e after (inl f) = inr (inr (inl f))
-led_went program before e after (inr o) = inl o
+led_went program before e after (inr (inl o)) = inr (inl o)
+led_went program before e after (inr (inr c)) = inl c
 
 -- A step of the body of an Adjust that tracks components.
 led_adjusting : (program : Program) (s : State) (d : AdjustingCopy program s) (e : Event) (after : State) → WentOn program s d e after → Led program s.heap e after
@@ -628,6 +572,14 @@ led_next program s IsSo leads (tells request e after) g = leads e after g
 led_next program s IsSo leads (asks request answered) g = λ granted. leads Quiet (answered granted) (g granted)
 led_next program s IsSo leads (picks n taken) g = absurd g
 
+-- So it is where such a body runs: parts are picked of an object that it frees.
+led_touching : (program : Program) (s : State) (n : Next) → GoesTouching program s n → FineIn program s n
+led_touching program s (halts halt) g = g
+led_touching program s (moves e after) g = led_went program s.heap e after g
+led_touching program s (tells request e after) g = led_went program s.heap e after g
+led_touching program s (asks request answered) g = λ granted. led_went program s.heap Quiet (answered granted) (g granted)
+led_touching program s (picks n taken) g = λ i lt. led_went program s.heap Quiet (taken i) (g i lt)
+
 -- So what comes next keeps the invariant, and each state that a sound one steps to is sound.
 step_fine : (program : Program) (s : State) → Sound program s → FineIn program s (next program.types.items (body_forms program) s)
 unfolding next
@@ -636,7 +588,7 @@ step_fine program s sound = by sound.goes
     by : Ordinary program s ⊎ (Operates program s ⊎ (Touching program s ⊎ AdjustingCopy program s)) → FineIn program s (next program.types.items (body_forms program) s)
     by (inl o) = step_by program s.mode s.control s.activations s sound o
     by (inr (inl o)) = operating_step program s o
-    by (inr (inr (inl f))) = led_next program s (Went program s.heap) (led_went program s.heap) (next program.types.items (body_forms program) s) (touching_step program s sound f)
+    by (inr (inr (inl f))) = led_touching program s (next program.types.items (body_forms program) s) (touching_step program s sound f)
     by (inr (inr (inr d))) =
         led_next program s (WentOn program s d) (led_adjusting program s d) (next program.types.items (body_forms program) s)
         (copy_goes program sound.well d.adjusting.tracking sound.frees_own s sound.reached sound.nested sound.typed d)
@@ -684,11 +636,12 @@ sound_step program s choice e after r step = record {
   well = r.well;
   in_use = r.in_use;
   frees_own = r.frees_own;
+  spares_own = r.spares_own;
   obeys = r.obeys;
   goes = goes_so program s.heap e after (led program s choice e after r step);
   idle = λ none. step_idle program none s after choice e (r.idle none) step;
   copies = λ none. step_adjusts_none program none s after choice e (r.copies none) step;
-  apart = λ are_led stand. step_apart (program_form program).types (calm_types (program_form program)) (is_tracker (program_form program)) are_led program (calls_stand_apart (program_form program) are_led stand).1 s after choice e (r.apart are_led stand) step;
+  apart = λ are_led stand. step_apart (program_form program).types (calm_types (program_form program)) (barely_ending_types (program_form program)) (is_tracker (program_form program)) are_led program (calls_stand_apart (program_form program) are_led stand).1 s after choice e (r.apart are_led stand) step;
   typed = step_typed program r.well s after choice e r.typed step;
   nested = step_nested program s after choice e (λ treats. operations_nest (program_form program) r.well (treats_in_use program s r s.control refl treats)) r.nested step;
 }
@@ -707,10 +660,10 @@ housed program s sound o x found out = by sound.goes
   where
     by : Ordinary program s ⊎ (Operates program s ⊎ (Touching program s ⊎ AdjustingCopy program s)) → HasItem x.cell.home.item x.cell.access x.cell.home.pool (items_of s.masters)
     by (inl n) = ((stored_in program s n).1.sane o x found).housed out
-    by (inr (inr (inl f))) = ((ready_stored (known_in program (running_procedure s) (waiting_for program s f)) s f.ready).1.sane o x found).housed out
+    by (inr (inr (inl f))) = ((ready_stored (known_in program (running_procedure s) f.suspensions) s f.ready).1.sane o x found).housed out
     by (inr (inr (inr d))) = ((copy_stored program s d).1.sane o x found).housed out
     by (inr (inl n)) =
-        let c = operation_ends program s n in
+        let c = (operation_ends program s n).0 in
         let stored = ready_stored (known_in program n.caller.procedure n.suspended.suspensions) (behind_operation (n.caller ∷ n.rest) n.behind n.lower s) c.stepped.ready in
         rw n.masters (below_has x.cell.home.item x.cell.access x.cell.home.pool n.upper n.lower ((stored.1.sane o x found).housed out))
 

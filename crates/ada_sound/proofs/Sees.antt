@@ -72,12 +72,12 @@ copies_in program procedure gs well none =
     subst CopiesWell (sym (same_types procedure p)) (copies_nothing p.types well.types_fit well.components_lie none)
 
 -- Nor do the records own anything that are items of an allocator that it evaluates next.
-pub allocates_in : (program : Program) (procedure : Option ℕ) (gs : List Suspension) (k : Control) → IsWellFormed (program_form program) → AdjustsNoOwners (program_form program).types → FreesLed (program_form program).types (known_in program procedure gs).touches k → AllocatesApart (known_in program procedure gs).touches k
-    → AllocatesBare (known_in program procedure gs).program (known_in program procedure gs).touches k
+pub allocates_in : (program : Program) (procedure : Option ℕ) (gs : List Suspension) (k : Control) → IsWellFormed (program_form program) → AdjustsNoOwners (program_form program).types → FreesLed (program_form program).types (known_in program procedure gs).touches (known_in program procedure gs).barely k → AllocatesApart (known_in program procedure gs).touches k
+    → AllocatesBare (known_in program procedure gs).program (known_in program procedure gs).touches (known_in program procedure gs).barely k
 allocates_in program procedure gs k well none led apart =
     let own = seen_in procedure (program_form program) in
-    allocates_none own k (tables_in own (seen_fits (program_form program) well procedure)) (subst AdjustsNoOwners (sym (same_types procedure (program_form program))) none)
-    (subst (λ (types : List TypeForm). FreesLed types (known_in program procedure gs).touches k) (sym (same_types procedure (program_form program))) led) apart
+    allocates_none (known_in program procedure gs).barely own k (tables_in own (seen_fits (program_form program) well procedure)) (subst AdjustsNoOwners (sym (same_types procedure (program_form program))) none)
+    (subst (λ (types : List TypeForm). FreesLed types (known_in program procedure gs).touches (known_in program procedure gs).barely k) (sym (same_types procedure (program_form program))) led) apart
 
 -- The Adjust that sees to what a record owns is overridden under the number of its type.
 pub adjust_overridden : (program : Program) (procedure : Option ℕ) → IsWellFormed (program_form program) → (r of : ℕ) → SeesToOwners (seen_in procedure (program_form program)).types r of → (number : ℕ) × (procedure_number (operations_of program.types.items of).adjust ≡ Some number)

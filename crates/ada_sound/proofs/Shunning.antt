@@ -159,7 +159,7 @@ Spares p u done = (d : Deed) → is_use p u d ≡ true → done d ≡ false
 -- A procedure is frugal, and frees and follows no value of an access type.
 abbrev is_shunning : ProgramForm → (access procedure : ℕ) → Bool
 is_shunning p u n =
-    slice_index_or (frugal_procedures p) n false && not (does_by p (freeing u) (calling n)) && not (does_by p (following u) (calling n))
+    slice_index_or (frugal_procedures p false) n false && not (does_by p (freeing u) (calling n)) && not (does_by p (following u) (calling n))
 
 module _ (p : ProgramForm) (u : ℕ) where
   -- Where neither of two is a use, the first one is not,
@@ -186,9 +186,9 @@ module _ (p : ProgramForm) (u : ℕ) where
 
   -- A frugal procedure frees and follows no value of the type, where a call of it is no use,
   called_shunning :
-      (n : ℕ) → slice_index_or (frugal_procedures p) n false ≡ true → Spares p u (λ d. procedure_does (does_by p d) n) → is_shunning p u n ≡ true
+      (n : ℕ) → slice_index_or (frugal_procedures p false) n false ≡ true → Spares p u (λ d. procedure_does (does_by p d) n) → is_shunning p u n ≡ true
   called_shunning n told spares =
-      let frugal = slice_index_or (frugal_procedures p) n false in
+      let frugal = slice_index_or (frugal_procedures p false) n false in
       let is_one = λ (there : nat_lt u (length p.types) ≡ true). and_from (u == u) (nat_lt u (length p.types)) (eq-eqb u u refl) there in
       and_from (frugal && not (does_by p (freeing u) (calling n))) (not (does_by p (following u) (calling n)))
       (and_from frugal (not (does_by p (freeing u) (calling n))) told
@@ -198,9 +198,9 @@ module _ (p : ProgramForm) (u : ℕ) where
   -- and one that does neither is told to be frugal.
   shunning_parts :
       (n : ℕ) → is_shunning p u n ≡ true
-      → (slice_index_or (frugal_procedures p) n false ≡ true) × (does_by p (freeing u) (calling n) ≡ false) × (does_by p (following u) (calling n) ≡ false)
+      → (slice_index_or (frugal_procedures p false) n false ≡ true) × (does_by p (freeing u) (calling n) ≡ false) × (does_by p (following u) (calling n) ≡ false)
   shunning_parts n is =
-      let frugal = slice_index_or (frugal_procedures p) n false in
+      let frugal = slice_index_or (frugal_procedures p false) n false in
       let frees = does_by p (freeing u) (calling n) in
       let follows = does_by p (following u) (calling n) in
       let both = and_parts (frugal && not frees) (not follows) is in
@@ -210,7 +210,7 @@ module _ (p : ProgramForm) (u : ℕ) where
   -- Some procedures are marked, among them each frugal one of which a call is no use.
   module _
       (apart : ℕ → Bool)
-      (marked : (n : ℕ) → slice_index_or (frugal_procedures p) n false ≡ true → Spares p u (λ d. procedure_does (does_by p d) n) → apart n ≡ true)
+      (marked : (n : ℕ) → slice_index_or (frugal_procedures p false) n false ≡ true → Spares p u (λ d. procedure_does (does_by p d) n) → apart n ≡ true)
       (variables : List VariableForm) where
     -- A block, or a body: what it declares, its statements and its handlers.
     abbrev master_does : List DeclarationForm → StmtsForm → HandlersForm → Deed → Bool
@@ -227,15 +227,15 @@ module _ (p : ProgramForm) (u : ℕ) where
     -- where its statements and its handlers have it.
     master_shaped :
         (ds : List DeclarationForm) (fs : StmtsForm) (hs : HandlersForm)
-        → (are_frugal (thrift_of p) fs ≡ true → Spares p u (λ d. stmts_do p.types variables (does_by p d) d fs)
+        → (are_frugal (thrift_of p false) fs ≡ true → Spares p u (λ d. stmts_do p.types variables (does_by p d) d fs)
         → statements_shun p.types (λ t. false) apart variables fs ≡ true)
-        → (are_frugal_handlers (thrift_of p) hs ≡ true → Spares p u (λ d. handlers_do p.types variables (does_by p d) d hs)
+        → (are_frugal_handlers (thrift_of p false) hs ≡ true → Spares p u (λ d. handlers_do p.types variables (does_by p d) d hs)
         → handlers_shun p.types (λ t. false) apart variables hs ≡ true)
-        → (are_frugal_declarations p.types ds && are_frugal (thrift_of p) fs && are_frugal_handlers (thrift_of p) hs) ≡ true
+        → (are_frugal_declarations p.types ds && are_frugal (thrift_of p false) fs && are_frugal_handlers (thrift_of p false) hs) ≡ true
         → Spares p u (master_does ds fs hs) → master_shuns ds fs hs ≡ true
     master_shaped ds fs hs within behind frugal spares =
-        let parts = and_parts (are_frugal_declarations p.types ds && are_frugal (thrift_of p) fs) (are_frugal_handlers (thrift_of p) hs) frugal in
-        let inner = and_parts (are_frugal_declarations p.types ds) (are_frugal (thrift_of p) fs) parts.0 in
+        let parts = and_parts (are_frugal_declarations p.types ds && are_frugal (thrift_of p false) fs) (are_frugal_handlers (thrift_of p false) hs) frugal in
+        let inner = and_parts (are_frugal_declarations p.types ds) (are_frugal (thrift_of p false) fs) parts.0 in
         let declared = λ (d : Deed). declarations_do p.types variables (does_by p d) d ds in
         let inside = λ (d : Deed). stmts_do p.types variables (does_by p d) d fs in
         let left = λ (d : Deed). is_left hs d && inside d in
@@ -252,7 +252,7 @@ module _ (p : ProgramForm) (u : ℕ) where
     mutual
       -- A frugal statement has the shape, where what it does is no use,
       statement_shaped :
-          (f : StmtForm) → is_frugal_stmt (thrift_of p) f ≡ true → Spares p u (λ d. stmt_does p.types variables (does_by p d) d f)
+          (f : StmtForm) → is_frugal_stmt (thrift_of p false) f ≡ true → Spares p u (λ d. stmt_does p.types variables (does_by p d) d f)
           → statement_shuns p.types (λ t. false) apart variables f ≡ true
       statement_shaped skips frugal spares = refl
       statement_shaped (assigns target right) frugal spares =
@@ -298,11 +298,11 @@ module _ (p : ProgramForm) (u : ℕ) where
 
       -- and so have statements,
       statements_shaped :
-          (fs : StmtsForm) → are_frugal (thrift_of p) fs ≡ true → Spares p u (λ d. stmts_do p.types variables (does_by p d) d fs)
+          (fs : StmtsForm) → are_frugal (thrift_of p false) fs ≡ true → Spares p u (λ d. stmts_do p.types variables (does_by p d) d fs)
           → statements_shun p.types (λ t. false) apart variables fs ≡ true
       statements_shaped no_stmts frugal spares = refl
       statements_shaped (a_stmt f fs) frugal spares =
-          let both = and_parts (is_frugal_stmt (thrift_of p) f) (are_frugal (thrift_of p) fs) frugal in
+          let both = and_parts (is_frugal_stmt (thrift_of p false) f) (are_frugal (thrift_of p false) fs) frugal in
           let one = λ (d : Deed). stmt_does p.types variables (does_by p d) d f in
           let more = λ (d : Deed). stmts_do p.types variables (does_by p d) d fs in
           and_from (statement_shuns p.types (λ t. false) apart variables f) (statements_shun p.types (λ t. false) apart variables fs)
@@ -310,11 +310,11 @@ module _ (p : ProgramForm) (u : ℕ) where
 
       -- branches (5.3)
       branches_shaped :
-          (branches : BranchesForm) → are_frugal_branches (thrift_of p) branches ≡ true
+          (branches : BranchesForm) → are_frugal_branches (thrift_of p false) branches ≡ true
           → Spares p u (λ d. branches_do p.types variables (does_by p d) d branches) → branches_shun p.types (λ t. false) apart variables branches ≡ true
       branches_shaped (otherwise fs) frugal spares = statements_shaped fs frugal spares
       branches_shaped (a_branch e fs branches) frugal spares =
-          let both = and_parts (are_frugal (thrift_of p) fs) (are_frugal_branches (thrift_of p) branches) frugal in
+          let both = and_parts (are_frugal (thrift_of p false) fs) (are_frugal_branches (thrift_of p false) branches) frugal in
           let tested = λ (d : Deed). expression_does p.types variables d e in
           let inside = λ (d : Deed). stmts_do p.types variables (does_by p d) d fs in
           let more = λ (d : Deed). branches_do p.types variables (does_by p d) d branches in
@@ -327,11 +327,11 @@ module _ (p : ProgramForm) (u : ℕ) where
 
       -- and handlers (11.2).
       handlers_shaped :
-          (hs : HandlersForm) → are_frugal_handlers (thrift_of p) hs ≡ true → Spares p u (λ d. handlers_do p.types variables (does_by p d) d hs)
+          (hs : HandlersForm) → are_frugal_handlers (thrift_of p false) hs ≡ true → Spares p u (λ d. handlers_do p.types variables (does_by p d) d hs)
           → handlers_shun p.types (λ t. false) apart variables hs ≡ true
       handlers_shaped no_handlers frugal spares = refl
       handlers_shaped (a_handler choices fs hs) frugal spares =
-          let both = and_parts (are_frugal (thrift_of p) fs) (are_frugal_handlers (thrift_of p) hs) frugal in
+          let both = and_parts (are_frugal (thrift_of p false) fs) (are_frugal_handlers (thrift_of p false) hs) frugal in
           let one = λ (d : Deed). stmts_do p.types variables (does_by p d) d fs in
           let more = λ (d : Deed). handlers_do p.types variables (does_by p d) d hs in
           and_from (statements_shun p.types (λ t. false) apart variables fs) (handlers_shun p.types (λ t. false) apart variables hs)
@@ -340,8 +340,8 @@ module _ (p : ProgramForm) (u : ℕ) where
   -- So has a frugal body.
   body_shaped :
       (apart : ℕ → Bool)
-      → ((n : ℕ) → slice_index_or (frugal_procedures p) n false ≡ true → Spares p u (λ d. procedure_does (does_by p d) n) → apart n ≡ true)
-      → (b : BodyForm) → is_frugal_body (thrift_of p) b ≡ true → Spares p u (λ d. body_does p.types (does_by p d) d b)
+      → ((n : ℕ) → slice_index_or (frugal_procedures p false) n false ≡ true → Spares p u (λ d. procedure_does (does_by p d) n) → apart n ≡ true)
+      → (b : BodyForm) → is_frugal_body (thrift_of p false) b ≡ true → Spares p u (λ d. body_does p.types (does_by p d) d b)
       → body_shuns p.types (λ t. false) apart b ≡ true
   body_shaped apart marked b =
       master_shaped apart marked b.variables b.declarations b.statements b.handlers (statements_shaped apart marked b.variables b.statements)
@@ -368,7 +368,7 @@ module _
     (program : Program) (well : IsWellFormed (program_form program)) (access of part number u : ℕ) (b : BodyForm)
     (operable : IsOperable (program_form program).types access of part)
     (overrides : procedure_number (operations_of program.types.items of).finalize ≡ Some number)
-    (there : slice_get (body_forms program) number ≡ Some b) (frugal : is_frugal_body (thrift_of (program_form program)) b ≡ true)
+    (there : slice_get (body_forms program) number ≡ Some b) (frugal : is_frugal_body (thrift_of (program_form program) false) b ≡ true)
     (reaches : (implicit_of (program_form program)).end_reaches access u ≡ false) where
   abbrev p : ProgramForm
   p = program_form program
@@ -410,12 +410,12 @@ module _
   uses_none n among deed.Allocates is done = absurd (cc is)
 
   -- Their bodies are frugal,
-  apart_frugal : (n : ℕ) (c : BodyForm) → apart n ≡ true → slice_get p.bodies n ≡ Some c → is_frugal_body (thrift_of p) c ≡ true
+  apart_frugal : (n : ℕ) (c : BodyForm) → apart n ≡ true → slice_get p.bodies n ≡ Some c → is_frugal_body (thrift_of p false) c ≡ true
   apart_frugal n c among at = elim (or_cases (is_shunning p u n) (n == number) among) [
-    | inl is ↦ frugal_at p n c (shunning_parts p u n is).0 at
+    | inl is ↦ frugal_at p false n c (shunning_parts p u n is).0 at
     | inr same ↦
         let one : b ≡ c = cc (there, at, ap (λ (m : ℕ). slice_get p.bodies m) (eqb-true n number same)) in
-        subst (λ (x : BodyForm). is_frugal_body (thrift_of p) x ≡ true) one frugal
+        subst (λ (x : BodyForm). is_frugal_body (thrift_of p false) x ≡ true) one frugal
   ]
 
   -- and have the shape.
@@ -436,7 +436,7 @@ module _
 pub finalize_shuns :
     (program : Program) → IsWellFormed (program_form program) → (access of part number u : ℕ) (b : BodyForm)
     → IsOperable (program_form program).types access of part → procedure_number (operations_of program.types.items of).finalize ≡ Some number
-    → slice_get (body_forms program) number ≡ Some b → is_frugal_body (thrift_of (program_form program)) b ≡ true
+    → slice_get (body_forms program) number ≡ Some b → is_frugal_body (thrift_of (program_form program) false) b ≡ true
     → (implicit_of (program_form program)).end_reaches access u ≡ false
     → (apart : ℕ → Bool) × AreApart (program_form program) (λ t. u == t) apart × (body_shuns (program_form program).types (λ t. u == t) apart b ≡ true)
 finalize_shuns = own_apart

@@ -2,6 +2,7 @@
 
 use Rattle.std.proofs.Common.{◌≡◌, ℕ, Bool, true, ◌&&◌, List, [], ◌∷◌, drop, refl}
 use Rattle.std.specs.List.{list_all}
+use Rattle.std.proofs.lemmas.Bool.{or_right}
 use Rattle.ada_program.specs.Form.{RightForm, nothing, value_of, allocates, allocates_default, computes, StmtForm, skips, assigns, assigns_record, frees, gets, writes, writes_text, chooses, repeats, counts, exits, calls, returns, raises, encloses, StmtsForm, no_stmts, a_stmt, BranchesForm, otherwise, a_branch, HandlersForm, no_handlers, a_handler, DeclarationForm, creates_pool, collects, declares, declares_record}
 use Rattle.ada_program.specs.Nested.{Callees, body_nests}
 use Rattle.ada_program.specs.ProgramForm.{TypeForm, BodyForm}
@@ -35,7 +36,7 @@ module _ (frugal : Thrift) where
     frugal_stmt skips is = refl
     frugal_stmt (assigns target right) is = right_bare frugal.types right is
     frugal_stmt (assigns_record target items) is = absurd (cc is)
-    frugal_stmt (frees access path) is = is
+    frugal_stmt (frees access path) is = or_right frugal.ends_parts (has_bare_objects frugal.types access) is
     frugal_stmt (gets target) is = refl
     frugal_stmt (writes e) is = refl
     frugal_stmt (writes_text text) is = refl

@@ -1,5 +1,5 @@
--- The first state of a program that is well formed, whose collections nest, that frees by the instances for what it frees, and that obeys the rules keeps
--- the invariant.
+-- The first state of a program that is well formed, whose collections nest, that frees by the instances for what it frees, and none of an object's own type where
+-- the object ends, and that obeys the rules keeps the invariant.
 
 use Rattle.std.proofs.Common.{◌≡◌, ℕ, zero, suc, Bool, true, false, List, [], ◌∷◌, refl, sym, subst, ◌⊎◌, inl}
 use Rattle.std.specs.Prelude.{ℤ, Option, Some, None}
@@ -18,6 +18,7 @@ use Rattle.ada_meaning.specs.Step.{blanks}
 use Rattle.ada_meaning.specs.Named.{State, named}
 use Rattle.ada_meaning.specs.Run.{Event, Run, here, first_state}
 use Rattle.ada_typed.proofs.Kept.{behind_call}
+use Rattle.ada_sound.specs.Always.{SparesOwn}
 use Rattle.ada_sound.specs.Agreement.{running_procedure}
 use Rattle.ada_idle.proofs.Idle.{IsIdle}
 use Rattle.ada_idle.proofs.Runs.{first_idle}
@@ -32,6 +33,7 @@ use Rattle.ada_scopes.proofs.Runs.{Scoped, first_nested}
 use Rattle.ada_sound.proofs.Fits.{first_fit}
 use Rattle.ada_quiet.specs.Apart.{is_tracker, stand_apart}
 use Rattle.ada_quiet.specs.Calm.{calm_types}
+use Rattle.ada_quiet.specs.Frugal.{barely_ending_types}
 use Rattle.ada_sound.proofs.CallsApart.{CallApart}
 use Rattle.ada_sound.proofs.CallsApartRuns.{first_apart}
 use Rattle.ada_sound.proofs.Trackers.{TracksSafely, tracks_safely, calls_stand_apart}
@@ -42,7 +44,8 @@ use Rattle.ada_sound.proofs.Invariant.{Ready, under_in}
 use Rattle.ada_sound.proofs.Callers.{Suspension, known_in, Stands, callers_of}
 use Rattle.ada_sound.proofs.Touching.{Touching}
 use Rattle.ada_sound.proofs.Adjusting.{AdjustingCopy}
-use Rattle.ada_sound.proofs.Operating.{IsCalm, Operates}
+use Rattle.ada_sound.proofs.Operating.{IsCalm}
+use Rattle.ada_sound.proofs.Operates.{Operates}
 use Rattle.ada_sound.proofs.Returns.{same_types}
 
 -- A run of the program comes to this state.
@@ -70,11 +73,12 @@ pub record Sound (program : Program) (s : State) : Type 0 where
   pub well : IsWellFormed (program_form program)
   pub in_use : operations_are_in_use (program_form program) ≡ true
   pub frees_own : FreesItsOwn (program_form program)
+  pub spares_own : SparesOwn program
   pub obeys : Obeys program
   pub goes : Ordinary program s ⊎ (Operates program s ⊎ (Touching program s ⊎ AdjustingCopy program s))
   pub idle : makes_parts (program_form program) ≡ false → IsIdle (program_form program).types s
   pub copies : copies_parts (program_form program) ≡ false → AdjustsNone (program_form program).types s.control
-  pub apart : (led : Bool) → stand_apart (program_form program) led ≡ true → CallApart (program_form program).types (calm_types (program_form program)) (is_tracker (program_form program)) led s.control
+  pub apart : (led : Bool) → stand_apart (program_form program) led ≡ true → CallApart (program_form program).types (calm_types (program_form program)) (barely_ending_types (program_form program)) (is_tracker (program_form program)) led s.control
   pub typed : typed.Typed (program_form program) s
   pub nested : Scoped (program_form program) s
 
@@ -125,12 +129,13 @@ ready_first program input well obeys =
       },
     )
 
-pub sound_first : (program : Program) (input : List ℤ) → IsWellFormed (program_form program) → operations_are_in_use (program_form program) ≡ true → CollectionsNest (program_form program) → FreesItsOwn (program_form program) → ObeysRules program → Sound program (first_state program input)
-sound_first program input well uses nest own obeys = let obeys_so : Obeys program = (tracks_safely (program_form program) well uses, obeys) in record {
+pub sound_first : (program : Program) (input : List ℤ) → IsWellFormed (program_form program) → operations_are_in_use (program_form program) ≡ true → CollectionsNest (program_form program) → FreesItsOwn (program_form program) → SparesOwn program → ObeysRules program → Sound program (first_state program input)
+sound_first program input well uses nest own spares obeys = let obeys_so : Obeys program = (tracks_safely (program_form program) well uses, obeys) in record {
   reached = (input, [], here);
   well = well;
   in_use = uses;
   frees_own = own;
+  spares_own = spares;
   obeys = obeys_so;
   goes = inl (record {
     suspensions = [];
@@ -143,7 +148,7 @@ sound_first program input well uses nest own obeys = let obeys_so : Obeys progra
   copies = λ none. first_adjusts_none program none input;
   apart = λ led stand. (
       let bodies = calls_stand_apart (program_form program) led stand in
-      first_apart (program_form program).types (calm_types (program_form program)) (is_tracker (program_form program)) led program bodies.1 bodies.0 input
+      first_apart (program_form program).types (calm_types (program_form program)) (barely_ending_types (program_form program)) (is_tracker (program_form program)) led program bodies.1 bodies.0 input
       );
   typed = first_typed program input well;
   nested = first_nested program well nest input;

@@ -23,7 +23,6 @@ use Rattle.ada_meaning.specs.declared.state.Mode.{Mode}
 use Rattle.ada_meaning.specs.declared.state.Place.{Place}
 use Rattle.ada_meaning.specs.declared.state.Value.{Value}
 use Rattle.ada_meaning.specs.declared.state.Value.TheVariants.{Names, Part, Null, Scalar}
-use Rattle.ada_meaning.specs.Finalization.{NothingTreated}
 use Rattle.ada_meaning.specs.Frame.{Treatment, begins, ends, Leaves, Ends, GivesBack, Clears, ClearsIn, Resumes, StoresRecord, Copies}
 use Rattle.ada_meaning.specs.Heap.{Home}
 use Rattle.ada_meaning.specs.State.{Master}
@@ -32,13 +31,13 @@ use Rattle.ada_typed.proofs.Kept.{behind_call}
 use Rattle.ada_sound.proofs.Bodies.{IsBody}
 use Rattle.ada_sound.proofs.Callers.{Suspension, known_in, Stands, callers_of}
 use Rattle.ada_sound.proofs.Fits.{Fit, Outsiders, IsPlace, IsRelied, IsSaid, IsUnreferred, component_access, none_spared, outer_hold, outer_value, place_at, Reference, IsReferred}
-use Rattle.ada_sound.proofs.FrugalControl.{Frugally}
+use Rattle.ada_sound.proofs.FrugalControl.{Frugally, FrugalLeads, IsFreed}
 use Rattle.ada_sound.proofs.Held.{FreeIf, holder_if}
-use Rattle.ada_sound.proofs.Invariant.{body_among, Control, Rooms, Roomed, GoesTo, MayAwait, RoomFor, RunsOn, Known, IsNewest, Ready, Spares, StartsTo, Unaliased, below, innermost, outers, BeginsWell, CameOut, To, By, ways, IsAwaited, under_in, AssignsWell, IsCopied, LiesAmong, AdjustedBehind, IsCovered, EndsBeside, EndsWellBy}
-use Rattle.ada_sound.proofs.Operating.{WaitsFor, IsCalm, lets_out}
+use Rattle.ada_sound.proofs.Invariant.{body_among, CoveredIn, Control, Rooms, Roomed, GoesTo, MayAwait, RoomFor, RunsOn, Known, IsNewest, Ready, Spares, StartsTo, Unaliased, below, innermost, outers, BeginsWell, CameOut, To, By, ways, IsAwaited, under_in, AssignsWell, IsCopied, LiesAmong, AdjustedBehind, IsCovered, EndsBeside, EndsWellBy}
+use Rattle.ada_sound.proofs.Operating.{WaitsFor, IsCalm, lets_out, OwnVariables}
 use Rattle.ada_sound.proofs.Stored.{Stored}
 use Rattle.ada_sound.specs.Agreement.{running_procedure}
-use Rattle.ada_quiet.specs.Frugal.{thrift_of}
+use Rattle.ada_quiet.specs.Frugal.{Thrift, thrift_of}
 use Rattle.ada_finalized.specs.Law.{NothingBegins}
 use Rattle.ada_meaning.specs.declared.event.Cause.{Cause}
 use Rattle.ada_meaning.specs.Step.{first_or, operands_of}
@@ -66,7 +65,7 @@ pub record Resting (known : Known) (object : Id) (home : Home) (places : List Va
   pub runs : RunsOn known (Leaves mode ∷ rest) rooms holds
   pub nowhere : IsNamedNowhere (outers known) places holds object
   pub unreferred : IsUnreferred (outers known) object
-  pub untreated : NothingTreated rest
+  pub untreated : NothingBegins (Names object) rest
 
 -- What is behind the initialization of a record object that a declaration creates, whose variable owns it, or it is held: what is left goes on, and where an exception
 -- comes out, it does so without the variable.
@@ -109,7 +108,7 @@ pub record Undoes (known : Known) (object : Id) (access : ℕ) (home : Home) (pl
   pub well : BeginsWell known access holds
   pub nowhere : IsNamedNowhere (outers known) places holds object
   pub unreferred : IsUnreferred (outers known) object
-  pub untreated : NothingTreated rest
+  pub untreated : NothingBegins (Names object) rest
 
 -- What is behind the finalization of an object that a variable names which is freed: the end of the object, and then the variable becomes null. It names the object
 -- still while a Finalize of that runs, and counts as lost then; once it is null, what is known of it is known again.
@@ -127,7 +126,7 @@ pub record Empties (known : Known) (object : Id) (access : ℕ) (home : Home) (p
   pub fits : hold_at before x ≢ hold.Lost → IsPlace known.program.types (outers known).referenced (variable_kind known.program.variables x) Null
   pub nowhere : IsNamedNowhere (outers known) (slice_set places x Null) before object
   pub unreferred : IsUnreferred (outers known) object
-  pub untreated : NothingTreated rest
+  pub untreated : NothingBegins (Names object) rest
 
 -- The object in which a component lies that is freed, as it is: it stays so while operations are called for what the component names.
 pub record Watch : Type 0 where
@@ -163,7 +162,7 @@ pub record Releases (known : Known) (watch : Option Watch) (object : Id) (access
   pub covered : IsCovered known.implicit known.program (Freeing number) access
   pub nowhere : IsNamedNowhere (outers known) places holds object
   pub unreferred : IsUnreferred (outers known) object
-  pub untreated : NothingTreated rest
+  pub untreated : NothingBegins (Names object) rest
 
 -- What is behind the finalization of an object that ceases to exist then.
 abbrev pub RestsAtEnd : Known → (object : Id) → (access : ℕ) → Home → (places : List Value) → (after : Control) → (lower : List Master) → Rooms → Holds → Type 0
@@ -218,11 +217,10 @@ Rests known (begins by done) held watch object access home places operands also 
     (by ≡ Creation) × (((also ≡ []) × Starting known held object access places after rooms holds) ⊎ Naming known held object access places operands also after rooms holds)
 Rests known (ends cause) held watch object access home places operands also after lower rooms holds = RestsBy known cause held watch object access home places operands also after lower rooms holds
 
--- What is known of the activation that waits, whatever the body is called for: the object has controlled parts, or is a declared one; no other object begins
--- behind it; and what each variable holds is as it is said of it.
+-- What is known of the activation that waits, whatever the body is called for: the object has controlled parts, or is a declared one; and what each variable holds is as
+-- it is said of it.
 pub record Paused (known : Known) (object : Id) (access : ℕ) (places : List Value) (after : Control) (lower : List Master) (rooms : Rooms) (holds : Holds) : Type 0 where
   pub parted : has_bare_objects known.program.types access ≡ false
-  pub untreated : (v : Value) → v ≢ Names object → NothingBegins v after
   pub roomed : Roomed (below known) lower rooms
   pub said : (x : ℕ) → IsSaid (place_at (outers known).given x) (hold_at holds x) (place_at places x)
   pub objects : (x : ℕ) → hold_at holds x ≢ hold.Lost → IsPlace known.program.types (outers known).referenced (variable_kind known.program.variables x) (place_at places x)
@@ -253,13 +251,13 @@ treated_frees implicit (begins by done) access k t = implicit.start_frees access
 treated_frees implicit (ends cause) access k t = ended_frees implicit cause access k t
 
 -- While a Free ends an object, the one that is watched, if there is one, is there, and is another one; and what is called then neither follows nor frees values of its
--- type.
+-- type, and calls no operation.
 abbrev pub IsSpared : Known → Treatment → Id → (access : ℕ) → List Object → (watch : Option Watch) → Type 0
 IsSpared known treatment o access heap None = Unit {0}
 IsSpared known (begins by done) o access heap (Some w) = ⊥
 IsSpared known (ends cause) o access heap (Some w) =
     (object_at heap w.holder ≡ Some w.is) × (w.holder ≢ o) × (is_access known.program.types w.is.cell.access ≡ true)
-    × (known.implicit.end_reaches access w.is.cell.access ≡ false)
+    × (known.implicit.end_reaches access w.is.cell.access ≡ false) × (known.barely access ≡ true)
 
 -- What is watched, if something is, is there as it was; and the bodies that run in front of this, of procedures among some that neither follow nor free values of its
 -- type, refer to nothing in it.
@@ -270,7 +268,7 @@ Watched p (Some w) behind s =
     × ((apart : ℕ → Bool) × AreApart p (watches (Some w)) apart × IsReaching p (watches (Some w)) apart (is_watched (Some w)) behind s)
 
 -- What is known where such a body is called: what waits for it, whether the object is held, which is in hand then, and what it may free, of which there is no alias.
--- Of what has no controlled parts, which bodies free alone, that is no other object to which the activation that waits refers.
+-- That is no other object to which the activation that waits refers.
 pub record Enters (known : Known) (treatment : Treatment) (o : Id) (x : Object) (after : Control) (heap : List Object) (places operands : List Value) (masters : List Master) : Type 0 where
   pub rooms : Rooms
   pub holds : Holds
@@ -288,7 +286,7 @@ pub record Enters (known : Known) (treatment : Treatment) (o : Id) (x : Object) 
   pub includes : (t : ℕ) → treated_frees known.implicit treatment x.cell.access after t ≡ true → may t ≡ true
   pub spares : Spares known may
   pub unaliased : Unaliased known.program.variables may holds
-  pub kept : (p : Id) (t : ℕ) → IsReferred also p t → may t ≡ true → is_access known.program.types t ≡ true → has_bare_objects known.program.types t ≡ true → ⊥
+  pub kept : (p : Id) (t : ℕ) → IsReferred also p t → may t ≡ true → is_access known.program.types t ≡ true → ⊥
 
 -- The activation that waits for the body, whose formal parameter stands for a record in the object.
 abbrev pub resting : (procedure : Option ℕ) (places : List Value) (treatment : Treatment) (object : Id) (access : ℕ) (also : List Reference) (place : Place) (behind : Control) (lower : List Master) → Keeping → Rooms → Holds → Suspension
@@ -313,23 +311,21 @@ abbrev pub holding : (held : Bool) (procedure : Option ℕ) (places : List Value
 holding held procedure places treatment object access also place behind lower kept rooms holds =
     record (resting procedure places treatment object access also place behind lower kept rooms holds) { held = holder_if held object access }
 
--- The procedure that the outermost one of these calls was made by: the operation, where they are those that it has made.
-abbrev pub called_by : (running : Option ℕ) → (inner : List Suspension) → Option ℕ
-called_by running [] = running
-called_by running (g ∷ gs) = called_by g.procedure gs
+-- An operation is called where an object is finalized (7.6.1).
+abbrev pub IsEnding : Treatment → Type 0
+IsEnding (begins by done) = ⊥
+IsEnding (ends cause) = Unit {0}
 
--- These activations wait for calls, and nothing is under way in them.
-abbrev pub AreCalls : List Suspension → Type 0
-AreCalls [] = Unit {0}
-AreCalls (g ∷ gs) = (IsAwaited g.control → ⊥) × (g.under ≡ []) × AreCalls gs
+-- What the body of such an operation may free: for an object that is initialized, what has no controlled parts; for one that is finalized, what its end may free.
+abbrev pub CoversBy : ProgramForm → Treatment → (access freed : ℕ) → Type 0
+CoversBy p (begins by done) access t = has_bare_objects p.types t ≡ true
+CoversBy p (ends cause) access t = (implicit_of p).end_frees access t ≡ true
 
--- The body of such an operation runs, or one that it has called: `inner` are the activations that wait for calls since then, the nearest one first.
-pub record Touching (program : Program) (s : State) : Type 0 where
+-- The body of such an operation runs, or one that it has called, or the operation of an object that one of these frees: `depth` activations wait for these since then, and
+-- behind them the one that waits for the operation.
+pub record Pause (program : Program) (depth : ℕ) (s : State) : Type 0 where
   pub number : ℕ
   pub is_body : IsBody (program_form program) (Some number)
-  pub inner : List Suspension
-  pub calls : AreCalls inner
-  pub operates : called_by (running_procedure s) inner ≡ Some number
   pub procedure : Option ℕ
   pub places : List Value
   pub suspensions : List Suspension
@@ -351,26 +347,71 @@ pub record Touching (program : Program) (s : State) : Type 0 where
   pub kept : Keeping
   pub rooms : Rooms
   pub holds : Holds
-  pub frugal : Frugally (thrift_of (program_form program)) lower behind s
   pub waits : Paused (known_in program procedure suspensions) object access places after lower rooms holds
+  pub covers : (t : ℕ) → CoveredIn (implicit_of (program_form program)) (seen_in (Some number) (program_form program)) t → CoversBy (program_form program) treatment access t
   pub also : List Reference
   pub operands : List Value
-  pub computed : operands_of (drop (suc (length inner)) s.activations) ≡ operands
+  pub computed : operands_of (drop (suc depth) s.activations) ≡ operands
   pub held : Bool
   pub watch : Option Watch
   pub still : Watched (program_form program) watch behind s
   pub rests : Rests (known_in program procedure suspensions) treatment held watch object access home places operands also after lower rooms holds
-  pub stands : Stands program (inner ++ holding held procedure places treatment object access also place behind lower kept rooms holds ∷ suspensions) s
-  pub calm : IsCalm (behind_call behind)
-  pub settled : under_in (callers_of program suspensions) ≡ []
-  pub may : may_be_frugal (program_form program) ≡ true
   pub lets : (e : Exception) → body_among (implicit_of (program_form program)) (seen_in (Some number) (program_form program)) e ≡ true → lets_out (implicit_of (program_form program)) access treatment e ≡ true
-  pub ready : Ready (known_in program (running_procedure s) (inner ++ holding held procedure places treatment object access also place behind lower kept rooms holds ∷ suspensions)) s
 
 -- The activation that waits for the operation.
-abbrev pub origin : (program : Program) (s : State) → Touching program s → Suspension
-origin program s f = holding f.held f.procedure f.places f.treatment f.object f.access f.also f.place f.behind f.lower f.kept f.rooms f.holds
+abbrev pub origin : (program : Program) (depth : ℕ) (s : State) → Pause program depth s → Suspension
+origin program depth s f = holding f.held f.procedure f.places f.treatment f.object f.access f.also f.place f.behind f.lower f.kept f.rooms f.holds
 
--- The activations that wait for what runs, the nearest one first.
-abbrev pub waiting_for : (program : Program) (s : State) → Touching program s → List Suspension
-waiting_for program s f = f.inner ++ origin program s f ∷ f.suspensions
+-- An activation waits for a call, and nothing is under way in it.
+abbrev pub IsCall : Suspension → Type 0
+IsCall g = (IsAwaited g.control → ⊥) × (g.under ≡ [])
+
+-- In what the outermost operation has called so far, by what bodies go, what is left to do behind it, and the masters that were entered before it.
+module _ (program : Program) (s : State) (thrift : Thrift) (back : Control) (lower : List Master) where
+  -- An activation waits, in front of these, for the operation of an object that it frees, whose body is this one (7.6.1, 13.11.2): behind that its own body goes on, in
+  -- masters of its own.
+  pub record IsOperation (running : Option ℕ) (depth : ℕ) (others : List Suspension) (g : Suspension) : Type 0 where
+    pub pause : Pause program depth s
+    pub is : g ≡ origin program depth s pause
+    pub behind_it : others ≡ pause.suspensions
+    pub runs : running ≡ Some pause.number
+    pub freed : IsFreed pause.treatment
+    pub upper : List Master
+    pub masters : pause.lower ≡ upper ++ lower
+    pub own : OwnVariables upper
+    pub leads : FrugalLeads thrift back pause.behind upper
+
+  -- These activations wait, in front of others, the nearest one first, for calls or for such operations: the first one for the body that runs, and the last one is
+  -- the body of the outermost operation, if none waits, that is the one that runs.
+  abbrev pub AreInner : (running : Option ℕ) (depth : ℕ) (outermost : Option ℕ) (others : List Suspension) → List Suspension → Type 0
+  AreInner running depth outermost others [] = running ≡ outermost
+  AreInner running depth outermost others (g ∷ inner) = (IsCall g ⊎ IsOperation running depth (inner ++ others) g) × AreInner g.procedure (suc depth) outermost others inner
+
+-- What the bodies go by that run for a treatment (7.6): those of a Finalize may free objects with controlled parts.
+abbrev pub GoesBy : ProgramForm → Treatment → Thrift → Type 0
+GoesBy p treatment thrift = (thrift ≡ thrift_of p false) ⊎ ((thrift ≡ thrift_of p true) × IsEnding treatment)
+
+-- An operation that touches storage is under way: `inner` are the activations that wait since then, the nearest one first; and behind the outermost operation none runs.
+pub record Within (program : Program) (gs : List Suspension) (s : State) : Type 0 where
+  pub inner : List Suspension
+  pub outermost : Pause program (length inner) s
+  pub are : gs ≡ inner ++ origin program (length inner) s outermost ∷ outermost.suspensions
+  pub thrift : Thrift
+  pub goes_by : GoesBy (program_form program) outermost.treatment thrift
+  pub within : AreInner program s thrift outermost.behind outermost.lower (running_procedure s) 0 (Some outermost.number) (origin program (length inner) s outermost ∷ outermost.suspensions) inner
+  pub frugal : Frugally thrift outermost.lower outermost.behind s
+  pub untreated : (v : Value) → v ≢ Names outermost.object → NothingBegins v outermost.after
+  pub calm : IsCalm (behind_call outermost.behind)
+  pub settled : under_in (callers_of program outermost.suspensions) ≡ []
+  pub may : may_be_frugal (program_form program) ≡ true
+
+-- What is around a body, or around what is treated, where these activations wait: no operation runs, or one that touches storage is under way.
+abbrev pub Around : (program : Program) → List Suspension → State → Type 0
+Around program gs s = (IsCalm (behind_call s.control) × (under_in (callers_of program gs) ≡ [])) ⊎ Within program gs s
+
+-- The body of an operation that touches storage runs, or one that it has called, or the operation of an object that one of these frees.
+pub record Touching (program : Program) (s : State) : Type 0 where
+  pub suspensions : List Suspension
+  pub ready : Ready (known_in program (running_procedure s) suspensions) s
+  pub stands : Stands program suspensions s
+  pub within : Within program suspensions s

@@ -17,7 +17,6 @@ use Rattle.ada_program.specs.ProgramForm.{TypeForm, VariableForm, BodyForm, Prog
 use Rattle.ada_program.specs.WellFormed.{IsWellFormed, formal_kinds, is_access, variable_kind}
 use Rattle.ada_quiet.specs.Bare.{has_bare_objects}
 use Rattle.ada_quiet.specs.Frugal.{is_frugal_body, thrift_of}
-use Rattle.ada_quiet.specs.InUse.{may_be_frugal}
 use Rattle.ada_flow.specs.declared.rule.Hold.TheVariants as hold
 use Rattle.ada_flow.specs.declared.rule.Region.TheVariants.{Whole}
 use Rattle.ada_flow.specs.Flow.{formal_hold, Holds, body_keeps, first_holds, gone_with, hold_at, keeping_of, variable_access}
@@ -28,27 +27,28 @@ use Rattle.ada_meaning.specs.declared.state.Value.{Value}
 use Rattle.ada_meaning.specs.declared.state.Value.TheVariants.{Names, Part}
 use Rattle.ada_meaning.specs.Frame as frame
 use Rattle.ada_meaning.specs.Frame.{Elaborates, Returns, Treatment}
-use Rattle.ada_meaning.specs.State.{Activation, height}
+use Rattle.ada_meaning.specs.State.{Activation, Master, height}
 use Rattle.ada_meaning.specs.Step.{given_places, operating}
 use Rattle.ada_meaning.specs.Named.{Object, State, named, object_at}
 use Rattle.ada_meaning.specs.Run.{Event}
 use Rattle.ada_owners.specs.Places.{access_at, is_there, variable}
 use Rattle.ada_owners.specs.Reliance.{Owns, Borrows, Says}
 use Rattle.ada_typed.proofs.Bodies.{seen_as}
-use Rattle.ada_typed.proofs.Kept.{behind_call}
 use Rattle.ada_sound.proofs.Activations.{called_fit}
 use Rattle.ada_sound.proofs.Alters.{Alters}
-use Rattle.ada_sound.proofs.BareObjects.{frugal_frees_bare}
 use Rattle.ada_sound.proofs.Bodies.{IsBody, seen_is}
 use Rattle.ada_sound.proofs.BodyRuns.{body_runs}
 use Rattle.ada_sound.proofs.Calls.{home_low, relied_says}
-use Rattle.ada_sound.proofs.Callers.{Suspension, caller_of, known_in, Stands, callers_of}
-use Rattle.ada_sound.proofs.Touching.{Enters, under_way, Touching, Watched, holding}
+use Rattle.ada_sound.proofs.Callers.{Suspension, caller_of, known_in, Stands}
+use Rattle.ada_sound.proofs.Touching.{CoversBy, Enters, Pause, under_way, Watched, holding, origin}
+use Rattle.ada_sound.proofs.QuietOperations.{ends_here}
+use Rattle.ada_sound.proofs.SparesOwn.{spares_end}
+use Rattle.ada_sound.specs.Agreement.{running_procedure}
+use Rattle.ada_sound.specs.Always.{SparesOwn}
 use Rattle.ada_sound.proofs.Fits.{Fit, IsPlace, IsReferred, IsSaid, IsWithin, NoOuterAlias, none_spared, outer_access, outer_hold, place_at, IsRelied, there_by, Reference}
-use Rattle.ada_sound.proofs.FrugalControl.{frugal_starts}
 use Rattle.ada_sound.proofs.Held.{fit_held, held_borrows, held_lies, holder_if, with_held}
-use Rattle.ada_sound.proofs.Invariant.{Control, CoveredIn, Known, RunsOn, Spares, outer_of, outers, body_among, IsAwaited, under_in}
-use Rattle.ada_sound.proofs.Operating.{IsCalm, WaitsFor, behind_operation, lets_out}
+use Rattle.ada_sound.proofs.Invariant.{Control, CoveredIn, Known, Ready, RunsOn, Spares, outer_of, outers, body_among, IsAwaited}
+use Rattle.ada_sound.proofs.Operating.{WaitsFor, behind_operation, lets_out}
 use Rattle.ada_sound.proofs.Orderings.{as_good}
 use Rattle.ada_sound.proofs.Returns.{same_types}
 use Rattle.ada_sound.proofs.Starts.{Obeys, untracked_body_obeys, lost_first, none_out, none_on}
@@ -58,6 +58,22 @@ use Rattle.ada_sound.proofs.Stored.{stored_entered, IsUnder}
 use Rattle.ada_sound.proofs.Waiting.{stands_kept}
 use Rattle.ada_program.specs.declared.program.Exception.{Exception}
 use Rattle.ada_meaning.specs.declared.event.Cause.TheVariants.{Leaving, Freeing, Assigning, Undoing}
+
+-- The body of an operation that touches storage has begun, in a master of its own: the activation that waits for it, in front of these, goes on behind it, with this
+-- treatment, and in the masters that were entered before.
+pub record Begun (program : Program) (gs : List Suspension) (treatment : Treatment) (behind : Control) (lower : List Master) (after : State) : Type 0 where
+  pub pause : Pause program 0 after
+  pub suspensions : pause.suspensions ≡ gs
+  pub treated : pause.treatment ≡ treatment
+  pub is_behind : pause.behind ≡ behind
+  pub is_lower : pause.lower ≡ lower
+  pub ready : Ready (known_in program (running_procedure after) (origin program 0 after pause ∷ gs)) after
+  pub stands : Stands program (origin program 0 after pause ∷ gs) after
+  pub runs : running_procedure after ≡ Some pause.number
+  pub frugal : is_frugal_body (thrift_of (program_form program) (ends_here treatment)) pause.is_body.0 ≡ true
+  pub before : State
+  pub is : after ≡ operating named pause.number pause.is_body.0 (Part pause.object pause.place) behind before
+  pub masters : before.masters ≡ lower
 
 -- The only formal parameter of an operation is a record: its body borrows what that refers to, and relies on no other variable.
 pub record IsAlone (b : BodyForm) : Type 0 where
@@ -96,8 +112,8 @@ referred_split [] others o t is = inr is
 referred_split (r ∷ first) others o t (inl same) = inl (inl same)
 referred_split (r ∷ first) others o t (inr is) = elim (referred_split first others o t is) [ inl one ↦ inl (inr one) | inr other ↦ inr other ]
 
-module _ (program : Program) (well : IsWellFormed (program_form program)) (obeys : Obeys program) (number : ℕ) (apart : is_tracker (program_form program) number ≡ false) (b : BodyForm) (there : slice_get (body_forms program) number ≡ Some b) (may : may_be_frugal (program_form program) ≡ true) (frugal : is_frugal_body (thrift_of (program_form program)) b ≡ true) (lone : IsAlone b) (a : Activation Value) (rest : List (Activation Value)) (gs : List Suspension) (s : State) (k : Control) (o : Id) (x : Object) (heap : List Object) (found : object_at heap o ≡ Some x) (exists : is_there x.stage ≡ true) (place : Place)
-    (within : IsWithin (program_form program).types (variable_kind b.variables 0) x.cell.access place.component) (treatment : Treatment) (at : Enters (known_in program a.procedure gs) treatment o x k heap a.places a.operands s.masters) (behind : Control) where
+module _ (program : Program) (well : IsWellFormed (program_form program)) (obeys : Obeys program) (number : ℕ) (apart : is_tracker (program_form program) number ≡ false) (b : BodyForm) (there : slice_get (body_forms program) number ≡ Some b) (lone : IsAlone b) (a : Activation Value) (rest : List (Activation Value)) (gs : List Suspension) (s : State) (k : Control) (o : Id) (x : Object) (heap : List Object) (found : object_at heap o ≡ Some x) (exists : is_there x.stage ≡ true) (place : Place)
+    (within : IsWithin (program_form program).types (variable_kind b.variables 0) x.cell.access place.component) (treatment : Treatment) (frugal : is_frugal_body (thrift_of (program_form program) (ends_here treatment)) b ≡ true) (spares_own : SparesOwn program) (at : Enters (known_in program a.procedure gs) treatment o x k heap a.places a.operands s.masters) (behind : Control) where
   abbrev p : ProgramForm
   p = program_form program
 
@@ -150,8 +166,21 @@ module _ (program : Program) (well : IsWellFormed (program_form program)) (obeys
       let now : Fit (seen_by number b p).types (seen_by number b p).variables (outers body) none_spared heap begins first = rw same at begun_fit in
       rw (seen_as p number b there) now
 
-  -- What the body may free is what the treatment of the object may.
-  module _ (frees : (t : ℕ) → CoveredIn (implicit_of p) own t → at.may t ≡ true) (lets : (e : Exception) → body_among (implicit_of p) own e ≡ true → lets_out (implicit_of p) x.cell.access treatment e ≡ true) where
+  -- What the body may free, the treatment of the object may. It may not free the object itself: one that is initialized has controlled parts, and what its body frees has
+  -- none; and the end of an object frees none of its own type.
+  module _ (frees : (t : ℕ) → CoveredIn (implicit_of p) own t → at.may t ≡ true) (covers_by : (t : ℕ) → CoveredIn (implicit_of p) own t → CoversBy p treatment x.cell.access t) (lets : (e : Exception) → body_among (implicit_of p) own e ≡ true → lets_out (implicit_of p) x.cell.access treatment e ≡ true) where
+    -- An object of this type is not what is treated.
+    other_type : (by : Treatment) (t : ℕ) → CoversBy p by x.cell.access t → is_access known.program.types t ≡ true → x.cell.access ≡ t → ⊥
+    other_type (frame.begins how done) t bare access same =
+        let parted : has_bare_objects p.types x.cell.access ≡ false = subst (λ (types : List TypeForm). has_bare_objects types x.cell.access ≡ false) (same_types a.procedure p) at.waits.parted in
+        let free : has_bare_objects p.types x.cell.access ≡ true = rw same bare in
+        cc (parted, free)
+    other_type (frame.ends cause) t ended access same =
+        let accessed : is_access p.types t ≡ true = subst (λ (types : List TypeForm). is_access types t ≡ true) (same_types a.procedure p) access in
+        let spared = (spares_end p spares_own t accessed).0 in
+        let freed : (implicit_of p).end_frees t t ≡ true = rw same at ended in
+        cc (spared, freed)
+
     no_outer : (t : ℕ) → CoveredIn (implicit_of p) own t → NoOuterAlias known.program.types (outers body) t
     no_outer t may' = (
       (λ d y of b'. (by_depth d y of b')),
@@ -165,16 +194,12 @@ module _ (program : Program) (well : IsWellFormed (program_form program)) (obeys
         by_depth zero y of b' = at.unaliased y t of ends b'
         by_depth (suc d) y of b' = held_borrows at.held o x.cell.access (outers known).suspended t (at.spares t ends).0.0 d y of b'
 
-        -- What the body may free has no controlled parts, and the object that is treated has some.
-        bare : has_bare_objects known.program.types t ≡ true
-        bare = subst (λ (types : List TypeForm). has_bare_objects types t ≡ true) (sym (same_types a.procedure p)) (frugal_frees_bare program well number b there frugal t may')
-
         by_reference : (p' : Id) → IsReferred (outers body).referenced p' t → is_access known.program.types t ≡ true → ⊥
-        by_reference p' (inl (same, of)) access = let parted = at.waits.parted in cc (rw of at parted, bare)
+        by_reference p' (inl (same, of)) access = other_type treatment t (covers_by t may') access of
         by_reference p' (inr is) access = by (referred_split at.also (outers known).referenced p' t is)
           where
             by : IsReferred at.also p' t ⊎ IsReferred (outers known).referenced p' t → ⊥
-            by (inl other) = at.kept p' t other ends access bare
+            by (inl other) = at.kept p' t other ends access
             by (inr outer) = (at.spares t ends).0.1 p' outer access
 
     spares : Spares body (body_frees own.types (effects_of (implicit_of p) own) (main_body own))
@@ -183,7 +208,7 @@ module _ (program : Program) (well : IsWellFormed (program_form program)) (obeys
     covers : (t : ℕ) → CoveredIn (implicit_of p) own t → CoveredIn (implicit_of p) known.program t
     covers t may = (at.spares t (frees t may)).1
 
-    is_body : IsBody p (Some number)
+    abbrev is_body : IsBody p (Some number)
     is_body = (b, there)
 
     same_body : main_body own ≡ b
@@ -216,71 +241,80 @@ module _ (program : Program) (well : IsWellFormed (program_form program)) (obeys
     under_low (frame.ends (Undoing number)) q (inl same) = rw (← same) object_low
     under_low (frame.ends (Undoing number)) q (inr none) = absurd none
 
-    pub touching_begins : (e : Event) (of : ℕ) (tasks : List Task) → Alters s.heap e heap → WaitsFor (program_form program).types o of treatment tasks k behind → IsAwaited behind → Stands program gs (record s { activations = a ∷ rest }) → IsCalm (behind_call behind) → under_in (callers_of program gs) ≡ []
+    pub touching_begins : (e : Event) (of : ℕ) (tasks : List Task) → Alters s.heap e heap → WaitsFor (program_form program).types o of treatment tasks k behind → IsAwaited behind → Stands program gs (record s { activations = a ∷ rest })
         → Watched (program_form program) at.watch behind (operating named number b (Part o place) behind (record s { activations = a ∷ rest; heap = heap; mode = Running }))
-        → Touching program (operating named number b (Part o place) behind (record s { activations = a ∷ rest; heap = heap; mode = Running }))
-    touching_begins e of tasks alters awaited waited stands calm settled watched =
-        let after = operating named number b (Part o place) behind (record s { activations = a ∷ rest; heap = heap; mode = Running }) in
-        let still = stands_kept program (record s { activations = a ∷ rest }) (behind_operation (a ∷ rest) behind s.masters after) gs stands e (record { procedure = refl; suspended = refl }) alters in
-        record {
-          number = number;
-          is_body = is_body;
-          inner = [];
-          operates = refl;
-          procedure = a.procedure;
-          places = a.places;
-          suspensions = gs;
-          object = o;
-          place = place;
-          x = x;
-          found = found;
-          access = x.cell.access;
-          of_access = refl;
-          home = x.cell.home;
-          at_home = refl;
-          treatment = treatment;
-          of = of;
-          behind = behind;
-          after = k;
-          tasks = tasks;
-          awaited = awaited;
-          lower = s.masters;
-          kept = waiting.kept;
-          rooms = at.rooms;
-          holds = at.holds;
-          frugal = frugal_starts (thrift_of p) number b frugal (Part o place) behind (record s { activations = a ∷ rest; heap = heap; mode = Running });
-          waits = at.waits;
-          also = at.also;
-          operands = a.operands;
-          computed = refl;
-          held = at.held;
-          watch = at.watch;
-          still = watched;
-          rests = at.rests;
-          calls = tt;
-          stands = record {
-            body = is_body;
-            behind = ([], [], behind, refl);
-            bodies = (refl, stands.body, stands.behind, stands.bodies);
-            standing = record {
-              suspended = (refl, stands.standing.suspended);
-              waiting = (inr (record { roomed = at.waits.roomed; covers = covers; operated = waited }), stands.standing.waiting);
-              low = (variables_low, referred_low, under_low treatment, still.standing.low, held_lies at.held o x.cell.access heap (height s.masters) object_low);
+        → (begun : Begun program gs treatment behind s.masters (operating named number b (Part o place) behind (record s { activations = a ∷ rest; heap = heap; mode = Running }))) × (begun.pause.object ≡ o) × (begun.pause.after ≡ k)
+    touching_begins e of tasks alters awaited waited stands watched =
+        let before = record s { activations = a ∷ rest; heap = heap; mode = Running } in
+        let after = operating named number b (Part o place) behind before in
+        let still = stands_kept program (record s { activations = a ∷ rest }) (behind_operation (a ∷ rest) behind s.masters after) gs stands e (record { procedure = refl; suspended = refl }) alters in (
+          record {
+            pause = record {
+              number = number;
+              is_body = is_body;
+              procedure = a.procedure;
+              places = a.places;
+              suspensions = gs;
+              object = o;
+              place = place;
+              x = x;
+              found = found;
+              access = x.cell.access;
+              of_access = refl;
+              home = x.cell.home;
+              at_home = refl;
+              treatment = treatment;
+              of = of;
+              behind = behind;
+              after = k;
+              tasks = tasks;
+              awaited = awaited;
+              lower = s.masters;
+              kept = waiting.kept;
+              rooms = at.rooms;
+              holds = at.holds;
+              waits = at.waits;
+              covers = covers_by;
+              also = at.also;
+              operands = a.operands;
+              computed = refl;
+              held = at.held;
+              watch = at.watch;
+              still = watched;
+              rests = at.rests;
+              lets = lets;
             };
-          };
-          calm = calm;
-          settled = settled;
-          may = may;
-          lets = lets;
-          ready = (
-            tt,
-            record {
-              rooms = gone_with b.declarations ∷ [];
-              holds = first;
-              stored = stored_entered s.next at.stored;
-              roomed = (tt, refl);
-              fit = body_fit;
-              rest = runs;
-            },
-          );
-        }
+            suspensions = refl;
+            treated = refl;
+            is_behind = refl;
+            is_lower = refl;
+            ready = (
+              tt,
+              record {
+                rooms = gone_with b.declarations ∷ [];
+                holds = first;
+                stored = stored_entered s.next at.stored;
+                roomed = (tt, refl);
+                fit = body_fit;
+                rest = runs;
+              },
+            );
+            stands = record {
+              body = is_body;
+              behind = ([], [], behind, refl);
+              bodies = (refl, stands.body, stands.behind, stands.bodies);
+              standing = record {
+                suspended = (refl, stands.standing.suspended);
+                waiting = (inr (record { roomed = at.waits.roomed; covers = covers; operated = waited }), stands.standing.waiting);
+                low = (variables_low, referred_low, under_low treatment, still.standing.low, held_lies at.held o x.cell.access heap (height s.masters) object_low);
+              };
+            };
+            runs = refl;
+            frugal = frugal;
+            before = before;
+            is = refl;
+            masters = refl;
+          },
+          refl,
+          refl,
+        )

@@ -3,7 +3,7 @@
 
 use Rattle.ada_sound.proofs.Leavings.{owns_relied, borrows_relied, component_borrows}
 use Rattle.ada_meaning.specs.Heap.{Home}
-use Rattle.std.proofs.Common.{◌≡◌, ◌≢◌, ℕ, Bool, true, false, List, [], ◌∷◌, ◌++◌, refl, sym, ap, ◌∙◌, ◌⊎◌, subst, inl, inr, slice_set, drop, length, suc}
+use Rattle.std.proofs.Common.{◌≡◌, ◌≢◌, ℕ, Bool, true, false, List, [], ◌∷◌, ◌++◌, refl, sym, ap, ◌∙◌, ◌⊎◌, subst, inl, inr, slice_set, drop}
 use Rattle.std.specs.Prelude.{Option, Some, None}
 use Rattle.std.specs.List.{slice_get}
 use Rattle.ada_program.specs.declared.program.Exception.{Exception}
@@ -42,7 +42,7 @@ use Rattle.ada_sound.proofs.Awaiting.{goes_along}
 use Rattle.ada_sound.proofs.Callers.{rest_of, Suspension, caller_of, known_in, Stands, AreOf, callers_of}
 use Rattle.ada_sound.proofs.Emptying.{null_again}
 use Rattle.ada_sound.proofs.Held.{fit_unheld, held_alone, holder_if, unnamed_hand, with_held}
-use Rattle.ada_sound.proofs.Touching.{AwaitsAmong, IsNamedNowhere, Touching, Empties, Resting, Rests, RestsAsOwned, RestsAtEnd, Starting, Naming, under_way, Undoes, origin, called_by, Overwrites, Releases, RestsBy, StoresInto, Watch, Watched}
+use Rattle.ada_sound.proofs.Touching.{AwaitsAmong, IsEnding, IsNamedNowhere, Pause, Empties, Resting, Rests, RestsAsOwned, RestsAtEnd, Starting, Naming, under_way, Undoes, origin, Overwrites, Releases, RestsBy, StoresInto, Watch, Watched}
 use Rattle.ada_sound.proofs.Fits.{Fit, Hand, hold_in, place_at, is_object, stacked, none_spared, plain_place, put_owner, sparing, outer_hold, outer_value_at, spare_fit, weaker_fit, IsReferred, Reference, component_access, component_value, referred_first, store_blank, store_owner}
 use Rattle.ada_sound.proofs.Invariant.{AllWait, Control, Known, Rooms, GoesOn, Working, Ending, EndsTo, ReadyIn, TreatsBy, innermost, outer_of, outers, IsLive, Beginning, StartsTo, BeginsWell, Ready, IsActive, AreSuspended, CopiesBehind, EndsBy, LiesIn, StoresBehind, FreesWell, IsCovered, EndsBeside, EndsWellBy, AwaitsIn, GoesTo, HasRoom, IsHolder, IsMade, Making, NamesTo, RoomFor, To, RunsOn}
 use Rattle.ada_sound.proofs.Operating.{behind_operation, lets_out, WaitsFor}
@@ -77,12 +77,12 @@ module _ (known : Known) (heap : List Object) (held : List Value) (holds : Holds
 ends_first : (known : Known) (o : Id) (after k : Control) (heap : List Object) (held : List Value) (ms : List Master) → after ≡ Ends (Names o) ∷ k → Ending known o k heap held ms → EndsTo known (Names o) after heap held ms
 ends_first known o after k heap held ms is ending = rw is (refl, ending)
 
-module _ (program : Program) (well : IsWellFormed (program_form program)) (s : State) (f : Touching program s) (parted : (cause : Cause) → IsEnd cause → f.treatment ≡ ends cause → f.x.listed ≡ false) (a b : Activation Value) (rest : List (Activation Value)) (acts_so : s.activations ≡ a ∷ b ∷ rest) (none : f.inner ≡ []) (ends_now : s.control ≡ Returns [] [] ∷ f.behind) (masters_are : s.masters ≡ f.lower) where
+module _ (program : Program) (well : IsWellFormed (program_form program)) (s : State) (f : Pause program 0 s) (parted : (cause : Cause) → IsEnd cause → f.treatment ≡ ends cause → f.x.listed ≡ false) (ready : Ready (known_in program (running_procedure s) (origin program 0 s f ∷ f.suspensions)) s) (stands_now : Stands program (origin program 0 s f ∷ f.suspensions) s) (operates : running_procedure s ≡ Some f.number) (a b : Activation Value) (rest : List (Activation Value)) (acts_so : s.activations ≡ a ∷ b ∷ rest) (ends_now : s.control ≡ Returns [] [] ∷ f.behind) (masters_are : s.masters ≡ f.lower) where
   abbrev own : Known
   own = known_in program f.procedure f.suspensions
 
   abbrev waiting : Suspension
-  waiting = origin program s f
+  waiting = origin program 0 s f
 
   abbrev running : Known
   running = known_in program (Some f.number) (waiting ∷ f.suspensions)
@@ -90,17 +90,8 @@ module _ (program : Program) (well : IsWellFormed (program_form program)) (s : S
   abbrev Works : List Value → Type 0
   Works held = Working running s.heap held f.lower (λ rooms holds. Unit {0})
 
-  -- It has called no other one.
-  operates : running_procedure s ≡ Some f.number
-  operates = subst (λ (inner : List Suspension). called_by (running_procedure s) inner ≡ Some f.number) none f.operates
-
-  stands_now : Stands program (waiting ∷ f.suspensions) s
-  stands_now = subst (λ (inner : List Suspension). Stands program (inner ++ waiting ∷ f.suspensions) s) none f.stands
-
   ready_there : Ready running s
-  ready_there =
-      subst (λ (procedure : Option ℕ). Ready (known_in program procedure (waiting ∷ f.suspensions)) s) operates
-      (subst (λ (inner : List Suspension). Ready (known_in program (running_procedure s) (inner ++ waiting ∷ f.suspensions)) s) none f.ready)
+  ready_there = subst (λ (procedure : Option ℕ). Ready (known_in program procedure (waiting ∷ f.suspensions)) s) operates ready
 
   stands_parts : Stands program (waiting ∷ f.suspensions) (record s { activations = a ∷ b ∷ rest })
   stands_parts = record {
@@ -383,9 +374,7 @@ module _ (program : Program) (well : IsWellFormed (program_form program)) (s : S
   -- The copy is next, where a record in the object is assigned to.
   operands_are : f.operands ≡ b.operands
   operands_are =
-      sym f.computed
-      ∙ (ap (λ (inner : List Suspension). operands_of (drop (suc (length inner)) s.activations)) none
-      ∙ ap (λ (all : List (Activation Value)). operands_of (drop 1 all)) acts_so)
+      sym f.computed ∙ ap (λ (all : List (Activation Value)). operands_of (drop 1 all)) acts_so
 
   -- The object is in hand, where nothing is relied on to name it.
   in_hand : f.held ≡ true → IsNamedNowhere (outers own) f.places f.holds f.object → Hand own.program.types own.program.variables (outers own) none_spared s.heap f.places f.holds (Some f.access) (Names f.object)
@@ -586,14 +575,29 @@ module _ (program : Program) (well : IsWellFormed (program_form program)) (s : S
       subst (λ (t : State). mode_next named program.types.items (body_forms program) s.mode t ≡ moves Quiet (left_in s.mode)) state_is
       (goes_by s.mode a (places s) (operands s) ready_now)
 
--- When the end of the body is next, what waits for the operation goes on, perhaps with an exception.
+  -- Nothing comes out of a Finalize but its end.
+  left_as : (mode : Mode) (held computed : List Value) → ReadyIn running mode (Returns [] [] ∷ f.behind) s.heap held computed f.lower → IsEnding f.treatment → left_in mode ≡ behind_operation (b ∷ rest) f.behind f.lower s
+  left_as Running held computed w ending = refl
+  left_as (Raising e) held computed w ending = absurd (never_out f.treatment ending (raised_out e w.rooms w.holds w.rest))
+    where
+      never_out : (treatment : Treatment) → IsEnding treatment → lets_out (implicit_of (program_form program)) f.access treatment e ≡ true → ⊥
+      never_out (begins by done) ending out = ending
+      never_out (ends cause) ending out = cc out
+  left_as Exiting held computed w ending = refl
+  left_as Returning held computed w ending = refl
+
+-- When the end of the body is next, what waits for the operation goes on, perhaps with an exception, which comes out of an Initialize alone.
 pub touching_ends :
-    (program : Program) → IsWellFormed (program_form program) → (s : State) → (f : Touching program s) → ((cause : Cause) → IsEnd cause → f.treatment ≡ ends cause → f.x.listed ≡ false)
-    → (a b : Activation Value) (rest : List (Activation Value)) → s.activations ≡ a ∷ b ∷ rest → f.inner ≡ [] → s.control ≡ Returns [] [] ∷ f.behind → s.masters ≡ f.lower
+    (program : Program) → IsWellFormed (program_form program) → (s : State) → (f : Pause program 0 s) → ((cause : Cause) → IsEnd cause → f.treatment ≡ ends cause → f.x.listed ≡ false)
+    → Ready (known_in program (running_procedure s) (origin program 0 s f ∷ f.suspensions)) s → Stands program (origin program 0 s f ∷ f.suspensions) s → running_procedure s ≡ Some f.number
+    → (a b : Activation Value) (rest : List (Activation Value)) → s.activations ≡ a ∷ b ∷ rest → s.control ≡ Returns [] [] ∷ f.behind → s.masters ≡ f.lower
     → (after : State) × (next program.types.items (body_forms program) s ≡ moves Quiet after) × CrossesTo program f.suspensions s.heap Quiet after × (after.control ≡ f.behind)
-touching_ends program well s f parted a b rest acts_so none ends_now masters_are = (
-  left_in program well s f parted a b rest acts_so none ends_now masters_are s.mode,
-  goes_now program well s f parted a b rest acts_so none ends_now masters_are,
-  crosses_by program well s f parted a b rest acts_so none ends_now masters_are s.mode (places s) (operands s) (ready_now program well s f parted a b rest acts_so none ends_now masters_are),
-  left_control program well s f parted a b rest acts_so none ends_now masters_are s.mode,
-)
+    × (IsEnding f.treatment → after ≡ behind_operation (b ∷ rest) f.behind f.lower s)
+touching_ends program well s f parted ready stands operates a b rest acts_so ends_now masters_are =
+    let now = ready_now program well s f parted ready stands operates a b rest acts_so ends_now masters_are in (
+      left_in program well s f parted ready stands operates a b rest acts_so ends_now masters_are s.mode,
+      goes_now program well s f parted ready stands operates a b rest acts_so ends_now masters_are,
+      crosses_by program well s f parted ready stands operates a b rest acts_so ends_now masters_are s.mode (places s) (operands s) now,
+      left_control program well s f parted ready stands operates a b rest acts_so ends_now masters_are s.mode,
+      left_as program well s f parted ready stands operates a b rest acts_so ends_now masters_are s.mode (places s) (operands s) now,
+    )

@@ -16,7 +16,6 @@ use Rattle.ada_meaning.specs.declared.state.Id.{Id}
 use Rattle.ada_meaning.specs.declared.state.Mode.{Mode}
 use Rattle.ada_meaning.specs.declared.state.Value.{Value}
 use Rattle.ada_meaning.specs.declared.state.Value.TheVariants.{Names, Null, Part, Scalar}
-use Rattle.ada_meaning.specs.Finalization.{NothingTreated}
 use Rattle.ada_parts.specs.Part as parts
 use Rattle.ada_meaning.specs.Frame.{Clears, ClearsIn, Copies, Ends, GivesBack, Leaves, Resumes, ends, begins, Stores, Declares, StoresIn, StoresRecord}
 use Rattle.ada_meaning.specs.Law.{items_of}
@@ -40,9 +39,8 @@ use Rattle.ada_sound.proofs.NoneHidden.{set_itself}
 use Rattle.ada_sound.proofs.Objects.{set_twice}
 use Rattle.ada_sound.proofs.Items.{Counted, HasItem, Houses, newest_is}
 use Rattle.ada_sound.proofs.Stored.{Stored, exists_out}
-use Rattle.ada_finalized.proofs.Standing.{nothing_begins, AdjustsAlone}
+use Rattle.ada_finalized.proofs.Standing.{AdjustsAlone}
 use Rattle.ada_meaning.specs.Heap.{Home}
-use Rattle.ada_meaning.specs.declared.event.Birth.{Birth}
 use Rattle.ada_finalized.specs.Law.{NothingBegins}
 use Rattle.ada_meaning.specs.Step.{first_or, treating}
 use Rattle.ada_parts.specs.Task.{Task}
@@ -79,11 +77,6 @@ frees_at_end implicit (Leaving m item) end access k t is = is
 frees_at_end implicit (Freeing number) end access k t is = is
 frees_at_end implicit (Assigning number) end access k t is = absurd end
 frees_at_end implicit (Undoing number) end access k t is = is
-
--- Where an object is initialized or adjusted, nothing of another one begins.
-treating_others : (v : Value) (o : Id) (by : Birth) (tasks : List Task) (k : Control) → v ≢ Names o → NothingBegins v k → NothingBegins v (treating (Names o) (begins by []) tasks k)
-treating_others v o by [] k ne none = none
-treating_others v o by (task ∷ tasks) k ne none = ((λ same. ne (sym same)), none)
 
 -- What is relied on to name an object owns it or borrows it.
 relied_apart : (h : Hold) → IsRelied h → Owns h ⊎ Borrows h
@@ -139,8 +132,8 @@ module _ (known : Known) (o : Id) (x : Object) (heap : List Object) (found : obj
   none_others : (p : Id) (t : ℕ) → IsReferred [] p t → access_at heap p ≡ Some t
   none_others p t none = absurd none
 
-  none_kept : (may : ℕ → Bool) (p : Id) (t : ℕ) → IsReferred [] p t → may t ≡ true → is_access known.program.types t ≡ true → has_bare_objects known.program.types t ≡ true → ⊥
-  none_kept may p t none freed access bare = none
+  none_kept : (may : ℕ → Bool) (p : Id) (t : ℕ) → IsReferred [] p t → may t ≡ true → is_access known.program.types t ≡ true → ⊥
+  none_kept may p t none freed access = none
 
   -- One is.
   one_other : (source : Reference) → access_at heap source.object ≡ Some source.access → (p : Id) (t : ℕ) → IsReferred (source ∷ []) p t → access_at heap p ≡ Some t
@@ -148,7 +141,7 @@ module _ (known : Known) (o : Id) (x : Object) (heap : List Object) (found : obj
   one_other source there p t (inr none) = absurd none
 
   -- The master is left: the home of the object is the newest item, and one for whose objects such an operation may be called.
-  module _ (ahead : (owned : Owned) → Houses owned x.cell.access x.cell.home.pool → OwnedFits known.program.types owned → known.ahead owned ≡ true) (mode : Mode) (rest : Control) (master : ℕ) (newest : IsNewest x.cell.home.item (innermost masters)) (untreated : NothingTreated rest) (stored : Stored (o ∷ (outers known).under) heap masters) (out : x.out ≡ true) (r : Freed known (Some o) (sparing known.ahead heap (innermost masters)) heap places masters (RunsOn known (Leaves mode ∷ rest))) where
+  module _ (ahead : (owned : Owned) → Houses owned x.cell.access x.cell.home.pool → OwnedFits known.program.types owned → known.ahead owned ≡ true) (mode : Mode) (rest : Control) (master : ℕ) (newest : IsNewest x.cell.home.item (innermost masters)) (untreated : NothingBegins (Names o) rest) (stored : Stored (o ∷ (outers known).under) heap masters) (out : x.out ≡ true) (r : Freed known (Some o) (sparing known.ahead heap (innermost masters)) heap places masters (RunsOn known (Leaves mode ∷ rest))) where
     left_over : (ms : List Master) → masters ≡ ms → in_front known.ahead (innermost ms) ≡ []
     left_over [] at = absurd (rw at at newest)
     left_over (m ∷ ms) at = left_by known (o ∷ (outers known).under) heap o x found out ahead m ms (rw at at stored) (rw at at fits) m.items refl (rw at at newest)
@@ -182,7 +175,6 @@ module _ (known : Known) (o : Id) (x : Object) (heap : List Object) (found : obj
     paused_here : Paused known o x.cell.access places behind_it masters r.rooms r.holds
     paused_here = record {
       parted = not_bare;
-      untreated = λ v ne. nothing_begins v rest untreated;
       roomed = r.roomed;
       said = r.fit.said;
       objects = r.fit.objects;
@@ -218,12 +210,12 @@ module _ (known : Known) (o : Id) (x : Object) (heap : List Object) (found : obj
   module _ (ahead : (owned : Owned) → Houses owned x.cell.access x.cell.home.pool → OwnedFits known.program.types owned → known.ahead owned ≡ true)
       (touches : known.touches x.cell.access ≡ true)
       (starts : (access t : ℕ) → known.implicit.end_frees access t ≡ true → known.implicit.start_frees access t ≡ true) (way : Cause) (end : IsEnd way) where
-    leaving : (m item : ℕ) (pool : Option ℕ) (k : Control) → item ≡ x.cell.home.item → pool ≡ x.cell.home.pool → IsNewest x.cell.home.item (innermost masters) → Stored (o ∷ (outers known).under) heap masters → x.out ≡ true → NothingTreated k → LeavesTo known (Some o) heap places masters k → Enters known (ends way) o x (Ends (Names o) ∷ GivesBack (Names o) (Leaving m item) pool ∷ k) heap places operands masters
+    leaving : (m item : ℕ) (pool : Option ℕ) (k : Control) → item ≡ x.cell.home.item → pool ≡ x.cell.home.pool → IsNewest x.cell.home.item (innermost masters) → Stored (o ∷ (outers known).under) heap masters → x.out ≡ true → NothingBegins (Names o) k → LeavesTo known (Some o) heap places masters k → Enters known (ends way) o x (Ends (Names o) ∷ GivesBack (Names o) (Leaving m item) pool ∷ k) heap places operands masters
     leaving m item pool [] own from newest stored out untreated r = absurd r
     leaving m item pool (Leaves mode ∷ rest) own from newest stored out untreated r = rw (own, from) (at_rest_here ahead mode rest m newest untreated stored out r way end)
     leaving m item pool (f ∷ k) own from newest stored out untreated r = absurd r
 
-    undone : (number : ℕ) (mode : Mode) (rest : Control) → NothingTreated rest → Stored (o ∷ (outers known).under) heap masters → CameOut known x.cell.access mode
+    undone : (number : ℕ) (mode : Mode) (rest : Control) → NothingBegins (Names o) rest → Stored (o ∷ (outers known).under) heap masters → CameOut known x.cell.access mode
         → Freed known (Some o) none_spared heap places masters (λ rooms holds. To (By mode (ways known rest rooms)) holds × BeginsWell known x.cell.access holds)
         → Enters known (ends way) o x (Ends (Names o) ∷ GivesBack (Names o) (Undoing number) x.cell.home.pool ∷ Resumes mode ∷ rest) heap places operands masters
     undone number mode rest untreated stored came r = record {
@@ -233,7 +225,6 @@ module _ (known : Known) (o : Id) (x : Object) (heap : List Object) (found : obj
       there = none_others;
       waits = record {
         parted = not_bare;
-        untreated = λ v ne. nothing_begins v rest untreated;
         roomed = r.roomed;
         said = r.fit.said;
         objects = r.fit.objects;
@@ -263,7 +254,7 @@ module _ (known : Known) (o : Id) (x : Object) (heap : List Object) (found : obj
       kept = none_kept (known.implicit.start_frees x.cell.access);
     }
 
-    undoing : (number : ℕ) (pool : Option ℕ) (k : Control) → pool ≡ x.cell.home.pool → NothingTreated k → Stored (o ∷ (outers known).under) heap masters → ResumesTo known (Some o) heap places masters k
+    undoing : (number : ℕ) (pool : Option ℕ) (k : Control) → pool ≡ x.cell.home.pool → NothingBegins (Names o) k → Stored (o ∷ (outers known).under) heap masters → ResumesTo known (Some o) heap places masters k
         → Enters known (ends way) o x (Ends (Names o) ∷ GivesBack (Names o) (Undoing number) pool ∷ k) heap places operands masters
     undoing number pool [] from untreated stored r = absurd r
     undoing number pool (Resumes mode ∷ rest) from untreated stored (access, (y, at, of), came, r) =
@@ -280,7 +271,7 @@ module _ (known : Known) (o : Id) (x : Object) (heap : List Object) (found : obj
     undoing number pool (f ∷ k) from untreated stored r = absurd r
 
     -- A variable is freed that names it.
-    emptying : (number y : ℕ) (k : Control) → IsCovered known.implicit known.program (Freeing number) x.cell.access → NothingTreated k → Stored (o ∷ (outers known).under) heap masters
+    emptying : (number y : ℕ) (k : Control) → IsCovered known.implicit known.program (Freeing number) x.cell.access → NothingBegins (Names o) k → Stored (o ∷ (outers known).under) heap masters
         → Freed known (Some o) none_spared heap (slice_set places y Null) masters (λ rooms holds. RunsOn known k rooms holds × FreesWell known heap (Some o) holds)
         → Enters known (ends way) o x (Ends (Names o) ∷ GivesBack (Names o) (Freeing number) x.cell.home.pool ∷ Clears y ∷ k) heap places operands masters
     emptying number y k covered untreated stored r =
@@ -293,7 +284,6 @@ module _ (known : Known) (o : Id) (x : Object) (heap : List Object) (found : obj
           there = none_others;
           waits = record {
             parted = not_bare;
-            untreated = λ v ne. nothing_begins v k untreated;
             roomed = r.roomed;
             said = fit.said;
             objects = fit.objects;
@@ -328,7 +318,7 @@ module _ (known : Known) (o : Id) (x : Object) (heap : List Object) (found : obj
         }
 
     -- A component is freed that names it, of another object, which operations leave alone that touch storage: the component owns it still.
-    module _ (number : ℕ) (p : Id) (c : ℕ) (k : Control) (covered : IsCovered known.implicit known.program (Freeing number) x.cell.access) (untreated : NothingTreated k) (stored : Stored (o ∷ (outers known).under) heap masters)
+    module _ (number : ℕ) (p : Id) (c : ℕ) (k : Control) (covered : IsCovered known.implicit known.program (Freeing number) x.cell.access) (untreated : NothingBegins (Names o) k) (stored : Stored (o ∷ (outers known).under) heap masters)
         (other : p ≢ o) (holder : Object) (at : object_at heap p ≡ Some holder) (there : is_there holder.stage ≡ true) (of_type : component_access known.program.types holder c ≡ Some x.cell.access) (names : slice_get holder.cell.values c ≡ Some (Names o))
         (beside : EndsBeside known x.cell.access holder.cell.access) (r : Freed known (Some o) none_spared (store heap (Names p) c Null) places masters (λ rooms holds. RunsOn known k rooms holds × FreesWell known heap (Some o) holds)) where
       -- What is left behind the end of the object.
@@ -388,7 +378,6 @@ module _ (known : Known) (o : Id) (x : Object) (heap : List Object) (found : obj
         there = none_others;
         waits = record {
           parted = not_bare;
-          untreated = λ v ne. nothing_begins v k untreated;
           roomed = r.roomed;
           said = r.fit.said;
           objects = r.fit.objects;
@@ -396,7 +385,7 @@ module _ (known : Known) (o : Id) (x : Object) (heap : List Object) (found : obj
         held = false;
         hand = tt;
         watch = Some watched_here;
-        spared = (at, other, (beside touches).0, (beside touches).1);
+        spared = (at, other, (beside touches).0, (beside touches).1, (beside touches).2);
         rests = rests_as_owned known way end false (Some watched_here) o x.cell.access x.cell.home places operands behind_release masters r.rooms r.holds (inr releases_here);
         fit = fit_before;
         stored = stored_at_end way end o (outers known).under heap masters stored;
@@ -408,7 +397,7 @@ module _ (known : Known) (o : Id) (x : Object) (heap : List Object) (found : obj
       }
 
     -- So it is, whatever leads to the component.
-    releasing : (number : ℕ) (v : Value) (c : ℕ) (k : Control) → IsCovered known.implicit known.program (Freeing number) x.cell.access → NothingTreated k → Stored (o ∷ (outers known).under) heap masters → ClearsTo known (Some o) heap places masters (ClearsIn v c ∷ k)
+    releasing : (number : ℕ) (v : Value) (c : ℕ) (k : Control) → IsCovered known.implicit known.program (Freeing number) x.cell.access → NothingBegins (Names o) k → Stored (o ∷ (outers known).under) heap masters → ClearsTo known (Some o) heap places masters (ClearsIn v c ∷ k)
         → Enters known (ends way) o x (Ends (Names o) ∷ GivesBack (Names o) (Freeing number) x.cell.home.pool ∷ ClearsIn v c ∷ k) heap places operands masters
     releasing number Null c k covered untreated stored r = absurd r.2
     releasing number (Names p) c k covered untreated stored ((y, at_y, there), other, (holder, object, at, found', of_type, names, beside), r) =
@@ -418,42 +407,42 @@ module _ (known : Known) (o : Id) (x : Object) (heap : List Object) (found : obj
     releasing number (Scalar n) c k covered untreated stored r = absurd r.2
     releasing number (Part p place) c k covered untreated stored r = absurd r.2
 
-    freeing : (number : ℕ) (pool : Option ℕ) (k : Control) → pool ≡ x.cell.home.pool → IsCovered known.implicit known.program (Freeing number) x.cell.access → NothingTreated k → Stored (o ∷ (outers known).under) heap masters → ClearsTo known (Some o) heap places masters k
+    freeing : (number : ℕ) (pool : Option ℕ) (k : Control) → pool ≡ x.cell.home.pool → IsCovered known.implicit known.program (Freeing number) x.cell.access → NothingBegins (Names o) k → Stored (o ∷ (outers known).under) heap masters → ClearsTo known (Some o) heap places masters k
         → Enters known (ends way) o x (Ends (Names o) ∷ GivesBack (Names o) (Freeing number) pool ∷ k) heap places operands masters
     freeing number pool [] from covered untreated stored r = absurd r
     freeing number pool (Clears y ∷ k) from covered untreated stored r = rw from (emptying number y k covered untreated stored r)
     freeing number pool (ClearsIn v c ∷ k) from covered untreated stored r = rw from (releasing number v c k covered untreated stored r)
     freeing number pool (f ∷ k) from covered untreated stored r = absurd r
 
-    by_cause : (cause : Cause) (pool : Option ℕ) (k : Control) → pool ≡ x.cell.home.pool → WillBeCovered known.implicit known.program x.cell.access (GivesBack (Names o) cause pool ∷ k) → Stored (o ∷ (outers known).under) heap masters → x.out ≡ true → NothingTreated k → Behind known cause (Some o) x.cell.home.item heap places masters k → Enters known (ends way) o x (Ends (Names o) ∷ GivesBack (Names o) cause pool ∷ k) heap places operands masters
+    by_cause : (cause : Cause) (pool : Option ℕ) (k : Control) → pool ≡ x.cell.home.pool → WillBeCovered known.implicit known.program x.cell.access (GivesBack (Names o) cause pool ∷ k) → Stored (o ∷ (outers known).under) heap masters → x.out ≡ true → NothingBegins (Names o) k → Behind known cause (Some o) x.cell.home.item heap places masters k → Enters known (ends way) o x (Ends (Names o) ∷ GivesBack (Names o) cause pool ∷ k) heap places operands masters
     by_cause (Leaving m item) pool k from covered stored out untreated b = leaving m item pool k b.0 from b.1 stored out untreated b.2
     by_cause (Freeing number) pool k from covered stored out untreated b = freeing number pool k from covered untreated stored b
     by_cause (Assigning number) pool k from covered stored out untreated b = absurd b
     by_cause (Undoing number) pool k from covered stored out untreated b = undoing number pool k from untreated stored b
 
-    back : (k : Control) (e : Ending known o k heap places masters) → e.object ≡ x → NothingTreated k → ThenBack known o x.cell.home heap places masters k → Enters known (ends way) o x (Ends (Names o) ∷ k) heap places operands masters
+    back : (k : Control) (e : Ending known o k heap places masters) → e.object ≡ x → NothingBegins (Names o) k → ThenBack known o x.cell.home heap places masters k → Enters known (ends way) o x (Ends (Names o) ∷ k) heap places operands masters
     back [] e one untreated b = absurd b
     back (GivesBack (Names p) cause pool ∷ k) e one untreated b =
         let same = b.0 in
         rw same (by_cause cause pool k b.1 (rw one at e.covered) e.stored (exists_out o x found (rw one at e.exists) e.stored) untreated b.2)
     back (f ∷ k) e one untreated b = absurd b
 
-    ending_of : (w : Value) (k : Control) → w ≡ Names o → EndingBy known w k heap places masters → NothingTreated k → Enters known (ends way) o x (Ends w ∷ k) heap places operands masters
+    ending_of : (w : Value) (k : Control) → w ≡ Names o → EndingBy known w k heap places masters → NothingBegins (Names o) k → Enters known (ends way) o x (Ends w ∷ k) heap places operands masters
     ending_of w k is e untreated =
         let own : Ending known o k heap places masters = rw is at e in
         let one : own.object ≡ x = let at = own.found in cc (at, found) in
         rw is (back k own one untreated (rw one at own.rest))
 
-    pub ends_by : (k : Control) → EndsTo known (Names o) k heap places masters → ((w : Value) (rest : Control) → k ≡ Ends w ∷ rest → NothingTreated rest) → Enters known (ends way) o x k heap places operands masters
+    pub ends_by : (k : Control) → EndsTo known (Names o) k heap places masters → ((w : Value) (rest : Control) → k ≡ Ends w ∷ rest → NothingBegins (Names o) rest) → Enters known (ends way) o x k heap places operands masters
     ends_by [] r untreated = absurd r
     ends_by (Ends w ∷ k) r untreated = ending_of w k r.0 r.1 (untreated w k refl)
     ends_by (f ∷ k) r untreated = absurd r
 
-  -- A record in the object is assigned to (5.2, 7.6): another record of its type lies in an object that has controlled parts, too.
-  module _ (number : ℕ) (lies : (access t : ℕ) → IsCopied known t → LiesAmong known access t → has_bare_objects known.program.types access ≡ false) where
-    one_parted : (source : Reference) → has_bare_objects known.program.types source.access ≡ false → (p : Id) (t : ℕ) → IsReferred (source ∷ []) p t → has_bare_objects known.program.types t ≡ true → ⊥
-    one_parted source of p t (inl (same, one)) bare = let parted : has_bare_objects known.program.types t ≡ false = rw (← one) of in cc (parted, bare)
-    one_parted source of p t (inr none) bare = none
+  -- A record in the object is assigned to (5.2, 7.6): another record of its type lies in an object that this does not free.
+  module _ (number : ℕ) (frees_none : (access t : ℕ) → IsCopied known t → LiesAmong known access t → is_access known.program.types access ≡ true → assignment_frees known.implicit access t ≡ true → ⊥) where
+    one_spared : (source : Reference) (t : ℕ) → IsCopied known t → LiesAmong known source.access t → (p : Id) (u : ℕ) → IsReferred (source ∷ []) p u → assignment_frees known.implicit u t ≡ true → is_access known.program.types u ≡ true → ⊥
+    one_spared source t copied among p u (inl (same, one)) freed access = frees_none source.access t copied among (rw (← one) at access) (rw (← one) at freed)
+    one_spared source t copied among p u (inr none) freed access = none
 
     -- Where the copy goes.
     into_here : (t first count : ℕ) (k : Control) (rooms : Rooms) (holds : Holds) → StoresBehind known heap t (StoresRecord (Names o) first count ∷ k) rooms holds → StoresInto known o x.cell.access t (StoresRecord (Names o) first count ∷ k) rooms holds
@@ -477,9 +466,6 @@ module _ (known : Known) (o : Id) (x : Object) (heap : List Object) (found : obj
         into : StoresInto known o x.cell.access t k w.rooms w.holds
         into = rw k_is (into_here t alone.to alone.width (treating (Names o) (begins (Adjustment alone.number) []) alone.tasks alone.behind) w.rooms w.holds (rw k_is at w.rest.1))
 
-        others : (v : Value) → v ≢ Names o → NothingBegins v k
-        others v ne = rw k_is (treating_others v o (Adjustment alone.number) alone.tasks alone.behind ne (nothing_begins v alone.behind alone.untreated))
-
         by : (v : Value) → first_or Null operands ≡ v → LiesIn known heap t v → Enters known (ends (Assigning number)) o x (Copies first t ∷ k) heap places operands masters
         by Null named r = absurd r
         by (Scalar n) named r = absurd r
@@ -494,7 +480,6 @@ module _ (known : Known) (o : Id) (x : Object) (heap : List Object) (found : obj
               there = one_other source there;
               waits = record {
                 parted = not_bare;
-                untreated = others;
                 roomed = w.roomed;
                 said = w.fit.said;
                 objects = w.fit.objects;
@@ -522,7 +507,7 @@ module _ (known : Known) (o : Id) (x : Object) (heap : List Object) (found : obj
               includes = λ access is. is;
               spares = w.rest.2.0;
               unaliased = w.rest.2.1;
-              kept = λ q of refers freed access bare. one_parted source (lies y.cell.access t copied among) q of refers bare;
+              kept = one_spared source t copied among;
             }
 
     pub assigns_by : (k : Control) → CopiesBehind known k heap places operands masters → ((first t : ℕ) (rest : Control) → k ≡ Copies first t ∷ rest → AdjustsAlone (Names o) rest)
@@ -533,19 +518,18 @@ module _ (known : Known) (o : Id) (x : Object) (heap : List Object) (found : obj
 
   -- Where the initialization of the object begins, and what is behind it is known.
   starts_here : (held : Bool) (also : List Reference) → ((p : Id) (t : ℕ) → IsReferred also p t → (access_at heap p ≡ Some t) × ((known.implicit.start_frees x.cell.access t ≡ false) ⊎ IsReferred (outers known).referenced p t))
-      → (done : List parts.Part) (k : Control) → NothingTreated k → (rooms : Rooms) (holds : Holds) → Stored (outers known).under heap masters → Roomed (below known) masters rooms
+      → (done : List parts.Part) (k : Control) → (rooms : Rooms) (holds : Holds) → Stored (outers known).under heap masters → Roomed (below known) masters rooms
       → Fit known.program.types known.program.variables (outers known) none_spared heap places holds → BeginsWell known x.cell.access holds
       → FreeIf held (outers known) heap places holds x.cell.access o
       → ((also ≡ []) × Starting known held o x.cell.access places k rooms holds) ⊎ Naming known held o x.cell.access places operands also k rooms holds
       → Enters known (begins Creation done) o x k heap places operands masters
-  starts_here held also others done k untreated rooms holds stored roomed fit well hand behind = record {
+  starts_here held also others done k rooms holds stored roomed fit well hand behind = record {
     rooms = rooms;
     holds = holds;
     also = also;
     there = λ p t is. (others p t is).0;
     waits = record {
       parted = not_bare;
-      untreated = λ v ne. nothing_begins v k untreated;
       roomed = roomed;
       said = fit.said;
       objects = fit.objects;
@@ -561,7 +545,7 @@ module _ (known : Known) (o : Id) (x : Object) (heap : List Object) (found : obj
     includes = λ t is. is;
     spares = well.0;
     unaliased = well.1;
-    kept = λ p t is freed access bare. elim ((others p t is).1) [ inl static ↦ cc (static, freed) | inr refers ↦ (well.0 t freed).0.1 p refers access ];
+    kept = λ p t is freed access. elim ((others p t is).1) [ inl static ↦ cc (static, freed) | inr refers ↦ (well.0 t freed).0.1 p refers access ];
   }
 
   -- Nothing waits for a name but variables.
@@ -569,8 +553,8 @@ module _ (known : Known) (o : Id) (x : Object) (heap : List Object) (found : obj
   none_wait p t none = absurd none
 
   -- A record object is initialized that a declaration creates: it is held, unless its variable owns it.
-  begins_here : (done : List parts.Part) (k : Control) → NothingTreated k → Beginning known (Names o) k heap places masters → Enters known (begins Creation done) o x k heap places operands masters
-  begins_here done k untreated b =
+  begins_here : (done : List parts.Part) (k : Control) → Beginning known (Names o) k heap places masters → Enters known (begins Creation done) o x k heap places operands masters
+  begins_here done k b =
       let same : b.o ≡ o = let is = b.is in cc is in
       let one : b.object ≡ x = let at = b.found in cc (rw same at at, found) in
       let aside = rw same at b.aside in
@@ -585,8 +569,8 @@ module _ (known : Known) (o : Id) (x : Object) (heap : List Object) (found : obj
         unreferred = aside.1;
       } in
       elim (owner_or_not (hold_at b.holds b.x) (place_at places b.x) o) [
-        | inl owner ↦ starts_here false [] none_wait done k untreated b.rooms b.holds b.stored b.roomed b.fit well tt (inl (refl, starting false (inr owner)))
-        | inr none ↦ starts_here true [] none_wait done k untreated b.rooms b.holds b.stored b.roomed b.fit well (lost_hand (outers known) heap o x.cell.access is_of places b.holds b.x none aside.0) (inl (refl, starting true (inl refl)))
+        | inl owner ↦ starts_here false [] none_wait done k b.rooms b.holds b.stored b.roomed b.fit well tt (inl (refl, starting false (inr owner)))
+        | inr none ↦ starts_here true [] none_wait done k b.rooms b.holds b.stored b.roomed b.fit well (lost_hand (outers known) heap o x.cell.access is_of places b.holds b.x none aside.0) (inl (refl, starting true (inl refl)))
       ]
 
   -- Where a component waits for the name of a new object, its object is referred to while that is initialized.
@@ -617,10 +601,10 @@ module _ (known : Known) (o : Id) (x : Object) (heap : List Object) (found : obj
   waiting (f ∷ k) rooms holds to = absurd to
 
   -- An object is initialized that an allocator made, and a variable or a component gets its name.
-  made_here : (done : List parts.Part) (k : Control) → NothingTreated k → first_or Null operands ≡ Names o → Making known o x.cell.access k heap places masters → Enters known (begins Creation done) o x k heap places operands masters
-  made_here done k untreated named m =
+  made_here : (done : List parts.Part) (k : Control) → first_or Null operands ≡ Names o → Making known o x.cell.access k heap places masters → Enters known (begins Creation done) o x k heap places operands masters
+  made_here done k named m =
       let others = waiting k m.rooms m.holds m.to in
-      starts_here true others.0 others.1 done k untreated m.rooms m.holds m.stored m.roomed m.fit m.well (unnamed_hand (outers known) heap o x.cell.access is_of none_spared places m.holds (λ q. refl) m.aside.0) (inr (record {
+      starts_here true others.0 others.1 done k m.rooms m.holds m.stored m.roomed m.fit m.well (unnamed_hand (outers known) heap o x.cell.access is_of none_spared places m.holds (λ q. refl) m.aside.0) (inr (record {
         is_held = refl;
         named = named;
         room = m.room;
@@ -631,6 +615,6 @@ module _ (known : Known) (o : Id) (x : Object) (heap : List Object) (found : obj
         unreferred = m.aside.1;
       }))
 
-  pub at_start : known.touches x.cell.access ≡ true → (done : List parts.Part) (tasks : List Task) (k : Control) → TreatsBy known (Names o) (begins Creation done) tasks k heap places operands masters → NothingTreated k → Enters known (begins Creation done) o x k heap places operands masters
-  at_start touches done tasks k (inl b, may) untreated = begins_here done k untreated b
-  at_start touches done tasks k (inr (named, made, names), may) untreated = made_here done k untreated named (made o x refl found touches)
+  pub at_start : known.touches x.cell.access ≡ true → (done : List parts.Part) (tasks : List Task) (k : Control) → TreatsBy known (Names o) (begins Creation done) tasks k heap places operands masters → Enters known (begins Creation done) o x k heap places operands masters
+  at_start touches done tasks k (inl b, may) = begins_here done k b
+  at_start touches done tasks k (inr (named, made, names), may) = made_here done k named (made o x refl found touches)

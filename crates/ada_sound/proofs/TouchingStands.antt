@@ -1,42 +1,58 @@
--- What the laws of finalization say while the body of an operation runs that touches storage (7.6, 7.6.1): of the objects that stand, and of the one that is treated.
+-- What the laws of finalization say while the body of an operation runs that touches storage (7.6, 7.6.1), or one in front of it: of the objects that stand, and of those
+-- that are treated. None of those is freed meanwhile (13.11.2).
 
-use Rattle.std.proofs.Common.{◌≡◌, ℕ, Bool, true, false, List, [], ◌∷◌, refl, sym, subst, inl, inr, ◌≢◌, Some}
+use Rattle.std.proofs.Common.{◌≡◌, ℕ, suc, Bool, true, false, ◌&&◌, List, [], ◌∷◌, ◌++◌, length, refl, sym, ap, ◌∙◌, subst, ◌⊎◌, inl, inr, ◌≢◌, Option, Some}
+use Rattle.std.proofs.lemmas.Bool.{and_parts, false_from_ne_true}
+use Rattle.ada_deeds.specs.Implicit.{implicit_of}
+use Rattle.ada_effects.specs.Effects.{body_frees, effects_of}
 use Rattle.ada_program.specs.declared.program.Program.{Program}
 use Rattle.ada_program.specs.declared.program.TypeDefinition.{TypeDefinition}
-use Rattle.ada_program.specs.ProgramForm.{TypeForm, BodyForm, program_form, body_forms}
-use Rattle.ada_program.specs.Form.{a_stmt, frees}
-use Rattle.ada_program.specs.WellFormed.{IsWellFormed}
+use Rattle.ada_program.specs.ProgramForm.{TypeForm, BodyForm, ProgramForm, program_form, body_forms, main_body, seen_in}
+use Rattle.ada_program.specs.WellFormed.{is_access}
+use Rattle.ada_flow.specs.Flow.{Holds}
 use Rattle.ada_quiet.specs.Bare.{has_bare_objects}
+use Rattle.ada_quiet.specs.Frugal.{Thrift}
 use Rattle.ada_parts.specs.Task.{Task}
-use Rattle.ada_finalized.proofs.Standing.{nothing_begins, listed_stand, none_runs_on_listed}
+use Rattle.ada_finalized.proofs.Standing.{listed_stand, none_runs_on_listed}
+use Rattle.ada_finalized.proofs.Twice.{values_exist}
 use Rattle.ada_finalized.specs.Law.{NothingBegins, NoOperationRunsOn, finalized_before}
 use Rattle.ada_meaning.specs.declared.event.Cause.TheVariants.{Leaving, Freeing, Assigning, Undoing}
 use Rattle.ada_meaning.specs.declared.event.Cause.{Cause}
+use Rattle.ada_meaning.specs.declared.event.Halt.TheVariants.{Erroneous}
+use Rattle.ada_meaning.specs.declared.event.Why.TheVariants.{FinalizesTwice}
+use Rattle.ada_meaning.specs.declared.state.Id.{Id}
 use Rattle.ada_meaning.specs.declared.state.Mode.{Mode}
 use Rattle.ada_meaning.specs.declared.state.Mode.TheVariants.{Running, Raising, Exiting, Returning}
 use Rattle.ada_meaning.specs.declared.state.Value.{Value}
 use Rattle.ada_meaning.specs.declared.state.Value.TheVariants.{Names}
-use Rattle.ada_meaning.specs.Frame.{Frame, ends, Treatment, begins, Returns}
+use Rattle.ada_meaning.specs.Heap.{Home}
+use Rattle.ada_meaning.specs.Frame.{Frame, ends, Treatment, begins}
 use Rattle.ada_meaning.specs.Frame as frame
 use Rattle.ada_meaning.specs.State.{Master}
 use Rattle.ada_meaning.specs.Step.{treating}
-use Rattle.ada_meaning.specs.Named.{State, Object, object_at}
+use Rattle.ada_meaning.specs.Named.{State, Object, object_at, next}
+use Rattle.ada_meaning.specs.Run.{Halts}
+use Rattle.ada_typed.proofs.Bodies.{own_bodies}
+use Rattle.ada_sound.specs.Agreement.{running_procedure}
+use Rattle.ada_sound.specs.Always.{SparesOwn}
+use Rattle.ada_sound.proofs.Below.{either_one}
+use Rattle.ada_sound.proofs.Callers.{Suspension, callers_of, known_in, Stands}
 use Rattle.ada_sound.proofs.Finalization.{parts_alive}
-use Rattle.ada_sound.proofs.Touching.{Touching, RestsAsOwned, RestsAtEnd, RestsBy}
-use Rattle.ada_sound.proofs.FrugalControl.{Frugal, FrugalLeads}
-use Rattle.ada_sound.proofs.Invariant.{Control}
-use Rattle.ada_meaning.specs.declared.state.Id.{Id}
-use Rattle.ada_sound.proofs.OperationStarts.{apart}
-use Rattle.ada_sound.proofs.Standing.{AllStand, FinalizesBy, FinalizesIn, FreesAmong}
-use Rattle.ada_sound.proofs.Starts.{IsReached}
+use Rattle.ada_sound.proofs.Fits.{Reference}
+use Rattle.ada_sound.proofs.FreesCovered.{frees_among}
+use Rattle.ada_sound.proofs.FrugalControl.{EndsFreed, Frugal, FrugalLeads, IsFreed}
+use Rattle.ada_sound.proofs.Homes.{NoneIsUnder}
+use Rattle.ada_sound.proofs.Invariant.{AllWait, Control, CoveredIn, Known, Ready, Rooms, under_in, waits_covers}
 use Rattle.ada_sound.proofs.Operating.{WaitsFor}
 use Rattle.ada_sound.proofs.Returns.{same_types}
-use Rattle.ada_sound.proofs.Callers.{known_in}
-use Rattle.ada_quiet.specs.Frugal.{Thrift, are_frugal, thrift_of}
-use Rattle.ada_meaning.specs.Finalization.{NothingTreated}
+use Rattle.ada_sound.proofs.SparesOwn.{spares_end}
+use Rattle.ada_sound.proofs.Standing.{AllStand, FinalizesBy, FinalizesIn, FreesAmong}
+use Rattle.ada_sound.proofs.Starts.{IsReached, Sound}
+use Rattle.ada_sound.proofs.Stored.{IsUnder}
+use Rattle.ada_sound.proofs.Touching.{AreInner, CoversBy, IsCall, IsOperation, Pause, Rests, RestsAsOwned, RestsAtEnd, RestsBy, StoresInto, Watch, Within, origin, under_way}
 use Rattle.ada_sound.proofs.TouchingRests.{IsEnd}
 
--- In front of the end of a frugal body, nothing begins.
+-- In front of the end of a frugal body, nothing begins: what is treated there is finalized.
 module _ (frugal : Thrift) where
   leads_begin : (v : Value) (behind k : Control) (ms : List Master) → NothingBegins v behind → FrugalLeads frugal behind k ms → NothingBegins v k
   leads_begin v behind [] ms none q = absurd q
@@ -48,7 +64,8 @@ module _ (frugal : Thrift) where
   leads_begin v behind (frame.Closes ∷ k) (m ∷ ms) none q = leads_begin v behind k ms none q.1
   leads_begin v behind (frame.Declares x ∷ k) [] none q = absurd q
   leads_begin v behind (frame.Declares x ∷ k) (m ∷ ms) none q = leads_begin v behind k (m ∷ ms) none q.1
-  leads_begin v behind (frame.Treats w treatment tasks ∷ k) ms none q = absurd q.0
+  leads_begin v behind (frame.Treats w (begins by done) tasks ∷ k) ms none q = absurd q.0.0
+  leads_begin v behind (frame.Treats w (ends cause) tasks ∷ k) ms none q = leads_begin v behind k ms none q.1
   leads_begin v behind (frame.Awaits w by done of part tasks ∷ k) ms none q = absurd q.0
   leads_begin v behind (f ∷ k) ms none q = leads_begin v behind k ms none q.1
 
@@ -60,131 +77,314 @@ module _ (frugal : Thrift) where
   frugal_begin v behind mode (frame.Leaves left ∷ k) (m ∷ ms) none (inr (runs, leaving)) = leads_begin v behind k ms none leaving
   frugal_begin v behind mode (f ∷ k) ms none (inr (runs, leaving)) = absurd leaving
 
+  -- Where no operation of an object runs, none does behind that end.
+  leads_alone : (v : Value) (behind k : Control) (ms : List Master) → NoOperationRunsOn v k → FrugalLeads frugal behind k ms → NoOperationRunsOn v behind
+  leads_alone v behind [] ms none q = absurd q
+  leads_alone v behind (frame.Returns actuals references ∷ k) ms none (inl q) = subst (NoOperationRunsOn v) q.2 none
+  leads_alone v behind (frame.Returns actuals references ∷ k) ms none (inr q) = leads_alone v behind k ms none q
+  leads_alone v behind (frame.Elaborates ds fs hs ∷ k) [] none q = absurd q
+  leads_alone v behind (frame.Elaborates ds fs hs ∷ k) (m ∷ ms) none q = leads_alone v behind k ms none q.1
+  leads_alone v behind (frame.Closes ∷ k) [] none q = absurd q
+  leads_alone v behind (frame.Closes ∷ k) (m ∷ ms) none q = leads_alone v behind k ms none q.1
+  leads_alone v behind (frame.Declares x ∷ k) [] none q = absurd q
+  leads_alone v behind (frame.Declares x ∷ k) (m ∷ ms) none q = leads_alone v behind k (m ∷ ms) none q.1
+  leads_alone v behind (frame.Awaits w by done of part tasks ∷ k) ms none q = absurd q.0
+  leads_alone v behind (frame.Confines ∷ k) ms none q = leads_alone v behind k ms none.1 q.1
+  leads_alone v behind (f ∷ k) ms none q = leads_alone v behind k ms none q.1
+
 -- Nor does anything begin where an object is finalized.
 treating_begin : (v w : Value) (cause : Cause) (tasks : List Task) (k : Control) → NothingBegins v k → NothingBegins v (treating w (ends cause) tasks k)
 treating_begin v w cause [] k none = none
 treating_begin v w cause (task ∷ tasks) k none = none
 
 -- The object whose Finalize has ended is the one that is finalized.
-treating_before :
+pub treating_before :
     (w : Value) (cause : Cause) (tasks : List Task) (k : Control) → finalized_before k ≡ w → finalized_before (treating w (ends cause) tasks k) ≡ w
 treating_before w cause [] k before = before
 treating_before w cause (task ∷ tasks) k before = refl
 
-module _ (program : Program) (s : State) (f : Touching program s) where
-  -- In front of what waits for the body, nothing of another object begins.
-  waits_begin : (v : Value) → (v ≢ Names f.object) → (treatment : Treatment) → WaitsFor (program_form program).types f.object f.of treatment f.tasks f.after f.behind → NothingBegins v f.behind
-  waits_begin v ne (begins by done) (part, is) = subst (NothingBegins v) (sym is) ((λ same. ne (sym same)), f.waits.untreated v ne)
-  waits_begin v ne (ends cause) (is, inside) = subst (NothingBegins v) (sym is) (treating_begin v (Names f.object) cause f.tasks f.after (f.waits.untreated v ne))
+-- Where an operation waits that finalizes an object, that object is the one that is finalized.
+finalized_at_end : (known : Known) (object : Id) (access : ℕ) (home : Home) (places : List Value) (after : Control) (lower : List Master) (rooms : Rooms) (holds : Holds)
+    → RestsAtEnd known object access home places after lower rooms holds → finalized_before after ≡ Names object
+finalized_at_end known object access home places after lower rooms holds (inl resting) = rw (resting.is) refl
+finalized_at_end known object access home places after lower rooms holds (inr (inl undoes)) = rw (undoes.is) refl
+finalized_at_end known object access home places after lower rooms holds (inr (inr empties)) = rw (empties.is) refl
 
-  -- What is left to do initializes and adjusts no other object.
-  begins_nothing : (v : Value) → (v ≢ Names f.object) → NothingBegins v s.control
-  begins_nothing v ne = frugal_begin (thrift_of (program_form program)) v f.behind s.mode s.control f.frugal.upper (waits_begin v ne f.treatment f.awaited) f.frugal.frugal
+finalized_owned : (known : Known) (held : Bool) (watch : Option Watch) (object : Id) (access : ℕ) (home : Home) (places : List Value) (after : Control) (lower : List Master) (rooms : Rooms) (holds : Holds)
+    → RestsAsOwned known held watch object access home places after lower rooms holds → finalized_before after ≡ Names object
+finalized_owned known held watch object access home places after lower rooms holds (inl (is_held, r)) = finalized_at_end known object access home places after lower rooms holds r
+finalized_owned known held watch object access home places after lower rooms holds (inr releases) = rw (releases.is) refl
 
-  -- Where an object is finalized that then ceases to exist, it does so to none.
-  finalizes_nothing : (cause : Cause) → f.treatment ≡ ends cause → NothingTreated f.after → (v : Value) → NothingBegins v s.control
-  finalizes_nothing cause is untreated v =
-      let waits : WaitsFor (program_form program).types f.object f.of (ends cause) f.tasks f.after f.behind = rw is at f.awaited in
-      let behind = subst (NothingBegins v) (sym waits.0) (treating_begin v (Names f.object) cause f.tasks f.after (nothing_begins v f.after untreated)) in
-      frugal_begin (thrift_of (program_form program)) v f.behind s.mode s.control f.frugal.upper behind f.frugal.frugal
+finalized_stored : (known : Known) (object : Id) (access record_type : ℕ) (k : Control) (rooms : Rooms) (holds : Holds) → StoresInto known object access record_type k rooms holds → finalized_before k ≡ Names object
+finalized_stored known object access record_type [] rooms holds into = absurd into
+finalized_stored known object access record_type (frame.StoresRecord v first count ∷ k) rooms holds into = into.0
+finalized_stored known object access record_type (f ∷ k) rooms holds into = absurd into
 
--- What a frugal body frees has no controlled parts.
-pub frees_bare : (frugal : Thrift) (behind : Control) (mode : Mode) (k : Control) (ms : List Master) → Frugal frugal behind mode k ms → FreesAmong (has_bare_objects frugal.types) k
-frees_bare frugal behind mode [] ms q = tt
-frees_bare frugal behind mode (frame.Does (a_stmt (frees access path) fs) ∷ k) ms (inl q) = (apart (has_bare_objects frugal.types access) (are_frugal frugal fs) q.0).0
-frees_bare frugal behind mode (frame.Does (a_stmt (frees access path) fs) ∷ k) ms (inr (runs, leaving)) = absurd leaving
-frees_bare frugal behind mode (frame.FreesIn access c ∷ k) ms (inl q) = q.0
-frees_bare frugal behind mode (frame.FreesIn access c ∷ k) ms (inr (runs, leaving)) = absurd leaving
-frees_bare frugal behind mode (f ∷ k) ms q = tt
+pub finalized_by : (known : Known) (cause : Cause) (held : Bool) (watch : Option Watch) (object : Id) (access : ℕ) (home : Home) (places operands : List Value) (also : List Reference) (after : Control) (lower : List Master) (rooms : Rooms) (holds : Holds)
+    → RestsBy known cause held watch object access home places operands also after lower rooms holds → finalized_before after ≡ Names object
+finalized_by known (Leaving m item) held watch object access home places operands also after lower rooms holds r = finalized_owned known held watch object access home places after lower rooms holds r.1
+finalized_by known (Freeing number) held watch object access home places operands also after lower rooms holds r = finalized_owned known held watch object access home places after lower rooms holds r.1
+finalized_by known (Assigning number) held watch object access home places operands also after lower rooms holds r = rw (r.is) (finalized_stored known object access r.record_type r.stores rooms holds r.into)
+finalized_by known (Undoing number) held watch object access home places operands also after lower rooms holds r = finalized_owned known held watch object access home places after lower rooms holds r.1
 
--- Each object that may be freed stands.
-module _ (program : Program) (well : IsWellFormed (program_form program)) (s : State) (reached : IsReached program s) (f : Touching program s) where
+-- So where no operation of an object runs, another one is treated behind the body.
+module _ (program : Program) (depth : ℕ) (s : State) (f : Pause program depth s) where
+  other_treated : (v : Value) → NoOperationRunsOn v f.behind → v ≢ Names f.object
+  other_treated v none same = by f.treatment f.awaited f.rests
+    where
+      by : (treatment : Treatment) → WaitsFor (program_form program).types f.object f.of treatment f.tasks f.after f.behind
+          → Rests (known_in program f.procedure f.suspensions) treatment f.held f.watch f.object f.access f.home f.places f.operands f.also f.after f.lower f.rooms f.holds → ⊥
+      by (begins birth done) (part, is) rests = let one = subst (NoOperationRunsOn v) is none in one.0 (sym same)
+      by (ends cause) (is, inside) rests =
+          let one : NoOperationRunsOn v (frame.Confines ∷ treating (Names f.object) (ends cause) f.tasks f.after) = subst (NoOperationRunsOn v) is none in
+          let before = finalized_by (known_in program f.procedure f.suspensions) cause f.held f.watch f.object f.access f.home f.places f.operands f.also f.after f.lower f.rooms f.holds rests in
+          one.0 (treating_before (Names f.object) cause f.tasks f.after before ∙ sym same)
+
+-- What the running body may free, of access types (13.11.2).
+abbrev pub may_free : Program → State → ℕ → Bool
+may_free program s t =
+    let seen = seen_in (running_procedure s) (program_form program) in
+    is_access (program_form program).types t && body_frees seen.types (effects_of (implicit_of (program_form program)) seen) (main_body seen) t
+
+-- It is known of each such type that the body may free it.
+may_cover : (program : Program) (s : State) (t : ℕ) → may_free program s t ≡ true → (is_access (program_form program).types t ≡ true) × CoveredIn (implicit_of (program_form program)) (seen_in (running_procedure s) (program_form program)) t
+may_cover program s t may = and_parts (is_access (program_form program).types t) _ may
+
+-- Where something is freed next, it is of such a type.
+pub touching_frees :
+    (program : Program) (s : State) → Sound program s → (gs : List Suspension) → Ready (known_in program (running_procedure s) gs) s → s.mode ≡ Running → FreesAmong (may_free program s) s.control
+touching_frees program s sound gs ready runs =
+    frees_among (known_in program (running_procedure s) gs) (own_bodies (program_form program) sound.frees_own (running_procedure s)) (may_free program s) may s ready sound.typed.inside runs
+  where
+    may : (t : ℕ) → CoveredIn (implicit_of (program_form program)) (seen_in (running_procedure s) (program_form program)) t → is_access (seen_in (running_procedure s) (program_form program)).types t ≡ true → may_free program s t ≡ true
+    may t covered of =
+        let of_access : is_access (program_form program).types t ≡ true = subst (λ (types : List TypeForm). is_access types t ≡ true) (same_types (running_procedure s) (program_form program)) of in
+        rw (of_access, covered) refl
+
+-- No object under way is freed.
+module _ (program : Program) (spares : SparesOwn program) (s : State) where
+  abbrev p : ProgramForm
+  p = program_form program
+
+  abbrev Covers : (procedure : Option ℕ) → ℕ → Type 0
+  Covers procedure t = CoveredIn (implicit_of p) (seen_in procedure p) t
+
+  -- What the body of an operation may free is not of the type of the object that it is called for.
+  frees_other : (depth : ℕ) (f : Pause program depth s) (t : ℕ) → Covers (Some f.number) t → is_access p.types t ≡ true → t ≡ f.access → ⊥
+  frees_other depth f t covered of same = by f.treatment (f.covers t covered)
+    where
+      by : (treatment : Treatment) → CoversBy p treatment f.access t → ⊥
+      by (begins birth done) bare =
+          let parted = f.waits.parted in
+          let not_bare : has_bare_objects p.types f.access ≡ false = rw (same_types f.procedure p) at parted in
+          cc (not_bare, same, bare)
+      by (ends cause) may =
+          let none = (spares_end p spares t of).0 in
+          cc (none, same, may)
+
+  -- So it is of the object.
+  pub frees_not : (depth : ℕ) (f : Pause program depth s) (o : Id) (x : Object) → object_at s.heap o ≡ Some x → f.object ≡ o → Covers (Some f.number) x.cell.access → is_access p.types x.cell.access ≡ true → ⊥
+  frees_not depth f o x found same covered of =
+      let one : x ≡ f.x = let here = f.found in cc (same, here, found) in
+      frees_other depth f x.cell.access covered of (ap (λ (y : Object). y.cell.access) one ∙ f.of_access)
+
+  -- An object that is under way in an activation that waits for the operation is the one of the operation.
+  treated_is : (treatment : Treatment) (object o : Id) → IsUnder (under_way treatment object) o → object ≡ o
+  treated_is (begins birth done) object o under = absurd under
+  treated_is (ends (Leaving m item)) object o (inl same) = same
+  treated_is (ends (Leaving m item)) object o (inr none) = absurd none
+  treated_is (ends (Freeing number)) object o (inl same) = same
+  treated_is (ends (Freeing number)) object o (inr none) = absurd none
+  treated_is (ends (Assigning number)) object o under = absurd under
+  treated_is (ends (Undoing number)) object o (inl same) = same
+  treated_is (ends (Undoing number)) object o (inr none) = absurd none
+
+  module _ (thrift : Thrift) (back : Control) (lower : List Master) where
+    -- What the running body may free, that of the outermost operation may free.
+    pub covers_outermost :
+        (procedure : Option ℕ) (depth number : ℕ) (others inner : List Suspension) → AreInner program s thrift back lower procedure depth (Some number) others inner
+        → AllWait (implicit_of p) (seen_in procedure p) (callers_of program (inner ++ others)) → (t : ℕ) → Covers procedure t → Covers (Some number) t
+    covers_outermost procedure depth number others [] w waits t covered = subst (λ (own : Option ℕ). Covers own t) w covered
+    covers_outermost procedure depth number others (g ∷ inner) w waits t covered =
+        covers_outermost g.procedure (suc depth) number others inner w.1 waits.1 t (waits_covers waits.0 t covered)
+
+    -- No object under way in the activations that wait is one that the running body may free, if none is in those behind them.
+    pub none_in :
+        (procedure : Option ℕ) (depth number : ℕ) (others inner : List Suspension) → AreInner program s thrift back lower procedure depth (Some number) others inner
+        → AllWait (implicit_of p) (seen_in procedure p) (callers_of program (inner ++ others)) → (o : Id) (x : Object) → object_at s.heap o ≡ Some x → is_access p.types x.cell.access ≡ true
+        → Covers procedure x.cell.access → (Covers (Some number) x.cell.access → IsUnder (under_in (callers_of program others)) o → ⊥) → IsUnder (under_in (callers_of program (inner ++ others))) o → ⊥
+    none_in procedure depth number others [] w waits o x found of covered behind under = behind (subst (λ (own : Option ℕ). Covers own x.cell.access) w covered) under
+    none_in procedure depth number others (g ∷ inner) w waits o x found of covered behind under =
+        by w.0 (λ later. none_in g.procedure (suc depth) number others inner w.1 waits.1 o x found of (waits_covers waits.0 x.cell.access covered) behind later)
+        (either_one g.under (under_in (callers_of program (inner ++ others))) o under)
+      where
+        by : IsCall g ⊎ IsOperation program s thrift back lower procedure depth (inner ++ others) g → (IsUnder (under_in (callers_of program (inner ++ others))) o → ⊥) → IsUnder g.under o ⊎ IsUnder (under_in (callers_of program (inner ++ others))) o → ⊥
+        by v further (inr later) = further later
+        by (inl call) further (inl here) = subst (λ (under' : List Id). IsUnder under' o) call.1 here
+        by (inr operation) further (inl here) =
+            let f = operation.pause in
+            let way : IsUnder (under_way f.treatment f.object) o = subst (λ (waiting : Suspension). IsUnder waiting.under o) operation.is here in
+            frees_not depth f o x found (treated_is f.treatment f.object o way) (subst (λ (own : Option ℕ). Covers own x.cell.access) operation.runs covered) of
+
+-- What is known while the body of an operation runs that touches storage.
+module _ (program : Program) (s : State) (sound : Sound program s) (gs : List Suspension) (w : Within program gs s) (stands : Stands program gs s) where
+  abbrev form : ProgramForm
+  form = program_form program
+
   abbrev types : List TypeDefinition
   types = program.types.items
 
   abbrev bodies : List BodyForm
   bodies = body_forms program
 
-  -- What the body may free, or one that it calls, has no controlled parts.
-  abbrev pub may_free : ℕ → Bool
-  may_free t = has_bare_objects (program_form program).types t
+  abbrev outermost : Pause program (length w.inner) s
+  outermost = w.outermost
 
-  -- The object that is treated does, or is a declared one.
-  other_object : (o : Id) (x : Object) → object_at s.heap o ≡ Some x → may_free x.cell.access ≡ true → Names o ≡ Names f.object → ⊥
-  other_object o x found bare same =
-      let one : o ≡ f.object = cc same in
-      let x_is : x ≡ f.x = let here = f.found in let there = found in cc (one, here, there) in
-      let parted = f.waits.parted in
-      let not_bare : may_free f.access ≡ false = rw (same_types f.procedure (program_form program)) at parted in
-      let both : may_free f.access ≡ true = rw (x_is, f.of_access) at bare in
-      cc (not_bare, both)
+  abbrev behind_it : List Suspension
+  behind_it = origin program (length w.inner) s outermost ∷ outermost.suspensions
 
-  stand : (forms : List TypeForm) → AllStand may_free forms s.heap
-  stand forms o x found listed of bare =
-      parts_alive program well s reached o x found
-      (listed_stand program reached.0 reached.1 s reached.2 o x found listed (begins_nothing program s f (Names o) (other_object o x found bare)))
+  waiting : AllWait (implicit_of form) (seen_in (running_procedure s) form) (callers_of program (w.inner ++ behind_it))
+  waiting = subst (λ (all : List Suspension). AllWait (implicit_of form) (seen_in (running_procedure s) form) (callers_of program all)) w.are stands.standing.waiting
+
+  -- No object that the running body may free is under way.
+  pub under_outermost : (o : Id) → IsUnder (under_in (callers_of program behind_it)) o → outermost.object ≡ o
+  under_outermost o under =
+      elim (either_one (under_way outermost.treatment outermost.object) (under_in (callers_of program outermost.suspensions)) o under) [
+        | inl here ↦ treated_is program sound.spares_own s outermost.treatment outermost.object o here
+        | inr later ↦ absurd (subst (λ (none : List Id). IsUnder none o) w.settled later)
+      ]
+
+  not_freed : (o : Id) (x : Object) → IsUnder (under_in (callers_of program gs)) o → object_at s.heap o ≡ Some x → may_free program s x.cell.access ≡ true → ⊥
+  not_freed o x under found may =
+      let so = may_cover program s x.cell.access may in
+      none_in program sound.spares_own s w.thrift outermost.behind outermost.lower (running_procedure s) 0 outermost.number behind_it w.inner w.within waiting o x found so.0 so.1
+      (λ covered there. frees_not program sound.spares_own s (length w.inner) outermost o x found (under_outermost o there) covered so.0)
+      (subst (λ (all : List Suspension). IsUnder (under_in (callers_of program all)) o) w.are under)
+
+  pub none_is_under : NoneIsUnder (may_free program s) (under_in (callers_of program gs)) s.heap
+  none_is_under o x under found = false_from_ne_true (may_free program s x.cell.access) (λ may. not_freed o x under found may)
+
+  -- In front of what waits for the outermost operation, nothing of another object begins.
+  waits_begin : (v : Value) → (v ≢ Names outermost.object) → (treatment : Treatment) → WaitsFor form.types outermost.object outermost.of treatment outermost.tasks outermost.after outermost.behind → NothingBegins v outermost.behind
+  waits_begin v ne (begins by done) (part, is) = subst (NothingBegins v) (sym is) ((λ same. ne (sym same)), w.untreated v ne)
+  waits_begin v ne (ends cause) (is, inside) = subst (NothingBegins v) (sym is) (treating_begin v (Names outermost.object) cause outermost.tasks outermost.after (w.untreated v ne))
+
+  -- What is left to do initializes and adjusts no other object.
+  pub begins_nothing : (v : Value) → (v ≢ Names outermost.object) → NothingBegins v s.control
+  begins_nothing v ne = frugal_begin w.thrift v outermost.behind s.mode s.control w.frugal.upper (waits_begin v ne outermost.treatment outermost.awaited) w.frugal.frugal
+
+  -- So it is of an object that is treated next, behind its treatment.
+  pub treated_begin : (v : Value) (treatment : Treatment) (tasks : List Task) (k : Control) → s.control ≡ frame.Treats v treatment tasks ∷ k → NothingBegins v k
+  treated_begin v treatment tasks k is = by w.frugal.upper (subst (λ (all : Control). Frugal w.thrift outermost.behind s.mode all w.frugal.upper) is w.frugal.frugal)
+    where
+      other : (ms : List Master) → EndsFreed w.thrift v treatment k × FrugalLeads w.thrift outermost.behind k ms → v ≢ Names outermost.object
+      other ms q = other_treated program (length w.inner) s outermost v (leads_alone w.thrift v outermost.behind k ms q.0.3 q.1)
+
+      behind : (way : Treatment) → IsFreed way → NothingBegins v (frame.Treats v way tasks ∷ k) → NothingBegins v k
+      behind (begins birth done) freed none = absurd freed
+      behind (ends cause) freed none = none
+
+      by : (ms : List Master) → Frugal w.thrift outermost.behind s.mode (frame.Treats v treatment tasks ∷ k) ms → NothingBegins v k
+      by ms (inl q) = behind treatment q.0.0 (subst (NothingBegins v) is (begins_nothing v (other ms q)))
+      by ms (inr (runs, leaving)) = absurd leaving
+
+  -- The object of the outermost operation is none that the running body may free.
+  other_object : (o : Id) (x : Object) → object_at s.heap o ≡ Some x → may_free program s x.cell.access ≡ true → Names o ≡ Names outermost.object → ⊥
+  other_object o x found may same =
+      let so = may_cover program s x.cell.access may in
+      let covered = covers_outermost program sound.spares_own s w.thrift outermost.behind outermost.lower (running_procedure s) 0 outermost.number behind_it w.inner w.within waiting x.cell.access so.1 in
+      frees_not program sound.spares_own s (length w.inner) outermost o x found (cc same) covered so.0
+
+  -- Nothing begins of an object that the running body may free.
+  pub freed_begin : (o : Id) (x : Object) → object_at s.heap o ≡ Some x → may_free program s x.cell.access ≡ true → NothingBegins (Names o) s.control
+  freed_begin o x found may = begins_nothing (Names o) (other_object o x found may)
+
+  -- So no operation of it runs, where it is in its collection.
+  pub listed_alone : (o : Id) (x : Object) → object_at s.heap o ≡ Some x → x.listed ≡ true → may_free program s x.cell.access ≡ true → NoOperationRunsOn (Names o) s.control
+  listed_alone o x found listed may = none_runs_on_listed program sound.reached.0 sound.reached.1 s sound.reached.2 o x found listed (freed_begin o x found may)
+
+  -- Each object that may be freed stands.
+  stand : (forms : List TypeForm) → AllStand (may_free program s) forms s.heap
+  stand forms o x found listed of may =
+      parts_alive program sound.well s sound.reached o x found
+      (listed_stand program sound.reached.0 sound.reached.1 s sound.reached.2 o x found listed (freed_begin o x found may))
+
+  -- A state with these parts.
+  state_is : (mode : Mode) (k : Control) → s.mode ≡ mode → s.control ≡ k → s ≡ record s { mode = mode; control = k }
+  state_is mode k runs is =
+      subst (λ (m : Mode). s ≡ record s { mode = m; control = k }) runs
+      (subst (λ (j : Control). s ≡ record s { control = j }) is refl)
+
+  -- An object that is treated next has values of all parts that are to be finalized: no other operation of it runs.
+  treated : (v : Value) (treatment : Treatment) (tasks : List Task) (k : Control) → s.mode ≡ Running → s.control ≡ frame.Treats v treatment tasks ∷ k → NoOperationRunsOn v k → (forms : List TypeForm)
+      → FinalizesBy (may_free program s) forms types bodies (frame.Treats v treatment tasks) (record s { mode = Running; control = k })
+  unfolding next
+  treated v treatment tasks k runs is alone forms = λ twice.
+      values_exist program sound.reached.0 sound.reached.1 s sound.reached.2 v treatment tasks k is alone
+      (subst (λ (t : State). Halts program t (Erroneous FinalizesTwice)) (sym (state_is Running (frame.Treats v treatment tasks ∷ k) runs is)) twice)
 
   by_frame :
-      (g : Frame Value) (k : Control) (mode : Mode) (ms : List Master) → Frugal (thrift_of (program_form program)) f.behind mode (g ∷ k) ms → (forms : List TypeForm)
-      → FinalizesBy may_free forms types bodies g (record s { mode = Running; control = k })
-  by_frame (frame.Does fs) k mode ms q forms = stand forms
-  by_frame (frame.FreesIn access c) k mode ms q forms = stand forms
-  by_frame (frame.Treats v treatment tasks) k mode ms (inl q) forms = absurd q.0
-  by_frame (frame.Treats v treatment tasks) k mode ms (inr (runs, leaving)) forms = absurd leaving
-  by_frame g k mode ms q forms = tt
+      (g : Frame Value) (k : Control) (ms : List Master) → s.mode ≡ Running → s.control ≡ g ∷ k → Frugal w.thrift outermost.behind Running (g ∷ k) ms → (forms : List TypeForm)
+      → FinalizesBy (may_free program s) forms types bodies g (record s { mode = Running; control = k })
+  by_frame (frame.Does fs) k ms runs is q forms = stand forms
+  by_frame (frame.FreesIn access c) k ms runs is q forms = stand forms
+  by_frame (frame.Treats v treatment tasks) k ms runs is (inl q) forms = treated v treatment tasks k runs is q.0.3 forms
+  by_frame (frame.Treats v treatment tasks) k ms runs is (inr (now, leaving)) forms = absurd leaving
+  by_frame g k ms runs is q forms = tt
 
-  by_mode : (mode : Mode) (k : Control) (ms : List Master) → Frugal (thrift_of (program_form program)) f.behind mode k ms → (forms : List TypeForm) → FinalizesIn may_free forms types bodies mode k s
-  by_mode Running [] ms q forms = tt
-  by_mode Running (g ∷ k) ms q forms = by_frame g k Running ms q forms
-  by_mode (Raising e) k ms q forms = tt
-  by_mode Exiting k ms q forms = tt
-  by_mode Returning k ms q forms = tt
+  by_mode : (mode : Mode) (k : Control) (ms : List Master) → s.mode ≡ mode → s.control ≡ k → Frugal w.thrift outermost.behind mode k ms → (forms : List TypeForm) → FinalizesIn (may_free program s) forms types bodies mode k s
+  by_mode Running [] ms runs is q forms = tt
+  by_mode Running (g ∷ k) ms runs is q forms = by_frame g k ms runs is q forms
+  by_mode (Raising e) k ms runs is q forms = tt
+  by_mode Exiting k ms runs is q forms = tt
+  by_mode Returning k ms runs is q forms = tt
 
-  pub touching_stands : (forms : List TypeForm) → FinalizesIn may_free forms types bodies s.mode s.control s
-  touching_stands forms = by_mode s.mode s.control f.frugal.upper f.frugal.frugal forms
-
-  -- What is freed next is of such a type.
-  pub touching_frees : FreesAmong may_free s.control
-  touching_frees = frees_bare (thrift_of (program_form program)) f.behind s.mode s.control f.frugal.upper f.frugal.frugal
+  -- Each object that may be freed stands, and no treatment finalizes a value that does not exist.
+  pub touching_stands : (forms : List TypeForm) → FinalizesIn (may_free program s) forms types bodies s.mode s.control s
+  touching_stands forms = by_mode s.mode s.control w.frugal.upper refl refl w.frugal.frugal forms
 
 -- An object that is finalized has left its collection by the end of the body.
 pub touching_unlisted :
-    (program : Program) (s : State) → IsReached program s → (f : Touching program s) → s.control ≡ Returns [] [] ∷ f.behind → (cause : Cause) → IsEnd cause → f.treatment ≡ ends cause
+    (program : Program) (s : State) → IsReached program s → (f : Pause program 0 s) → s.control ≡ frame.Returns [] [] ∷ f.behind → (cause : Cause) → IsEnd cause → f.treatment ≡ ends cause
     → f.x.listed ≡ false
 touching_unlisted program s reached f ends_next cause end is = go f.x.listed refl
   where
     waits : WaitsFor (program_form program).types f.object f.of (ends cause) f.tasks f.after f.behind
     waits = rw is at f.awaited
 
-    EndsObject : Type 0
-    EndsObject = (finalized_before f.after ≡ Names f.object) × NothingTreated f.after
+    rests : RestsBy (known_in program f.procedure f.suspensions) cause f.held f.watch f.object f.access f.home f.places f.operands f.also f.after f.lower f.rooms f.holds
+    rests = rw is at f.rests
 
-    before_by : RestsAtEnd (known_in program f.procedure f.suspensions) f.object f.access f.home f.places f.after f.lower f.rooms f.holds → EndsObject
-    before_by (inl resting) = rw (resting.is) (refl, resting.untreated)
-    before_by (inr (inl undoes)) = rw (undoes.is) (refl, undoes.untreated)
-    before_by (inr (inr empties)) = rw (empties.is) (refl, empties.untreated)
+    -- Nothing begins behind its end.
+    behind_by : RestsAtEnd (known_in program f.procedure f.suspensions) f.object f.access f.home f.places f.after f.lower f.rooms f.holds → NothingBegins (Names f.object) f.after
+    behind_by (inl resting) = rw (resting.is) (resting.untreated)
+    behind_by (inr (inl undoes)) = rw (undoes.is) (undoes.untreated)
+    behind_by (inr (inr empties)) = rw (empties.is) (empties.untreated)
 
-    before_owned : RestsAsOwned (known_in program f.procedure f.suspensions) f.held f.watch f.object f.access f.home f.places f.after f.lower f.rooms f.holds → EndsObject
-    before_owned (inl (held, resting)) = before_by resting
-    before_owned (inr releases) = rw (releases.is) (refl, releases.untreated)
+    behind_owned : RestsAsOwned (known_in program f.procedure f.suspensions) f.held f.watch f.object f.access f.home f.places f.after f.lower f.rooms f.holds → NothingBegins (Names f.object) f.after
+    behind_owned (inl (held, resting)) = behind_by resting
+    behind_owned (inr releases) = rw (releases.is) (releases.untreated)
 
-    before_end : (by : Cause) → IsEnd by → RestsBy (known_in program f.procedure f.suspensions) by f.held f.watch f.object f.access f.home f.places f.operands f.also f.after f.lower f.rooms f.holds → EndsObject
-    before_end (Leaving m item) e r = before_owned r.1
-    before_end (Freeing number) e r = before_owned r.1
-    before_end (Assigning number) e r = absurd e
-    before_end (Undoing number) e r = before_owned r.1
+    behind_end : (by : Cause) → IsEnd by → RestsBy (known_in program f.procedure f.suspensions) by f.held f.watch f.object f.access f.home f.places f.operands f.also f.after f.lower f.rooms f.holds → NothingBegins (Names f.object) f.after
+    behind_end (Leaving m item) e r = behind_owned r.1
+    behind_end (Freeing number) e r = behind_owned r.1
+    behind_end (Assigning number) e r = absurd e
+    behind_end (Undoing number) e r = behind_owned r.1
 
-    before : EndsObject
-    before = before_end cause end (rw is at f.rests)
+    -- Nothing that is left to do initializes or adjusts it.
+    none_begins : NothingBegins (Names f.object) s.control
+    none_begins =
+        let behind = subst (NothingBegins (Names f.object)) (sym waits.0) (treating_begin (Names f.object) (Names f.object) cause f.tasks f.after (behind_end cause end rests)) in
+        subst (NothingBegins (Names f.object)) (sym ends_next) behind
 
     never : f.x.listed ≡ true → ⊥
     never listed =
         let o = Names f.object in
-        let none = none_runs_on_listed program reached.0 reached.1 s reached.2 f.object f.x f.found listed (finalizes_nothing program s f cause is before.1 o) in
+        let none = none_runs_on_listed program reached.0 reached.1 s reached.2 f.object f.x f.found listed none_begins in
         let behind : NoOperationRunsOn o f.behind = subst (NoOperationRunsOn o) ends_next none in
         let confined : NoOperationRunsOn o (frame.Confines ∷ treating o (ends cause) f.tasks f.after) =
         subst (NoOperationRunsOn o) waits.0 behind in
-        confined.0 (treating_before o cause f.tasks f.after before.0)
+        confined.0 (treating_before o cause f.tasks f.after (finalized_by (known_in program f.procedure f.suspensions) cause f.held f.watch f.object f.access f.home f.places f.operands f.also f.after f.lower f.rooms f.holds rests))
 
     go : (b : Bool) → f.x.listed ≡ b → b ≡ false
     go true listed = absurd (never listed)

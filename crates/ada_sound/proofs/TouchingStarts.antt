@@ -1,13 +1,15 @@
--- The treatment of an object calls an operation that touches storage: its body begins in a sound state (7.6, 7.6.1).
+-- The treatment of an object calls an operation that touches storage: its body begins in a sound state (7.6, 7.6.1), where no operation runs, or inside another one, which
+-- frees the object (13.11.2).
 
-use Rattle.std.proofs.Common.{◌≡◌, ℕ, Bool, true, false, not, ◌&&◌, List, ◌∷◌, refl, sym, ap, subst, ◌∙◌, []}
+use Rattle.std.proofs.Common.{◌≡◌, ◌≢◌, inl, inr, ℕ, Bool, true, false, not, ◌&&◌, List, ◌∷◌, refl, sym, ap, subst, ◌∙◌, []}
 use Rattle.std.specs.Prelude.{Option, Some, None}
 use Rattle.std.specs.List.{slice_get}
 use Rattle.std.specs.Option.{option_map}
 use Rattle.std.proofs.lemmas.Option.{slice_get-map}
 use Rattle.ada_deeds.specs.Implicit.{implicit_of}
-use Rattle.ada_finalized.specs.Law.{NoOperationRuns}
-use Rattle.ada_finalized.proofs.Standing.{AdjustsAlone, adjusts_alone, untreated_start, untreated_end}
+use Rattle.ada_effects.specs.Effects.{assignment_frees}
+use Rattle.ada_finalized.specs.Law.{NoOperationRuns, NothingBegins}
+use Rattle.ada_finalized.proofs.Standing.{AdjustsAlone, adjusts_alone, nothing_begins, untreated_start, untreated_end}
 use Rattle.ada_parts.specs.Task.{Task}
 use Rattle.ada_program.specs.declared.program.Program.{Program}
 use Rattle.ada_program.specs.Controlled.{operations_of}
@@ -16,6 +18,7 @@ use Rattle.ada_program.specs.WellFormed.{finalization_of, is_access, variable_ki
 use Rattle.ada_quiet.specs.Bare.{has_bare_objects}
 use Rattle.ada_quiet.specs.Frugal.{is_frugal_body, thrift_of}
 use Rattle.ada_quiet.specs.InUse.{may_allocate_parts, may_be_frugal}
+use Rattle.ada_meaning.specs.declared.event.Birth.{Birth}
 use Rattle.ada_meaning.specs.declared.event.Birth.TheVariants.{Creation, Copy, Adjustment}
 use Rattle.ada_program.specs.declared.program.Exception.{Exception}
 use Rattle.ada_meaning.specs.declared.state.Id.{Id}
@@ -26,8 +29,8 @@ use Rattle.ada_meaning.specs.declared.state.Value.TheVariants.{Names, Part}
 use Rattle.ada_meaning.specs.Frame.{Treatment, Treats, begins, ends, Copies, Ends}
 use Rattle.ada_meaning.specs.Heap.{Cell}
 use Rattle.ada_meaning.specs.Law.{items_of}
-use Rattle.ada_meaning.specs.State.{Activation, Owned, declared, collection, record_object, storage_pool}
-use Rattle.ada_meaning.specs.Step.{operating}
+use Rattle.ada_meaning.specs.State.{Activation, Master, Owned, declared, collection, record_object, storage_pool}
+use Rattle.ada_meaning.specs.Step.{operating, treating}
 use Rattle.ada_meaning.specs.Named.{Object, State, object_at, named}
 use Rattle.ada_owners.specs.Places.{access_at}
 use Rattle.ada_owners.proofs.Objects.{id_is}
@@ -49,25 +52,27 @@ use Rattle.ada_typed.proofs.Overridings.{OperationFor, beginning_for, ending_for
 use Rattle.ada_sound.proofs.Alters.{Alters}
 use Rattle.ada_sound.proofs.Callers.{Suspension, known_in, Stands, callers_of}
 use Rattle.ada_sound.proofs.Shunning.{finalize_shuns}
-use Rattle.ada_sound.proofs.Touching.{Enters, IsSpared, Touching, Watch, Watched, is_watched, watches}
+use Rattle.ada_sound.proofs.FrugalControl.{Frugally, IsFreed, frugal_starts}
+use Rattle.ada_sound.proofs.Touching.{CoversBy, Enters, GoesBy, IsEnding, IsSpared, Touching, Watch, Watched, is_watched, watches, origin}
 use Rattle.ada_sound.proofs.Trackers.{touches_apart}
-use Rattle.ada_sound.proofs.TouchingBegins.{IsAlone, alone, touching_begins}
+use Rattle.ada_sound.proofs.TouchingBegins.{Begun, IsAlone, alone, touching_begins}
 use Rattle.ada_sound.proofs.TouchingRests.{IsEnd, assigns_by, at_start, ends_by}
 use Rattle.ada_sound.proofs.Fits.{IsWithin, access_is}
 use Rattle.ada_sound.proofs.AssignedParts.{treated_frees_of, IsAssignedBehind}
-use Rattle.ada_sound.proofs.BareObjects.{allocated_is_bare, holder_is_not_bare, operable_is_not_bare}
-use Rattle.ada_sound.proofs.QuietOperations.{LetsNone, MayTouch, TouchesStorage}
-use Rattle.ada_sound.proofs.CalmObjects.{calm_finalize, calm_initialize}
+use Rattle.ada_sound.proofs.BareObjects.{allocated_is_bare, frugal_frees_bare, operable_is_not_bare}
+use Rattle.ada_sound.proofs.QuietOperations.{LetsNone, MayTouch, TouchesStorage, ends_here}
+use Rattle.ada_sound.proofs.CalmObjects.{barely_finalize, calm_finalize, calm_initialize}
 use Rattle.ada_quiet.specs.Calm.{are_calm_in}
 use Rattle.ada_sound.proofs.Items.{Houses}
-use Rattle.ada_sound.proofs.FrugalUseEnds.{ends_in_starts}
+use Rattle.ada_sound.proofs.FrugalUseEnds.{ends_free, ends_in_starts}
 use Rattle.ada_sound.proofs.FrugalUseLets.{touches_let}
-use Rattle.ada_sound.proofs.Invariant.{Control, CoveredIn, EndsTo, IsCopied, Known, TreatsBy, body_among, under_in, LiesAmong}
+use Rattle.ada_sound.proofs.Invariant.{Control, CopiesBehind, CoveredIn, EndsTo, IsCopied, Known, TreatsBy, body_among, under_in, LiesAmong}
 use Rattle.ada_sound.proofs.Operated.{OperatedAs}
 use Rattle.ada_sound.proofs.Operating.{IsCalled, IsCalm, lets_out, WaitsFor}
 use Rattle.ada_sound.proofs.OperationBegins.{formal_holds, formal_within}
 use Rattle.ada_sound.proofs.OperationStarts.{calm_behind, is_awaited, live_there}
 use Rattle.ada_sound.proofs.Returns.{same_types}
+use Rattle.ada_sound.proofs.SparesOwn.{assigned_spares}
 use Rattle.ada_sound.proofs.Starts.{Sound}
 use Rattle.ada_sound.proofs.Treatments.{Begins}
 use Rattle.ada_meaning.specs.declared.event.Cause.{Cause}
@@ -94,6 +99,31 @@ operation_for program well of number (begins Copy done) may called = absurd may
 operation_for program well of number (begins (Adjustment n) done) may called = absurd may
 operation_for program well of number (ends cause) may called = ending_for (program_form program) program.types.items refl well.operations_fit of number called
 
+-- Where an object ends behind this, nothing of it begins there.
+abbrev pub IsLoneEnd : Value → Control → Type 0
+IsLoneEnd v k = (w : Value) (behind : Control) → k ≡ Ends w ∷ behind → NothingBegins v behind
+
+-- So it is behind an object that is finalized; and behind a record that is assigned to, that record alone is adjusted (5.2).
+abbrev pub IsLoneBehind : Value → Treatment → Control → Type 0
+IsLoneBehind v (begins by done) k = Unit {0}
+IsLoneBehind v (ends (Leaving m item)) k = IsLoneEnd v k
+IsLoneBehind v (ends (Freeing number)) k = IsLoneEnd v k
+IsLoneBehind v (ends (Assigning number)) k = (first t : ℕ) (behind : Control) → k ≡ Copies first t ∷ behind → AdjustsAlone v behind
+IsLoneBehind v (ends (Undoing number)) k = IsLoneEnd v k
+
+-- So it is where an object is freed behind which nothing of it begins.
+pub lone_freed : (v : Value) (treatment : Treatment) (k : Control) → IsFreed treatment → NothingBegins v k → IsLoneBehind v treatment k
+lone_freed v (begins by done) k freed none = absurd freed
+lone_freed v (ends (Leaving m item)) k freed none = absurd freed
+lone_freed v (ends (Freeing number)) k freed none = λ w behind is. subst (NothingBegins v) is none
+lone_freed v (ends (Assigning number)) k freed none = absurd freed
+lone_freed v (ends (Undoing number)) k freed none = absurd freed
+
+-- Where an object is initialized or adjusted, nothing of another one begins.
+treating_others : (u v : Value) (by : Birth) (tasks : List Task) (k : Control) → u ≢ v → NothingBegins u k → NothingBegins u (treating v (begins by []) tasks k)
+treating_others u v by [] k ne none = none
+treating_others u v by (task ∷ tasks) k ne none = ((λ same. ne (sym same)), none)
+
 module _ (program : Program) (a : Activation Value) (rest : List (Activation Value)) (s : State) (k : Control) (v : Value) (treatment : Treatment) (tasks : List Task) (gs : List Suspension) where
   abbrev p : ProgramForm
   p = program_form program
@@ -101,20 +131,21 @@ module _ (program : Program) (a : Activation Value) (rest : List (Activation Val
   abbrev known : Known
   known = known_in program a.procedure gs
 
-  -- The body of an operation begins.
-  module _ (whole : State) (is : whole.control ≡ Treats v treatment tasks ∷ k) (same : whole.masters ≡ s.masters) (sound : Sound program whole) (still : NoOperationRuns whole.control) (calm : IsCalm (behind_call k)) (settled : under_in (callers_of program gs) ≡ []) (stands : Stands program gs (record s { activations = a ∷ rest })) where
-    abbrev IsOperated : Treatment → Id → ℕ → Type 0
-    IsOperated by object of = OperatedAs p.types v treatment (cells_of s.heap) k by object of
+  -- The next task of what is treated calls such an operation.
+  abbrev IsOperated : Treatment → Id → ℕ → Type 0
+  IsOperated by object of = OperatedAs p.types v treatment (cells_of s.heap) k by object of
 
-    -- An object in which a record with controlled parts lies has some.
-    lies_parted : (access t : ℕ) → IsCopied known t → LiesAmong known access t → has_bare_objects known.program.types access ≡ false
-    lies_parted access t (f, is, limited) (first, part, lies) =
+  -- The body of an operation begins.
+  module _ (whole : State) (same : whole.masters ≡ s.masters) (sound : Sound program whole) (lone : IsLoneBehind v treatment k) (stands : Stands program gs (record s { activations = a ∷ rest })) where
+    -- Where a record with controlled parts is assigned to, no object ends in which such a record lies.
+    spares_copied : (access t : ℕ) → IsCopied known t → LiesAmong known access t → is_access known.program.types access ≡ true → assignment_frees known.implicit access t ≡ true → ⊥
+    spares_copied access t (f, is, limited) (first, part, lies) accessed freed =
         let same = same_types a.procedure p in
         let found : finalization_of p.types t ≡ Some f = subst (λ (types : List TypeForm). finalization_of types t ≡ Some f) same is in
         let lie : PartsLie p.types (object_named p.types (Some access)) (Some t) first part = subst (λ (types : List TypeForm). PartsLie types (object_named types (Some access)) (Some t) first part) same lies in
-        subst (λ (types : List TypeForm). has_bare_objects types access ≡ false) (sym same) (holder_is_not_bare program sound.well t f found access first part lie)
+        assigned_spares program sound.well sound.spares_own access t first part f lie found (subst (λ (types : List TypeForm). is_access types access ≡ true) same accessed) freed
 
-    -- The record that is copied behind an assignment has some.
+    -- The record that is copied behind an assignment has controlled parts.
     copied_behind : (u : Value) (by : Treatment) (left : List Task) (j : Control) (heap : List Object) → TreatsBy known u by left j heap a.places a.operands s.masters → IsAssignedBehind p.types by j
     copied_behind u (begins by done) left j heap treats = tt
     copied_behind u (ends (Leaving m item)) left j heap treats = tt
@@ -124,14 +155,6 @@ module _ (program : Program) (a : Activation Value) (rest : List (Activation Val
         (f, subst (λ (types : List TypeForm). finalization_of types t ≡ Some f) (same_types a.procedure p) found)
     copied_behind u (ends (Assigning number)) left (g ∷ j) heap treats = tt
     copied_behind u (ends (Undoing number)) left j heap treats = tt
-
-    -- The control, by what is treated.
-    control_by : (by : Treatment) → by ≡ treatment → whole.control ≡ Treats v by tasks ∷ k
-    control_by by one = is ∙ ap (λ (t : Treatment). Treats v t tasks ∷ k) (sym one)
-
-    ended_untreated : (cause : Cause) → ends cause ≡ treatment → (w : Value) (behind : Control) → k ≡ Ends w ∷ behind → NothingTreated behind
-    ended_untreated cause one w behind at =
-        untreated_end program sound.reached.0 sound.reached.1 whole still sound.reached.2 v w cause tasks behind (control_by (ends cause) one ∙ ap (λ (j : Control). Treats v (ends cause) tasks ∷ j) at)
 
     fits_here : ItemsFit known.program.types (items_of s.masters)
     fits_here =
@@ -166,33 +189,34 @@ module _ (program : Program) (a : Activation Value) (rest : List (Activation Val
       touches : known.touches x.cell.access ≡ true
       touches = rw (may, not_calm) refl
 
-      ends_for : (cause : Cause) → IsEnd cause → ends cause ≡ treatment → EndsTo known (Names o) k heap a.places s.masters → Enters known (ends cause) o x k heap a.places a.operands s.masters
-      ends_for cause end one treats =
-          ends_by known o x heap found is_of a.places a.operands s.masters not_bare fits_here goes_ahead touches (ends_in_starts p) cause end k treats (ended_untreated cause one)
+      ends_for : (cause : Cause) → IsEnd cause → IsLoneEnd v k → EndsTo known (Names o) k heap a.places s.masters → Enters known (ends cause) o x k heap a.places a.operands s.masters
+      ends_for cause end alone treats =
+          ends_by known o x heap found is_of a.places a.operands s.masters not_bare fits_here goes_ahead touches (ends_in_starts p) cause end k treats
+          (λ w behind at. subst (λ (u : Value). NothingBegins u behind) named (alone w behind at))
 
-      enters : (by : Treatment) (left : List Task) → by ≡ treatment → MayTouch by → TreatsBy known (Names o) by left k heap a.places a.operands s.masters → Enters known by o x k heap a.places a.operands s.masters
-      enters (begins Creation done) left one may' treats =
-          at_start known o x heap found is_of a.places a.operands s.masters not_bare fits_here touches done left k treats
-          (untreated_start program sound.reached.0 sound.reached.1 whole still sound.reached.2 v Creation done tasks k (control_by (begins Creation done) one))
-      enters (begins Copy done) left one may' treats = absurd may'
-      enters (begins (Adjustment n) done) left one may' treats = absurd may'
-      enters (ends (Leaving m item)) left one may' treats = ends_for (Leaving m item) tt one treats
-      enters (ends (Freeing number)) left one may' treats = ends_for (Freeing number) tt one treats
-      enters (ends (Assigning number)) left one may' treats =
-          assigns_by known o x heap found is_of a.places a.operands s.masters not_bare fits_here number lies_parted k treats
-          (λ first t behind at. subst (λ (u : Value). AdjustsAlone u behind) named
-          (adjusts_alone program sound.reached.0 sound.reached.1 whole still sound.reached.2 v (Assigning number) tasks first t behind
-          (control_by (ends (Assigning number)) one ∙ ap (λ (j : Control). Treats v (ends (Assigning number)) tasks ∷ j) at)))
-      enters (ends (Undoing number)) left one may' treats = ends_for (Undoing number) tt one treats
+      enters : (by : Treatment) (left : List Task) → IsLoneBehind v by k → MayTouch by → TreatsBy known (Names o) by left k heap a.places a.operands s.masters → Enters known by o x k heap a.places a.operands s.masters
+      enters (begins Creation done) left alone may' treats = at_start known o x heap found is_of a.places a.operands s.masters not_bare fits_here touches done left k treats
+      enters (begins Copy done) left alone may' treats = absurd may'
+      enters (begins (Adjustment n) done) left alone may' treats = absurd may'
+      enters (ends (Leaving m item)) left alone may' treats = ends_for (Leaving m item) tt alone treats
+      enters (ends (Freeing number)) left alone may' treats = ends_for (Freeing number) tt alone treats
+      enters (ends (Assigning number)) left alone may' treats =
+          assigns_by known o x heap found is_of a.places a.operands s.masters not_bare fits_here number spares_copied k treats
+          (λ first t behind at. subst (λ (u : Value). AdjustsAlone u behind) named (alone first t behind at))
+      enters (ends (Undoing number)) left alone may' treats = ends_for (Undoing number) tt alone treats
 
     -- What is watched, if something is, is left alone by the body of a Finalize that begins, and by those that it calls.
     watched_begins : (by : Treatment) (watch : Option Watch) (o : Id) (access of part number : ℕ) (b : BodyForm) (place : Place) (behind : Control) (heap : List Object) → IsOperable p.types access of part
-        → IsCalled (operations_of program.types.items of) by number → slice_get (body_forms program) number ≡ Some b → is_frugal_body (thrift_of p) b ≡ true → IsSpared known by o access heap watch
+        → IsCalled (operations_of program.types.items of) by number → slice_get (body_forms program) number ≡ Some b → TouchesStorage p by b → IsSpared known by o access heap watch
         → Watched p watch behind (operating named number b (Part o place) behind (record s { activations = a ∷ rest; heap = heap; mode = Running }))
-    watched_begins by None o access of part number b place behind heap operable called there frugal spared = tt
-    watched_begins (begins by done) (Some w) o access of part number b place behind heap operable called there frugal spared = absurd spared
-    watched_begins (ends cause) (Some w) o access of part number b place behind heap operable called there frugal (at, other, accessed, apart) = (at, (shunned.0, shunned.1, reaching))
+    watched_begins by None o access of part number b place behind heap operable called there stores spared = tt
+    watched_begins (begins by done) (Some w) o access of part number b place behind heap operable called there stores spared = absurd spared
+    watched_begins (ends cause) (Some w) o access of part number b place behind heap operable called there stores (at, other, accessed, apart, barely) = (at, (shunned.0, shunned.1, reaching))
       where
+        -- It frees no object with controlled parts, as it touches storage.
+        frugal : is_frugal_body (thrift_of p false) b ≡ true
+        frugal = elim (barely_finalize program sound.well access of part number b operable barely cause called there) [ inl quiet ↦ absurd (cc (quiet, stores)) | inr is ↦ is ]
+
         -- The procedures that it calls are among some whose bodies neither follow nor free values of the type of what is watched.
         shunned : (among : ℕ → Bool) × AreApart p (watches (Some w)) among × (body_shuns p.types (watches (Some w)) among b ≡ true)
         shunned = finalize_shuns program sound.well access of part number w.is.cell.access b operable called there frugal apart
@@ -231,29 +255,135 @@ module _ (program : Program) (a : Activation Value) (rest : List (Activation Val
         go true is_calm (ends cause) may' called' touches' =
             let quiet = calm_finalize program sound.well access of part number b operable is_calm called' there in absurd (cc (quiet, touches'))
 
-    pub touching_starts : (e : Event) (after : State) (c : Begins known a rest s program.types.items (body_forms program) k IsOperated e after) → MayTouch c.treatment → may_be_frugal p ≡ true → LetsNone p c.treatment c.b → is_frugal_body (thrift_of p) c.b ≡ true → TouchesStorage p c.treatment c.b
-        → typed.Typed p after → Touching program after
-    touching_starts e after c touches may silent frugal stores typing =
+    -- What the body may free has no controlled parts, or the end of the object may free it.
+    covers_by : (access of part number : ℕ) (b : BodyForm) (by : Treatment) → IsOperable p.types access of part → IsCalled (operations_of program.types.items of) by number → slice_get (body_forms program) number ≡ Some b
+        → is_frugal_body (thrift_of p (ends_here by)) b ≡ true → (t : ℕ) → CoveredIn (implicit_of p) (seen_in (Some number) p) t → CoversBy p by access t
+    covers_by access of part number b (begins by done) operable called there frugal t covered = frugal_frees_bare program sound.well number b there frugal t covered
+    covers_by access of part number b (ends cause) operable called there frugal t covered = ends_free program sound.well access of part number b operable called there t covered
+
+    -- So the body begins, for this object, in front of what is behind its treatment.
+    begins_so : (e : Event) (after : State) (c : Begins known a rest s program.types.items (body_forms program) k IsOperated e after) → MayTouch c.treatment → may_be_frugal p ≡ true → LetsNone p c.treatment c.b → is_frugal_body (thrift_of p (ends_here c.treatment)) c.b ≡ true → TouchesStorage p c.treatment c.b
+        → typed.Typed p after → (begun : Begun program gs c.treatment c.behind s.masters after) × (begun.pause.object ≡ c.o) × (begun.pause.after ≡ k)
+    begins_so e after c touches may silent frugal stores typing =
         let operated = c.operated.1 in
         let of_type : c.x.cell.access ≡ operated.0 = kept_type s.heap c.heap e c.o c.x operated.0 c.alters c.found operated.2 in
+        let operable : IsOperable p.types c.x.cell.access c.of operated.1 = rw of_type (operated.3) in
         let parted : has_bare_objects p.types c.x.cell.access ≡ false = rw of_type (operable_is_not_bare program sound.well operated.0 c.of operated.1 operated.3) in
         let not_calm : are_calm_in p c.x.cell.access ≡ false = rw of_type (other_object operated.0 c.of operated.1 c.number c.b c.treatment operated.3 touches c.called c.there stores) in
         let at : Enters known c.treatment c.o c.x k c.heap a.places a.operands s.masters =
-        enters may c.o c.x c.heap c.operated.3 c.found (access_is c.heap c.o c.x c.found (live_there c.x.stage c.live)) (subst (λ (types : List TypeForm). has_bare_objects types c.x.cell.access ≡ false) (sym (same_types a.procedure p)) parted) not_calm c.treatment c.tasks c.operated.0 touches c.treats in
+        enters may c.o c.x c.heap c.operated.3 c.found (access_is c.heap c.o c.x c.found (live_there c.x.stage c.live)) (subst (λ (types : List TypeForm). has_bare_objects types c.x.cell.access ≡ false) (sym (same_types a.procedure p)) parted) not_calm c.treatment c.tasks (rw c.operated.0 lone) touches c.treats in
         let operation = operation_for program sound.well c.of c.number c.treatment touches c.called in
         let body : operation.body ≡ c.b = let found = operation.there in let there = c.there in cc (found, there) in
-        let lone : IsAlone c.b = alone c.b operation.object (rw body at operation.formals) in
+        let single : IsAlone c.b = alone c.b operation.object (rw body at operation.formals) in
         let waits : WaitsFor p.types c.o c.of c.treatment c.tasks k c.behind = subst (λ (types : List TypeForm). WaitsFor types c.o c.of c.treatment c.tasks k c.behind) (same_types a.procedure p) c.waits in
         let begun = operating named c.number c.b (Part c.o c.place) c.behind (record s { activations = a ∷ rest; heap = c.heap; mode = Running; control = k }) in
         let now : typed.Typed p begun = rw c.is at typing in
         let inside : typed.TypedIn (seen_in (Some c.number) p) begun = now.inside in
         let own : typed.TypedIn (seen_by c.number c.b p) begun = rw (seen_as p c.number c.b c.there) at inside in
         let holds = formal_holds program c.number c.b c.o c.place begun (_, refl) c.x c.found own in
-        let within : IsWithin p.types (variable_kind c.b.variables 0) c.x.cell.access c.place.component = formal_within p.types (variable_kind c.b.variables 0) c.o c.x.cell.access c.place lone.object lone.is (rw lone.is at holds) in
+        let within : IsWithin p.types (variable_kind c.b.variables 0) c.x.cell.access c.place.component = formal_within p.types (variable_kind c.b.variables 0) c.o c.x.cell.access c.place single.object single.is (rw single.is at holds) in
         let frees : (t : ℕ) → CoveredIn (implicit_of p) (seen_in (Some c.number) p) t → at.may t ≡ true =
-        λ t covered. at.includes t (treated_frees_of program sound.well c.x.cell.access c.of operated.1 c.number c.b (rw of_type operated.3) c.treatment k (rw (c.operated.0) (c.operated.2)) (copied_behind (Names c.o) c.treatment c.tasks k c.heap c.treats) touches c.called c.there t covered) in
+        λ t covered. at.includes t (treated_frees_of program sound.well c.x.cell.access c.of operated.1 c.number c.b operable c.treatment k (rw (c.operated.0) (c.operated.2)) (copied_behind (Names c.o) c.treatment c.tasks k c.heap c.treats) touches c.called c.there t covered) in
         let lets : (raised : Exception) → body_among (implicit_of p) (seen_in (Some c.number) p) raised ≡ true → lets_out (implicit_of p) c.x.cell.access c.treatment raised ≡ true =
-        touches_let program sound.well c.x.cell.access c.of operated.1 c.number c.b (rw of_type operated.3) c.treatment touches silent c.called c.there frugal in
-        rw c.is (touching_begins program sound.well sound.obeys c.number (touches_apart program sound.obeys.0 c.of c.number c.treatment touches c.called) c.b c.there may frugal lone a rest gs s k c.o c.x c.heap c.found (live_there c.x.stage c.live) c.place within c.treatment at c.behind frees lets e c.of c.tasks c.alters waits (is_awaited p.types c.o c.of c.treatment c.tasks k c.behind waits) stands
-        (calm_behind p.types c.o c.of c.treatment c.tasks k c.behind waits calm) settled
-        (watched_begins c.treatment at.watch c.o c.x.cell.access c.of operated.1 c.number c.b c.place c.behind c.heap (rw of_type operated.3) c.called c.there frugal at.spared))
+        touches_let program sound.well c.x.cell.access c.of operated.1 c.number c.b operable c.treatment touches silent c.called c.there frugal in
+        rw c.is (touching_begins program sound.well sound.obeys c.number (touches_apart program sound.obeys.0 c.of c.number c.treatment touches c.called) c.b c.there single a rest gs s k c.o c.x c.heap c.found (live_there c.x.stage c.live) c.place within c.treatment frugal sound.spares_own at c.behind frees
+        (covers_by c.x.cell.access c.of operated.1 c.number c.b c.treatment operable c.called c.there frugal) lets e c.of c.tasks c.alters waits (is_awaited p.types c.o c.of c.treatment c.tasks k c.behind waits) stands
+        (watched_begins c.treatment at.watch c.o c.x.cell.access c.of operated.1 c.number c.b c.place c.behind c.heap operable c.called c.there stores at.spared))
+
+    -- That is known of it, whatever runs behind it.
+    pub touching_starts : (e : Event) (after : State) (c : Begins known a rest s program.types.items (body_forms program) k IsOperated e after) → MayTouch c.treatment → may_be_frugal p ≡ true → LetsNone p c.treatment c.b → is_frugal_body (thrift_of p (ends_here c.treatment)) c.b ≡ true → TouchesStorage p c.treatment c.b
+        → typed.Typed p after → Begun program gs c.treatment c.behind s.masters after
+    touching_starts e after c touches may silent frugal stores typing = (begins_so e after c touches may silent frugal stores typing).0
+
+  -- Where no operation runs, nothing is treated behind what is treated, but a record that is assigned to.
+  module _ (whole : State) (is : whole.control ≡ Treats v treatment tasks ∷ k) (sound : Sound program whole) (still : NoOperationRuns whole.control) where
+    -- The control, by what is treated.
+    control_by : (by : Treatment) → by ≡ treatment → whole.control ≡ Treats v by tasks ∷ k
+    control_by by one = is ∙ ap (λ (t : Treatment). Treats v t tasks ∷ k) (sym one)
+
+    -- Nothing is treated behind the end of an object.
+    ended_alone : (cause : Cause) → ends cause ≡ treatment → (w : Value) (behind : Control) → k ≡ Ends w ∷ behind → NothingTreated behind
+    ended_alone cause one w behind at =
+        untreated_end program sound.reached.0 sound.reached.1 whole still sound.reached.2 v w cause tasks behind (control_by (ends cause) one ∙ ap (λ (j : Control). Treats v (ends cause) tasks ∷ j) at)
+
+    -- Behind a record that is assigned to, that record alone is adjusted.
+    assigned_alone : (number : ℕ) → ends (Assigning number) ≡ treatment → (first t : ℕ) (behind : Control) → k ≡ Copies first t ∷ behind → AdjustsAlone v behind
+    assigned_alone number one first t behind at =
+        adjusts_alone program sound.reached.0 sound.reached.1 whole still sound.reached.2 v (Assigning number) tasks first t behind
+        (control_by (ends (Assigning number)) one ∙ ap (λ (j : Control). Treats v (ends (Assigning number)) tasks ∷ j) at)
+
+    lone_by : (by : Treatment) → by ≡ treatment → IsLoneBehind v by k
+    lone_by (begins by done) one = tt
+    lone_by (ends (Leaving m item)) one = λ w behind at. nothing_begins v behind (ended_alone (Leaving m item) one w behind at)
+    lone_by (ends (Freeing number)) one = λ w behind at. nothing_begins v behind (ended_alone (Freeing number) one w behind at)
+    lone_by (ends (Assigning number)) one = assigned_alone number one
+    lone_by (ends (Undoing number)) one = λ w behind at. nothing_begins v behind (ended_alone (Undoing number) one w behind at)
+
+    -- So it is, by what is treated.
+    pub lone_outermost : IsLoneBehind v treatment k
+    lone_outermost = lone_by treatment refl
+
+    -- Nothing of another object begins behind that.
+    module _ (heap : List Object) (places operands : List Value) (masters : List Master) (u : Value) (other : u ≢ v) where
+      ended_others : (cause : Cause) → ends cause ≡ treatment → (j : Control) → k ≡ j → EndsTo known v j heap places masters → NothingBegins u j
+      ended_others cause one [] at treats = absurd treats
+      ended_others cause one (Ends w ∷ j) at treats = nothing_begins u j (ended_alone cause one w j at)
+      ended_others cause one (f ∷ j) at treats = absurd treats
+
+      assigned_others : (number : ℕ) → ends (Assigning number) ≡ treatment → (j : Control) → k ≡ j → CopiesBehind known j heap places operands masters → NothingBegins u j
+      assigned_others number one [] at treats = absurd treats
+      assigned_others number one (Copies first t ∷ j) at treats =
+          let alone = assigned_alone number one first t j at in
+          subst (NothingBegins u) (sym alone.is)
+          (treating_others u (Names alone.object) (Adjustment alone.number) alone.tasks alone.behind (λ same. other (same ∙ sym alone.named)) (nothing_begins u alone.behind alone.untreated))
+      assigned_others number one (f ∷ j) at treats = absurd treats
+
+      others_by : (by : Treatment) (left : List Task) → by ≡ treatment → MayTouch by → TreatsBy known v by left k heap places operands masters → NothingBegins u k
+      others_by (begins Creation done) left one may treats =
+          nothing_begins u k (untreated_start program sound.reached.0 sound.reached.1 whole still sound.reached.2 v Creation done tasks k (control_by (begins Creation done) one))
+      others_by (begins Copy done) left one may treats = absurd may
+      others_by (begins (Adjustment n) done) left one may treats = absurd may
+      others_by (ends (Leaving m item)) left one may treats = ended_others (Leaving m item) one k refl treats
+      others_by (ends (Freeing number)) left one may treats = ended_others (Freeing number) one k refl treats
+      others_by (ends (Assigning number)) left one may treats = assigned_others number one k refl treats
+      others_by (ends (Undoing number)) left one may treats = ended_others (Undoing number) one k refl treats
+
+    -- An operation begins there.
+    module _ (same : whole.masters ≡ s.masters) (calm : IsCalm (behind_call k)) (settled : under_in (callers_of program gs) ≡ []) (stands : Stands program gs (record s { activations = a ∷ rest }))
+        (e : Event) (after : State) (c : Begins known a rest s program.types.items (body_forms program) k IsOperated e after) (touches : MayTouch c.treatment) where
+      -- Nothing begins of another object than the one that it is called for.
+      pub untreated_outermost : (u : Value) → u ≢ Names c.o → NothingBegins u k
+      untreated_outermost u other =
+          others_by c.heap a.places a.operands s.masters u (λ is. other (is ∙ c.operated.3)) c.treatment c.tasks c.operated.0 touches
+          (subst (λ (w : Value). TreatsBy known w c.treatment c.tasks k c.heap a.places a.operands s.masters) (sym c.operated.3) c.treats)
+
+      -- What bodies go by then.
+      goes_so : (by by' : Treatment) → by' ≡ by → GoesBy p by' (thrift_of p (ends_here by))
+      goes_so (begins how done) by' is = inl refl
+      goes_so (ends cause) by' is = inr (refl, subst IsEnding (sym is) tt)
+
+      -- Its body runs, as the outermost one.
+      pub touching_outermost : may_be_frugal p ≡ true → LetsNone p c.treatment c.b → is_frugal_body (thrift_of p (ends_here c.treatment)) c.b ≡ true → TouchesStorage p c.treatment c.b → typed.Typed p after → Touching program after
+      touching_outermost may silent frugal stores typing =
+          let started = begins_so whole same sound lone_outermost stands e after c touches may silent frugal stores typing in
+          let begun = started.0 in
+          let waits : WaitsFor p.types c.o c.of c.treatment c.tasks k c.behind = subst (λ (types : List TypeForm). WaitsFor types c.o c.of c.treatment c.tasks k c.behind) (same_types a.procedure p) c.waits in
+          let runs : Frugally (thrift_of p (ends_here c.treatment)) s.masters c.behind after = rw c.is (frugal_starts (thrift_of p (ends_here c.treatment)) c.number c.b frugal (Part c.o c.place) c.behind (record s { activations = a ∷ rest; heap = c.heap; mode = Running; control = k })) in
+          record {
+            suspensions = origin program 0 after begun.pause ∷ gs;
+            ready = begun.ready;
+            stands = begun.stands;
+            within = record {
+              inner = [];
+              outermost = begun.pause;
+              are = ap (λ (others : List Suspension). origin program 0 after begun.pause ∷ others) (sym begun.suspensions);
+              thrift = thrift_of p (ends_here c.treatment);
+              goes_by = goes_so c.treatment begun.pause.treatment begun.treated;
+              within = begun.runs;
+              frugal = rw (begun.is_lower, begun.is_behind) runs;
+              untreated = λ u other. subst (NothingBegins u) (sym started.2) (untreated_outermost u (λ same. other (same ∙ ap Names (sym started.1))));
+              calm = rw begun.is_behind (calm_behind p.types c.o c.of c.treatment c.tasks k c.behind waits calm);
+              settled = rw begun.suspensions settled;
+              may = may;
+            };
+          }

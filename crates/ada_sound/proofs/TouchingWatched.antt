@@ -1,7 +1,7 @@
 -- While the body of an operation runs that touches storage, the object stays as it is in which a component lies that is freed (7.6, 13.11.2): each step of that body,
--- and of those that it calls, leaves it alone.
+-- and of those since then, leaves it alone.
 
-use Rattle.std.proofs.Common.{◌≡◌, ℕ, Bool, List, [], ◌∷◌, ◌++◌, ◌∙◌, refl}
+use Rattle.std.proofs.Common.{◌≡◌, ℕ, Bool, List, [], ◌∷◌, ◌++◌, ◌∙◌, refl, inl, inr, suc}
 use Rattle.std.proofs.lemmas.Bool.{eq-eqb}
 use Rattle.std.specs.Prelude.{Option, Some, None}
 use Rattle.ada_program.specs.declared.program.Program.{Program}
@@ -10,16 +10,18 @@ use Rattle.ada_meaning.specs.Frame.{Leaves, Returns}
 use Rattle.ada_meaning.specs.Named.{Next, Object, State, next, object_at}
 use Rattle.ada_meaning.specs.State.{Item, Master}
 use Rattle.ada_meaning.specs.Step.{halts, moves, tells, asks, picks}
-use Rattle.ada_quiet.specs.Frugal.{thrift_of}
+use Rattle.ada_quiet.specs.Frugal.{Thrift}
 use Rattle.ada_reaching.proofs.Law.{stays_reaching}
 use Rattle.ada_reaching.specs.Law.{AllGoOn, AreApart, FirstTakesNone, GoesOn}
 use Rattle.ada_tracked.specs.Law as tracked
 use Rattle.ada_typed.proofs.Kept.{Each}
 use Rattle.ada_untouched.specs.Untouched.{InnermostHousesNone, NewestHousesNone}
+use Rattle.ada_sound.proofs.Callers.{Suspension}
 use Rattle.ada_sound.proofs.FrugalLeaves.{innermost_houses_none, leaves_own}
 use Rattle.ada_sound.proofs.Invariant.{Control}
+use Rattle.ada_sound.proofs.Pauses.{AllWatched}
 use Rattle.ada_sound.proofs.Starts.{Sound}
-use Rattle.ada_sound.proofs.Touching.{Touching, Watch, Watched, is_watched, watches}
+use Rattle.ada_sound.proofs.Touching.{AreInner, Watch, Watched, Within, is_watched, watches}
 
 -- Two notions of masters that are the home of no objects are one.
 newest_so : (is : List Item) → tracked.NewestHousesNone is → NewestHousesNone is
@@ -30,13 +32,21 @@ innermost_so : (ms : List Master) → tracked.InnermostHousesNone ms → Innermo
 innermost_so [] none = tt
 innermost_so (m ∷ ms) none = newest_so m.items none
 
--- Where nothing is watched, nothing is to be shown.
-each_unwatched : (p : ProgramForm) (behind : Control) (n : Next) → Each (Watched p None behind) n
-each_unwatched p behind (halts halt) = tt
-each_unwatched p behind (moves e after) = tt
-each_unwatched p behind (tells request e after) = tt
-each_unwatched p behind (asks request answered) = λ granted. tt
-each_unwatched p behind (picks n taken) = λ i lt. tt
+-- What is so whatever comes next.
+pub each_so : (P : State → Type 0) → ((after : State) → P after) → (n : Next) → Each P n
+each_so P so (halts halt) = tt
+each_so P so (moves e after) = so after
+each_so P so (tells request e after) = so after
+each_so P so (asks request answered) = λ granted. so (answered granted)
+each_so P so (picks n taken) = λ i lt. so (taken i)
+
+-- Two things are so.
+pub each_and : (P Q : State → Type 0) (n : Next) → Each P n → Each Q n → Each (λ after. P after × Q after) n
+each_and P Q (halts halt) p q = tt
+each_and P Q (moves e after) p q = (p, q)
+each_and P Q (tells request e after) p q = (p, q)
+each_and P Q (asks request answered) p q = λ granted. (p granted, q granted)
+each_and P Q (picks n taken) p q = λ i lt. (p i lt, q i lt)
 
 -- Where such bodies go on behind a step, what is watched is as it was.
 module _ (p : ProgramForm) (w : Watch) (apart : ℕ → Bool) (are : AreApart p (watches (Some w)) apart) (behind : Control) (before : List Object) (found : object_at before w.holder ≡ Some w.is) where
@@ -53,21 +63,39 @@ module _ (p : ProgramForm) (w : Watch) (apart : ℕ → Bool) (are : AreApart p 
   each_watched (asks request answered) goes = λ granted. goes_watched (answered granted) (goes granted)
   each_watched (picks n taken) goes = absurd goes
 
-module _ (program : Program) (s : State) (f : Touching program s) where
+module _ (program : Program) (gs : List Suspension) (s : State) (w : Within program gs s) where
   -- A master that is left is one of the bodies' own, which own variables alone.
   takes_none : (k : Control) → s.control ≡ k → FirstTakesNone k s.masters
   takes_none [] is = tt
   takes_none (Leaves left ∷ k) is =
-      let inner = leaves_own (thrift_of (program_form program)) f.behind s.mode left k f.frugal.upper f.lower (rw is at f.frugal.frugal) f.frugal.own in
-      rw f.frugal.masters (innermost_so (f.frugal.upper ++ f.lower) (innermost_houses_none (f.frugal.upper ++ f.lower) inner))
+      let inner = leaves_own w.thrift w.outermost.behind s.mode left k w.frugal.upper w.outermost.lower (rw is at w.frugal.frugal) w.frugal.own in
+      rw w.frugal.masters (innermost_so (w.frugal.upper ++ w.outermost.lower) (innermost_houses_none (w.frugal.upper ++ w.outermost.lower) inner))
   takes_none (g ∷ k) is = tt
 
-  -- What is watched is so still whatever comes next, unless the outermost body ends.
-  pub watched_stays : Sound program s → (s.control ≡ Returns [] [] ∷ f.behind → ⊥) → Each (Watched (program_form program) f.watch f.behind) (next program.types.items (body_forms program) s)
-  watched_stays sound on = by f.watch f.still
-    where
-      by : (watch : Option Watch) → Watched (program_form program) watch f.behind s → Each (Watched (program_form program) watch f.behind) (next program.types.items (body_forms program) s)
-      by None still = each_unwatched (program_form program) f.behind (next program.types.items (body_forms program) s)
-      by (Some w) (found, (apart, are, reaching)) =
-          each_watched (program_form program) w apart are f.behind s.heap found (next program.types.items (body_forms program) s)
-          (stays_reaching program sound.well (watches (Some w)) apart are (is_watched (Some w)) f.behind s sound.typed reaching (record { on = on; takes = takes_none s.control refl })).1
+  module _ (sound : Sound program s) where
+    -- What is watched while an operation runs is so still whatever comes next, unless its body ends.
+    pub watched_stays : (watch : Option Watch) (behind : Control) → Watched (program_form program) watch behind s → (s.control ≡ Returns [] [] ∷ behind → ⊥) → Each (Watched (program_form program) watch behind) (next program.types.items (body_forms program) s)
+    watched_stays None behind still on = each_so (Watched (program_form program) None behind) (λ after. tt) (next program.types.items (body_forms program) s)
+    watched_stays (Some x) behind (found, (apart, are, reaching)) on =
+        each_watched (program_form program) x apart are behind s.heap found (next program.types.items (body_forms program) s)
+        (stays_reaching program sound.well (watches (Some x)) apart are (is_watched (Some x)) behind s sound.typed reaching (record { on = on; takes = takes_none s.control refl })).1
+
+    module _ (thrift : Thrift) (back : Control) (lower : List Master) where
+      -- The end of the body of none of the operations for which these activations wait is next.
+      abbrev pub AllGoOnInside : (running : Option ℕ) (depth : ℕ) (outermost : Option ℕ) (others inner : List Suspension) → AreInner program s thrift back lower running depth outermost others inner → Type 0
+      AllGoOnInside running depth outermost others [] are = Unit {0}
+      AllGoOnInside running depth outermost others (g ∷ inner) (inl call, more) = AllGoOnInside g.procedure (suc depth) outermost others inner more
+      AllGoOnInside running depth outermost others (g ∷ inner) (inr operation, more) =
+          (s.control ≡ Returns [] [] ∷ operation.pause.behind → ⊥) × AllGoOnInside g.procedure (suc depth) outermost others inner more
+
+      -- So it is with what is watched in each of these.
+      pub all_watched : (running : Option ℕ) (depth : ℕ) (outermost : Option ℕ) (others inner : List Suspension) (are : AreInner program s thrift back lower running depth outermost others inner)
+          → AllGoOnInside running depth outermost others inner are
+          → Each (λ after. AllWatched program s thrift back lower after running depth outermost others inner are) (next program.types.items (body_forms program) s)
+      all_watched running depth outermost others [] are on =
+          each_so (λ after. AllWatched program s thrift back lower after running depth outermost others [] are) (λ after. tt) (next program.types.items (body_forms program) s)
+      all_watched running depth outermost others (g ∷ inner) (inl call, more) on = all_watched g.procedure (suc depth) outermost others inner more on
+      all_watched running depth outermost others (g ∷ inner) (inr operation, more) on =
+          each_and (Watched (program_form program) operation.pause.watch operation.pause.behind)
+          (λ after. AllWatched program s thrift back lower after g.procedure (suc depth) outermost others inner more) (next program.types.items (body_forms program) s)
+          (watched_stays operation.pause.watch operation.pause.behind operation.pause.still on.0) (all_watched g.procedure (suc depth) outermost others inner more on.1)

@@ -1,12 +1,12 @@
 -- What holds in every run of a program, whatever its input and whatever is granted and picked.
 
-use Rattle.std.specs.Prelude.{◌≡◌, ◌↔◌, ℤ, Bool, true, false, List, [], Option, Some, All, AllPairs}
+use Rattle.std.specs.Prelude.{◌≡◌, ◌↔◌, ℕ, suc, ℤ, Bool, true, false, not, ◌&&◌, List, [], ◌∷◌, Option, Some, All, AllPairs}
 use Rattle.std.specs.List.{filter}
 use Rattle.ada_program.specs.declared.program.Program.{Program}
 use Rattle.ada_text.specs.declared.spot.Spot.{Spot}
 use Rattle.ada_flow.specs.declared.rule.Rule.{Rule}
 use Rattle.ada_program.specs.Form.{declaration_forms, stmt_forms, handler_forms}
-use Rattle.ada_program.specs.ProgramForm.{main_body, program_form, seen_in}
+use Rattle.ada_program.specs.ProgramForm.{TypeForm, record_of, access_to, object_of, main_body, program_form, seen_in}
 use Rattle.ada_program.specs.WellFormed.{IsWellFormed}
 use Rattle.ada_program.specs.Nested.{CollectionsNest}
 use Rattle.ada_program.specs.Freed.{FreesItsOwn}
@@ -30,6 +30,21 @@ use Rattle.ada_quiet.specs.InUse.{operations_are_in_use}
 abbrev pub InEveryRun : Program → (List Event → State → Type 0) → Type 0
 InEveryRun program P = (input : List ℤ) (events : List Event) (last : State) → Run program (first_state program input) events last → P events last
 
+-- The end of an object, and its adjustment, free no object of its own access type (7.6.1, 13.11.2), where it is of one.
+abbrev pub spares_own_type : Implicit → (type_number : ℕ) → TypeForm → Bool
+spares_own_type implicit t (record_of name parts components finalization) = true
+spares_own_type implicit t (access_to name designated pool) = not (implicit.end_frees t t) && not (implicit.adjust_frees t t)
+spares_own_type implicit t (object_of record_type) = true
+
+-- So it is with each of these types, from a number on.
+abbrev pub spare_own_types : Implicit → (from : ℕ) → List TypeForm → Bool
+spare_own_types implicit n [] = true
+spare_own_types implicit n (t ∷ ts) = spares_own_type implicit n t && spare_own_types implicit (suc n) ts
+
+-- In a program, the end of an object, and its adjustment, free no object of its own access type: what is used then was created earlier (7.6.1).
+abbrev pub SparesOwn : Program → Type 0
+SparesOwn program = spare_own_types (implicit_of (program_form program)) 0 (program_form program).types ≡ true
+
 -- A program has passed all checks.
 pub record IsChecked (program : Program) : Type 0 where
   -- each number is that of something there, and each form has the types that it wants
@@ -38,12 +53,14 @@ pub record IsChecked (program : Program) : Type 0 where
   -- (7.6); where all that has controlled parts lies in declared objects, or others that are not calm are freed by variables and followed values alone and
   -- collections are created in order, Initialize and Finalize may also allocate, move, follow and free, and call what does so alone, and Adjust of a
   -- type that declares components of access types may allocate, move, follow and free, so that these own what they name, or are null, where no component names an
-  -- object with a part that has such an Adjust; none of these bodies allocates or frees an object with controlled parts
+  -- object with a part that has such an Adjust; none of these bodies allocates an object with controlled parts, and that of a Finalize alone frees some
   pub in_use : operations_are_in_use (program_form program) ≡ true
   -- no object lies in a collection that lasts longer than one in which its components' objects lie (3.10.2, 7.6.1)
   pub nests : CollectionsNest (program_form program)
   -- what is freed is freed by the instance for its own access type (13.11.2)
   pub frees_own : FreesItsOwn (program_form program)
+  -- where an object ends, or is adjusted, none of its own access type is freed (7.6.1)
+  pub spares_own : SparesOwn program
   -- the flow of values breaks no rule
   pub obeys : ObeysRules program
 
@@ -132,37 +149,41 @@ HaltsAfter seen halt program = InSomeRun program (λ events last. Halts program 
 abbrev pub FinishesAfter : List Event → Program → Type 0
 FinishesAfter seen program = HaltsAfter seen Finished program
 
--- The program is well formed, its collections nest, and it frees by the instances for what it frees, but flow refuses it, first by this rule.
+-- The program has passed all other checks, but flow refuses it, first by this rule.
 pub record Breaks (rule : Rule) (program : Program) : Type 0 where
   pub well_formed : IsWellFormed (program_form program)
   pub in_use : operations_are_in_use (program_form program) ≡ true
   pub nests : CollectionsNest (program_form program)
   pub frees_own : FreesItsOwn (program_form program)
+  pub spares_own : SparesOwn program
   pub spot : Spot
   pub faults_there : program_flow program ≡ faults spot rule
 
--- The program obeys the rules, its collections nest, and it frees by the instances for what it frees, but it is not well formed.
+-- The program has passed all other checks, but it is not well formed.
 pub record IsIllFormed (program : Program) : Type 0 where
   pub ill_formed : IsWellFormed (program_form program) → ⊥
   pub in_use : operations_are_in_use (program_form program) ≡ true
   pub nests : CollectionsNest (program_form program)
   pub frees_own : FreesItsOwn (program_form program)
+  pub spares_own : SparesOwn program
   pub obeys : ObeysRules program
 
--- The program is well formed, obeys the rules, and frees by the instances for what it frees, but its collections do not nest.
+-- The program has passed all other checks, but its collections do not nest.
 pub record IsIllNested (program : Program) : Type 0 where
   pub well_formed : IsWellFormed (program_form program)
   pub in_use : operations_are_in_use (program_form program) ≡ true
   pub ill_nested : CollectionsNest (program_form program) → ⊥
   pub frees_own : FreesItsOwn (program_form program)
+  pub spares_own : SparesOwn program
   pub obeys : ObeysRules program
 
--- The program is well formed, its collections nest, and it obeys the rules, but it frees by an instance for another access type.
+-- The program has passed all other checks, but it frees by an instance for another access type.
 pub record FreesOthers (program : Program) : Type 0 where
   pub well_formed : IsWellFormed (program_form program)
   pub in_use : operations_are_in_use (program_form program) ≡ true
   pub nests : CollectionsNest (program_form program)
   pub frees_others : FreesItsOwn (program_form program) → ⊥
+  pub spares_own : SparesOwn program
   pub obeys : ObeysRules program
 
 -- The program is well formed, its collections nest, it frees by the instances for what it frees, and it obeys the rules, but something that overrides an

@@ -22,6 +22,7 @@ ghost use Rattle.ada_sound.specs.CallExamples as call_examples;
 ghost use Rattle.ada_sound.specs.PoolExamples as pool_examples;
 ghost use Rattle.ada_sound.specs.OperationExamples as operation_examples;
 ghost use Rattle.ada_sound.specs.ReleasingExample as releasing_example;
+ghost use Rattle.ada_sound.specs.NestingExample as nesting_example;
 
 /// The laws are not empty: a program is accepted and comes to a statement; it finishes after it has followed an access
 /// value, written a line, freed an object, and left its main procedure, with which another object went. And one is
@@ -170,6 +171,12 @@ pub fn premises_are_met()
 /// allocated object: Finalize frees the cell, the words of the freed object go back, and then the component is null; the other
 /// object is there until the main procedure is left.
 ///
+/// And one is accepted whose Finalize frees an object with such a Finalize (7.6.1, 13.11.2): a record object owns an allocated one,
+/// which owns a cell. Where the main procedure is left, Finalize of the record object moves what it owns to a variable and
+/// frees that: the Finalize of the allocated object runs inside, frees the cell, and is left; then the words of that object go
+/// back, and only then is the Finalize of the record object left, and its words go back. `flow_invariant` speaks of where the
+/// inner Free begins, too.
+///
 /// And one is accepted whose Initialize touches storage, too (7.6, 4.8): it allocates the cell that its record object owns,
 /// and handles `Storage_Error`, so that the program finishes where the cell is granted, and is freed by Finalize, and where
 /// it is refused, and nothing is freed.
@@ -238,6 +245,14 @@ pub fn operations_are_accepted()
         × (declaration_forms program ≡ releasing_example.releasing_declarations)
         × (stmt_forms program ≡ releasing_example.releasing_stmts)
         × IsChecked program × FinishesAfter releasing_example.releasing_events program }
+    ensures nests { (program : Program)
+        × (operations_of program.types.items 0 ≡ operation_examples.tidying_operations)
+        × (operations_of program.types.items 1 ≡ nesting_example.keeping_operations)
+        × (body_forms program ≡ nesting_example.nesting_bodies)
+        × (declaration_forms program ≡ nesting_example.nesting_declarations)
+        × (stmt_forms program ≡ nesting_example.nesting_stmts)
+        × IsChecked program × FinishesAfter nesting_example.nesting_events program
+        × always.InSomeRun program (λ events last. operation_examples.IsSpokenOfInside program last) }
     ensures allocates { (program : Program)
         × (operations_of program.types.items 0 ≡ operation_examples.allocating_operations)
         × (body_forms program ≡ operation_examples.allocating_bodies)
@@ -453,6 +468,6 @@ pub fn rules_are_needed()
     ensures follows_gone { (program : Program)
         × (operations_of program.types.items 0 ≡ operation_examples.node_operations)
         × (body_forms program ≡ operation_examples.following_finalize ∷ []) × (stmt_forms program ≡ operation_examples.two_nodes)
-        × always.NotInUse program
+        × always.NotInUse program × always.SparesOwn program
         × always.HaltsAfter operation_examples.following_events (Erroneous FollowsGone) program }
 {}

@@ -1,2 +1,4 @@
 -- one program or one first fault
 pub mod Firsts
+-- what ends and adjustments spare
+pub mod Spares

@@ -19,6 +19,7 @@ use crate::fault::{UnusedFault, Verdict};
 use crate::laws::accepted_sources_have_no_fault;
 use ada_effects::Implicit;
 use ada_flow::{FlowFault, flow};
+use ada_operations::laws::ends_spare_their_own;
 use ada_operations::operations;
 use ada_parser::parse;
 use ada_program::Program;
@@ -93,6 +94,7 @@ fn checked(alloc: Global, source: &[u8]) -> Result<Accepted, Verdict>
     ensures sound { IfOk result (λ program. IsChecked program) }
     ensures refused { IfErr result (λ verdict. IsFirst source.now verdict) }
 {
+    ends_spare_their_own();
     let program = program_of(alloc, source)?;
     judge(alloc, &program)?;
     Ok(Accepted { program })

@@ -1,10 +1,11 @@
--- By twelve programs and their runs.
+-- By thirteen programs and their runs.
 use Rattle.ada_sound.proofs.ExampleOperations as operations
 use Rattle.ada_sound.proofs.ExampleTidying as tidying
 use Rattle.ada_sound.proofs.ExampleOverwriting as overwriting
 use Rattle.ada_sound.proofs.ExampleEmptying as emptying
 use Rattle.ada_sound.proofs.ExampleBoxing as boxing
 use Rattle.ada_sound.proofs.ExampleReleasing as releasing
+use Rattle.ada_sound.proofs.ExampleNesting as nesting
 use Rattle.ada_sound.proofs.ExampleAllocating as allocating
 use Rattle.ada_sound.proofs.ExampleUndoing as undoing
 use Rattle.ada_sound.proofs.ExampleFilling as filling
@@ -71,6 +72,17 @@ returns c = record {
     releasing.releasing_does,
     releasing.releasing_accepted,
     releasing.releases,
+  );
+  nests = (
+    nesting.nesting,
+    nesting.holder_overrides,
+    nesting.keeper_overrides,
+    nesting.nesting_has,
+    nesting.nesting_declares,
+    nesting.nesting_does,
+    nesting.nesting_accepted,
+    nesting.nests,
+    nesting.is_spoken_of,
   );
   allocates = (
     allocating.allocating,

@@ -137,5 +137,6 @@ returns-clause-follows_gone c = (
   operations.following_bodies,
   operations.following_form,
   operations.following_not_in_use,
+  operations.following_spares,
   operations.follows_gone,
 )

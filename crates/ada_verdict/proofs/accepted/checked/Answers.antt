@@ -1,4 +1,6 @@
+use Rattle.ada_program.specs.ProgramForm.{program_form}
 use Rattle.ada_verdict.proofs.Firsts.{first_told, program_first}
+use Rattle.ada_verdict.proofs.Spares.{all_spare}
 use Rattle.ada_verdict.proofs.accepted.checked.Goals as goal
 
 -- the first fault of the program of the source
@@ -15,6 +17,7 @@ invariant_of-result c = record {
   in_use = c.in_ok-judge.ensures.in_use;
   nests = c.in_ok-program.ensures.nests;
   frees_own = c.in_ok-program.ensures.frees_own;
+  spares_own = all_spare c.ends_spare_their_own.ensures (program_form c.in_ok-program.program) c.in_ok-judge.ensures.fine.0;
   obeys = c.in_ok-judge.ensures.fine.1;
 }
 
@@ -24,5 +27,6 @@ returns-clause-sound c = record {
   in_use = c.in_ok-judge.ensures.in_use;
   nests = c.in_ok-program.ensures.nests;
   frees_own = c.in_ok-program.ensures.frees_own;
+  spares_own = all_spare c.ends_spare_their_own.ensures (program_form c.in_ok-program.program) c.in_ok-judge.ensures.fine.0;
   obeys = c.in_ok-judge.ensures.fine.1;
 }

@@ -1,0 +1,65 @@
+-- The body of an operation runs that touches Integers and Booleans alone (7.6): no other one is under way, or one that touches storage is, which frees the object.
+
+use Rattle.std.proofs.Common.{◌≡◌, ℕ, true, List, ◌∷◌, ◌++◌}
+use Rattle.std.specs.Prelude.{Some}
+use Rattle.ada_program.specs.declared.program.Exception.{Exception}
+use Rattle.ada_program.specs.declared.program.Program.{Program}
+use Rattle.ada_program.specs.Handling.{is_same}
+use Rattle.ada_program.specs.ProgramForm.{ProgramForm, main_body, program_form, seen_in}
+use Rattle.ada_effects.specs.Effects.{Implicit, no_calls, body_raises}
+use Rattle.ada_deeds.specs.Implicit.{implicit_of}
+use Rattle.ada_meaning.specs.declared.state.Id.{Id}
+use Rattle.ada_meaning.specs.declared.state.Value.{Value}
+use Rattle.ada_meaning.specs.declared.state.Value.TheVariants.{Names}
+use Rattle.ada_meaning.specs.Frame.{Treatment}
+use Rattle.ada_meaning.specs.Named.{Object, State}
+use Rattle.ada_meaning.specs.Run.{Event}
+use Rattle.ada_meaning.specs.State.{Activation, Master}
+use Rattle.ada_parts.specs.Task.{Task}
+use Rattle.ada_quiet.specs.Quiet.{is_plain_body}
+use Rattle.ada_sound.specs.Callees.{IsCovered}
+use Rattle.ada_sound.proofs.Alters.{Alters}
+use Rattle.ada_sound.proofs.Bodies.{IsBody}
+use Rattle.ada_sound.proofs.Callers.{Suspension, known_in, Stands}
+use Rattle.ada_sound.proofs.Invariant.{Control, Says, TreatsBy}
+use Rattle.ada_sound.proofs.Operating.{Body, WaitsFor, behind_operation, lets_out}
+use Rattle.ada_sound.proofs.Touching.{Around}
+
+-- The object that an operation is called for is treated; and what waits for it goes on behind that, whatever the body does.
+pub record Suspended (program : Program) (object : Id) (treatment : Treatment) (caller : Activation Value) (rest : List (Activation Value)) (behind : Control) (lower : List Master) (s : State) : Type 0 where
+  pub suspensions : List Suspension
+  pub after : Control
+  pub of : ℕ
+  pub tasks : List Task
+  pub waits : WaitsFor (program_form program).types object of treatment tasks after behind
+  pub treats : TreatsBy (known_in program caller.procedure suspensions) (Names object) treatment tasks after s.heap caller.places caller.operands lower
+  pub stands : Stands program suspensions (behind_operation (caller ∷ rest) behind lower s)
+  pub around : Around program suspensions (behind_operation (caller ∷ rest) behind lower s)
+
+-- The body of such an operation runs.
+pub record Operates (program : Program) (s : State) : Type 0 where
+  pub procedure : ℕ
+  pub is_body : IsBody (program_form program) (Some procedure)
+  pub plain : is_plain_body (program_form program).types is_body.0 ≡ true
+  pub places : List Value
+  pub operands : List Value
+  pub caller : Activation Value
+  pub rest : List (Activation Value)
+  pub active : s.activations ≡ record { procedure = Some procedure; places = places; operands = operands } ∷ caller ∷ rest
+  pub behind : Control
+  pub upper : List Master
+  pub lower : List Master
+  pub masters : s.masters ≡ upper ++ lower
+  pub object : Id
+  pub access : ℕ
+  pub body : Body (record { program = seen_in (Some procedure) (program_form program); object = object; access = access }) behind upper s.heap places operands s.mode s.control
+  pub treatment : Treatment
+  pub suspended : Suspended program object treatment caller rest behind lower s
+  pub prepared : (e : Exception) → body_raises no_calls (main_body (seen_in (Some procedure) (program_form program))) (is_same e) ≡ true → lets_out (implicit_of (program_form program)) access treatment e ≡ true
+
+-- The body of such an operation runs behind a step that gives nothing back; and what that does to objects.
+pub record InOperation (program : Program) (before : List Object) (e : Event) (after : State) : Type 0 where
+  pub operates : Operates program after
+  pub alters : Alters before e after.heap
+  pub says : (implicit : Implicit) (p : ProgramForm) → Says implicit p e before after
+  pub covered : (number : ℕ) → IsCovered program number e

@@ -1,0 +1,268 @@
+-- An object that is freed is finalized while an operation that touches storage is under way (7.6.1, 13.11.2): its Finalize begins, inside the other one, or what is left
+-- goes on.
+
+use Rattle.std.proofs.Common.{◌≡◌, ℕ, true, false, List, ◌∷◌, refl, sym, ap, subst, ◌∙◌, inl, inr, ◌+◌, arith, drop, length, suc}
+use Rattle.std.specs.Prelude.{Option, Some}
+use Rattle.ada_parts.specs.Task.{Task}
+use Rattle.ada_program.specs.declared.program.Program.{Program}
+use Rattle.ada_program.specs.ProgramForm.{ProgramForm, TypeForm, program_form, body_forms}
+use Rattle.ada_meaning.specs.declared.state.Id.{Id}
+use Rattle.ada_meaning.specs.declared.state.Mode.TheVariants.{Running}
+use Rattle.ada_meaning.specs.declared.state.Value.{Value}
+use Rattle.ada_meaning.specs.declared.state.Value.TheVariants.{Names, Part}
+use Rattle.ada_meaning.specs.Event.{Quiet}
+use Rattle.ada_meaning.specs.Frame.{Treatment, begins, ends, Treats}
+use Rattle.ada_meaning.specs.State.{Activation, Master}
+use Rattle.ada_meaning.specs.Step.{halts, moves, tells, asks, picks, older, procedure_of, operands_of, frame_next}
+use Rattle.ada_meaning.specs.Named.{State, Next, named, next}
+use Rattle.ada_meaning.specs.Run.{Event, settled}
+use Rattle.ada_quiet.specs.Frugal.{Thrift, thrift_of, is_frugal_body}
+use Rattle.ada_quiet.specs.InUse.{may_be_frugal}
+use Rattle.ada_typed.proofs.Control as typed
+use Rattle.ada_typed.proofs.Kept.{Each}
+use Rattle.ada_typed.proofs.Runs.{step_typed}
+use Rattle.ada_sound.specs.Agreement.{running_procedure}
+use Rattle.ada_sound.proofs.Alters.{Alters}
+use Rattle.ada_sound.proofs.Callers.{Suspension, known_in, Stands, AreOf}
+use Rattle.ada_sound.proofs.FrugalControl.{EndsFreed, Frugal, Frugally, FrugalLeads, IsFreed, ends_leads, frugal_starts_inside}
+use Rattle.ada_sound.proofs.FrugalSteps.{GoesOrBegins, treats_frugally}
+use Rattle.ada_sound.proofs.Invariant.{Control, Known, Stepped}
+use Rattle.ada_sound.proofs.Operating.{PlainBody, WaitsFor, behind_operation}
+use Rattle.ada_sound.proofs.OperationBegins.{begins_operation}
+use Rattle.ada_sound.proofs.Pauses.{all_unwatched, inner_on, unwatched_on}
+use Rattle.ada_sound.proofs.QuietOperations.{AdjustsCopy, IsUsedAs, LetsNone, LetsNothingOut, MayTouch, TouchesStorage, ends_here, used_as}
+use Rattle.ada_sound.proofs.Ready.{running}
+use Rattle.ada_sound.proofs.Returns.{CrossesTo, same_types}
+use Rattle.ada_sound.proofs.Starts.{Sound}
+use Rattle.ada_sound.proofs.Touching.{AreInner, GoesBy, Pause, Touching, Within, origin}
+use Rattle.ada_sound.proofs.TouchingBegins.{Begun}
+use Rattle.ada_sound.proofs.TouchingGoes.{GoesTouching, InTouching, Still, Went, behind_it, inner_stays, outermost, stays_on, still_on, touching_on, with_parts, within_on}
+use Rattle.ada_sound.proofs.TouchingStands.{touching_stands, treated_begin}
+use Rattle.ada_sound.proofs.TouchingStarts.{lone_freed, touching_starts}
+use Rattle.ada_sound.proofs.Treating.{IsOperated, told_covered, told_says, treated_next, treats_in_use}
+use Rattle.ada_sound.proofs.Treatments.{Begins, StaysHere, TreatedIn}
+use Rattle.ada_sound.proofs.Waiting.{SameBody}
+
+-- Where bodies may free objects with controlled parts, they go by that.
+ends_thrift : (p : ProgramForm) (treatment : Treatment) (thrift : Thrift) → GoesBy p treatment thrift → thrift.ends_parts ≡ true → thrift ≡ thrift_of p true
+ends_thrift p treatment thrift (inl is) may = let none : thrift.ends_parts ≡ false = ap (λ (t : Thrift). t.ends_parts) is in absurd (cc (none, may))
+ends_thrift p treatment thrift (inr (is, ending)) may = is
+
+-- The body of a Finalize may do so.
+freed_here : (treatment : Treatment) → IsFreed treatment → ends_here treatment ≡ true
+freed_here (begins by done) freed = absurd freed
+freed_here (ends cause) freed = refl
+
+-- No copy is adjusted where an object is freed.
+freed_adjusts : (treatment : Treatment) → IsFreed treatment → AdjustsCopy treatment → ⊥
+freed_adjusts (begins by done) freed copies = freed
+freed_adjusts (ends cause) freed copies = copies
+
+-- What is behind its Finalize is left to do in such bodies.
+freed_leads :
+    (types : List TypeForm) (thrift : Thrift) (back : Control) (o : Id) (of : ℕ) (treatment : Treatment) (tasks : List Task) (k behind : Control) (ms : List Master) → EndsFreed thrift (Names o) treatment k → FrugalLeads thrift back k ms
+    → WaitsFor types o of treatment tasks k behind → FrugalLeads thrift back behind ms
+freed_leads types thrift back o of (begins by done) tasks k behind ms ending leads waits = absurd ending.0
+freed_leads types thrift back o of (ends cause) tasks k behind ms ending leads (is, inside) =
+    subst (λ (j : Control). FrugalLeads thrift back j ms) (sym is) (ends_leads thrift back (Names o) (ends cause) tasks k ms ending leads)
+
+module _ (program : Program) (a : Activation Value) (rest : List (Activation Value)) (k : Control) (s : State) (v : Value) (treatment : Treatment) (tasks : List Task) where
+  abbrev whole : State
+  whole = with_parts Running (Treats v treatment tasks ∷ k) (a ∷ rest) s
+
+  module _ (sound : Sound program whole) (f : Touching program whole) where
+    abbrev p : ProgramForm
+    p = program_form program
+
+    abbrev thrift : Thrift
+    thrift = f.within.thrift
+
+    abbrev operation : Pause program (length f.within.inner) whole
+    operation = outermost program whole f
+
+    abbrev waiting : List Suspension
+    waiting = behind_it program whole f
+
+    abbrev treater : Known
+    treater = known_in program a.procedure f.suspensions
+
+    abbrev Operated : Treatment → Id → ℕ → Type 0
+    Operated = IsOperated program a rest k s v treatment tasks sound f.suspensions
+
+    abbrev BeginsHere : Event → State → Type 0
+    BeginsHere e after = Begins treater a rest s program.types.items (body_forms program) k Operated e after
+
+    stands_here : Stands program f.suspensions (record s { activations = a ∷ rest })
+    stands_here = record {
+      body = f.stands.body;
+      behind = f.stands.behind;
+      bodies = f.stands.bodies;
+      standing = record { suspended = f.stands.standing.suspended; waiting = f.stands.standing.waiting; low = f.stands.standing.low };
+    }
+
+    -- The object is freed, and no operation of it runs behind.
+    freed : EndsFreed thrift v treatment k × FrugalLeads thrift operation.behind k f.within.frugal.upper
+    freed = by f.within.frugal.frugal
+      where
+        by : Frugal thrift operation.behind Running (Treats v treatment tasks ∷ k) f.within.frugal.upper → EndsFreed thrift v treatment k × FrugalLeads thrift operation.behind k f.within.frugal.upper
+        by (inl leads) = leads
+        by (inr (runs, leaving)) = absurd leaving
+
+    -- It goes on in the body that frees it.
+    goes_here : (e : Event) (after : State) → Stepped treater s.heap e after × StaysHere treater a rest s program.types.items (body_forms program) k Operated after → GoesOrBegins thrift operation.lower operation.behind program.types.items (body_forms program) whole after → Still program whole f after → InTouching program s.heap e after
+    goes_here e after (st, (acts, behind)) goes still =
+        stays_on program whole f e after (record { procedure = ap procedure_of acts; suspended = ap older acts }) st (by goes) still
+      where
+        by : GoesOrBegins thrift operation.lower operation.behind program.types.items (body_forms program) whole after → Frugally thrift operation.lower operation.behind after
+        by (inl frugal) = frugal
+        by (inr more) =
+            let same : length after.activations ≡ length (a ∷ rest) = ap length acts in
+            absurd (omega (arith, same, more))
+
+    module _ (e : Event) (after : State) (c : BeginsHere e after) where
+      ends_it : IsFreed c.treatment
+      ends_it = subst IsFreed (sym c.operated.0) freed.0.0
+
+      waits_here : WaitsFor p.types c.o c.of c.treatment c.tasks k c.behind
+      waits_here = subst (λ (types : List TypeForm). WaitsFor types c.o c.of c.treatment c.tasks k c.behind) (same_types a.procedure p) c.waits
+
+      leads_behind : FrugalLeads thrift operation.behind c.behind f.within.frugal.upper
+      leads_behind =
+          let of_treatment : EndsFreed thrift v c.treatment k = subst (λ (by : Treatment). EndsFreed thrift v by k) (sym c.operated.0) freed.0 in
+          freed_leads p.types thrift operation.behind c.o c.of c.treatment c.tasks k c.behind f.within.frugal.upper
+          (subst (λ (u : Value). EndsFreed thrift u c.treatment k) c.operated.3 of_treatment) freed.1 waits_here
+
+      alters_here : Alters s.heap e after.heap
+      alters_here = rw c.is c.alters
+
+      -- What is behind its Finalize.
+      abbrev behind_it_all : State
+      behind_it_all = behind_operation (a ∷ rest) c.behind s.masters after
+
+      -- Nothing is watched while an object is treated.
+      unwatched : (t : State) → Still program whole f t
+      unwatched t = (
+        unwatched_on p operation.watch operation.behind whole t tt operation.still,
+        all_unwatched program whole t thrift operation.behind operation.lower tt a.procedure 0 (Some operation.number) waiting f.within.inner f.within.within,
+      )
+
+      same_behind : SameBody whole behind_it_all
+      same_behind = record { procedure = refl; suspended = refl }
+
+      within_behind : Within program f.suspensions behind_it_all
+      within_behind =
+          subst (λ (all : List Suspension). Within program all behind_it_all) (sym f.within.are)
+          (within_on program whole f f.within.inner e behind_it_all
+          (inner_stays program whole f e behind_it_all same_behind alters_here (unwatched behind_it_all))
+          refl
+          (record {
+            upper = f.within.frugal.upper;
+            masters = f.within.frugal.masters;
+            own = f.within.frugal.own;
+            frugal = inl leads_behind;
+          })
+          (unwatched behind_it_all).0
+          alters_here)
+
+      module _ (is : next program.types.items (body_forms program) whole ≡ moves e after) where
+        typed_after : typed.Typed p after
+        typed_after = step_typed program sound.well whole after settled e sound.typed (rw is (refl, refl))
+
+        -- One begins that touches no storage.
+        begins_quiet : PlainBody p.types c.b × LetsNothingOut c.treatment c.b → Went program s.heap e after
+        begins_quiet plain = inr (inl (record {
+          operates = begins_operation program sound.well a rest f.suspensions s k Operated e after stands_here typed_after c (inr within_behind) plain;
+          alters = alters_here;
+          says = told_says e s.heap after c.tells;
+          covered = told_covered program e c.tells;
+        }))
+
+        -- One begins that touches storage.
+        module _ (begun : Begun program f.suspensions c.treatment c.behind s.masters after) (frugal : is_frugal_body (thrift_of p (ends_here c.treatment)) c.b ≡ true) where
+          abbrev waits_for : Suspension
+          waits_for = origin program 0 after begun.pause
+
+          -- The activations that wait keep their operands.
+          one_more : (count : ℕ) → operands_of (drop (suc (suc count)) after.activations) ≡ operands_of (drop count rest)
+          one_more count = ap (λ (t : State). operands_of (drop (suc (suc count)) t.activations)) c.is
+
+          deeper : (n : ℕ) → operands_of (drop (suc (suc 0 + n)) after.activations) ≡ operands_of (drop (suc (0 + n)) whole.activations)
+          deeper n =
+              let one : suc 0 + n ≡ suc n = omega arith in
+              let none : 0 + n ≡ n = omega arith in
+              rw (one, none) (one_more n)
+
+          -- The one that waits for it is of the body that frees the object.
+          of_body : a.procedure ≡ waits_for.procedure
+          of_body =
+              let bodies : AreOf program (a ∷ rest) (waits_for ∷ f.suspensions) = subst (λ (all : List (Activation Value)). AreOf program all (waits_for ∷ f.suspensions)) (ap (λ (t : State). older t.activations) c.is) begun.stands.bodies in
+              bodies.0
+
+          inner_begun : AreInner program after thrift operation.behind operation.lower (running_procedure after) 0 (Some operation.number) waiting (waits_for ∷ f.within.inner)
+          inner_begun = (
+            inr (record {
+              pause = begun.pause;
+              is = refl;
+              behind_it = sym f.within.are ∙ sym begun.suspensions;
+              runs = begun.runs;
+              freed = subst IsFreed (sym begun.treated) ends_it;
+              upper = f.within.frugal.upper;
+              masters = begun.is_lower ∙ f.within.frugal.masters;
+              own = f.within.frugal.own;
+              leads = subst (λ (j : Control). FrugalLeads thrift operation.behind j f.within.frugal.upper) (sym begun.is_behind) leads_behind;
+            }),
+            subst (λ (procedure : Option ℕ). AreInner program after thrift operation.behind operation.lower procedure (suc 0) (Some operation.number) waiting f.within.inner) of_body
+                (inner_on program whole thrift operation.behind operation.lower after e a.procedure 0 (suc 0) (Some operation.number) waiting f.within.inner f.within.within alters_here deeper (unwatched after).1),
+          )
+
+          -- Its body is frugal as the others are.
+          runs_begun : Frugally thrift operation.lower operation.behind after
+          runs_begun =
+              let same = ends_thrift p operation.treatment thrift f.within.goes_by freed.0.1 in
+              let body : is_frugal_body thrift c.b ≡ true = rw same (rw (freed_here c.treatment ends_it) at frugal) in
+              subst (λ (t : State). Frugally thrift operation.lower operation.behind t) (sym c.is)
+              (frugal_starts_inside thrift operation.behind f.within.frugal.upper operation.lower c.number c.b body (Part c.o c.place) c.behind (record (running k a rest s) { heap = c.heap }) f.within.frugal.masters f.within.frugal.own leads_behind)
+
+          begins_inside : InTouching program s.heap e after
+          begins_inside =
+              touching_on program whole f (waits_for ∷ f.within.inner) e after inner_begun (one_more (length f.within.inner)) runs_begun (unwatched after).0
+              (subst (λ (all : List Suspension). CrossesTo program (waits_for ∷ all) s.heap e after) f.within.are (record {
+                stepped = record {
+                  ready = begun.ready;
+                  alters = alters_here;
+                  says = told_says e s.heap after c.tells _ _;
+                };
+                stands = begun.stands;
+              }))
+
+        begins_frugal : MayTouch c.treatment → may_be_frugal p ≡ true → LetsNone p c.treatment c.b → is_frugal_body (thrift_of p (ends_here c.treatment)) c.b ≡ true → TouchesStorage p c.treatment c.b → Went program s.heap e after
+        begins_frugal touches may silent frugal stores =
+            let lone = lone_freed v treatment k freed.0.0 (treated_begin program whole sound f.suspensions f.within f.stands v treatment tasks k refl) in
+            inl (begins_inside (touching_starts program a rest s k v treatment tasks f.suspensions whole refl sound lone stands_here e after c touches may silent frugal stores typed_after) frugal)
+
+        begins_as : IsUsedAs p c.of c.number c.treatment c.b → Went program s.heap e after
+        begins_as (inl plain) = begins_quiet plain
+        begins_as (inr (inl (touches, may, frugal, silent, stores))) = begins_frugal touches may silent frugal stores
+        begins_as (inr (inr (copies, tracks, own))) = absurd (freed_adjusts c.treatment ends_it copies)
+
+        begins_there : Went program s.heap e after
+        begins_there =
+            begins_as (used_as program (treats_in_use program whole sound whole.control refl tt) sound.well c.of c.number c.b c.there c.treatment (λ copies. absurd (freed_adjusts c.treatment ends_it copies)) c.called)
+
+    -- Whatever comes next.
+    treated_went : (n : Next) → next program.types.items (body_forms program) whole ≡ n → TreatedIn treater a rest s program.types.items (body_forms program) k Operated v n
+        → Each (GoesOrBegins thrift operation.lower operation.behind program.types.items (body_forms program) whole) n → Each (Still program whole f) n → GoesTouching program whole n
+    treated_went (halts halt) is t goes still = t
+    treated_went (moves e after) is (inl st) goes still = inl (goes_here e after st goes still)
+    treated_went (moves e after) is (inr (inl c)) goes still = begins_there e after c is
+    treated_went (moves e after) is (inr (inr c)) goes still = absurd (subst IsFreed (sym c.operated.0) freed.0.0)
+    treated_went (tells request e after) is t goes still = absurd t
+    treated_went (asks request answered) is t goes still = absurd t
+    treated_went (picks n taken) is t goes still = λ i lt. inl (goes_here Quiet (taken i) (t i lt) (goes i lt) (still i lt))
+
+    pub treats_step : GoesTouching program whole (frame_next named program.types.items (body_forms program) (Treats v treatment tasks) (with_parts Running k (a ∷ rest) s))
+    unfolding next
+    treats_step =
+        treated_went _ refl (treated_next program a rest k s v treatment tasks sound f.suspensions (touching_stands program whole sound f.suspensions f.within f.stands treater.program.types) f.ready.1)
+        (treats_frugally thrift operation.lower operation.behind program.types.items (body_forms program) whole f.within.frugal refl v treatment tasks k refl)
+        (still_on program whole f sound (λ j awaited last. cc last))
