@@ -14,3 +14,5 @@ pub mod FrugalAt
 pub mod FrugalMore
 -- collections that are created in order, found in one pass
 pub mod Collecting
+-- which types are calm, by what lies in their objects
+pub mod CalmTypes

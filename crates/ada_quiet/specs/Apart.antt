@@ -79,7 +79,8 @@ frees_led led path calm barely = not led || (leads_barely path barely || calm)
 module _ (types : List TypeForm) (calm barely : List Bool) (tracks : ℕ → Bool) (led : Bool) where
   abbrev mutual
     -- A statement calls no procedure that tracks (6.4), and its allocator with items makes no object with controlled parts and copies no record with some (4.8). If
-    -- objects that are not calm are freed by variables and followed values alone, it frees none by a component of a record object or of a formal parameter (13.11.2).
+    -- objects that are not calm are freed by variables and followed values alone, it frees none by a component of a record object or of a formal parameter, and by
+    -- another component only what is ended by operations that call none themselves (13.11.2).
     pub calls_apart : StmtForm → Bool
     calls_apart skips = true
     calls_apart (assigns target right) = is_bare_right types right
@@ -140,6 +141,7 @@ stand_apart p led =
 abbrev pub operations_stand_apart : ProgramForm → Bool
 operations_stand_apart p = stand_apart p false
 
--- So they do, and objects that are not calm are freed by variables and followed values alone.
+-- So they do, and objects that are not calm are freed by variables and followed values alone, and by the latter only what is ended by operations that call none
+-- themselves.
 abbrev pub parts_are_led : ProgramForm → Bool
 parts_are_led p = stand_apart p true

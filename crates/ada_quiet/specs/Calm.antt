@@ -1,6 +1,6 @@
 -- Record types and access types whose objects are calm: no operation that is asked about is called for them, neither for an object itself nor for a part of it (7.6).
 
-use Rattle.std.specs.Prelude.{ℕ, Bool, true, false, not, ◌&&◌, ◌||◌, List, [], ◌∷◌, ◌++◌, Option, Some, None, is_some}
+use Rattle.std.specs.Prelude.{ℕ, zero, suc, Bool, true, false, not, ◌&&◌, List, [], ◌∷◌, ◌++◌, find, Option, Some, None}
 use Rattle.std.specs.List.{list_all, slice_get, slice_index_or}
 use Rattle.ada_program.specs.declared.program.ComponentKind.{ComponentKind}
 use Rattle.ada_program.specs.declared.program.ComponentKind.TheVariants as component
@@ -8,7 +8,7 @@ use Rattle.ada_program.specs.declared.program.Finalization.{Finalization}
 use Rattle.ada_program.specs.declared.program.PartKind.{PartKind}
 use Rattle.ada_program.specs.declared.program.PartKind.TheVariants as part
 use Rattle.ada_program.specs.ProgramForm.{TypeForm, record_of, access_to, object_of, ProgramForm}
-use Rattle.ada_program.specs.WellFormed.{finalization_in, finalization_of}
+use Rattle.ada_program.specs.WellFormed.{finalization_in, finalization_of, has_number, numbered_types}
 use Rattle.ada_quiet.specs.Quiet.{adjusts_access, is_plain_operation, is_quiet_operation}
 
 -- Neither operation of a type that begins or ends an object touches storage: what overrides Initialize is plain, and what overrides Finalize is quiet (7.6).
@@ -16,36 +16,54 @@ abbrev pub ends_calmly : ProgramForm → Option Finalization → Bool
 ends_calmly p None = true
 ends_calmly p (Some f) = is_plain_operation p f.operations.initialize && is_quiet_operation p f.operations.finalize
 
--- A declared component is no record, or one of a calm type, by what is known of earlier types (3.8).
-abbrev pub is_calm_part : (calm : List Bool) → PartKind → Bool
-is_calm_part calm (part.Elementary kind) = true
-is_calm_part calm (part.Record t) = slice_index_or calm t.0 false
-is_calm_part calm part.Parent = true
+-- It is known that a record type is calm, by how its objects are finalized: one without controlled parts is, and of one with some it is told by its number (7.6).
+abbrev pub is_known_calm : (calm : List Bool) → Option Finalization → Bool
+is_known_calm calm None = true
+is_known_calm calm (Some f) = slice_index_or calm f.number.0 false
+
+-- A declared component is no record, or one of a type of which that is known (3.8).
+abbrev pub is_calm_part : List TypeForm → (calm : List Bool) → PartKind → Bool
+is_calm_part types calm (part.Elementary kind) = true
+is_calm_part types calm (part.Record t) = is_known_calm calm (finalization_of types t.0)
+is_calm_part types calm part.Parent = true
 
 -- A record type is calm, if its own operations are so, and each of its declared components.
-abbrev pub is_calm_type : (own : Bool) → (calm : List Bool) → TypeForm → Bool
-is_calm_type own calm (record_of name parts components finalization) = own && list_all (λ c. is_calm_part calm c.kind) parts
-is_calm_type own calm (access_to name designated pool) = false
-is_calm_type own calm (object_of record_type) = false
+abbrev pub is_calm_type : (own : Bool) → List TypeForm → (calm : List Bool) → TypeForm → Bool
+is_calm_type own types calm (record_of name parts components finalization) = own && list_all (λ c. is_calm_part types calm c.kind) parts
+is_calm_type own types calm (access_to name designated pool) = false
+is_calm_type own types calm (object_of record_type) = false
 
--- Of each of these types, behind others, by its number, whether it is a calm record type, where this tells of a type's own operations.
-abbrev pub calm_from : (own : TypeForm → Bool) → (calm : List Bool) → List TypeForm → List Bool
-calm_from own calm [] = calm
-calm_from own calm (t ∷ ts) = calm_from own (calm ++ is_calm_type (own t) calm t ∷ []) ts
+-- So is a type that was found, where this tells of a type's own operations.
+abbrev pub is_calm_found : (own : TypeForm → Bool) → List TypeForm → (calm : List Bool) → Option TypeForm → Bool
+is_calm_found own types calm None = false
+is_calm_found own types calm (Some t) = is_calm_type (own t) types calm t
 
--- Of the types of a program, where objects begin and end: no operation is called there that touches storage.
+-- The record type that has this number among those with controlled parts: types are numbered as they are complete, so each behind those of its components (3.11.1).
+abbrev pub type_numbered : List TypeForm → (number : ℕ) → Option TypeForm
+type_numbered types n = find (λ t. has_number n (finalization_in (Some t))) types
+
+-- Of the first record types with controlled parts, by these numbers, whether they are calm.
+abbrev pub calm_up_to : (own : TypeForm → Bool) → List TypeForm → (count : ℕ) → List Bool
+calm_up_to own types zero = []
+calm_up_to own types (suc n) = calm_up_to own types n ++ is_calm_found own types (calm_up_to own types n) (type_numbered types n) ∷ []
+
+-- Of all of them.
+abbrev pub calm_by : (own : TypeForm → Bool) → List TypeForm → List Bool
+calm_by own types = calm_up_to own types (numbered_types types)
+
+-- Of those of a program, where objects begin and end: no operation is called there that touches storage.
 abbrev pub calm_types : ProgramForm → List Bool
-calm_types p = calm_from (λ t. ends_calmly p (finalization_in (Some t))) [] p.types
+calm_types p = calm_by (λ t. ends_calmly p (finalization_in (Some t))) p.types
 
 -- And where objects are copied: no Adjust is called there that tracks components.
 abbrev pub calmly_copied_types : ProgramForm → List Bool
-calmly_copied_types p = calm_from (λ t. not (adjusts_access p t)) [] p.types
+calmly_copied_types p = calm_by (λ t. not (adjusts_access p t)) p.types
 
 -- A type is an access type that designates a record type without controlled parts, or a calm one (3.10, 7.6).
 abbrev pub is_calm_access : List TypeForm → (calm : List Bool) → Option TypeForm → Bool
 is_calm_access types calm None = false
 is_calm_access types calm (Some (record_of name parts components finalization)) = false
-is_calm_access types calm (Some (access_to name designated pool)) = not (is_some (finalization_of types designated)) || slice_index_or calm designated false
+is_calm_access types calm (Some (access_to name designated pool)) = is_known_calm calm (finalization_of types designated)
 is_calm_access types calm (Some (object_of record_type)) = false
 
 -- So is the type of a number.

@@ -10,7 +10,7 @@ use Rattle.ada_program.specs.ProgramForm.{TypeForm, BodyForm, ProgramForm}
 use Rattle.ada_program.specs.declared.program.Finalization.{Finalization}
 use Rattle.ada_program.specs.WellFormed.{finalization_in, finalization_of}
 use Rattle.ada_quiet.specs.Bare.{has_bare_objects, allocates_bare}
-use Rattle.ada_quiet.specs.Calm.{calm_from}
+use Rattle.ada_quiet.specs.Calm.{calm_by}
 use Rattle.ada_quiet.specs.Quiet.{is_quiet_operation}
 use Rattle.ada_effects.specs.Effects.{Effects, no_implicit, effects_of, body_raises}
 
@@ -118,6 +118,6 @@ abbrev pub ends_barely : ProgramForm → Option Finalization → Bool
 ends_barely p None = true
 ends_barely p (Some f) = is_quiet_operation p f.operations.finalize || is_frugal_operation p false f.operations.finalize
 
--- Of the types of a program, by their numbers, whether that is so of each record that lies in an object of the type.
+-- Of the record types of a program with controlled parts, by their numbers among these, whether that is so of each record that lies in an object of the type.
 abbrev pub barely_ending_types : ProgramForm → List Bool
-barely_ending_types p = calm_from (λ t. ends_barely p (finalization_in (Some t))) [] p.types
+barely_ending_types p = calm_by (λ t. ends_barely p (finalization_in (Some t))) p.types

@@ -1,9 +1,10 @@
--- What is known of all bodies of a program, as the code holds it, and which procedures or types are marked, those of components among them.
+-- What is known of all bodies of a program, as the code holds it, which procedures or types are marked, those of components among them, and which record types have which number.
 
-use Rattle.std.specs.Prelude.{◌≡◌, ℕ, Bool, true, false, List, Some}
-use Rattle.std.specs.List.{slice_index_or}
+use Rattle.std.specs.Prelude.{◌≡◌, ◌<◌, ℕ, Bool, true, false, List, length, count_by, Option, Some, None}
+use Rattle.std.specs.List.{slice_index_or, slice_set}
 use Rattle.ada_effects.specs.Found.{effects_in}
 use Rattle.ada_program.specs.declared.program.TypeDefinition.{TypeDefinition}
+use Rattle.ada_program.specs.Controlled.{number_by, type_numbered, has_parts}
 use Rattle.ada_program.specs.Kept.{types_in}
 use Rattle.ada_program.specs.ProgramForm.{TypeForm, ProgramForm}
 use Rattle.ada_quiet.specs.Bare.{record_has_component_of}
@@ -27,3 +28,20 @@ is_marked marks number = slice_index_or marks number false
 abbrev pub AreHeld : List TypeForm → Held → Type 0
 AreHeld types held =
     (n r : ℕ) → is_marked held.records.items r ≡ true → record_has_component_of types n (Some r) ≡ true → is_marked held.accesses.items n ≡ true
+
+-- A table has the type of each number among those with controlled parts that it has a place for (7.6).
+abbrev pub HasTypes : List TypeDefinition → (table : List (Option TypeDefinition)) → Type 0
+HasTypes types table = (n : ℕ) → n < length table → slice_index_or table n None ≡ type_numbered types n
+
+-- It has a place for each of these numbers.
+pub record IsNumbered (types : List TypeDefinition) (table : List (Option TypeDefinition)) : Type 0 where
+  pub known : HasTypes types table
+  pub count : length table ≡ count_by has_parts types
+
+-- A table once a type has come to the place of its number, if it has a number, and that has a place.
+abbrev pub placed : Option ℕ → TypeDefinition → List (Option TypeDefinition) → List (Option TypeDefinition)
+placed None t table = table
+placed (Some n) t table = slice_set table n (Some t)
+
+abbrev pub entered : TypeDefinition → List (Option TypeDefinition) → List (Option TypeDefinition)
+entered t table = placed (number_by (Some t)) t table

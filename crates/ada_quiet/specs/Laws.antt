@@ -1,7 +1,12 @@
--- Laws of what is in use.
+-- Laws of what is in use, and of calm types.
 
-use Rattle.std.specs.Prelude.{◌≡◌, Bool, true, List}
+use Rattle.std.specs.Prelude.{◌≡◌, ◌↔◌, ℕ, Bool, true, List, Some}
+use Rattle.std.specs.List.{slice_get}
+use Rattle.ada_program.specs.declared.program.Finalization.{Finalization}
 use Rattle.ada_program.specs.ProgramForm.{TypeForm, BodyForm, ProgramForm}
+use Rattle.ada_program.specs.Walks.{Walks}
+use Rattle.ada_program.specs.WellFormed.{IsWellFormed, finalization_of}
+use Rattle.ada_quiet.specs.Calm.{is_known_calm, calm_by}
 use Rattle.ada_quiet.specs.Quiet.{is_quiet_body, operations_are_quiet}
 use Rattle.ada_quiet.specs.Frugal.{Thrift, is_frugal_body}
 use Rattle.ada_quiet.specs.Simple.{is_simple_body}
@@ -18,3 +23,13 @@ QuietIsSimple = (types others : List TypeForm) (may_free : Bool) (b : BodyForm) 
 -- Where all operations are quiet, all are in use.
 abbrev pub QuietIsInUse : Type 0
 QuietIsInUse = (p : ProgramForm) → operations_are_quiet p ≡ true → operations_are_in_use p ≡ true
+
+-- Of each record that lies in the objects of a record type, itself included, this is told of its type (3.8, 7.6).
+abbrev pub IsToldWithin : (own : TypeForm → Bool) → List TypeForm → (t : ℕ) → Type 0
+IsToldWithin own types t = (u first part : ℕ) (form : TypeForm) → Walks types t first part u → slice_get types u ≡ Some form → own form ≡ true
+
+-- In a well-formed program a record type with controlled parts is told to be calm exactly where the own operations are so of each record that lies in its objects,
+-- whatever is asked about them.
+abbrev pub CalmIsToldWithin : Type 0
+CalmIsToldWithin = (p : ProgramForm) (own : TypeForm → Bool) → IsWellFormed p → (t : ℕ) (f : Finalization) → finalization_of p.types t ≡ Some f
+    → (is_known_calm (calm_by own p.types) (Some f) ≡ true) ↔ IsToldWithin own p.types t

@@ -1,13 +1,17 @@
 //! Record types and access types whose objects are calm: no operation that is asked about is called for them, neither for an object itself
 //! nor for a part of it (7.6).
 
-ghost use Rattle.std.specs.Prelude.{◌≡◌, Some, IfOk, map};
+ghost use Rattle.std.specs.Prelude.{◌≡◌, Some, IfOk, map, not};
 ghost use Rattle.std.specs.List.{list_all};
+ghost use Rattle.std.specs.Option.{option_copied, option_map};
 ghost use Rattle.ada_program.specs.Kept.{types_in};
 ghost use Rattle.ada_program.specs.ProgramForm.{part_form, program_form, type_form};
+ghost use Rattle.ada_program.specs.WellFormed.{finalization_in};
 ghost use Rattle.ada_quiet.specs.Calm as rules;
+ghost use Rattle.ada_quiet.specs.Quiet.{adjusts_access};
 
 use crate::marks::has_mark;
+use crate::numbered::numbered_types;
 use crate::operations::{adjusts_access, finalization_in, is_plain_operation, is_quiet_operation};
 use ada_program::parts::finalization_of;
 use ada_program::program::{ComponentKind, Finalization, Part, PartKind, TypeDefinition};
@@ -36,22 +40,33 @@ fn ends_calmly(
     )
 }
 
-/// Whether a declared component is no record, or one of a calm type, by what is known of earlier types (3.8).
-fn is_calm_part(calm: &[bool], kind: PartKind) -> bool
-    ensures { result ≡ rules.is_calm_part calm.now kind }
+/// Whether it is known that a record type is calm, by how its objects are finalized: one without controlled parts is, and of one with some
+/// it is told by its number (7.6).
+fn is_known_calm(calm: &[bool], finalization: Option<Finalization>) -> bool
+    ensures { result ≡ rules.is_known_calm calm.now finalization }
+{
+    match finalization {
+        None => true,
+        Some(finalization) => has_mark(calm, finalization.number.0),
+    }
+}
+
+/// Whether a declared component is no record, or one of a type of which that is known (3.8).
+fn is_calm_part(types: &[TypeDefinition], calm: &[bool], kind: PartKind) -> bool
+    ensures { result ≡ rules.is_calm_part (types_in types.now) calm.now kind }
 {
     match kind {
         PartKind::Elementary(_) | PartKind::Parent => true,
-        PartKind::Record(number) => has_mark(calm, number.0),
+        PartKind::Record(number) => is_known_calm(calm, finalization_of(types, number.0)),
     }
 }
 
 /// Whether each of these is. Linear in them.
-fn are_calm_parts(calm: &[bool], parts: &[Part]) -> bool
-    ensures { result ≡ list_all (λ c. rules.is_calm_part calm.now c.kind) (map part_form parts.now) }
+fn are_calm_parts(types: &[TypeDefinition], calm: &[bool], parts: &[Part]) -> bool
+    ensures { result ≡ list_all (λ c. rules.is_calm_part (types_in types.now) calm.now c.kind) (map part_form parts.now) }
 {
     'parts: for part in parts {
-        if !is_calm_part(calm, part.kind) {
+        if !is_calm_part(types, calm, part.kind) {
             return false;
         }
     }
@@ -60,8 +75,13 @@ fn are_calm_parts(calm: &[bool], parts: &[Part]) -> bool
 
 /// Whether a type is a calm record type, where `own` says whether its own operations are so: they are, and so is each of its declared
 /// components. Linear in the components.
-pub(crate) fn is_calm_type(own: bool, calm: &[bool], definition: &TypeDefinition) -> bool
-    ensures { result ≡ rules.is_calm_type own calm.now (type_form definition.now) }
+pub(crate) fn is_calm_type(
+    own: bool,
+    types: &[TypeDefinition],
+    calm: &[bool],
+    definition: &TypeDefinition,
+) -> bool
+    ensures { result ≡ rules.is_calm_type own (types_in types.now) calm.now (type_form definition.now) }
 {
     match definition {
         TypeDefinition::Record {
@@ -69,40 +89,78 @@ pub(crate) fn is_calm_type(own: bool, calm: &[bool], definition: &TypeDefinition
             parts,
             components: _,
             finalization: _,
-        } => own && are_calm_parts(calm, parts),
+        } => own && are_calm_parts(types, calm, parts),
         TypeDefinition::Access { .. } | TypeDefinition::Object { .. } => false,
     }
 }
 
-/// Of each type, by its number, whether it is a record type that is calm where objects begin and end: no operation is called there that
-/// touches storage. Its components are of the types before it. Linear in the types, their components, and the bodies of their operations.
+/// Whether a type that was found is a record type that is calm where objects begin and end. Linear in its components, and the bodies of its
+/// operations.
+///
+/// # Errors
+/// `AllocError` where memory for the exceptions that a body raises was refused.
+fn is_calm_found(
+    alloc: Global,
+    program: &Program,
+    calm: &[bool],
+    definition: Option<&TypeDefinition>,
+) -> Result<bool, AllocError>
+    ensures { IfOk result (λ answer. answer ≡ rules.is_calm_found (λ t. rules.ends_calmly (program_form program.now) (finalization_in (Some t)))
+        (program_form program.now).types calm.now (option_map type_form (option_copied definition.entry))) }
+{
+    let Some(definition) = definition else {
+        return Ok(false);
+    };
+    let own = ends_calmly(alloc, program, finalization_in(definition))?;
+    Ok(is_calm_type(own, &program.types, calm, definition))
+}
+
+/// Of each record type with controlled parts, by its number among these, whether it is calm where objects begin and end: no operation is
+/// called there that touches storage. The types of its components have lesser numbers. Linear in the types, their components, and the
+/// bodies of their operations.
 ///
 /// # Errors
 /// `AllocError` where memory was refused.
 pub(crate) fn calm_types(alloc: Global, program: &Program) -> Result<Vec<bool>, AllocError>
     ensures { IfOk result (λ calm. calm.items ≡ rules.calm_types (program_form program.now)) }
 {
+    let numbered = numbered_types(alloc, &program.types)?;
     let mut calm = Vec::new(alloc);
-    'types: for definition in &program.types {
-        let own = ends_calmly(alloc, program, finalization_in(definition))?;
-        let is_calm = is_calm_type(own, &calm, definition);
+    'numbered: for definition in &numbered {
+        let is_calm = is_calm_found(alloc, program, &calm, *definition)?;
         calm.push(is_calm)?;
     }
     Ok(calm)
 }
 
-/// Of each type, by its number, whether it is a record type that is calm where objects are copied: no Adjust is called there that tracks
-/// components. Its components are of the types before it. Linear in the types and their components.
+/// Whether a type that was found is a record type that is calm where objects are copied. Linear in its components.
+fn is_calmly_copied_found(
+    program: &Program,
+    calm: &[bool],
+    definition: Option<&TypeDefinition>,
+) -> bool
+    ensures { result ≡ rules.is_calm_found (λ t. not (adjusts_access (program_form program.now) t))
+        (program_form program.now).types calm.now (option_map type_form (option_copied definition.entry)) }
+{
+    let Some(definition) = definition else {
+        return false;
+    };
+    let own = !adjusts_access(program, definition);
+    is_calm_type(own, &program.types, calm, definition)
+}
+
+/// Of each record type with controlled parts, by its number among these, whether it is calm where objects are copied: no Adjust is called
+/// there that tracks components. The types of its components have lesser numbers. Linear in the types and their components.
 ///
 /// # Errors
 /// `AllocError` where memory was refused.
 fn calmly_copied_types(alloc: Global, program: &Program) -> Result<Vec<bool>, AllocError>
     ensures { IfOk result (λ calm. calm.items ≡ rules.calmly_copied_types (program_form program.now)) }
 {
+    let numbered = numbered_types(alloc, &program.types)?;
     let mut calm = Vec::new(alloc);
-    'types: for definition in &program.types {
-        let own = !adjusts_access(program, definition);
-        let is_calm = is_calm_type(own, &calm, definition);
+    'numbered: for definition in &numbered {
+        let is_calm = is_calmly_copied_found(program, &calm, *definition);
         calm.push(is_calm)?;
     }
     Ok(calm)
@@ -117,7 +175,7 @@ fn is_calm_access(types: &[TypeDefinition], calm: &[bool], definition: &TypeDefi
             name: _,
             designated,
             pool: _,
-        } => finalization_of(types, designated.0).is_none() || has_mark(calm, designated.0),
+        } => is_known_calm(calm, finalization_of(types, designated.0)),
         TypeDefinition::Record { .. } | TypeDefinition::Object { .. } => false,
     }
 }

@@ -66,6 +66,7 @@ mod idle;
 mod known;
 pub mod laws;
 mod marks;
+mod numbered;
 mod operations;
 mod paths;
 mod simple;

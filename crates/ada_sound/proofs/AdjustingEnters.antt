@@ -443,7 +443,7 @@ module _ (program : Program) (well : IsWellFormed (program_form program)) where
           let owns : has_access (Some form) ≡ true = sym (owns_access copy_sees.parts) ∙ copy_sees.declares in
           let adjust = own_adjust record_type c.of copy_sees c.by c.copies c.number c.called in
           let overridden = overridden_there p copy_sees.finalization.operations.adjust c.number c.b adjust c.there in
-          not_calm (λ t. not (adjusts_access p t)) p.types record_type copy_record.placed.base c.part access form copy_sees.at (rw (owns, overridden) refl) copy_parted
+          not_calm p (λ t. not (adjusts_access p t)) well record_type copy_record.placed.base c.part access form copy_sees.at (rw (owns, overridden) refl) copy_parted
           copy_record.placed.walk
 
       -- The waiting activation goes on but for them.

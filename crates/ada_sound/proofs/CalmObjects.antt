@@ -1,9 +1,9 @@
 -- Where the objects of an access type are calm, what begins or ends a part of one touches no storage (7.6); and where no operation is called, as they end, that calls
 -- another one, what ends a part of one frees no object with controlled parts.
 
-use Rattle.std.proofs.Common.{◌≡◌, ℕ, Bool, true, false, [], sym, ap, ◌∙◌, ◌⊎◌, inl, inr}
+use Rattle.std.proofs.Common.{◌≡◌, ℕ, Bool, true, false, sym, ap, ◌∙◌, ◌⊎◌, inl, inr}
 use Rattle.std.specs.Prelude.{Option, Some}
-use Rattle.std.specs.List.{list_all, slice_get, slice_index_or}
+use Rattle.std.specs.List.{slice_get, slice_index_or}
 use Rattle.std.proofs.lemmas.Bool.{or_cases}
 use Rattle.ada_meaning.proofs.Places.{is_declared, numbers_are_alone, types_have_their_operations}
 use Rattle.ada_meaning.specs.Frame.{ends}
@@ -15,13 +15,13 @@ use Rattle.ada_program.specs.declared.program.Program.{Program}
 use Rattle.ada_program.specs.Controlled.{number_of, operations_of, procedure_number}
 use Rattle.ada_program.specs.ProgramForm.{TypeForm, record_of, BodyForm, ProgramForm, program_form, body_forms}
 use Rattle.ada_program.specs.WellFormed.{IsWellFormed, finalization_in}
-use Rattle.ada_quiet.specs.Calm.{ends_calmly, is_calm_part, calm_from, calm_types, are_calm_in, has_calm_objects}
+use Rattle.ada_quiet.specs.Calm.{ends_calmly, calm_by, calm_types, are_calm_in, has_calm_objects}
 use Rattle.ada_quiet.specs.Frugal.{ends_barely, frugal_procedures, is_frugal_body, is_frugal_operation, thrift_of}
 use Rattle.ada_quiet.proofs.FrugalAt.{frugal_at}
 use Rattle.ada_quiet.specs.Bare.{has_bare_objects}
 use Rattle.ada_quiet.specs.Quiet.{is_plain_body, is_plain_operation, is_plain_procedure, is_quiet_body, is_quiet_operation, is_quiet_procedure}
 use Rattle.ada_sound.proofs.BareObjects.{operable_is_not_bare}
-use Rattle.ada_sound.proofs.CalmTypes.{bare_calm, calm_at, lying_calm}
+use Rattle.ada_sound.proofs.CalmTypes.{bare_calm, lying_own}
 use Rattle.ada_sound.proofs.Operating.{IsCalled}
 use Rattle.ada_sound.proofs.OperationStarts.{apart}
 use Rattle.ada_sound.proofs.Started.{numbered_one}
@@ -71,7 +71,7 @@ module _ (program : Program) (well : IsWellFormed (program_form program)) where
     so : asks (Some f) ≡ true
 
   ends_so : (asks : Option Finalization → Bool) (access of part : ℕ) → IsOperable p.types access of part
-      → has_calm_objects p.types (calm_from (λ t. asks (finalization_in (Some t))) [] p.types) access ≡ true → EndsSo asks of
+      → has_calm_objects p.types (calm_by (λ t. asks (finalization_in (Some t))) p.types) access ≡ true → EndsSo asks of
   ends_so asks access of part operable calm =
       let own : TypeForm → Bool = λ t. asks (finalization_in (Some t)) in
       let l = lies_at program well access of part operable.0 in
@@ -79,12 +79,12 @@ module _ (program : Program) (well : IsWellFormed (program_form program)) where
       let d = is_declared program r of l.numbered in
       let alone : (u : ℕ) → number_of program.types.items (Some u) ≡ Some d.f.number.0 → u ≡ r =
       λ u is. numbers_are_alone program u r of well (is ∙ ap (λ (n : ℕ). Some n) d.numbered) l.numbered in
-      let told = lying_calm own p.types r l.first part (slice_get p.types access) calm (operable_is_not_bare program well access of part operable) l.walk in
-      let all = calm_at own p.types r (record_of d.declares.0 d.ps d.declares.1 (Some d.f)) told d.declares.2 in
       record {
         f = d.f;
         operations = ap (operations_of program.types.items) (sym d.numbered) ∙ types_have_their_operations program r d.ps d.f d.declares alone;
-        so = (apart (asks (Some d.f)) (list_all (λ c. is_calm_part (calm_from own [] p.types) c.kind) d.ps) all).0;
+        so =
+            lying_own p own well r l.first part (slice_get p.types access) (record_of d.declares.0 d.ps d.declares.1 (Some d.f)) calm
+            (operable_is_not_bare program well access of part operable) l.walk d.declares.2;
       }
 
   -- What ends a part of a calm object touches no storage: what overrides its Finalize is quiet (7.6.1).

@@ -1,11 +1,10 @@
-use Rattle.std.proofs.Common.{◌≡◌, Some, map, drop}
-use Rattle.ada_program.specs.ProgramForm.{type_form, program_form}
+use Rattle.std.proofs.Common.{◌≡◌, Some}
+use Rattle.ada_program.specs.Kept.{types_in}
+use Rattle.ada_program.specs.ProgramForm.{program_form}
 use Rattle.ada_program.specs.WellFormed.{finalization_in}
-use Rattle.ada_quiet.specs.Calm.{ends_calmly, calm_from, calm_types}
+use Rattle.ada_quiet.specs.Calm.{ends_calmly, calm_up_to}
 use Rattle.ada_quiet.proofs.calm.calm_types.Given as goal
 
--- what is known so far, and what is left, tell of all
-abbrev pub invariant-types : goal.invariant-types
-invariant-types l =
-    calm_from (λ t. ends_calmly (program_form l.program) (finalization_in (Some t))) l.calm.items (map type_form (drop l.definition-index l.program.types.items))
-    ≡ calm_types (program_form l.program)
+-- it is known of those types that were passed
+abbrev pub invariant-numbered : goal.invariant-numbered
+invariant-numbered l = l.calm.items ≡ calm_up_to (λ t. ends_calmly (program_form l.program) (finalization_in (Some t))) (types_in l.program.types.items) l.definition-index
