@@ -38,7 +38,7 @@ pub fn implicit_calls_are_those_of_all_parts()
 {}
 
 /// Where no body breaks a rule, the end and the adjustment of an object of an access type free no object of that type: what they use
-/// lies in a collection that is created before it (S8).
+/// lies in a collection that is created before its own (S8).
 pub fn ends_spare_their_own()
     ensures { EndsSpareTheirOwn }
 {}

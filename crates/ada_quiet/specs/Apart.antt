@@ -74,8 +74,8 @@ leads_barely path barely = is_variable path.selectors || (is_led path && barely)
 abbrev pub frees_led : (led : Bool) → PathForm → (calm barely : Bool) → Bool
 frees_led led path calm barely = not led || (leads_barely path barely || calm)
 
--- Of each record type, by its number, whether it is calm, and whether the operations that end its objects call none themselves; of each procedure, whether it tracks;
--- and whether objects that are not calm are freed by variables and followed values alone.
+-- Of each record type with controlled parts, by its number among these, whether it is calm, and whether the operations that end its objects call none themselves; of
+-- each procedure, whether it tracks; and whether objects that are not calm are freed by variables and followed values alone.
 module _ (types : List TypeForm) (calm barely : List Bool) (tracks : ℕ → Bool) (led : Bool) where
   abbrev mutual
     -- A statement calls no procedure that tracks (6.4), and its allocator with items makes no object with controlled parts and copies no record with some (4.8). If

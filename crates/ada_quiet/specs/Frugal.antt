@@ -95,7 +95,7 @@ abbrev pub is_frugal_operation : ProgramForm → (ends_parts : Bool) → Option 
 is_frugal_operation p ends None = true
 is_frugal_operation p ends (Some procedure) = slice_index_or (frugal_procedures p ends) procedure.0 false
 
--- What the procedures of a program may raise, but for what is called implicitly: in frugal bodies nothing is.
+-- What the procedures of a program may raise, but for what is called implicitly: in frugal bodies that is Finalize alone, out of which no exception comes.
 abbrev pub own_effects : ProgramForm → Effects
 own_effects p = effects_of no_implicit p
 
@@ -113,7 +113,7 @@ abbrev pub is_silent_operation : ProgramForm → Option ProcedureNo → Bool
 is_silent_operation p None = true
 is_silent_operation p (Some procedure) = is_silent_procedure (own_effects p) (slice_get p.bodies procedure.0)
 
--- What overrides Finalize of a type is quiet, or frees no object with controlled parts: so it calls no operation.
+-- What overrides Finalize of a type is quiet, or it is frugal and frees no object with controlled parts: so it calls no operation.
 abbrev pub ends_barely : ProgramForm → Option Finalization → Bool
 ends_barely p None = true
 ends_barely p (Some f) = is_quiet_operation p f.operations.finalize || is_frugal_operation p false f.operations.finalize

@@ -27,14 +27,14 @@ abbrev pub allocates_no_parts : ProgramForm → Bool
 allocates_no_parts p = list_all (designates_no_parts p.types) p.types
 
 -- Objects with controlled parts may be allocated beside operations that touch storage, where those that are not calm are freed by variables and followed values alone,
--- and collections are created in order: no object that is not calm, and none that goes later, has a component that names what goes with it or before it where a master
+-- by the latter only what is ended by operations that call none themselves, and collections are created in order: no object that is not calm, and none that goes later, has a component that names what goes with it or before it where a master
 -- is left (7.6.1).
 abbrev pub may_allocate_parts : ProgramForm → Bool
 may_allocate_parts p = collections_in_order p && parts_are_led p
 
 -- An Initialize and a Finalize may be frugal in a program that allocates no object with controlled parts, or may allocate some beside them, and whose operations
 -- stand apart: so an Initialize is called where an object is declared or allocated (7.6), and a Finalize where an object's master is left, an exception comes out
--- of the initialization of one (7.6.1), another record is assigned to it, or a variable is freed that names it (13.11.2).
+-- of the initialization of one (7.6.1), another record is assigned to it, or a variable or a component is freed that names it (13.11.2).
 abbrev pub may_be_frugal : ProgramForm → Bool
 may_be_frugal p = (allocates_no_parts p || may_allocate_parts p) && operations_stand_apart p
 
@@ -106,7 +106,7 @@ uses_called_adjust p owns adjust =
     then may_track p && is_simple_operation p (adjusts_alone p) adjust && is_silent_operation p adjust
     else is_quiet_operation p adjust
 
--- So Adjust is in use; and a frugal one is, where none is called.
+-- So Adjust is in use; and a frugal one that frees no object with controlled parts is, where none is called.
 abbrev pub uses_adjust : ProgramForm → (owns : Bool) → Option ProcedureNo → Bool
 uses_adjust p owns adjust = (adjusts_nothing p && is_frugal_operation p false adjust) || uses_called_adjust p owns adjust
 

@@ -1,4 +1,5 @@
--- What is known of all bodies of a program, as the code holds it, which procedures or types are marked, those of components among them, and which record types have which number.
+-- What is known of all bodies of a program, as the code holds it, which procedures or types are marked, those of components among them, and which record types have
+-- which number.
 
 use Rattle.std.specs.Prelude.{◌≡◌, ◌<◌, ℕ, Bool, true, false, List, length, count_by, Option, Some, None}
 use Rattle.std.specs.List.{slice_index_or, slice_set}
@@ -29,11 +30,11 @@ abbrev pub AreHeld : List TypeForm → Held → Type 0
 AreHeld types held =
     (n r : ℕ) → is_marked held.records.items r ≡ true → record_has_component_of types n (Some r) ≡ true → is_marked held.accesses.items n ≡ true
 
--- A table has the type of each number among those with controlled parts that it has a place for (7.6).
+-- Each place of a table has the record type of that number among those with controlled parts, if there is one (7.6).
 abbrev pub HasTypes : List TypeDefinition → (table : List (Option TypeDefinition)) → Type 0
 HasTypes types table = (n : ℕ) → n < length table → slice_index_or table n None ≡ type_numbered types n
 
--- It has a place for each of these numbers.
+-- And it has a place for each of these numbers.
 pub record IsNumbered (types : List TypeDefinition) (table : List (Option TypeDefinition)) : Type 0 where
   pub known : HasTypes types table
   pub count : length table ≡ count_by has_parts types
@@ -43,5 +44,6 @@ abbrev pub placed : Option ℕ → TypeDefinition → List (Option TypeDefinitio
 placed None t table = table
 placed (Some n) t table = slice_set table n (Some t)
 
+-- So it is with a type and its own number.
 abbrev pub entered : TypeDefinition → List (Option TypeDefinition) → List (Option TypeDefinition)
 entered t table = placed (number_by (Some t)) t table

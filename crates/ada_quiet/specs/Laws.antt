@@ -24,7 +24,7 @@ QuietIsSimple = (types others : List TypeForm) (may_free : Bool) (b : BodyForm) 
 abbrev pub QuietIsInUse : Type 0
 QuietIsInUse = (p : ProgramForm) → operations_are_quiet p ≡ true → operations_are_in_use p ≡ true
 
--- Of each record that lies in the objects of a record type, itself included, this is told of its type (3.8, 7.6).
+-- What is asked of a type's own operations holds of the type of each record that lies in an object of a record type, the whole object included (3.8, 7.6).
 abbrev pub IsToldWithin : (own : TypeForm → Bool) → List TypeForm → (t : ℕ) → Type 0
 IsToldWithin own types t = (u first part : ℕ) (form : TypeForm) → Walks types t first part u → slice_get types u ≡ Some form → own form ≡ true
 

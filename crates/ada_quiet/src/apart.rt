@@ -154,9 +154,9 @@ fn declare_apart(types: &[TypeDefinition], declarations: &[Declaration]) -> bool
 struct Asked<'a> {
     /// The types of the program.
     types: &'a [TypeDefinition],
-    /// Of each type, by its number, whether it is a calm record type.
+    /// Of each record type with controlled parts, by its number among these, whether it is calm.
     calm: &'a [bool],
-    /// Of each one, whether it is a record type whose objects are ended by operations that call none themselves.
+    /// Of each of these, whether its objects are ended by operations that call none themselves.
     barely: &'a [bool],
     /// Of each procedure, by its number, whether it is marked: none that is may be called.
     marks: &'a [bool],

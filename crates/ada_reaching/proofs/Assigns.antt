@@ -23,7 +23,7 @@ use Rattle.ada_reaching.proofs.Selections.{IsRooted}
 
 module _ (w : World) where
   -- The bodies go on once a variable has a value.
-  pub put_goes : (x : ℕ) (v : Value) (s : State) → IsElsewhere w.ghosts v → Goes w s (moves Quiet (put x v s))
+  pub put_goes : (x : ℕ) (v : Value) (s : State) → IsElsewhere w.ghosts w.unnamed v → Goes w s (moves Quiet (put x v s))
   put_goes x v s other r h anew = stays w (put x v s) (put_runs w x v s other r) h anew
 
   -- The bodies go on as an assignment begins.
@@ -108,7 +108,7 @@ module _ (w : World) where
   store_record_goes o first count on_other s sight r h anew = tt
   store_record_goes o first count (finds cell) s sight r h anew =
       record_stored_goes o first (newest_ones named count s) (record_in cell.values first count) (without_newest named count s) sight
-      (operands_run w (drop count (operands s)) s.activations s.heap (elsewhere_drop w.ghosts count (operands s) r.operands) r) h anew
+      (operands_run w (drop count (operands s)) s.activations s.heap (elsewhere_drop w.ghosts w.unnamed count (operands s) r.operands) r) h anew
 
   -- The bodies go on as a Get begins.
   pub gets_goes :

@@ -20,15 +20,14 @@ use Rattle.ada_meaning.specs.Heap.{Cell, Found, on_null, on_gone, on_other, find
 use Rattle.ada_meaning.specs.State.{Activation}
 use Rattle.ada_meaning.specs.Step.{procedure_of, places_of, operands_of, with_operands, with_places, operands, places, older, computed, at, newest_ones, operand_count, given_values, begun, referred_next, refers_next, open_next, opened_next, opens_next, storing, stored_back, copied_back, returned, computing, call_next}
 use Rattle.ada_meaning.specs.Named.{Object, State, named, object_at, look, refer, whole}
-use Rattle.ada_typed.specs.Holding.{cells_of}
 use Rattle.ada_typed.proofs.Bodies.{seen_as}
 use Rattle.ada_untouched.specs.Untouched.{IsInSight}
 use Rattle.ada_reaching.specs.Forms.{selectors_shun, actual_shuns, body_shuns}
 use Rattle.ada_reaching.specs.Reaching.{IsElsewhere, AreElsewhere, LeftShuns, IsInner, FrameShuns, begins_anew}
 use Rattle.ada_reaching.specs.Law.{AreApart}
-use Rattle.ada_reaching.proofs.Elsewhere.{held_elsewhere, elsewhere_append, elsewhere_reverse, elsewhere_take, given_values_elsewhere, given_places_elsewhere, references_elsewhere, stored_elsewhere, copied_elsewhere}
+use Rattle.ada_reaching.proofs.Elsewhere.{elsewhere_append, elsewhere_reverse, elsewhere_take, given_values_elsewhere, given_places_elsewhere, references_elsewhere, stored_elsewhere, copied_elsewhere}
 use Rattle.ada_reaching.proofs.Going.{World, variables_in, IsRun, Runs, Left, On, Goes, operands_run, places_run, stays, gives, jumps}
-use Rattle.ada_reaching.proofs.Paths.{found_there, Sound, Fine, holder_goes}
+use Rattle.ada_reaching.proofs.Paths.{found_there, component_elsewhere, Sound, Fine, holder_goes}
 use Rattle.ada_reaching.proofs.Selections.{IsRooted, held_in}
 
 -- These values refer to components (6.4.1).
@@ -44,18 +43,19 @@ AreParts [] = Unit {0}
 AreParts (r ∷ rs) = IsPart r × AreParts rs
 
 -- What refers to a component leads to no ghost, where it refers elsewhere.
-referred_sight : (ghosts : Id → Bool) (r : Value) → IsPart r → IsElsewhere ghosts r → IsInSight ghosts (whole r)
-referred_sight ghosts Null part other = absurd part
-referred_sight ghosts (Names o) part other = absurd part
-referred_sight ghosts (Scalar v) part other = absurd part
-referred_sight ghosts (Part o place) part other = other
+referred_sight : (ghosts unnamed : Id → Bool) (r : Value) → IsPart r → IsElsewhere ghosts unnamed r → IsInSight ghosts (whole r)
+referred_sight ghosts unnamed Null part other = absurd part
+referred_sight ghosts unnamed (Names o) part other = absurd part
+referred_sight ghosts unnamed (Scalar v) part other = absurd part
+referred_sight ghosts unnamed (Part o place) part other = other
 
 -- So it is with what refers to a place in the object that a value names.
-refer_elsewhere : (ghosts : Id → Bool) (v : Value) (place : Place) → IsInSight ghosts v → IsElsewhere ghosts v → IsElsewhere ghosts (refer v place)
-refer_elsewhere ghosts Null place sight other = tt
-refer_elsewhere ghosts (Names o) place sight other = sight
-refer_elsewhere ghosts (Scalar v) place sight other = tt
-refer_elsewhere ghosts (Part o base) place sight other = other
+refer_elsewhere :
+    (ghosts unnamed : Id → Bool) (v : Value) (place : Place) → IsInSight ghosts v → IsElsewhere ghosts unnamed v → IsElsewhere ghosts unnamed (refer v place)
+refer_elsewhere ghosts unnamed Null place sight other = tt
+refer_elsewhere ghosts unnamed (Names o) place sight other = sight
+refer_elsewhere ghosts unnamed (Scalar v) place sight other = tt
+refer_elsewhere ghosts unnamed (Part o base) place sight other = other
 
 module _ (w : World) where
   -- What is left to do behind actual parameters that are evaluated.
@@ -97,14 +97,14 @@ module _ (w : World) where
 
   -- The bodies go on as a record is referred to.
   referred_goes :
-      (v : Value) (place : Place) (found : Option (List Value)) (s : State) → IsInSight w.ghosts v → IsElsewhere w.ghosts v
+      (v : Value) (place : Place) (found : Option (List Value)) (s : State) → IsInSight w.ghosts v → IsElsewhere w.ghosts w.unnamed v
       → Goes w s (referred_next named v place found s)
   referred_goes v place None s sight other r h anew = tt
-  referred_goes v place (Some vs) s sight other r h anew = gives w (refer v place) s (refer_elsewhere w.ghosts v place sight other) r h anew
+  referred_goes v place (Some vs) s sight other r h anew = gives w (refer v place) s (refer_elsewhere w.ghosts w.unnamed v place sight other) r h anew
 
   -- So they do, by what is found of its object.
   pub refers_goes :
-      (v : Value) (place : Place) (count : ℕ) (found : Found (Cell Value)) (s : State) → IsInSight w.ghosts v → IsElsewhere w.ghosts v
+      (v : Value) (place : Place) (count : ℕ) (found : Found (Cell Value)) (s : State) → IsInSight w.ghosts v → IsElsewhere w.ghosts w.unnamed v
       → Goes w s (refers_next named v place count found s)
   refers_goes v place count on_null s sight other r h anew = jumps w (Raising ConstraintError) s r h
   refers_goes v place count on_gone s sight other r h anew = tt
@@ -122,18 +122,18 @@ module _ (w : World) where
   -- The bodies go on as a component is given.
   opened_goes :
       (v : Value) (c : ℕ) (o : Id) (x : Object) (found : Option Value) (s : State) → Fine w s → object_at s.heap o ≡ Some x → slice_get x.cell.values c ≡ found
-      → IsInSight w.ghosts v → IsElsewhere w.ghosts v → Goes w s (opened_next named v c found s)
+      → IsInSight w.ghosts v → IsElsewhere w.ghosts w.unnamed v → Goes w s (opened_next named v c found s)
   opened_goes v c o x None s fine there is sight other r h anew = tt
   opened_goes v c o x (Some u) s fine there is sight other r h anew =
       let own = held_in w.p.types s.heap fine o x c u there is in
       let reference = refer v (record { component = c; part = 0 }) in
       let referring = operands_run w (reference ∷ operands s) s.activations s.heap
-      (refer_elsewhere w.ghosts v (record { component = c; part = 0 }) sight other, r.operands) r in
-      gives w u (computed reference s) (held_elsewhere w.ghosts w.p.types (cells_of s.heap) own.0 u own.2) referring h anew
+      (refer_elsewhere w.ghosts w.unnamed v (record { component = c; part = 0 }) sight other, r.operands) r in
+      gives w u (computed reference s) (component_elsewhere w s.heap r.same own.0 u (own.3 w.types_fit) own.2) referring h anew
 
   -- So they do, by what is found of its object.
   opens_found :
-      (v : Value) (c : ℕ) (found : Found (Cell Value)) (s : State) → Fine w s → look s.heap v ≡ found → IsInSight w.ghosts v → IsElsewhere w.ghosts v
+      (v : Value) (c : ℕ) (found : Found (Cell Value)) (s : State) → Fine w s → look s.heap v ≡ found → IsInSight w.ghosts v → IsElsewhere w.ghosts w.unnamed v
       → Goes w s (opens_next named v c found s)
   opens_found v c on_null s fine is sight other r h anew = jumps w (Raising ConstraintError) s r h
   opens_found v c on_gone s fine is sight other r h anew = tt
@@ -144,7 +144,7 @@ module _ (w : World) where
 
   -- So they do as the object is looked for.
   pub opens_goes :
-      (v : Value) (c : ℕ) (s : State) → Fine w s → IsInSight w.ghosts v → IsElsewhere w.ghosts v → Goes w s (opens_next named v c (look s.heap v) s)
+      (v : Value) (c : ℕ) (s : State) → Fine w s → IsInSight w.ghosts v → IsElsewhere w.ghosts w.unnamed v → Goes w s (opens_next named v c (look s.heap v) s)
   opens_goes v c s fine sight other r h anew = opens_found v c (look s.heap v) s fine refl sight other r h anew
 
   -- The bodies go on as the body of a procedure begins (6.4).
@@ -154,20 +154,22 @@ module _ (w : World) where
       → On w (begun named procedure b actuals (newest_ones named (operand_count actuals) s) s)
   begun_goes procedure b actuals s is shun r h anew =
       let vs = newest_ones named (operand_count actuals) s in
-      let given : AreElsewhere w.ghosts vs =
-      elsewhere_reverse w.ghosts (take (operand_count actuals) (operands s)) (elsewhere_take w.ghosts (operand_count actuals) (operands s) r.operands) in
+      let given : AreElsewhere w.ghosts w.unnamed vs =
+      elsewhere_reverse w.ghosts w.unnamed (take (operand_count actuals) (operands s))
+      (elsewhere_take w.ghosts w.unnamed (operand_count actuals) (operands s) r.operands) in
       let acts = with_operands [] s.activations in
       let waits : IsRun w acts s.heap = operands_run w [] s.activations s.heap tt r in
-      let left : LeftShuns w.p w.shuns w.apart w.ghosts w.behind (procedure_of acts) s.control (older acts) =
-      subst (λ (suspended : List (Activation Value)). LeftShuns w.p w.shuns w.apart w.ghosts w.behind (procedure_of acts) s.control suspended) (sym waits.waits)
-      (subst (λ (number : Option ℕ). LeftShuns w.p w.shuns w.apart w.ghosts w.behind number s.control w.suspended) (sym waits.runs) h) in
+      let left : LeftShuns w.p w.shuns w.apart w.ghosts w.unnamed w.behind (procedure_of acts) s.control (older acts) =
+      subst (λ (suspended : List (Activation Value)). LeftShuns w.p w.shuns w.apart w.ghosts w.unnamed w.behind (procedure_of acts) s.control suspended)
+      (sym waits.waits)
+      (subst (λ (number : Option ℕ). LeftShuns w.p w.shuns w.apart w.ghosts w.unnamed w.behind number s.control w.suspended) (sym waits.runs) h) in
       let inner : World = record w { procedure = Some procedure; suspended = acts } in
       let own : ProgramForm = seen_in (Some procedure) w.p in
       let after = begun named procedure b actuals vs s in
       stays inner after (record {
         runs = refl;
         waits = refl;
-        places = given_places_elsewhere w.ghosts (given_values actuals vs) b.variables (given_values_elsewhere w.ghosts actuals vs given);
+        places = given_places_elsewhere w.ghosts w.unnamed (given_values actuals vs) b.variables (given_values_elsewhere w.ghosts w.unnamed actuals vs given);
         operands = tt;
         same = r.same;
       }) (
@@ -176,7 +178,7 @@ module _ (w : World) where
             (sym (seen_as w.p procedure b is)) shun,
         refl,
         inr (record {
-          references = references_elsewhere w.ghosts actuals vs given;
+          references = references_elsewhere w.ghosts w.unnamed actuals vs given;
           places = waits.places;
           operands = waits.operands;
           anew = anew;
@@ -186,17 +188,17 @@ module _ (w : World) where
 
 module _ (w : World) where
   -- What goes back to components is stored there next, in front of what shuns the types.
-  storing_left : (rs : List Value) (k : List (Frame Value)) → AreParts rs → AreElsewhere w.ghosts rs → Left w k × (begins_anew k ≡ true)
+  storing_left : (rs : List Value) (k : List (Frame Value)) → AreParts rs → AreElsewhere w.ghosts w.unnamed rs → Left w k × (begins_anew k ≡ true)
       → Left w (storing named rs k) × (begins_anew (storing named rs k) ≡ true)
   storing_left [] k parts others h = h
   storing_left (r ∷ rs) k parts others h =
       let more = storing_left rs k parts.1 others.1 h in
-      ((referred_sight w.ghosts r parts.0 others.0, more.1, more.0), refl)
+      ((referred_sight w.ghosts w.unnamed r parts.0 others.0, more.1, more.0), refl)
 
 module _ (w : World) where
   -- The bodies go on as that of a call has ended (6.4.1, 6.5): the caller's.
-  module _ (s : State) (f : Frame Value) (r : Runs w s) (inner : IsInner w.ghosts f s.control w.suspended
-      (LeftShuns w.p w.shuns w.apart w.ghosts w.behind (procedure_of w.suspended) s.control (older w.suspended))) where
+  module _ (s : State) (f : Frame Value) (r : Runs w s) (inner : IsInner w.ghosts w.unnamed f s.control w.suspended
+      (LeftShuns w.p w.shuns w.apart w.ghosts w.unnamed w.behind (procedure_of w.suspended) s.control (older w.suspended))) where
     -- The caller runs.
     abbrev pub caller : World
     caller = record w { procedure = procedure_of w.suspended; suspended = older w.suspended }
@@ -211,16 +213,16 @@ module _ (w : World) where
     left_goes m = stays caller (record s { activations = older s.activations; mode = m }) resumed_run inner.others inner.anew
 
     -- It gets back what it is to get.
-    pub returned_goes : (m : Mode) (actuals : List ActualForm) (references : List Value) → AreParts references → AreElsewhere w.ghosts references
+    pub returned_goes : (m : Mode) (actuals : List ActualForm) (references : List Value) → AreParts references → AreElsewhere w.ghosts w.unnamed references
         → On w (record (returned named actuals references s) { mode = m })
     returned_goes m actuals references parts others =
         let copied = copied_back actuals (places s) (places_of (older s.activations)) in
         let stored = stored_back actuals (places s) ++ operands_of (older s.activations) in
         let placed : IsRun caller (with_places copied (older s.activations)) s.heap =
         places_run caller copied (older s.activations) s.heap
-        (copied_elsewhere w.ghosts actuals (places s) (places_of (older s.activations)) r.places resumed_run.places) resumed_run in
+        (copied_elsewhere w.ghosts w.unnamed actuals (places s) (places_of (older s.activations)) r.places resumed_run.places) resumed_run in
         let front = storing_left caller references s.control parts others (inner.others, inner.anew) in
         stays caller (record (returned named actuals references s) { mode = m })
         (operands_run caller _ (with_places copied (older s.activations)) s.heap
-        (elsewhere_append w.ghosts (stored_back actuals (places s)) _
-        (stored_elsewhere w.ghosts actuals (places s) r.places) resumed_run.operands) placed) front.0 front.1
+        (elsewhere_append w.ghosts w.unnamed (stored_back actuals (places s)) _
+        (stored_elsewhere w.ghosts w.unnamed actuals (places s) r.places) resumed_run.operands) placed) front.0 front.1

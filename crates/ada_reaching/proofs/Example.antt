@@ -1,7 +1,7 @@
--- A procedure calls another one, which assigns to a component of an object: the name of another one, of an access type that both bodies shun. Or it follows
--- that name.
+-- A procedure calls another one, which assigns to a component of an object: the name of another one, of an access type that both bodies shun. Or it copies a
+-- record that holds that name. Or it follows that name.
 
-use Rattle.std.proofs.Common.{◌≡◌, ◌≢◌, ℕ, Bool, false, true, ◌==◌, List, [], ◌∷◌, arith, refl, sym, ap, ◌∙◌, subst, inl, inr}
+use Rattle.std.proofs.Common.{◌≡◌, ◌≢◌, ◌<◌, ◌≤◌, ◌⊎◌, ℕ, zero, suc, ◌+◌, Bool, false, true, ◌==◌, ◌||◌, List, [], ◌∷◌, ◌++◌, arith, refl, sym, ap, ◌∙◌, subst, inl, inr}
 use Rattle.std.specs.Prelude.{Option, Some, None, pos}
 use Rattle.std.specs.List.{slice_get}
 use Rattle.std.proofs.lemmas.Bool.{eqb-true}
@@ -12,11 +12,13 @@ use Rattle.ada_program.specs.declared.program.ComponentKind.TheVariants as kind
 use Rattle.ada_program.specs.declared.program.Declaration.TheVariants as declaration
 use Rattle.ada_program.specs.declared.program.Expression.{Integer}
 use Rattle.ada_program.specs.declared.program.FormalMode.TheVariants as mode
+use Rattle.ada_program.specs.declared.program.Item.TheVariants as item
 use Rattle.ada_program.specs.declared.program.Part.{Part}
 use Rattle.ada_program.specs.declared.program.PartKind.TheVariants as part
 use Rattle.ada_program.specs.declared.program.Path.{Path}
 use Rattle.ada_program.specs.declared.program.Procedure.{Procedure}
 use Rattle.ada_program.specs.declared.program.Program.{Program}
+use Rattle.ada_program.specs.declared.program.RecordPath.{RecordPath}
 use Rattle.ada_program.specs.declared.program.Right.TheVariants as right
 use Rattle.ada_program.specs.declared.program.Stmt.{Stmt}
 use Rattle.ada_program.specs.declared.program.Stmt as stmt
@@ -25,7 +27,7 @@ use Rattle.ada_program.specs.declared.program.TypeDefinition.TheVariants as defi
 use Rattle.ada_program.specs.declared.program.Variable.{Variable}
 use Rattle.ada_program.specs.declared.program.VariableKind.TheVariants as variable
 use Rattle.ada_program.specs.Form.{expression_form, stmt_form}
-use Rattle.ada_program.specs.ProgramForm.{BodyForm, body_form, program_form}
+use Rattle.ada_program.specs.ProgramForm.{BodyForm, ProgramForm, body_form, program_form}
 use Rattle.ada_program.specs.WellFormed.{IsWellFormed}
 use Rattle.ada_deeds.specs.declared.deed.Callee.{Callee}
 use Rattle.ada_deeds.specs.declared.deed.Callee.TheVariants as callee
@@ -41,15 +43,15 @@ use Rattle.ada_meaning.specs.declared.state.Value.{Value}
 use Rattle.ada_meaning.specs.declared.state.Value.TheVariants.{Null, Names, Scalar}
 use Rattle.ada_meaning.specs.Frame.{Frame}
 use Rattle.ada_meaning.specs.Frame as frame
-use Rattle.ada_meaning.specs.Named.{Object, next}
-use Rattle.ada_meaning.specs.Records.{component_in}
+use Rattle.ada_meaning.specs.Named.{Object, object_at, next}
+use Rattle.ada_meaning.specs.Records.{component_at, component_in, IsCopied}
 use Rattle.ada_meaning.specs.Run.{settled, grants, here, there}
 use Rattle.ada_typed.proofs.Example.{vec, no_name, spot, parts}
 use Rattle.ada_reaching.specs.Forms.{body_shuns}
 use Rattle.ada_reaching.specs.Deeds.{AreShaped, DoesFollow, UseNone}
 use Rattle.ada_reaching.specs.Law.{AreApart}
-use Rattle.ada_reaching.specs.Reaching.{IsOfShunned}
-use Rattle.ada_reaching.specs.Example.{PremiseIsMet, PremiseIsNeeded}
+use Rattle.ada_reaching.specs.Reaching.{IsOfShunned, IsDeclared, IsGhost, none_unnamed}
+use Rattle.ada_reaching.specs.Example.{CopyIsMet, PremiseIsMet, PremiseIsNeeded}
 
 -- What the components of Link hold, Value : Integer := 0 and Next : Near,
 abbrev components : List ComponentKind
@@ -194,56 +196,60 @@ follows_well = record {
 abbrev shuns : ℕ → Bool
 shuns access = access == 1
 
--- They call Join alone,
+-- They call the first procedure alone,
 abbrev apart : ℕ → Bool
 apart procedure = procedure == 0
 
 -- whose body does so.
-calls_join :
-    (shunned : ℕ → Bool) → body_shuns (program_form stores).types shunned apart (body_form join) ≡ true → AreApart (program_form stores) shunned apart
-unfolding stmt_form
-calls_join shunned joins procedure b is found =
-    let at = subst (λ (n : ℕ). slice_get (program_form stores).bodies n ≡ Some b) (eqb-true procedure 0 is) found in
-    let same : body_form join ≡ b = cc in
-    subst (λ (own : BodyForm). body_shuns (program_form stores).types shunned apart own ≡ true) same joins
+calls_first :
+    (p : ProgramForm) (own : BodyForm) → slice_get p.bodies 0 ≡ Some own → (shunned : ℕ → Bool) → body_shuns p.types shunned apart own ≡ true
+    → AreApart p shunned apart
+calls_first p own own_is shunned does procedure b is found =
+    let at = subst (λ (n : ℕ). slice_get p.bodies n ≡ Some b) (eqb-true procedure 0 is) found in
+    let same : own ≡ b = cc in
+    subst (λ (one : BodyForm). body_shuns p.types shunned apart one ≡ true) same does
 
--- So do all that they call,
+-- So do all that Fill calls,
 are_apart : AreApart (program_form stores) shuns apart
 unfolding stmt_form
-are_apart = calls_join shuns refl
+are_apart = calls_first (program_form stores) (body_form join) refl shuns refl
 
 -- which are of that shape,
 shaped : AreShaped (program_form stores) apart
 unfolding stmt_form
-shaped = calls_join (λ access. false) refl
+shaped = calls_first (program_form stores) (body_form join) refl (λ access. false) refl
 
--- and Join does no deed that is not found in it and its calls.
-abbrev join_called : Callee
-join_called = callee.Procedure (record { 0 = 0 })
+-- and the first procedure does no deed that is not found in it and its calls.
+abbrev first_called : Callee
+first_called = callee.Procedure (record { 0 = 0 })
 
-not_done : (d : Deed) → does_by (program_form stores) d join_called ≡ false → ¬ Does (program_form stores) d join_called
-not_done d none done =
-    let found = (counts_are_enough (program_form stores) d join_called).1 done in
+not_done : (p : ProgramForm) (d : Deed) → does_by p d first_called ≡ false → ¬ Does p d first_called
+not_done p d none done =
+    let found = (counts_are_enough p d first_called).1 done in
     absurd (cc (sym none ∙ found))
 
 follows_none : ¬ DoesFollow (program_form stores) 0 1
 unfolding expression_form stmt_form
-follows_none = not_done (Follows (record { 0 = 1 })) refl
+follows_none = not_done (program_form stores) (Follows (record { 0 = 1 })) refl
 
 frees_none : ¬ DoesFree (program_form stores) 0 1
 unfolding expression_form stmt_form
-frees_none = not_done (Frees (record { 0 = 1 })) refl
+frees_none = not_done (program_form stores) (Frees (record { 0 = 1 })) refl
 
--- So it follows no value of Near, and frees none.
-unused : UseNone (program_form stores) shuns apart
-unused = record {
+-- Where it follows no value of Near, and frees none, so it is with all that is called.
+first_uses_none : (p : ProgramForm) → ¬ DoesFollow p 0 1 → ¬ DoesFree p 0 1 → UseNone p shuns apart
+first_uses_none p follows_none frees_none = record {
   follow_none = λ procedure access among is.
-      subst (λ (n : ℕ). ¬ DoesFollow (program_form stores) n access) (sym (eqb-true procedure 0 among))
-      (subst (λ (t : ℕ). ¬ DoesFollow (program_form stores) 0 t) (sym (eqb-true access 1 is)) follows_none);
+      subst (λ (n : ℕ). ¬ DoesFollow p n access) (sym (eqb-true procedure 0 among))
+      (subst (λ (t : ℕ). ¬ DoesFollow p 0 t) (sym (eqb-true access 1 is)) follows_none);
   free_none = λ procedure access among is.
-      subst (λ (n : ℕ). ¬ DoesFree (program_form stores) n access) (sym (eqb-true procedure 0 among))
-      (subst (λ (t : ℕ). ¬ DoesFree (program_form stores) 0 t) (sym (eqb-true access 1 is)) frees_none);
+      subst (λ (n : ℕ). ¬ DoesFree p n access) (sym (eqb-true procedure 0 among))
+      (subst (λ (t : ℕ). ¬ DoesFree p 0 t) (sym (eqb-true access 1 is)) frees_none);
 }
+
+-- So it is with Join.
+unused : UseNone (program_form stores) shuns apart
+unused = first_uses_none (program_form stores) follows_none frees_none
 
 -- The object of Far,
 abbrev link : Object
@@ -285,9 +291,9 @@ ghosts_there o is =
     subst (λ (n : ℕ). IsOfShunned (program_form stores).types shuns (slice_get (link ∷ near ∷ []) n)) (sym (eqb-true o.0 1 is))
     (record { object = near; there = refl; shunned = refl; accessed = refl })
 
--- The component of the other one holds null before.
-holds_null : Some Null ≢ Some (Names (record { 0 = 1 }))
-holds_null same = absurd (cc same)
+-- The component of the other one holds null before, and no name.
+holds_null : (o : Id) → Some Null ≢ Some (Names o)
+holds_null o same = absurd (cc same)
 
 -- The Integer of the ghost changes.
 changes : Some (record near { cell = record (near.cell) { values = Scalar (scalar.Integer (pos 7)) ∷ [] } }) ≢ Some near
@@ -302,6 +308,10 @@ never same = absurd (cc)
 -- What stores is not the end of a body.
 stores_first : (v : Value) (c : ℕ) (k l : List (Frame Value)) → frame.StoresIn v c ∷ k ≡ frame.Returns [] [] ∷ l → ⊥
 stores_first v c k l same = absurd (cc)
+
+-- Neither is what writes a copy.
+copies_first : (v : Value) (c count : ℕ) (k l : List (Frame Value)) → frame.StoresRecord v c count ∷ k ≡ frame.Returns [] [] ∷ l → ⊥
+copies_first v c count k l same = absurd (cc)
 
 -- The collections are created, Fill is called, both objects are allocated, Join is called, and the first object is about to get the name of the second one.
 pub premise_is_met : PremiseIsMet
@@ -318,6 +328,7 @@ premise_is_met = (
       shuns,
       apart,
       ghosts,
+      none_unnamed,
       _,
       body_form join,
       _,
@@ -329,8 +340,9 @@ premise_is_met = (
         shuns_all = refl;
         reaching = record {
           ghosts_there = ghosts_there;
-          places = (tt, (tt, tt));
-          operands = (tt, tt);
+          are_ghosts = λ o is. absurd (cc);
+          places = (refl, (refl, tt));
+          operands = (refl, tt);
           control = (
             refl,
             refl,
@@ -345,7 +357,7 @@ premise_is_met = (
                   refl,
                   inr (record {
                     references = tt;
-                    places = (tt, (tt, tt));
+                    places = (refl, (refl, tt));
                     operands = tt;
                     anew = refl;
                     others = (refl, refl, (refl, refl, (tt, refl, inl refl)));
@@ -361,8 +373,274 @@ premise_is_met = (
         is_ghost = refl;
         holder = record { 0 = 0 };
         component = 1;
-        holds_other = holds_null;
+        holds_other = holds_null _;
         stores = refl;
+      },
+    ),
+  ),
+)
+
+-- R and S, the formal parameters of Copy
+abbrev formal_path : ℕ → Path
+formal_path x = record { root = record { 0 = x }; selectors = vec [] (omega arith); of_record = true; spot = spot }
+
+-- Z
+abbrev more_path : Path
+more_path = record { root = record { 0 = 2 }; selectors = vec [] (omega arith); of_record = false; spot = spot }
+
+-- R, S, X.all and Z.all
+abbrev link_at : Path → RecordPath
+link_at path = record { object = path; first = record { 0 = 0 }; part = record { 0 = 0 }; «record» = record { 0 = 2 } }
+
+-- A record parameter of Link that is known by a type.
+abbrev of_link : ℕ → Variable
+of_link t = record { name = no_name; spot = spot; kind = variable.Record (record { 0 = t }); borrows = false }
+
+-- procedure Copy (R : in out Link; S : Link) is begin R := S; end Copy;
+abbrev copy : Procedure
+copy = record {
+  formals = vec (mode.InOut ∷ mode.In ∷ []) (omega arith);
+  variables = vec (of_link 4 ∷ of_link 5 ∷ []) (omega arith);
+  declarations = vec [] (omega arith);
+  statements = vec (stmt.AssignRecord (link_at (formal_path 0)) (vec (item.Record (link_at (formal_path 1)) ∷ []) (omega arith)) ∷ []) (omega arith);
+  handlers = vec [] (omega arith);
+  start = spot;
+  end = spot;
+}
+
+-- Copy (X.all, Z.all);
+abbrev copies_z : Stmt
+copies_z =
+    stmt.Call (record { 0 = 0 })
+    (vec (actual.InOutRecord (link_at far_path) ∷ actual.InRecord (link_at more_path) ∷ []) (omega arith))
+
+-- procedure Fill is X : Far := new Link; Y : Near := new Cell; Z : Far := new Link'(Value => 7, Next => Y); begin Copy (X.all, Z.all); end Fill;
+abbrev fill_more : Procedure
+fill_more = record (fill copies_z) {
+  variables = vec (variables ++ record { name = no_name; spot = spot; kind = variable.Access (record { 0 = 3 }); borrows = false } ∷ []) (omega arith);
+  declarations =
+      vec
+      (declaration.Variable (record { 0 = 0 }) (Some (right.Default (record { 0 = 3 })))
+      ∷ declaration.Variable (record { 0 = 1 }) (Some (right.Default (record { 0 = 1 })))
+      ∷ declaration.Variable (record { 0 = 2 })
+      (Some (right.Allocator (record { 0 = 3 }) (vec (item.Value (Integer (pos 7)) ∷ item.Path near_path ∷ []) (omega arith)))) ∷ []) (omega arith);
+}
+
+-- What calls Copy. Each of the record parameters is known by a type, and so is a record object of its own, W : Link;
+abbrev copies : Program
+copies = record (program copies_z) {
+  types = vec (types ++ definition.Object (record { 0 = 2 }) ∷ definition.Object (record { 0 = 2 }) ∷ definition.Object (record { 0 = 2 }) ∷ []) (omega arith);
+  procedures = vec (copy ∷ fill_more ∷ []) (omega arith);
+  variables = vec (of_link 6 ∷ []) (omega arith);
+  declarations =
+      vec
+      (declaration.Collection (record { 0 = 1 }) ∷ declaration.Collection (record { 0 = 3 })
+      ∷ declaration.Record (record { 0 = 0 }) (record { 0 = 6 }) None ∷ [])
+      (omega arith);
+}
+
+-- It is well formed,
+copies_well : IsWellFormed (program_form copies)
+unfolding expression_form stmt_form
+copies_well = record {
+  types_fit = refl;
+  components_lie = refl;
+  operations_fit = refl;
+  pools_fit = refl;
+  variables_fit = refl;
+  creates_in_order = refl;
+  collections_first = refl;
+  collections_fit = refl;
+  has_one_each = refl;
+  initials_fit = refl;
+  statements_fit = refl;
+  handlers_fit = refl;
+  bodies_fit = refl;
+}
+
+-- and Copy shuns Near,
+copy_apart : AreApart (program_form copies) shuns apart
+unfolding stmt_form
+copy_apart = calls_first (program_form copies) (body_form copy) refl shuns refl
+
+-- is of that shape,
+copy_shaped : AreShaped (program_form copies) apart
+unfolding stmt_form
+copy_shaped = calls_first (program_form copies) (body_form copy) refl (λ access. false) refl
+
+-- follows no value of Near, and frees none.
+copy_follows_none : ¬ DoesFollow (program_form copies) 0 1
+unfolding expression_form stmt_form
+copy_follows_none = not_done (program_form copies) (Follows (record { 0 = 1 })) refl
+
+copy_frees_none : ¬ DoesFree (program_form copies) 0 1
+unfolding expression_form stmt_form
+copy_frees_none = not_done (program_form copies) (Frees (record { 0 = 1 })) refl
+
+copy_unused : UseNone (program_form copies) shuns apart
+copy_unused = first_uses_none (program_form copies) copy_follows_none copy_frees_none
+
+-- What Z.all holds,
+abbrev held : List Value
+held = Scalar (scalar.Integer (pos 7)) ∷ Names (record { 0 = 2 }) ∷ []
+
+-- its object,
+abbrev full_link : Object
+full_link = record link { cell = record (link.cell) { number = 3; values = held } }
+
+-- W,
+abbrev declared_link : Object
+declared_link = record link { cell = record (link.cell) { access = 6; number = 0; home = record { item = 2; pool = None; subpool = None } } }
+
+-- and the objects before,
+abbrev objects : List Object
+objects = declared_link ∷ link ∷ near ∷ full_link ∷ []
+
+-- and after the copy.
+abbrev copied_objects : List Object
+copied_objects = declared_link ∷ record link { cell = record (link.cell) { values = held } } ∷ near ∷ full_link ∷ []
+
+-- W is a ghost that no value of Fill or Copy names.
+abbrev unnamed : Id → Bool
+unnamed o = o.0 == 0
+
+-- The object of Near is a ghost here, too.
+abbrev two_ghosts : Id → Bool
+two_ghosts o = unnamed o || (o.0 == 2)
+
+-- The one is declared, the other one is of a type that is to be shunned.
+ghost_by :
+    (n : ℕ) (b : Bool) → (n == 0) ≡ b → (b || (n == 2)) ≡ true → IsGhost (program_form copies).types shuns b (slice_get objects n)
+ghost_by n true at is =
+    subst (λ (i : ℕ). IsDeclared (program_form copies).types (slice_get objects i)) (sym (eqb-true n 0 at))
+    (record { object = declared_link; there = refl; declared = refl })
+ghost_by n false at is =
+    subst (λ (i : ℕ). IsOfShunned (program_form copies).types shuns (slice_get objects i)) (sym (eqb-true n 2 is))
+    (record { object = near; there = refl; shunned = refl; accessed = refl })
+
+ghosts_among : (o : Id) → two_ghosts o ≡ true → IsGhost (program_form copies).types shuns (unnamed o) (object_at objects o)
+ghosts_among o is = ghost_by o.0 (unnamed o) refl is
+
+-- X and Z name two of the objects.
+abbrev of_x : Id
+of_x = record { 0 = 1 }
+
+abbrev of_z : Id
+of_z = record { 0 = 3 }
+
+two_objects : of_z ≢ of_x
+two_objects same =
+    let numbers : 3 ≡ 1 = ap (λ (o : Id). o.0) same in
+    absurd (omega (arith, numbers))
+
+-- Both components of the one become those of the other.
+both_alike : (i : ℕ) → i < 2 → component_at copied_objects of_x (0 + i) ≡ component_at objects of_z (0 + i)
+both_alike i lt = refl
+
+both_there : (i : ℕ) → i < 2 → component_at objects of_z (0 + i) ≢ None
+both_there zero lt none = absurd (cc)
+both_there (suc zero) lt none = absurd (cc)
+both_there (suc (suc i)) lt none = absurd (omega (arith, lt))
+
+-- There are no others.
+none_else : (c : ℕ) → (c < 0) ⊎ (2 ≤ c) → component_at copied_objects of_x c ≡ component_at objects of_x c
+none_else c (inl lt) = absurd (omega (arith, lt))
+none_else zero (inr le) = absurd (omega (arith, le))
+none_else (suc zero) (inr le) = absurd (omega (arith, le))
+none_else (suc (suc c)) (inr le) = refl
+
+-- The other objects stay.
+others_stay : (n : ℕ) → n ≢ 1 → slice_get copied_objects n ≡ slice_get objects n
+others_stay zero apart = refl
+others_stay (suc zero) apart = absurd (apart refl)
+others_stay (suc (suc n)) apart = refl
+
+-- So the one is a copy of the other.
+is_copied : IsCopied objects copied_objects of_z of_x 0 0 2
+is_copied = record {
+  alike = both_alike;
+  whole = both_there;
+  others = none_else;
+  keeps = (link, held, refl, refl, refl);
+  elsewhere = λ o apart. others_stay o.0 (λ same. apart (ap (λ (n : ℕ). record { 0 = n }) same));
+  onto_itself = λ same at. absurd (two_objects same);
+}
+
+-- So it is where W is declared, three objects are allocated, Copy is called, and the record of the first one of these is about to be overwritten with that of
+-- the third one.
+pub copy_is_met : CopyIsMet
+unfolding next expression_form stmt_form
+copy_is_met = (
+  copies,
+  copies_well,
+  (
+    [],
+    _,
+    _,
+    there settled _ (refl, refl) (there settled _ (refl, refl) (there settled _ (refl, refl) (there settled _ (refl, refl) (there settled _ (refl, refl) (there settled _ (refl, refl) (there settled _ (refl, refl) (there settled _ (refl, refl) (there (grants true) _ (refl, refl) (there settled _ (refl, refl) (there settled _ (refl, refl) (there settled _ (refl, refl) (there (grants true) _ (refl, refl) (there settled _ (refl, refl) (there settled _ (refl, refl) (there settled _ (refl, refl) (there settled _ (refl, refl) (there settled _ (refl, refl) (there settled _ (refl, refl) (there settled _ (refl, refl) (there (grants true) _ (refl, refl) (there settled _ (refl, refl) (there settled _ (refl, refl) (there settled _ (refl, refl) (there settled _ (refl, refl) (there settled _ (refl, refl) (there settled _ (refl, refl) (there settled _ (refl, refl) (there settled _ (refl, refl) (there settled _ (refl, refl) (there settled _ (refl, refl) (there settled _ (refl, refl) (there settled _ (refl, refl) (there settled _ (refl, refl) (there settled _ (refl, refl) here)))))))))))))))))))))))))))))))))),
+    (
+      shuns,
+      apart,
+      two_ghosts,
+      unnamed,
+      _,
+      body_form copy,
+      _,
+      record {
+        stores_ghost = record {
+          are_apart = copy_apart;
+          shaped = copy_shaped;
+          unused = copy_unused;
+          runs_on = record { procedure = 0; runs = refl; body = refl; steps = (_, refl) };
+          shuns_all = refl;
+          reaching = record {
+            ghosts_there = ghosts_among;
+            are_ghosts = λ o is. ap (λ (b : Bool). b || (o.0 == 2)) is;
+            places = (refl, (refl, tt));
+            operands = (refl, (tt, tt));
+            control = (
+              refl,
+              refl,
+              (
+                refl,
+                refl,
+                (
+                  refl,
+                  refl,
+                  (
+                    tt,
+                    refl,
+                    inr (record {
+                      references = tt;
+                      places = (refl, (refl, (refl, tt)));
+                      operands = tt;
+                      anew = refl;
+                      others = (refl, refl, (refl, refl, (tt, refl, inl refl)));
+                    }),
+                  ),
+                ),
+              ),
+            );
+            seeks = λ x at. tt;
+          };
+          within = record { on = copies_first _ _ _ _ _; takes = tt };
+          ghost = record { 0 = 2 };
+          is_ghost = refl;
+          holder = of_x;
+          component = 1;
+          holds_other = holds_null _;
+          stores = refl;
+        };
+        declared = record { 0 = 0 };
+        is_unnamed = refl;
+        source = of_z;
+        another = two_objects;
+        first = 0;
+        to = 0;
+        record_type = 2;
+        later = _;
+        is_next = refl;
+        copied = is_copied;
       },
     ),
   ),

@@ -29,7 +29,7 @@ use Rattle.ada_reaching.specs.Reaching.{IsElsewhere, AreElsewhere, begins_anew}
 use Rattle.ada_reaching.specs.Forms.{may_follow, path_shuns, expression_shuns, links_shun, item_shuns, right_shuns}
 use Rattle.ada_reaching.proofs.Elsewhere.{elsewhere_drop, elsewhere_in_front, record_elsewhere, initial_elsewhere}
 use Rattle.ada_reaching.proofs.Going.{World, variables_in, Runs, Left, On, Goes, operands_run, created_run, stays, gives, jumps}
-use Rattle.ada_reaching.proofs.Paths.{found_there, values_elsewhere, Sound, Fine, named_goes, record_goes}
+use Rattle.ada_reaching.proofs.Paths.{found_there, new_elsewhere, values_elsewhere, Sound, Fine, named_goes, record_goes}
 use Rattle.ada_reaching.proofs.Rooted.{ExpressionIsRooted, ItemsAreRooted, RightIsRooted}
 use Rattle.ada_reaching.proofs.Selections.{bare_tasks}
 
@@ -77,7 +77,7 @@ module _ (w : World) where
 
   -- The bodies go on as an operator gives a value or raises Constraint_Error.
   pub outcome_goes :
-      (given : Result Value OperatorFault) (s : State) → ((v : Value) → given ≡ Ok v → IsElsewhere w.ghosts v) → Goes w s (outcome_next named given s)
+      (given : Result Value OperatorFault) (s : State) → ((v : Value) → given ≡ Ok v → IsElsewhere w.ghosts w.unnamed v) → Goes w s (outcome_next named given s)
   outcome_goes (Ok v) s each r h anew = gives w v s (each v refl) r h anew
   outcome_goes (Err Overflow) s each r h anew = jumps w (Raising ConstraintError) s r h
   outcome_goes (Err DivisionByZero) s each r h anew = jumps w (Raising ConstraintError) s r h
@@ -111,11 +111,12 @@ module _ (w : World) where
 
   -- The bodies go on as the components of a record are copied, if there is that record.
   copied_goes :
-      (v : Value) (found : Option (List Value)) (s : State) → ((vs : List Value) → found ≡ Some vs → AreElsewhere w.ghosts vs) → Goes w s (copied_next named v found s)
+      (v : Value) (found : Option (List Value)) (s : State) → ((vs : List Value) → found ≡ Some vs → AreElsewhere w.ghosts w.unnamed vs)
+      → Goes w s (copied_next named v found s)
   copied_goes v None s each r h anew = tt
   copied_goes v (Some vs) s each r h anew =
       stays w (set_operands (in_front vs (operands s)) s)
-      (operands_run w (in_front vs (operands s)) s.activations s.heap (elsewhere_in_front w.ghosts vs (operands s) (each vs refl) r.operands) r) h anew
+      (operands_run w (in_front vs (operands s)) s.activations s.heap (elsewhere_in_front w.ghosts w.unnamed vs (operands s) (each vs refl) r.operands) r) h anew
 
   -- So they do, by what is found of the object in which it lies.
   copies_found :
@@ -128,8 +129,8 @@ module _ (w : World) where
       let f = found_there s.heap v cell is in
       copied_goes v (record_in cell.values first count) s
       (λ vs given.
-      record_elsewhere w.ghosts cell.values first count vs given
-      (subst (λ (own : Cell Value). AreElsewhere w.ghosts own.values) f.own (values_elsewhere w s fine f.name f.object f.there))) r h anew
+      record_elsewhere w.ghosts w.unnamed cell.values first count vs given
+      (subst (λ (own : Cell Value). AreElsewhere w.ghosts w.unnamed own.values) f.own (values_elsewhere w s.heap r.same fine f.name f.object f.there))) r h anew
 
   -- So they do as that object is looked for.
   pub copies_go : (v : Value) (first count : ℕ) (s : State) → Fine w s → Goes w s (copies_next named v first count (look s.heap v) s)
@@ -149,8 +150,8 @@ module _ (w : World) where
     right_goes (allocates_default access) s sound shun root r h anew =
         stays w (at (frame.Creates access (words_of tds access) ∷ s.control) (initialized named tds access s))
         (operands_run w (in_front (initial_values named (reached_of tds access)) (operands s)) s.activations s.heap
-        (elsewhere_in_front w.ghosts (initial_values named (reached_of tds access)) (operands s)
-        (initial_elsewhere w.ghosts (reached_of tds access)) r.operands) r)
+        (elsewhere_in_front w.ghosts w.unnamed (initial_values named (reached_of tds access)) (operands s)
+        (initial_elsewhere w.ghosts w.unnamed (reached_of tds access)) r.operands) r)
         (shun, anew, h) refl
     right_goes (computes e) s sound shun root r h anew = stays w (at (frame.Computes e ∷ s.control) s) r (shun, anew, h) refl
 
@@ -175,7 +176,8 @@ module _ (w : World) where
         untreated v (begins Creation []) (all_tasks tds access PartsFirst) t (bare_tasks tds w.p.types access PartsFirst known bare)
         (stays w t
         (created_run w words cell (with_operands (v ∷ vs) s.activations) s.heap
-        (operands_run w (v ∷ vs) s.activations s.heap (tt, elsewhere_drop w.ghosts count (operands s) r.operands) r)) h anew)
+        (operands_run w (v ∷ vs) s.activations s.heap
+        (new_elsewhere w s.heap r.same words, elsewhere_drop w.ghosts w.unnamed count (operands s) r.operands) r)) h anew)
     answered_goes access count words home s bare r h anew false = jumps w (Raising StorageError) s r h
 
     -- The bodies go on as the words of an object are asked for.

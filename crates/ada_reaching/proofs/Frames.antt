@@ -83,7 +83,7 @@ module _ (w : World) where
 
   -- The bodies go on as components are followed from the newest operand.
   follow_goes :
-      (cs : List ℕ) (v : Value) (s : State) → Fine w s → IsElsewhere w.ghosts v → ValueSeeks w s.heap v (frame.Follows cs ∷ s.control) → Runs w s
+      (cs : List ℕ) (v : Value) (s : State) → Fine w s → IsElsewhere w.ghosts w.unnamed v → ValueSeeks w s.heap v (frame.Follows cs ∷ s.control) → Runs w s
       → Left w s.control → AllGoOn (On w) (path_next named cs v s)
   follow_goes [] v s fine other seeks r h = sought w v s other r h seeks
   follow_goes (c ∷ cs) v s fine other seeks r h =
@@ -155,7 +155,7 @@ module _ (w : World) where
     frame_goes (frame.Evaluates right) s sound on parts h none root seeks r = right_goes w tds right s sound h.0 root r h.2 h.1
     frame_goes (frame.Computes e) s sound on parts h none root seeks r = expression_goes w e s sound h.0 root r h.2 h.1
     frame_goes (frame.Follows cs) s sound on parts h none root seeks r =
-        follow_goes cs (newest named s) (popped s) sound.filled (elsewhere_first w.ghosts (operands s) r.operands) seeks (popped_runs w s r) h.2
+        follow_goes cs (newest named s) (popped s) sound.filled (elsewhere_first w.ghosts w.unnamed (operands s) r.operands) seeks (popped_runs w s r) h.2
     frame_goes (frame.TestsNull equal) s sound on parts h none root seeks r =
         null_test_goes w equal (reads_null (newest named s)) (popped s) (popped_runs w s r) h.2 h.1
     frame_goes (frame.Refers q) s sound on parts h none root seeks r =
@@ -166,25 +166,25 @@ module _ (w : World) where
     frame_goes (frame.RefersIn place record_type) s sound on parts h none root seeks r =
         refers_goes w (newest named s) place (width_of tds record_type) (look s.heap (newest named s)) (popped s)
         (in_sight w s.heap r.same (newest named s) seeks)
-        (elsewhere_first w.ghosts (operands s) r.operands) (popped_runs w s r) h.2 h.1
+        (elsewhere_first w.ghosts w.unnamed (operands s) r.operands) (popped_runs w s r) h.2 h.1
     frame_goes (frame.Opens path) s sound on parts h none root seeks r = open_goes w path.selectors path.root root.0 s sound root.1 h.0 r h.2 h.1
     frame_goes (frame.OpensIn c) s sound on parts h none root seeks r =
         opens_goes w (newest named s) c (popped s) sound.filled (in_sight w s.heap r.same (newest named s) seeks)
-        (elsewhere_first w.ghosts (operands s) r.operands)
+        (elsewhere_first w.ghosts w.unnamed (operands s) r.operands)
         (popped_runs w s r) h.2 h.1
     frame_goes (frame.Continues links) s sound on parts h none root seeks r = links_go w links s h.0 r h.2 h.1
     frame_goes (frame.Applies operator) s sound on parts h none root seeks r =
         outcome_goes w (binary_given operator (newest named (popped s)) (newest named s)) (popped (popped s))
-        (binary_elsewhere w.ghosts operator (newest named (popped s)) (newest named s)) (popped_runs w (popped s) (popped_runs w s r)) h.2 h.1
+        (binary_elsewhere w.ghosts w.unnamed operator (newest named (popped s)) (newest named s)) (popped_runs w (popped s) (popped_runs w s r)) h.2 h.1
     frame_goes (frame.AppliesAlone operator) s sound on parts h none root seeks r =
-        outcome_goes w (unary_given operator (newest named s)) (popped s) (unary_elsewhere w.ghosts operator (newest named s)) (popped_runs w s r) h.2 h.1
+        outcome_goes w (unary_given operator (newest named s)) (popped s) (unary_elsewhere w.ghosts w.unnamed operator (newest named s)) (popped_runs w s r) h.2 h.1
     frame_goes (frame.Fills items) s sound on parts h none root seeks r = items_go w items s sound h.0 root r h.2 h.1
     frame_goes (frame.Copies c record_type) s sound on parts h none root seeks r =
         copies_go w (newest named s) c (width_of tds record_type) (popped s) sound.filled (popped_runs w s r) h.2 h.1
     frame_goes (frame.Creates access count) s sound on parts h none root seeks r =
         new_goes w tds known access count (words_of tds access) (home_of access s.masters) s h.0 r h.2 h.1
     frame_goes (frame.Stores x) s sound on parts h none root seeks r =
-        put_goes w x (newest named s) (popped s) (elsewhere_first w.ghosts (operands s) r.operands) (popped_runs w s r) h.2 h.1
+        put_goes w x (newest named s) (popped s) (elsewhere_first w.ghosts w.unnamed (operands s) r.operands) (popped_runs w s r) h.2 h.1
     frame_goes (frame.Targets c right) s sound on parts h none root seeks r =
         target_goes w (newest named s) c right (popped s) seeks h.0 (popped_runs w s r) h.2 h.1
     frame_goes (frame.StoresIn o c) s sound on parts h none root seeks r =
@@ -201,7 +201,7 @@ module _ (w : World) where
         free_in_goes w tds known access (newest named s) c (popped s) sound.filled seeks (popped_runs w s r) h.2 h.1
     frame_goes (frame.Declares x) s sound on parts h none root seeks r =
         stays w (owned (declared x) (put x (newest named s) (popped s)))
-        (put_runs w x (newest named s) (popped s) (elsewhere_first w.ghosts (operands s) r.operands) (popped_runs w s r)) h.2 h.1
+        (put_runs w x (newest named s) (popped s) (elsewhere_first w.ghosts w.unnamed (operands s) r.operands) (popped_runs w s r)) h.2 h.1
     frame_goes (frame.DeclaresRecord x record_type) s sound on parts h none root seeks r = absurd (h.0)
     frame_goes (frame.Treats v treatment tasks) s sound on parts h none root seeks r = absurd (h.0)
     frame_goes (frame.Awaits v by done of part tasks) s sound on parts h none root seeks r = absurd (h.0)

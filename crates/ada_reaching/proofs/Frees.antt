@@ -23,16 +23,17 @@ use Rattle.ada_meaning.specs.Frame.{Frame, ends}
 use Rattle.ada_meaning.specs.Frame as frame
 use Rattle.ada_meaning.specs.Heap.{Cell, Found, on_null, on_gone, on_other, finds}
 use Rattle.ada_meaning.specs.State.{home_of, pool_freed_to}
-use Rattle.ada_meaning.specs.Step.{halts, moves, all_tasks, treating, same_pool, at, held, numbered, freeing, free_next, freed_next, free_component_next, free_in_next, frees_next}
+use Rattle.ada_meaning.specs.Step.{halts, moves, all_tasks, treating, same_pool, at, held, places, numbered, freeing, free_next, freed_next, free_component_next, free_in_next, frees_next}
 use Rattle.ada_meaning.specs.Named.{Object, State, named, object_at, look, standing, standing_by, all_alive, on_object, parted}
 use Rattle.ada_quiet.specs.Bare.{has_bare_objects}
 use Rattle.ada_typed.specs.Holding.{HasKind, cells_of}
 use Rattle.ada_untouched.specs.Untouched.{IsInSight}
-use Rattle.ada_reaching.specs.Reaching.{begins_anew}
+use Rattle.ada_reaching.specs.Reaching.{IsElsewhere, begins_anew}
 use Rattle.ada_reaching.specs.Forms.{may_follow, selectors_shun}
 use Rattle.ada_reaching.specs.Law.{GhostsStay, AllGoOn}
+use Rattle.ada_reaching.proofs.Elsewhere.{elsewhere_at}
 use Rattle.ada_reaching.proofs.Going.{World, variables_in, Runs, Left, On, Goes, ValueSeeks, changed_run, stays, jumps}
-use Rattle.ada_reaching.proofs.Paths.{IsThere, found_there, Sound, Fine, may_seek, in_sight, holder_goes}
+use Rattle.ada_reaching.proofs.Paths.{IsThere, found_there, Sound, Fine, may_seek, component_elsewhere, in_sight, holder_goes}
 use Rattle.ada_reaching.proofs.Selections.{IsRooted, held_in, named_kind, named_access, bare_tasks, bare_freed}
 
 -- The object is there that stands.
@@ -78,18 +79,21 @@ module _ (w : World) where
       in_sight w s.heap same v
       (λ q y e found.
       let kind = named_kind w.p.types s.heap fine own.0 q y (subst (λ (u : Value). HasKind w.p.types (cells_of s.heap) (held_kind own.0) u) e own.2) found in
-      may_seek w s.heap same q y found (ap (λ (k : VariableKind). may_follow w.shuns (Some k)) (sym kind) ∙ ap (may_follow w.shuns) (sym own.1) ∙ may))
+      may_seek w s.heap same q y (subst (λ (u : Value). IsElsewhere w.ghosts w.unnamed u) e
+      (component_elsewhere w s.heap same own.0 v (own.3 w.types_fit) own.2)) found
+      (ap (λ (k : VariableKind). may_follow w.shuns (Some k)) (sym kind) ∙ ap (may_follow w.shuns) (sym own.1) ∙ may))
 
   -- So it is with what a variable holds.
   pub variable_sight :
-      (s : State) (v : Value) (own : TypeNo) → Fine w s → GhostsStay w.ghosts w.before s.heap → HasKind w.p.types (cells_of s.heap) (variable.Access own) v
+      (s : State) (v : Value) (own : TypeNo) → Fine w s → GhostsStay w.ghosts w.before s.heap → IsElsewhere w.ghosts w.unnamed v
+      → HasKind w.p.types (cells_of s.heap) (variable.Access own) v
       → may_follow w.shuns (Some (variable.Access own)) ≡ true → IsInSight w.ghosts v
-  variable_sight s v own fine same has may =
+  variable_sight s v own fine same other has may =
       in_sight w s.heap same v
       (λ q y e found.
       let names = subst (λ (u : Value). HasKind w.p.types (cells_of s.heap) (variable.Access own) u) e has in
       let access : own.0 ≡ y.cell.access = same_access (named_access w.p.types s.heap fine (variable.Access own) q y names found) in
-      may_seek w s.heap same q y found (ap (λ (t : ℕ). not (w.shuns t)) (sym access) ∙ may))
+      may_seek w s.heap same q y (subst (λ (u : Value). IsElsewhere w.ghosts w.unnamed u) e other) found (ap (λ (t : ℕ). not (w.shuns t)) (sym access) ∙ may))
 
   module _ (tds : List TypeDefinition) (known : map type_form tds ≡ w.p.types) where
     -- A Free goes on: what it frees is not treated.
@@ -207,7 +211,8 @@ module _ (w : World) where
         let kind : root.from ≡ variable.Access own = same_kind root.leads in
         let has : HasKind w.p.types (cells_of s.heap) (variable.Access own) (held named s x) =
         subst (λ (k : VariableKind). HasKind w.p.types (cells_of s.heap) k (held named s x)) kind (sound.holds x root.from root.held) in
-        free_goes access x (held named s x) (standing s.heap (held named s x)) s (variable_sight s (held named s x) own sound.filled r.same has may)
+        free_goes access x (held named s x) (standing s.heap (held named s x)) s (variable_sight s (held named s x) own sound.filled r.same
+        (elsewhere_at w.ghosts w.unnamed (places s) x r.places) has may)
         (variable_bare s (held named s x) own sound.filled has (bare_freed w.p.types access own.0 same bare)) r h anew
     frees_go (c ∷ cs) access x own s sound root same bare may shun r h anew =
         holder_goes w c cs x (variable.Access own) (λ last. frame.FreesIn access last) s sound root shun r (λ n. (bare, anew, h))

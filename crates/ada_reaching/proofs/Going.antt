@@ -1,8 +1,9 @@
 -- How states change of bodies that shun some access types: they go on so, and each ghost stays as it is.
 
 use Rattle.std.proofs.Common.{◌≡◌, ℕ, ◌+◌, zero, suc, Bool, true, false, not, List, [], ◌∷◌, ◌++◌, Option, Some, None, refl, sym, ap, ◌∙◌, inl, inr, subst}
-use Rattle.std.specs.List.{slice_get, slice_set}
+use Rattle.std.specs.List.{list_all, slice_get, slice_set}
 use Rattle.ada_program.specs.ProgramForm.{VariableForm, ProgramForm, seen_in}
+use Rattle.ada_program.specs.WellFormed.{type_fits}
 use Rattle.ada_meaning.specs.declared.state.Id.{Id}
 use Rattle.ada_meaning.specs.declared.state.Mode.{Mode}
 use Rattle.ada_meaning.specs.declared.state.Mode.TheVariants.{Running, Raising, Exiting, Returning}
@@ -16,7 +17,7 @@ use Rattle.ada_meaning.specs.Step.{procedure_of, places_of, operands_of, with_pl
 use Rattle.ada_meaning.specs.Named.{Object, State, Next, named, object_at, changed, on_object, filled, store, create, new_object}
 use Rattle.ada_untouched.specs.Untouched.{IsInSight}
 use Rattle.ada_untouched.proofs.Heaps.{set_there, one_or_other}
-use Rattle.ada_reaching.specs.Reaching.{IsOfShunned, IsElsewhere, AreElsewhere, LeftShuns, Seeks, OperandSeeks, begins_anew}
+use Rattle.ada_reaching.specs.Reaching.{IsGhost, IsOfShunned, IsDeclared, IsElsewhere, AreElsewhere, LeftShuns, Seeks, OperandSeeks, begins_anew}
 use Rattle.ada_reaching.specs.Law.{GhostsStay, GoesOn, AllGoOn}
 use Rattle.ada_reaching.proofs.Elsewhere.{elsewhere_older, elsewhere_set}
 
@@ -26,9 +27,12 @@ pub record World : Type 0 where
   pub shuns : ℕ → Bool
   pub apart : ℕ → Bool
   pub ghosts : Id → Bool
+  pub unnamed : Id → Bool
   pub behind : List (Frame Value)
   pub before : List Object
-  pub there : (o : Id) → ghosts o ≡ true → IsOfShunned p.types shuns (object_at before o)
+  pub there : (o : Id) → ghosts o ≡ true → IsGhost p.types shuns (unnamed o) (object_at before o)
+  pub are : (o : Id) → unnamed o ≡ true → ghosts o ≡ true
+  pub types_fit : list_all (type_fits p.types) p.types ≡ true
   pub procedure : Option ℕ
   pub suspended : List (Activation Value)
 
@@ -67,8 +71,8 @@ module _ (w : World) where
   pub record IsRun (acts : List (Activation Value)) (heap : List Object) : Type 0 where
     pub runs : procedure_of acts ≡ w.procedure
     pub waits : older acts ≡ w.suspended
-    pub places : AreElsewhere w.ghosts (places_of acts)
-    pub operands : AreElsewhere w.ghosts (operands_of acts)
+    pub places : AreElsewhere w.ghosts w.unnamed (places_of acts)
+    pub operands : AreElsewhere w.ghosts w.unnamed (operands_of acts)
     pub same : GhostsStay w.ghosts w.before heap
 
   -- So it is in a state.
@@ -77,19 +81,42 @@ module _ (w : World) where
 
   -- What is left to do shuns the types.
   abbrev pub Left : List (Frame Value) → Type 0
-  Left k = LeftShuns w.p w.shuns w.apart w.ghosts w.behind w.procedure k w.suspended
+  Left k = LeftShuns w.p w.shuns w.apart w.ghosts w.unnamed w.behind w.procedure k w.suspended
 
   -- The bodies go on in a state.
   abbrev pub On : State → Type 0
-  On s = GoesOn w.p w.shuns w.apart w.ghosts w.behind w.before s
+  On s = GoesOn w.p w.shuns w.apart w.ghosts w.unnamed w.behind w.before s
 
   -- They go on, whatever comes next of this state, where nothing is sought behind.
   abbrev pub Goes : State → Next → Type 0
   Goes s n = Runs s → Left s.control → begins_anew s.control ≡ true → AllGoOn On n
 
   -- The ghosts are there still.
-  pub ghosts_there : (heap : List Object) → GhostsStay w.ghosts w.before heap → (o : Id) → w.ghosts o ≡ true → IsOfShunned w.p.types w.shuns (object_at heap o)
-  ghosts_there heap same o is = subst (λ (found : Option Object). IsOfShunned w.p.types w.shuns found) (sym (same o is)) (w.there o is)
+  pub ghosts_there :
+      (heap : List Object) → GhostsStay w.ghosts w.before heap → (o : Id) → w.ghosts o ≡ true → IsGhost w.p.types w.shuns (w.unnamed o) (object_at heap o)
+  ghosts_there heap same o is = subst (λ (found : Option Object). IsGhost w.p.types w.shuns (w.unnamed o) found) (sym (same o is)) (w.there o is)
+
+  -- One is of a type that is shunned that is not unnamed.
+  pub shunned_there :
+      (heap : List Object) → GhostsStay w.ghosts w.before heap → (o : Id) → w.ghosts o ≡ true → w.unnamed o ≡ false
+      → IsOfShunned w.p.types w.shuns (object_at heap o)
+  shunned_there heap same o is named_so =
+      subst (λ (b : Bool). IsGhost w.p.types w.shuns b (object_at heap o)) named_so (ghosts_there heap same o is)
+
+  -- An unnamed one is declared.
+  pub declared_there :
+      (heap : List Object) → GhostsStay w.ghosts w.before heap → (o : Id) → w.unnamed o ≡ true → IsDeclared w.p.types (object_at heap o)
+  declared_there heap same o is =
+      subst (λ (b : Bool). IsGhost w.p.types w.shuns b (object_at heap o)) is (ghosts_there heap same o (w.are o is))
+
+  -- Each is there.
+  pub object_there :
+      (heap : List Object) → GhostsStay w.ghosts w.before heap → (o : Id) → w.ghosts o ≡ true → (x : Object) × (object_at heap o ≡ Some x)
+  object_there heap same o is = there_so (w.unnamed o) (object_at heap o) (ghosts_there heap same o is)
+    where
+      there_so : (b : Bool) (found : Option Object) → IsGhost w.p.types w.shuns b found → (x : Object) × (found ≡ Some x)
+      there_so false found ghost = (ghost.object, ghost.there)
+      there_so true found ghost = (ghost.object, ghost.there)
 
   -- Where what is left to do begins anew, nothing is sought.
   pub anew_seeks : (may : Bool) (k : List (Frame Value)) (u : ℕ) → begins_anew k ≡ true → Seeks w.p.types w.shuns may u k
@@ -148,13 +175,15 @@ module _ (w : World) where
 
   -- They run on with other operands that refer to no ghost.
   pub operands_run :
-      (vs : List Value) (acts : List (Activation Value)) (heap : List Object) → AreElsewhere w.ghosts vs → IsRun acts heap → IsRun (with_operands vs acts) heap
+      (vs : List Value) (acts : List (Activation Value)) (heap : List Object) → AreElsewhere w.ghosts w.unnamed vs → IsRun acts heap
+      → IsRun (with_operands vs acts) heap
   operands_run vs [] heap others r = r
   operands_run vs (a ∷ acts) heap others r = record { runs = r.runs; waits = r.waits; places = r.places; operands = others; same = r.same }
 
   -- So they do with other values of variables.
   pub places_run :
-      (vs : List Value) (acts : List (Activation Value)) (heap : List Object) → AreElsewhere w.ghosts vs → IsRun acts heap → IsRun (with_places vs acts) heap
+      (vs : List Value) (acts : List (Activation Value)) (heap : List Object) → AreElsewhere w.ghosts w.unnamed vs → IsRun acts heap
+      → IsRun (with_places vs acts) heap
   places_run vs [] heap others r = r
   places_run vs (a ∷ acts) heap others r = record { runs = r.runs; waits = r.waits; places = others; operands = r.operands; same = r.same }
 
@@ -185,8 +214,8 @@ module _ (w : World) where
     places = r.places;
     operands = r.operands;
     same = λ o is.
-        let ghost = ghosts_there heap r.same o is in
-        more_get heap (new_object cell) o.0 ghost.object ghost.there ∙ sym ghost.there ∙ r.same o is;
+        let ghost = object_there heap r.same o is in
+        more_get heap (new_object cell) o.0 ghost.0 ghost.1 ∙ sym ghost.1 ∙ r.same o is;
   }
 
   -- They go on in a state from whose newest operand nothing is sought that is shunned.
@@ -195,11 +224,13 @@ module _ (w : World) where
     same = r.same;
     reaching = record {
       ghosts_there = ghosts_there s.heap r.same;
+      are_ghosts = w.are;
       places = r.places;
       operands = r.operands;
       control =
-          subst (λ (acts : List (Activation Value)). LeftShuns w.p w.shuns w.apart w.ghosts w.behind (procedure_of s.activations) s.control acts) (sym r.waits)
-          (subst (λ (number : Option ℕ). LeftShuns w.p w.shuns w.apart w.ghosts w.behind number s.control w.suspended) (sym r.runs) h);
+          subst (λ (acts : List (Activation Value)). LeftShuns w.p w.shuns w.apart w.ghosts w.unnamed w.behind (procedure_of s.activations) s.control acts)
+          (sym r.waits)
+          (subst (λ (number : Option ℕ). LeftShuns w.p w.shuns w.apart w.ghosts w.unnamed w.behind number s.control w.suspended) (sym r.runs) h);
       seeks = seeks;
     };
   }
@@ -209,13 +240,13 @@ module _ (w : World) where
   stays s r h anew = reaches s r h (operand_seeks s.heap s.mode s.control (operands s) anew)
 
   -- They go on with one operand more, from which something may be sought.
-  pub sought : (v : Value) (s : State) → IsElsewhere w.ghosts v → Runs s → Left s.control → ValueSeeks s.heap v s.control → On (computed v s)
+  pub sought : (v : Value) (s : State) → IsElsewhere w.ghosts w.unnamed v → Runs s → Left s.control → ValueSeeks s.heap v s.control → On (computed v s)
   sought v s other r h each =
       reaches (computed v s) (operands_run (v ∷ operands s) s.activations s.heap (other, r.operands) r) h
       (set_seeks s.heap s.mode s.control (v ∷ operands s) s.activations (value_seeks s.heap s.mode s.control v (operands s) each))
 
   -- They go on with one operand more.
-  pub gives : (v : Value) (s : State) → IsElsewhere w.ghosts v → Runs s → Left s.control → begins_anew s.control ≡ true → On (computed v s)
+  pub gives : (v : Value) (s : State) → IsElsewhere w.ghosts w.unnamed v → Runs s → Left s.control → begins_anew s.control ≡ true → On (computed v s)
   gives v s other r h anew = stays (computed v s) (operands_run (v ∷ operands s) s.activations s.heap (other, r.operands) r) h anew
 
   -- They go on once a jump begins, which drops the operands.
@@ -226,8 +257,8 @@ module _ (w : World) where
 
   -- They run on without the newest operand.
   pub popped_runs : (s : State) → Runs s → Runs (popped s)
-  popped_runs s r = operands_run (older (operands s)) s.activations s.heap (elsewhere_older w.ghosts (operands s) r.operands) r
+  popped_runs s r = operands_run (older (operands s)) s.activations s.heap (elsewhere_older w.ghosts w.unnamed (operands s) r.operands) r
 
   -- They run on once a variable has a value that refers to no ghost.
-  pub put_runs : (x : ℕ) (v : Value) (s : State) → IsElsewhere w.ghosts v → Runs s → Runs (put x v s)
-  put_runs x v s other r = places_run (slice_set (places s) x v) s.activations s.heap (elsewhere_set w.ghosts (places s) x v other r.places) r
+  pub put_runs : (x : ℕ) (v : Value) (s : State) → IsElsewhere w.ghosts w.unnamed v → Runs s → Runs (put x v s)
+  put_runs x v s other r = places_run (slice_set (places s) x v) s.activations s.heap (elsewhere_set w.ghosts w.unnamed (places s) x v other r.places) r

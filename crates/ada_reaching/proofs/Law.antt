@@ -26,7 +26,7 @@ use Rattle.ada_typed.proofs.Operators.{and_left, and_right}
 use Rattle.ada_typed.proofs.Runs.{last_typed, typed_filled, typed_holds}
 use Rattle.ada_typed.proofs.Values.{OperandKind}
 use Rattle.ada_untouched.specs.Untouched.{Untouched}
-use Rattle.ada_reaching.specs.Reaching.{FrameShuns, IsElsewhere, IsOfShunned, IsReaching, OperandSeeks}
+use Rattle.ada_reaching.specs.Reaching.{FrameShuns, IsElsewhere, IsGhost, IsReaching, OperandSeeks}
 use Rattle.ada_reaching.specs.Law.{AreApart, IsWithin, GoesOn, AllGoOn, none_hidden, ShunnedObjectsAreUntouched}
 use Rattle.ada_reaching.specs.Forms.{body_shuns}
 use Rattle.ada_reaching.proofs.Calls.{AreParts}
@@ -143,15 +143,17 @@ none_sought types shuns ghosts heap Returning k = tt
 
 -- The body of an operation begins that shuns some access types (7.6), for a part of an object that is no ghost: it runs so, in front of what is behind it.
 pub operation_reaches :
-    (p : ProgramForm) (shuns apart : ℕ → Bool) (ghosts : Id → Bool) (procedure : ℕ) (b : BodyForm) (reference : Value) (behind : List (Frame Value)) (s : State)
+    (p : ProgramForm) (shuns apart : ℕ → Bool) (ghosts unnamed : Id → Bool) (procedure : ℕ) (b : BodyForm) (reference : Value)
+    (behind : List (Frame Value)) (s : State)
     → slice_get p.bodies procedure ≡ Some b → body_shuns p.types shuns apart b ≡ true
-    → ((o : Id) → ghosts o ≡ true → IsOfShunned p.types shuns (object_at s.heap o)) → IsElsewhere ghosts reference
-    → IsReaching p shuns apart ghosts behind (operating named procedure b reference behind s)
-operation_reaches p shuns apart ghosts procedure b reference behind s is shun there other =
+    → ((o : Id) → ghosts o ≡ true → IsGhost p.types shuns (unnamed o) (object_at s.heap o)) → ((o : Id) → unnamed o ≡ true → ghosts o ≡ true)
+    → IsElsewhere ghosts unnamed reference → IsReaching p shuns apart ghosts unnamed behind (operating named procedure b reference behind s)
+operation_reaches p shuns apart ghosts unnamed procedure b reference behind s is shun there are other =
     let begins : Frame Value = frame.Elaborates b.declarations b.statements b.handlers in
     record {
       ghosts_there = there;
-      places = given_places_elsewhere ghosts (reference ∷ []) b.variables (other, tt);
+      are_ghosts = are;
+      places = given_places_elsewhere ghosts unnamed (reference ∷ []) b.variables (other, tt);
       operands = tt;
       control = (
         subst (λ (own : ProgramForm). FrameShuns p.types shuns apart p.bodies ghosts own.variables begins) (sym (seen_as p procedure b is)) shun,
@@ -168,11 +170,12 @@ further w (f ∷ k) on = on
 
 -- Of a state whose values are of their kinds.
 pub stays_reaching :
-    (program : Program) → IsWellFormed (program_form program) → (shuns apart : ℕ → Bool) → AreApart (program_form program) shuns apart → (ghosts : Id → Bool)
-    (behind : List (Frame Value)) (s : State) → typed.Typed (program_form program) s → IsReaching (program_form program) shuns apart ghosts behind s
+    (program : Program) → IsWellFormed (program_form program) → (shuns apart : ℕ → Bool) → AreApart (program_form program) shuns apart → (ghosts unnamed : Id → Bool)
+    (behind : List (Frame Value)) (s : State) → typed.Typed (program_form program) s → IsReaching (program_form program) shuns apart ghosts unnamed behind s
     → IsWithin behind s.control s.masters
-    → Untouched none_hidden ghosts s × AllGoOn (GoesOn (program_form program) shuns apart ghosts behind s.heap) (next program.types.items (body_forms program) s)
-stays_reaching program well shuns apart are_apart ghosts behind s typing reaching within =
+    → Untouched none_hidden ghosts s
+    × AllGoOn (GoesOn (program_form program) shuns apart ghosts unnamed behind s.heap) (next program.types.items (body_forms program) s)
+stays_reaching program well shuns apart are_apart ghosts unnamed behind s typing reaching within =
     let p = program_form program in
     let own = seen_now p s in
     let procedure = procedure_of s.activations in
@@ -181,9 +184,12 @@ stays_reaching program well shuns apart are_apart ghosts behind s typing reachin
       shuns = shuns;
       apart = apart;
       ghosts = ghosts;
+      unnamed = unnamed;
       behind = behind;
       before = s.heap;
       there = reaching.ghosts_there;
+      are = reaching.are_ghosts;
+      types_fit = well.types_fit;
       procedure = procedure;
       suspended = older s.activations;
     } in
@@ -214,5 +220,5 @@ stays_reaching program well shuns apart are_apart ghosts behind s typing reachin
 
 -- The law.
 pub shunned_untouched : ShunnedObjectsAreUntouched
-shunned_untouched program well input events s run shuns apart are_apart ghosts behind reaching within =
-    stays_reaching program well shuns apart are_apart ghosts behind s (last_typed program well input events s run) reaching within
+shunned_untouched program well input events s run shuns apart are_apart ghosts unnamed behind reaching within =
+    stays_reaching program well shuns apart are_apart ghosts unnamed behind s (last_typed program well input events s run) reaching within

@@ -1,7 +1,8 @@
 -- Paths of a body that shuns some access types: what they look at, and where they lead.
 
-use Rattle.std.proofs.Common.{◌≡◌, ℕ, Bool, true, false, not, List, [], ◌∷◌, Option, Some, None, refl, sym, ap, ◌∙◌, subst}
+use Rattle.std.proofs.Common.{◌≡◌, ℕ, Bool, true, false, not, List, [], ◌∷◌, length, Option, Some, None, refl, sym, ap, ◌∙◌, subst, arith}
 use Rattle.std.specs.List.{slice_get, slice_index_or}
+use Rattle.std.proofs.lemmas.Option.{slice_get_past}
 use Rattle.ada_program.specs.declared.program.ComponentKind.{ComponentKind}
 use Rattle.ada_program.specs.declared.program.Exception.TheVariants.{ConstraintError}
 use Rattle.ada_program.specs.declared.program.TypeNo.{TypeNo}
@@ -9,7 +10,7 @@ use Rattle.ada_program.specs.declared.program.VariableKind.{VariableKind}
 use Rattle.ada_program.specs.declared.program.VariableKind.TheVariants as variable
 use Rattle.ada_program.specs.Form.{RecordPathForm}
 use Rattle.ada_program.specs.ProgramForm.{TypeForm, VariableForm}
-use Rattle.ada_program.specs.WellFormed.{held_kind, is_access, kind_among, kind_behind, reached_components, selected_kind, selectors_kind, value_access, variable_kind}
+use Rattle.ada_program.specs.WellFormed.{held_kind, is_access, kind_among, kind_behind, kind_fits, named_in, reached_components, selected_kind, selectors_kind, value_access, variable_kind}
 use Rattle.ada_meaning.specs.declared.state.Id.{Id}
 use Rattle.ada_meaning.specs.declared.state.Mode.TheVariants.{Raising}
 use Rattle.ada_meaning.specs.declared.state.Place.{Place}
@@ -21,7 +22,7 @@ use Rattle.ada_meaning.specs.Frame.{Frame}
 use Rattle.ada_meaning.specs.Frame as frame
 use Rattle.ada_meaning.specs.Heap.{Cell, Found, on_null, on_gone, on_other, finds}
 use Rattle.ada_meaning.specs.Step.{at, places, held, reading, component_next, follow_next, path_next, named_next, holder_next, record_holder_next, place_in, selected, before_last, last_of}
-use Rattle.ada_meaning.specs.Named.{Object, State, named, object_at, look, seen, existing, whole, inside}
+use Rattle.ada_meaning.specs.Named.{Object, State, named, object_at, created, look, seen, existing, whole, inside}
 use Rattle.ada_untouched.specs.Untouched.{IsInSight, LeadsOn, LeadsToHolder, hides}
 use Rattle.ada_typed.specs.Holding.{HasKind, cells_of}
 use Rattle.ada_typed.proofs.Evaluations.{cell_at, own_access}
@@ -30,9 +31,9 @@ use Rattle.ada_typed.proofs.Values.{AreFilled, filled_at}
 use Rattle.ada_reaching.specs.Reaching.{IsElsewhere, AreElsewhere, Seeks}
 use Rattle.ada_reaching.specs.Forms.{may_follow, selectors_shun}
 use Rattle.ada_reaching.specs.Law.{GhostsStay, AllGoOn, none_hidden}
-use Rattle.ada_reaching.proofs.Elsewhere.{elsewhere_at, cell_elsewhere, held_elsewhere, whole_elsewhere}
-use Rattle.ada_reaching.proofs.Going.{World, variables_in, Runs, Left, On, Goes, ghosts_there, anew_seeks, sought, gives, jumps}
-use Rattle.ada_reaching.proofs.Selections.{IsRooted, begun_somewhere, shun_first, shun_behind, shun_before, shun_holder, last_kind, LeadsShunning, seeks_weaker, followed, valued, held_in, named_kind, named_access}
+use Rattle.ada_reaching.proofs.Elsewhere.{AccessedAreNamed, elsewhere_at, cell_elsewhere, held_elsewhere, whole_elsewhere}
+use Rattle.ada_reaching.proofs.Going.{World, variables_in, Runs, Left, On, Goes, shunned_there, declared_there, object_there, anew_seeks, sought, gives, jumps}
+use Rattle.ada_reaching.proofs.Selections.{IsRooted, begun_somewhere, reached_fit, shun_first, shun_behind, shun_before, shun_holder, last_kind, LeadsShunning, seeks_weaker, followed, valued, held_in, named_kind, named_access}
 
 -- What objects and variables hold is of its kind.
 pub record IsSound (types : List TypeForm) (variables : List VariableForm) (heap : List Object) (values : List Value) : Type 0 where
@@ -126,11 +127,9 @@ module _ (w : World) where
   abbrev pub Fine : State → Type 0
   Fine s = AreFilled w.p.types (cells_of s.heap) (cells_of s.heap)
 
-  -- What an object holds refers to no ghost.
-  pub values_elsewhere : (s : State) → Fine s → (o : Id) (x : Object) → object_at s.heap o ≡ Some x → AreElsewhere w.ghosts x.cell.values
-  values_elsewhere s fine o x at =
-      let own = filled_at w.p.types (cells_of s.heap) (cells_of s.heap) o.0 x.cell fine (cell_at s.heap o.0 x at) in
-      cell_elsewhere w.ghosts w.p.types (cells_of s.heap) own.0 x.cell.values own.2
+  -- What names the object of what a variable holds refers to no ghost.
+  held_whole : (s : State) (x : ℕ) → Runs w s → IsElsewhere w.ghosts w.unnamed (whole (held named s x))
+  held_whole s x r = whole_elsewhere w.ghosts w.unnamed w.are (held named s x) (elsewhere_at w.ghosts w.unnamed (places s) x r.places)
 
   module _ (heap : List Object) (same : GhostsStay w.ghosts w.before heap) where
     -- An object is no ghost, if it is none where it is a ghost.
@@ -138,31 +137,71 @@ module _ (w : World) where
     by_ghost o true is never = absurd (never is)
     by_ghost o false is never = is
 
-    -- An object is no ghost whose type is not shunned.
-    pub no_ghost : (o : Id) (x : Object) → object_at heap o ≡ Some x → not (w.shuns x.cell.access) ≡ true → w.ghosts o ≡ false
-    no_ghost o x at may =
+    -- An object is not unnamed, if it is none where it is unnamed.
+    by_unnamed : (o : Id) (b : Bool) → w.unnamed o ≡ b → (w.unnamed o ≡ true → ⊥) → w.unnamed o ≡ false
+    by_unnamed o true is never = absurd (never is)
+    by_unnamed o false is never = is
+
+    -- No object of an access type is unnamed.
+    pub accessed_named : AccessedAreNamed w.ghosts w.unnamed w.p.types (cells_of heap)
+    accessed_named o access has of_access =
+        by_unnamed o (w.unnamed o) refl
+        (λ is.
+        let ghost = declared_there w heap same o is in
+        let own : ghost.object.cell.access ≡ access = own_access heap o access ghost.object has ghost.there in
+        let isnt : is_access w.p.types access ≡ false = ap (is_access w.p.types) (sym own) ∙ ghost.declared in absurd (cc))
+
+    -- A new object is not unnamed: it has the name of none that is there.
+    pub new_elsewhere : (words : ℕ) → IsElsewhere w.ghosts w.unnamed (created heap words)
+    new_elsewhere words =
+        let o : Id = record { 0 = length heap } in
+        by_unnamed o (w.unnamed o) refl
+        (λ is.
+        let ghost = declared_there w heap same o is in
+        let none : object_at heap o ≡ None = slice_get_past heap (length heap) (omega (arith)) in
+        let there = ghost.there in absurd (cc (none, there)))
+
+    -- What a component of an object holds refers to no ghost.
+    pub component_elsewhere :
+        (kind : ComponentKind) (v : Value) → kind_fits w.p.types kind ≡ true → HasKind w.p.types (cells_of heap) (held_kind kind) v
+        → IsElsewhere w.ghosts w.unnamed v
+    component_elsewhere kind v fits has = held_elsewhere w.ghosts w.unnamed w.p.types (cells_of heap) kind v accessed_named fits has
+
+    -- So it is with all that an object holds.
+    pub values_elsewhere :
+        AreFilled w.p.types (cells_of heap) (cells_of heap) → (o : Id) (x : Object) → object_at heap o ≡ Some x
+        → AreElsewhere w.ghosts w.unnamed x.cell.values
+    values_elsewhere fine o x at =
+        let own = filled_at w.p.types (cells_of heap) (cells_of heap) o.0 x.cell fine (cell_at heap o.0 x at) in
+        cell_elsewhere w.ghosts w.unnamed w.p.types (cells_of heap) own.0 x.cell.values accessed_named
+        (reached_fit w.p.types (named_in (slice_get w.p.types x.cell.access)) own.0 w.types_fit own.1) own.2
+
+    -- An object is no ghost whose type is not shunned, and that a value names.
+    pub no_ghost : (o : Id) (x : Object) → w.unnamed o ≡ false → object_at heap o ≡ Some x → not (w.shuns x.cell.access) ≡ true → w.ghosts o ≡ false
+    no_ghost o x other at may =
         by_ghost o (w.ghosts o) refl
         (λ is.
-        let ghost = ghosts_there w heap same o is in
+        let ghost = shunned_there w heap same o is other in
         let one : ghost.object ≡ x = same_object (sym ghost.there ∙ at) in
         never_both (w.shuns x.cell.access) (ap (λ (y : Object). w.shuns y.cell.access) (sym one) ∙ ghost.shunned) may)
 
     -- So an object of such a type may be followed.
-    pub may_seek : (o : Id) (x : Object) → object_at heap o ≡ Some x → not (w.shuns x.cell.access) ≡ true → not (w.ghosts o) ≡ true
-    may_seek o x at may = ap not (no_ghost o x at may)
+    pub may_seek :
+        (o : Id) (x : Object) → w.unnamed o ≡ false → object_at heap o ≡ Some x → not (w.shuns x.cell.access) ≡ true → not (w.ghosts o) ≡ true
+    may_seek o x other at may = ap not (no_ghost o x other at may)
 
     -- The object of a value may be looked for that is no ghost, if there is one.
     pub in_sight : (v : Value) → ((o : Id) (x : Object) → v ≡ Names o → object_at heap o ≡ Some x → not (w.ghosts o) ≡ true) → IsInSight w.ghosts v
     in_sight Null each = refl
     in_sight (Names o) each =
         by_ghost o (w.ghosts o) refl
-        (λ is. let ghost = ghosts_there w heap same o is in never_both (w.ghosts o) is (each o ghost.object refl ghost.there))
+        (λ is. let ghost = object_there w heap same o is in never_both (w.ghosts o) is (each o ghost.0 refl ghost.1))
     in_sight (Scalar v) each = refl
     in_sight (Part o place) each = refl
 
-    -- What a variable of a kind holds that may be followed leads to no ghost: no record object is one.
+    -- What a variable of a kind holds that may be followed leads to no ghost: a record object that it names is none.
     root_sight :
-        (kind : VariableKind) (v : Value) → HasKind w.p.types (cells_of heap) kind v → IsElsewhere w.ghosts v → may_follow w.shuns (Some kind) ≡ true
+        (kind : VariableKind) (v : Value) → HasKind w.p.types (cells_of heap) kind v → IsElsewhere w.ghosts w.unnamed v → may_follow w.shuns (Some kind) ≡ true
         → ((object : TypeNo) → kind ≡ variable.Record object → is_access w.p.types object.0 ≡ false) → IsInSight w.ghosts (whole v)
     root_sight kind Null has other may records = refl
     root_sight variable.Integer (Names o) has other may records = absurd has
@@ -170,13 +209,13 @@ module _ (w : World) where
     root_sight (variable.Access access) (Names o) has other may records =
         by_ghost o (w.ghosts o) refl
         (λ is.
-        let ghost = ghosts_there w heap same o is in
+        let ghost = shunned_there w heap same o is other in
         let own : ghost.object.cell.access ≡ access.0 = own_access heap o access.0 ghost.object has ghost.there in
         never_both (w.shuns access.0) (ap w.shuns (sym own) ∙ ghost.shunned) may)
     root_sight (variable.Record object) (Names o) has other may records =
         by_ghost o (w.ghosts o) refl
         (λ is.
-        let ghost = ghosts_there w heap same o is in
+        let ghost = shunned_there w heap same o is other in
         let own : ghost.object.cell.access ≡ object.0 = own_access heap o object.0 ghost.object has ghost.there in
         let isnt : is_access w.p.types object.0 ≡ false = records object refl in
         let accessed : is_access w.p.types object.0 ≡ true = ap (is_access w.p.types) (sym own) ∙ ghost.accessed in absurd (cc))
@@ -188,7 +227,7 @@ module _ (w : World) where
       (s : State) (x : ℕ) (kind : VariableKind) → Sound s → Runs w s → variable_kind (variables_in w) x ≡ Some kind → may_follow w.shuns (Some kind) ≡ true
       → IsInSight w.ghosts (whole (held named s x))
   held_sight s x kind sound r is may =
-      root_sight s.heap r.same kind (held named s x) (sound.holds x kind is) (elsewhere_at w.ghosts (places s) x r.places) may
+      root_sight s.heap r.same kind (held named s x) (sound.holds x kind is) (elsewhere_at w.ghosts w.unnamed (places s) x r.places) may
       (λ object same. sound.records x object (is ∙ ap Some same))
 
   -- So it is with a variable with which selectors begin that follow nothing that is shunned.
@@ -232,21 +271,24 @@ module _ (w : World) where
 
   -- The bodies go on once a path has found a value.
   reading_goes :
-      (cs : List ℕ) (v : Value) (kind : ComponentKind) (s : State) → Fine s → HasKind w.p.types (cells_of s.heap) (held_kind kind) v
+      (cs : List ℕ) (v : Value) (kind : ComponentKind) (s : State) → Fine s → kind_fits w.p.types kind ≡ true → HasKind w.p.types (cells_of s.heap) (held_kind kind) v
       → LeadsShunning w.p.types w.shuns (Some (held_kind kind)) cs s.control → Runs w s → Left w s.control → On w (reading named cs v s)
-  reading_goes [] v kind s fine has leads r h =
-      sought w v s (held_elsewhere w.ghosts w.p.types (cells_of s.heap) kind v has) r h
+  reading_goes [] v kind s fine fits has leads r h =
+      let other = component_elsewhere s.heap r.same kind v fits has in
+      sought w v s other r h
       (λ o x e at.
       let named_so = named_kind w.p.types s.heap fine kind o x (subst (λ (u : Value). HasKind w.p.types (cells_of s.heap) (held_kind kind) u) e has) at in
-      seeks_weaker w.p.types w.shuns (not (w.shuns x.cell.access)) (not (w.ghosts o)) x.cell.access s.control (may_seek s.heap r.same o x at)
+      seeks_weaker w.p.types w.shuns (not (w.shuns x.cell.access)) (not (w.ghosts o)) x.cell.access s.control
+      (may_seek s.heap r.same o x (subst (λ (u : Value). IsElsewhere w.ghosts w.unnamed u) e other) at)
       (leads.1 x.cell.access (ap (λ (from : VariableKind). value_access (Some from)) named_so)))
-  reading_goes (c ∷ cs) v kind s fine has leads r h =
-      sought w v (at (frame.Follows (c ∷ cs) ∷ s.control) s) (held_elsewhere w.ghosts w.p.types (cells_of s.heap) kind v has) r (tt, tt, h)
+  reading_goes (c ∷ cs) v kind s fine fits has leads r h =
+      let other = component_elsewhere s.heap r.same kind v fits has in
+      sought w v (at (frame.Follows (c ∷ cs) ∷ s.control) s) other r (tt, tt, h)
       (λ o x e at.
       let named_so = named_kind w.p.types s.heap fine kind o x (subst (λ (u : Value). HasKind w.p.types (cells_of s.heap) (held_kind kind) u) e has) at in
       let own = subst (λ (from : VariableKind). LeadsShunning w.p.types w.shuns (Some from) (c ∷ cs) s.control) named_so leads in
       let from : VariableKind = variable.Access (record { 0 = x.cell.access }) in (
-        may_seek s.heap r.same o x at (shun_first w.p.types w.shuns (Some from) c cs own.0),
+        may_seek s.heap r.same o x (subst (λ (u : Value). IsElsewhere w.ghosts w.unnamed u) e other) at (shun_first w.p.types w.shuns (Some from) c cs own.0),
         shun_behind w.p.types w.shuns (Some from) c cs own.0,
         own.1,
       ))
@@ -259,7 +301,8 @@ module _ (w : World) where
   component_goes v c cs o x None s fine there is leads r h = tt
   component_goes v c cs o x (Some u) s fine there is leads r h =
       let own = held_in w.p.types s.heap fine o x c u there is in
-      reading_goes cs u own.0 s fine own.2 (subst (λ (kind : Option VariableKind). LeadsShunning w.p.types w.shuns kind cs s.control) own.1 leads) r h
+      reading_goes cs u own.0 s fine (own.3 w.types_fit) own.2
+      (subst (λ (kind : Option VariableKind). LeadsShunning w.p.types w.shuns kind cs s.control) own.1 leads) r h
 
   -- So it is, by what is found of the object.
   follow_goes :
@@ -283,7 +326,7 @@ module _ (w : World) where
   pub named_goes :
       (cs : List ℕ) (x : ℕ) (to : VariableKind) (s : State) → Sound s → IsRooted w.p.types (variables_in w) x cs to
       → selectors_shun w.p.types w.shuns (variable_kind (variables_in w) x) cs ≡ true → Goes w s (named_next named cs x s)
-  named_goes [] x to s sound root shun r h anew = gives w (whole (held named s x)) s (whole_elsewhere w.ghosts (held named s x)) r h anew
+  named_goes [] x to s sound root shun r h anew = gives w (whole (held named s x)) s (held_whole s x r) r h anew
   named_goes (c ∷ cs) x to s sound root shun r h anew =
       let v = held named s x in
       let start = begun w.p.types (variables_in w) s.heap (places s) sound x c cs to root in
@@ -302,7 +345,7 @@ module _ (w : World) where
       let v = held named s x in
       let start = begun w.p.types (variables_in w) s.heap (places s) sound x c [] to root in
       let sight = begun_sight s x c [] to sound r root shun in
-      sought w (whole v) (at (frame_of (inside v c) ∷ s.control) s) (whole_elsewhere w.ghosts v) r (each (inside v c))
+      sought w (whole v) (at (frame_of (inside v c) ∷ s.control) s) (held_whole s x r) r (each (inside v c))
       (λ o y e there.
       seeks (not (w.ghosts o)) y.cell.access (inside v c) (ap not (subst (λ (u : Value). IsInSight w.ghosts u) e sight)) (start.lies o y e there ∙ start.leads))
   holder_goes c (d ∷ cs) x to frame_of s sound root shun r each seeks =
@@ -341,7 +384,7 @@ module _ (w : World) where
       by_selectors [] place begins shun =
           let kind : Some begins.from ≡ Some to = begins.leads in
           let sight = held_sight s q.object.root begins.from sound r begins.held (ap (may_follow w.shuns) kind ∙ may) in
-          sought w (whole v) (at (frame_of place ∷ s.control) s) (whole_elsewhere w.ghosts v) r (each place)
+          sought w (whole v) (at (frame_of place ∷ s.control) s) (held_whole s q.object.root r) r (each place)
           (λ o y e there. seeks (not (w.ghosts o)) y.cell.access place (ap not (subst (λ (u : Value). IsInSight w.ghosts u) e sight)))
       by_selectors (c ∷ cs) place begins shun =
           let start = begun w.p.types (variables_in w) s.heap (places s) sound q.object.root c cs to begins in

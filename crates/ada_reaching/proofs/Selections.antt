@@ -1,8 +1,8 @@
 -- What selectors lead to, and what objects hold: facts of kinds.
 
-use Rattle.std.proofs.Common.{◌≡◌, ℕ, zero, suc, Bool, true, false, List, [], ◌∷◌, map, Option, Some, None, refl, sym, ap, ◌∙◌}
+use Rattle.std.proofs.Common.{◌≡◌, ℕ, zero, suc, Bool, true, false, ◌&&◌, List, [], ◌∷◌, map, Option, Some, None, refl, sym, ap, ◌∙◌, subst}
 use Rattle.std.specs.Prelude.{is_some, not}
-use Rattle.std.specs.List.{slice_get}
+use Rattle.std.specs.List.{list_all, slice_get}
 use Rattle.std.proofs.lemmas.Bool.{eqb-true}
 use Rattle.ada_program.specs.declared.program.ComponentKind.{ComponentKind}
 use Rattle.ada_program.specs.declared.program.ComponentKind.TheVariants as component
@@ -14,7 +14,7 @@ use Rattle.ada_program.proofs.Shapes.{same_number}
 use Rattle.ada_program.specs.Controlled.{number_in, number_reached, shapes_of}
 use Rattle.ada_program.specs.Form.{PathForm}
 use Rattle.ada_program.specs.ProgramForm.{TypeForm, record_of, access_to, object_of, VariableForm, type_form}
-use Rattle.ada_program.specs.WellFormed.{value_access, access_of, component_kind, held_kind, kind_among, reached_components, selected_kind, selectors_kind, root_kind, path_kind, variable_kind, finalization_of, named_in, designated_in, same_record, is_freed_by}
+use Rattle.ada_program.specs.WellFormed.{value_access, access_of, component_kind, held_kind, kind_among, reached_components, selected_kind, selectors_kind, root_kind, path_kind, variable_kind, finalization_of, named_in, designated_in, components_in, components_reached, kind_fits, parent_first, says_parts, is_numbered_alone, type_fits, same_record, is_freed_by}
 use Rattle.ada_parts.specs.declared.tasks.Direction.{Direction}
 use Rattle.ada_meaning.specs.declared.state.Id.{Id}
 use Rattle.ada_meaning.specs.declared.state.Value.{Value}
@@ -24,6 +24,7 @@ use Rattle.ada_meaning.specs.Frame as frame
 use Rattle.ada_meaning.specs.Step.{has_parts, all_tasks, tasks_for, before_last, last_of}
 use Rattle.ada_meaning.specs.Named.{Object, object_at}
 use Rattle.ada_quiet.specs.Bare.{has_bare_objects, is_bare_access}
+use Rattle.ada_deeds.proofs.Naming.{all_at}
 use Rattle.ada_typed.specs.Holding.{Cells, HasKind, HaveKinds, cells_of}
 use Rattle.ada_typed.proofs.Evaluations.{cell_at, own_access}
 use Rattle.ada_typed.proofs.OfKinds.{and_both}
@@ -38,6 +39,30 @@ pub record IsRooted (types : List TypeForm) (variables : List VariableForm) (x :
   pub from : VariableKind
   pub held : variable_kind variables x ≡ Some from
   pub leads : selectors_kind types (Some from) cs ≡ Some to
+
+-- What the components of a record type hold is of types of the program (3.8).
+components_fit :
+    (types : List TypeForm) (o : Option TypeForm) (kinds : List ComponentKind) → ((form : TypeForm) → o ≡ Some form → type_fits types form ≡ true)
+    → components_in o ≡ Some kinds → list_all (kind_fits types) kinds ≡ true
+components_fit types None kinds fit is = absurd (cc)
+components_fit types (Some (record_of name parts components finalization)) kinds fit is =
+    let same : components ≡ kinds = cc in
+    let own = list_all (kind_fits types) components in
+    let first = parent_first parts in
+    let says = says_parts types finalization parts in
+    subst (λ (ks : List ComponentKind). list_all (kind_fits types) ks ≡ true) same
+    (and_left own first (and_left (own && first) says
+    (and_left (own && first && says) (is_numbered_alone types finalization) (fit (record_of name parts components finalization) refl))))
+components_fit types (Some (access_to name designated pool)) kinds fit is = absurd (cc)
+components_fit types (Some (object_of record_type)) kinds fit is = absurd (cc)
+
+-- So it is with those of objects.
+pub reached_fit :
+    (types : List TypeForm) (o : Option ℕ) (kinds : List ComponentKind) → list_all (type_fits types) types ≡ true
+    → components_reached types o ≡ Some kinds → list_all (kind_fits types) kinds ≡ true
+reached_fit types None kinds fit is = absurd (cc)
+reached_fit types (Some t) kinds fit is =
+    components_fit types (slice_get types t) kinds (λ form at. all_at (type_fits types) types t form fit at) is
 
 -- Behind nothing selectors lead nowhere.
 selectors_nowhere : (types : List TypeForm) (cs : List ℕ) → selectors_kind types None cs ≡ None
@@ -145,15 +170,19 @@ component_of types cells (k ∷ cs) (u ∷ vs) zero v h at = let same : u ≡ v 
 component_of types cells (k ∷ cs) (u ∷ vs) (suc c) v h at = component_of types cells cs vs c v h.1 at
 
 module _ (types : List TypeForm) (heap : List Object) (filled : AreFilled types (cells_of heap) (cells_of heap)) where
-  -- What a component of an object holds is of its kind.
+  -- What a component of an object holds is of its kind, and that is of a type of the program.
   pub held_in :
       (o : Id) (x : Object) (c : ℕ) (v : Value) → object_at heap o ≡ Some x → slice_get x.cell.values c ≡ Some v
       → (kind : ComponentKind) × (kind_among (reached_components types x.cell.access) c ≡ Some (held_kind kind))
-      × HasKind types (cells_of heap) (held_kind kind) v
+      × HasKind types (cells_of heap) (held_kind kind) v × (list_all (type_fits types) types ≡ true → kind_fits types kind ≡ true)
   held_in o x c v at there =
       let own = filled_at types (cells_of heap) (cells_of heap) o.0 x.cell filled (cell_at heap o.0 x at) in
-      let f = component_of types (cells_of heap) own.0 x.cell.values c v own.2 there in
-      (f.0, ap (λ (found : Option (List ComponentKind)). kind_among found c) own.1 ∙ ap component_kind f.1, f.2)
+      let f = component_of types (cells_of heap) own.0 x.cell.values c v own.2 there in (
+        f.0,
+        ap (λ (found : Option (List ComponentKind)). kind_among found c) own.1 ∙ ap component_kind f.1,
+        f.2,
+        λ fit. all_at (kind_fits types) own.0 c f.0 (reached_fit types (named_in (slice_get types x.cell.access)) own.0 fit own.1) f.1,
+      )
 
   -- Where a component names an object, it is of the access type of that.
   pub named_kind :

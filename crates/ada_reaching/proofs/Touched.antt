@@ -16,12 +16,13 @@ use Rattle.ada_meaning.specs.declared.state.Value.TheVariants.{Names}
 use Rattle.ada_meaning.specs.Frame.{Frame}
 use Rattle.ada_meaning.specs.Frame as frame
 use Rattle.ada_meaning.specs.Heap.{Cell, Found, on_null, on_gone, on_other, finds}
-use Rattle.ada_meaning.specs.Step.{operands, held, newest}
+use Rattle.ada_meaning.specs.Step.{operands, held, newest, places}
 use Rattle.ada_meaning.specs.Named.{Object, State, named, object_at, look}
 use Rattle.ada_typed.specs.Holding.{HasKind, cells_of}
 use Rattle.ada_untouched.specs.Untouched.{IsOpen, FreedIsOpen, MayBeSought, MayBeFreed, RecordIsOpen, ExpressionIsOpen, ItemsAreOpen, RightIsOpen, StatementsAreOpen, FrameIsOpen, JumpIsOpen, FirstIsOpen}
 use Rattle.ada_reaching.specs.Forms.{may_follow, selectors_shun, path_shuns, record_path_shuns, expression_shuns, item_shuns, right_shuns, statement_shuns, statements_shun}
 use Rattle.ada_reaching.specs.Law.{TakesNone, FirstTakesNone, none_hidden}
+use Rattle.ada_reaching.proofs.Elsewhere.{elsewhere_at}
 use Rattle.ada_reaching.proofs.Frames.{newest_seeks}
 use Rattle.ada_reaching.proofs.Frees.{same_kind, component_sight, variable_sight}
 use Rattle.ada_reaching.proofs.Going.{World, variables_in, Runs, Left, OperandsSeek, ValueSeeks}
@@ -79,7 +80,7 @@ module _ (w : World) (s : State) (sound : Sound w s) (r : Runs w s) where
       → FreedIsOpen none_hidden w.ghosts s cs (held named s x)
   freed_open x [] own root shuns may =
       let kind : root.from ≡ variable.Access own = same_kind root.leads in
-      variable_sight w s (held named s x) own sound.filled r.same
+      variable_sight w s (held named s x) own sound.filled r.same (elsewhere_at w.ghosts w.unnamed (places s) x r.places)
       (subst (λ (k : VariableKind). HasKind w.p.types (cells_of s.heap) k (held named s x)) kind (sound.holds x root.from root.held)) may
   freed_open x (c ∷ cs) own root shuns may = holder_open w s x (c ∷ cs) (variable.Access own) sound r root shuns
 

@@ -36,6 +36,7 @@ abbrev pub UnusedObjectsAreUntouched : Type 0
 UnusedObjectsAreUntouched =
     (program : Program) → IsWellFormed (program_form program) → (input : List ℤ) (events : List Event) (s : State)
     → Run program (first_state program input) events s → (shuns apart : ℕ → Bool) → AreShaped (program_form program) apart
-    → UseNone (program_form program) shuns apart → (ghosts : Id → Bool) (behind : List (Frame Value))
-    → IsReaching (program_form program) shuns apart ghosts behind s → IsWithin behind s.control s.masters
-    → Untouched none_hidden ghosts s × AllGoOn (GoesOn (program_form program) shuns apart ghosts behind s.heap) (next program.types.items (body_forms program) s)
+    → UseNone (program_form program) shuns apart → (ghosts unnamed : Id → Bool) (behind : List (Frame Value))
+    → IsReaching (program_form program) shuns apart ghosts unnamed behind s → IsWithin behind s.control s.masters
+    → Untouched none_hidden ghosts s
+    × AllGoOn (GoesOn (program_form program) shuns apart ghosts unnamed behind s.heap) (next program.types.items (body_forms program) s)

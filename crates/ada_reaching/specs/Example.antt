@@ -1,18 +1,20 @@
--- The premise is met: a body stores a value of an access type that it shuns, while the object is there. And it is needed: one that follows such a value
--- changes the object.
+-- The premise is met: a body stores a value of an access type that it shuns, while the object is there, or copies a record that holds one. And it is needed:
+-- one that follows such a value changes the object.
 
-use Rattle.std.specs.Prelude.{◌≡◌, ◌≢◌, ℕ, ℤ, Bool, true, false, List, Some}
+use Rattle.std.specs.Prelude.{◌≡◌, ◌≢◌, ℕ, ℤ, Bool, true, false, List, ◌∷◌, Some}
 use Rattle.std.specs.List.{slice_get}
 use Rattle.ada_program.specs.declared.program.Program.{Program}
 use Rattle.ada_program.specs.ProgramForm.{BodyForm, program_form, body_forms}
+use Rattle.ada_program.specs.Typed.{width_of}
 use Rattle.ada_program.specs.WellFormed.{IsWellFormed}
 use Rattle.ada_meaning.specs.declared.state.Id.{Id}
 use Rattle.ada_meaning.specs.declared.state.Value.{Value}
 use Rattle.ada_meaning.specs.declared.state.Value.TheVariants.{Names}
 use Rattle.ada_meaning.specs.Frame.{Frame}
+use Rattle.ada_meaning.specs.Frame as frame
 use Rattle.ada_meaning.specs.Step.{moves, procedure_of}
 use Rattle.ada_meaning.specs.Named.{State, object_at, next}
-use Rattle.ada_meaning.specs.Records.{component_at}
+use Rattle.ada_meaning.specs.Records.{component_at, IsCopied}
 use Rattle.ada_meaning.specs.Run.{Event, Run, first_state}
 use Rattle.ada_untouched.specs.Untouched.{Untouched}
 use Rattle.ada_reaching.specs.Forms.{body_shuns}
@@ -29,13 +31,14 @@ pub record RunsOn (program : Program) (b : BodyForm) (s after : State) : Type 0 
 
 -- A body that shuns some access types stores the name of a ghost in a component of an object. What it may call is of that shape, and follows and frees no
 -- value of these types by what procedures do, too.
-pub record StoresGhost (program : Program) (shuns apart : ℕ → Bool) (ghosts : Id → Bool) (behind : List (Frame Value)) (b : BodyForm) (s after : State) : Type 0 where
+pub record StoresGhost (program : Program) (shuns apart : ℕ → Bool) (ghosts unnamed : Id → Bool) (behind : List (Frame Value)) (b : BodyForm) (s after : State)
+    : Type 0 where
   pub are_apart : AreApart (program_form program) shuns apart
   pub shaped : AreShaped (program_form program) apart
   pub unused : UseNone (program_form program) shuns apart
   pub runs_on : RunsOn program b s after
   pub shuns_all : body_shuns (program_form program).types shuns apart b ≡ true
-  pub reaching : IsReaching (program_form program) shuns apart ghosts behind s
+  pub reaching : IsReaching (program_form program) shuns apart ghosts unnamed behind s
   pub within : IsWithin behind s.control s.masters
   pub ghost : Id
   pub is_ghost : ghosts ghost ≡ true
@@ -43,6 +46,22 @@ pub record StoresGhost (program : Program) (shuns apart : ℕ → Bool) (ghosts 
   pub component : ℕ
   pub holds_other : component_at s.heap holder component ≢ Some (Names ghost)
   pub stores : component_at after.heap holder component ≡ Some (Names ghost)
+
+-- Such a body stores it with a record that it copies as a whole, out of another object (4.3.1, 5.2): what it has read of that is about to be written. And there
+-- is an unnamed ghost, too: a record object that is declared (3.3.1).
+pub record CopiesRecord (program : Program) (shuns apart : ℕ → Bool) (ghosts unnamed : Id → Bool) (behind : List (Frame Value)) (b : BodyForm) (s after : State)
+    : Type 0 where
+  pub stores_ghost : StoresGhost program shuns apart ghosts unnamed behind b s after
+  pub declared : Id
+  pub is_unnamed : unnamed declared ≡ true
+  pub source : Id
+  pub another : source ≢ stores_ghost.holder
+  pub first : ℕ
+  pub to : ℕ
+  pub record_type : ℕ
+  pub later : List (Frame Value)
+  pub is_next : s.control ≡ frame.StoresRecord (Names stores_ghost.holder) to (width_of program.types.items record_type) ∷ later
+  pub copied : IsCopied s.heap after.heap source stores_ghost.holder first to (width_of program.types.items record_type)
 
 -- A body that does not shun these types follows a value of one: the step looks at the object that it names, and changes it.
 pub record FollowsGhost (program : Program) (shuns apart : ℕ → Bool) (ghosts : Id → Bool) (b : BodyForm) (s after : State) : Type 0 where
@@ -59,8 +78,18 @@ abbrev pub PremiseIsMet : Type 0
 PremiseIsMet =
     (program : Program) × IsWellFormed (program_form program)
     × ((input : List ℤ) × (events : List Event) × (s : State) × Run program (first_state program input) events s
-    × ((shuns : (ℕ → Bool)) × (apart : (ℕ → Bool)) × (ghosts : (Id → Bool)) × (behind : List (Frame Value)) × (b : BodyForm) × (after : State)
-    × StoresGhost program shuns apart ghosts behind b s after))
+    × ((shuns : (ℕ → Bool)) × (apart : (ℕ → Bool)) × (ghosts : (Id → Bool)) × (unnamed : (Id → Bool)) × (behind : List (Frame Value))
+    × (b : BodyForm) × (after : State)
+    × StoresGhost program shuns apart ghosts unnamed behind b s after))
+
+-- so is the copy of a record, while a declared one is a ghost,
+abbrev pub CopyIsMet : Type 0
+CopyIsMet =
+    (program : Program) × IsWellFormed (program_form program)
+    × ((input : List ℤ) × (events : List Event) × (s : State) × Run program (first_state program input) events s
+    × ((shuns : (ℕ → Bool)) × (apart : (ℕ → Bool)) × (ghosts : (Id → Bool)) × (unnamed : (Id → Bool)) × (behind : List (Frame Value))
+    × (b : BodyForm) × (after : State)
+    × CopiesRecord program shuns apart ghosts unnamed behind b s after))
 
 -- and so is the other.
 abbrev pub PremiseIsNeeded : Type 0

@@ -45,9 +45,10 @@ abbrev pub none_hidden : Id → (component : ℕ) → Bool
 none_hidden o c = false
 
 -- The bodies go on so behind the objects that were there, and each ghost stays.
-pub record GoesOn (p : ProgramForm) (shuns apart : ℕ → Bool) (ghosts : Id → Bool) (behind : List (Frame Value)) (before : List Object) (s : State) : Type 0 where
+pub record GoesOn (p : ProgramForm) (shuns apart : ℕ → Bool) (ghosts unnamed : Id → Bool) (behind : List (Frame Value)) (before : List Object) (s : State)
+    : Type 0 where
   pub same : GhostsStay ghosts before s.heap
-  pub reaching : IsReaching p shuns apart ghosts behind s
+  pub reaching : IsReaching p shuns apart ghosts unnamed behind s
 
 -- They do whatever comes next, and whatever is answered. Nothing is picked.
 abbrev pub AllGoOn : (P : State → Type 0) → Next → Type 0
@@ -61,6 +62,7 @@ AllGoOn P (picks count taking) = ⊥
 abbrev pub ShunnedObjectsAreUntouched : Type 0
 ShunnedObjectsAreUntouched =
     (program : Program) → IsWellFormed (program_form program) → (input : List ℤ) (events : List Event) (s : State)
-    → Run program (first_state program input) events s → (shuns apart : ℕ → Bool) → AreApart (program_form program) shuns apart → (ghosts : Id → Bool)
-    (behind : List (Frame Value)) → IsReaching (program_form program) shuns apart ghosts behind s → IsWithin behind s.control s.masters
-    → Untouched none_hidden ghosts s × AllGoOn (GoesOn (program_form program) shuns apart ghosts behind s.heap) (next program.types.items (body_forms program) s)
+    → Run program (first_state program input) events s → (shuns apart : ℕ → Bool) → AreApart (program_form program) shuns apart → (ghosts unnamed : Id → Bool)
+    (behind : List (Frame Value)) → IsReaching (program_form program) shuns apart ghosts unnamed behind s → IsWithin behind s.control s.masters
+    → Untouched none_hidden ghosts s
+    × AllGoOn (GoesOn (program_form program) shuns apart ghosts unnamed behind s.heap) (next program.types.items (body_forms program) s)

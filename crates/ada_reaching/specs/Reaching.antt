@@ -1,5 +1,5 @@
--- Bodies run that shun some access types, while some objects of these types are there, the ghosts: what is left of the bodies shuns the types, and refers to
--- no ghost.
+-- Bodies run that shun some access types, while some objects are there, the ghosts: objects of these types, and unnamed ones, declared record objects that no
+-- value of the bodies names. What is left of the bodies shuns the types, and refers to no ghost.
 
 use Rattle.std.specs.Prelude.{◌≡◌, ◌⊎◌, ℕ, Bool, true, false, not, ◌&&◌, List, [], ◌∷◌, Option, Some}
 use Rattle.std.specs.List.{list_all, slice_get}
@@ -27,17 +27,33 @@ pub record IsOfShunned (types : List TypeForm) (shuns : ℕ → Bool) (found : O
   pub shunned : shuns object.cell.access ≡ true
   pub accessed : is_access types object.cell.access ≡ true
 
--- Where a value refers to a record or to a component of an object (6.2, 6.4.1), that is no ghost. It may name one.
-abbrev pub IsElsewhere : (ghosts : Id → Bool) → Value → Type 0
-IsElsewhere ghosts Null = Unit {0}
-IsElsewhere ghosts (Names o) = Unit {0}
-IsElsewhere ghosts (Scalar v) = Unit {0}
-IsElsewhere ghosts (Part o place) = (ghosts o ≡ false)
+-- An object is there, and is of no access type: it is a record object that is declared (3.3.1).
+pub record IsDeclared (types : List TypeForm) (found : Option Object) : Type 0 where
+  pub object : Object
+  pub there : found ≡ Some object
+  pub declared : is_access types object.cell.access ≡ false
+
+-- A ghost is of a type that is shunned, or declared, if it is unnamed.
+abbrev pub IsGhost : List TypeForm → (shuns : ℕ → Bool) → (unnamed : Bool) → Option Object → Type 0
+IsGhost types shuns false found = IsOfShunned types shuns found
+IsGhost types shuns true found = IsDeclared types found
+
+-- No object is unnamed: each ghost is of a type that is shunned.
+abbrev pub none_unnamed : Id → Bool
+none_unnamed o = false
+
+-- Where a value refers to a record or to a component of an object (6.2, 6.4.1), that is no ghost. It may name one of a type that is shunned, but no
+-- unnamed one.
+abbrev pub IsElsewhere : (ghosts unnamed : Id → Bool) → Value → Type 0
+IsElsewhere ghosts unnamed Null = Unit {0}
+IsElsewhere ghosts unnamed (Names o) = (unnamed o ≡ false)
+IsElsewhere ghosts unnamed (Scalar v) = Unit {0}
+IsElsewhere ghosts unnamed (Part o place) = (ghosts o ≡ false)
 
 -- So it is with each of these.
-abbrev pub AreElsewhere : (ghosts : Id → Bool) → List Value → Type 0
-AreElsewhere ghosts [] = Unit {0}
-AreElsewhere ghosts (v ∷ vs) = IsElsewhere ghosts v × AreElsewhere ghosts vs
+abbrev pub AreElsewhere : (ghosts unnamed : Id → Bool) → List Value → Type 0
+AreElsewhere ghosts unnamed [] = Unit {0}
+AreElsewhere ghosts unnamed (v ∷ vs) = IsElsewhere ghosts unnamed v × AreElsewhere ghosts unnamed vs
 
 -- A frame looks for the object that the newest operand names: to follow selectors (4.1.3), to assign or read to a component (5.2), to assign to a record or copy
 -- one (5.2), to free what a component holds (13.11.2), or to refer to a record or a component (6.2, 6.4.1).
@@ -112,10 +128,10 @@ IsLast behind f k = (f ∷ k ≡ frame.Returns [] [] ∷ behind)
 
 -- The call of an inner one ends: what its caller's variables and operands hold, and the references to components, lead elsewhere, and what is left of the
 -- caller is so.
-pub record IsInner (ghosts : Id → Bool) (f : Frame Value) (k : List (Frame Value)) (suspended : List (Activation Value)) (left : Type 0) : Type 0 where
-  pub references : AreElsewhere ghosts (references_at f)
-  pub places : AreElsewhere ghosts (places_of suspended)
-  pub operands : AreElsewhere ghosts (operands_of suspended)
+pub record IsInner (ghosts unnamed : Id → Bool) (f : Frame Value) (k : List (Frame Value)) (suspended : List (Activation Value)) (left : Type 0) : Type 0 where
+  pub references : AreElsewhere ghosts unnamed (references_at f)
+  pub places : AreElsewhere ghosts unnamed (places_of suspended)
+  pub operands : AreElsewhere ghosts unnamed (operands_of suspended)
   pub anew : begins_anew k ≡ true
   pub others : left
 
@@ -127,14 +143,14 @@ AtEnd false end further = further
 -- What is left of the body of a procedure, which runs, and of those that wait for it: each frame is read with the variables of its body, up to the end of the
 -- outermost one.
 abbrev pub LeftShuns :
-    ProgramForm → (shuns apart : ℕ → Bool) → (ghosts : Id → Bool) → (behind : List (Frame Value)) → (procedure : Option ℕ) → List (Frame Value)
+    ProgramForm → (shuns apart : ℕ → Bool) → (ghosts unnamed : Id → Bool) → (behind : List (Frame Value)) → (procedure : Option ℕ) → List (Frame Value)
     → (suspended : List (Activation Value)) → Type 0
-LeftShuns p shuns apart ghosts behind procedure [] suspended = ⊥
-LeftShuns p shuns apart ghosts behind procedure (f ∷ k) suspended =
+LeftShuns p shuns apart ghosts unnamed behind procedure [] suspended = ⊥
+LeftShuns p shuns apart ghosts unnamed behind procedure (f ∷ k) suspended =
     AtEnd (is_return f)
-    (IsLast behind f k ⊎ IsInner ghosts f k suspended (LeftShuns p shuns apart ghosts behind (procedure_of suspended) k (older suspended)))
+    (IsLast behind f k ⊎ IsInner ghosts unnamed f k suspended (LeftShuns p shuns apart ghosts unnamed behind (procedure_of suspended) k (older suspended)))
     (FrameShuns p.types shuns apart p.bodies ghosts (seen_in procedure p).variables f × IsInFront f k
-    × LeftShuns p shuns apart ghosts behind procedure k suspended)
+    × LeftShuns p shuns apart ghosts unnamed behind procedure k suspended)
 
 -- What is sought next from an object of an access type: it may be followed then, and from what is selected of it on no value is followed or freed that is
 -- shunned.
@@ -163,10 +179,11 @@ abbrev pub OperandSeeks : List TypeForm → (shuns : ℕ → Bool) → (ghosts :
 OperandSeeks types shuns ghosts heap Running k (Names o ∷ vs) = (x : Object) → object_at heap o ≡ Some x → Seeks types shuns (not (ghosts o)) x.cell.access k
 OperandSeeks types shuns ghosts heap mode k vs = Unit {0}
 
--- Such bodies run, while the ghosts are there.
-pub record IsReaching (p : ProgramForm) (shuns apart : ℕ → Bool) (ghosts : Id → Bool) (behind : List (Frame Value)) (s : State) : Type 0 where
-  pub ghosts_there : (o : Id) → ghosts o ≡ true → IsOfShunned p.types shuns (object_at s.heap o)
-  pub places : AreElsewhere ghosts (places_of s.activations)
-  pub operands : AreElsewhere ghosts (operands_of s.activations)
-  pub control : LeftShuns p shuns apart ghosts behind (procedure_of s.activations) s.control (older s.activations)
+-- Such bodies run, while the ghosts are there, some of them unnamed.
+pub record IsReaching (p : ProgramForm) (shuns apart : ℕ → Bool) (ghosts unnamed : Id → Bool) (behind : List (Frame Value)) (s : State) : Type 0 where
+  pub ghosts_there : (o : Id) → ghosts o ≡ true → IsGhost p.types shuns (unnamed o) (object_at s.heap o)
+  pub are_ghosts : (o : Id) → unnamed o ≡ true → ghosts o ≡ true
+  pub places : AreElsewhere ghosts unnamed (places_of s.activations)
+  pub operands : AreElsewhere ghosts unnamed (operands_of s.activations)
+  pub control : LeftShuns p shuns apart ghosts unnamed behind (procedure_of s.activations) s.control (older s.activations)
   pub seeks : OperandSeeks p.types shuns ghosts s.heap s.mode s.control (operands_of s.activations)

@@ -2,12 +2,12 @@
 //! theorem.
 
 ghost use Rattle.ada_reaching.specs.Deeds.{UnusedObjectsAreUntouched};
-ghost use Rattle.ada_reaching.specs.Example.{PremiseIsMet, PremiseIsNeeded};
+ghost use Rattle.ada_reaching.specs.Example.{CopyIsMet, PremiseIsMet, PremiseIsNeeded};
 ghost use Rattle.ada_reaching.specs.Law.{ShunnedObjectsAreUntouched};
 
 /// While a body runs, or a procedure that it calls, that follows and frees no value of some access types, no step looks at objects of
-/// these types into which no reference of theirs to a record or a component leads; each of them stays as it is, and what is left of
-/// the bodies is so still.
+/// these types into which no reference of theirs to a record or a component leads, nor at declared record objects (3.3.1) of which that
+/// is so, too, and that no variable or operand of theirs names; each of them stays as it is, and what is left of the bodies is so still.
 pub fn shunned_objects_are_untouched()
     ensures { ShunnedObjectsAreUntouched }
 {}
@@ -24,7 +24,14 @@ pub fn premise_is_met()
     ensures { PremiseIsMet }
 {}
 
-/// And it is needed: in a run of a well-formed program a body follows a value of such a type, and the step looks at the object and
+/// So they are where a record is copied as a whole (4.3.1, 5.2): in a run of a well-formed program a procedure that such a body calls
+/// copies a record that holds the name of such an object over one of another object, and a component of that gets the name, while a
+/// record object is there that is declared and that none of the bodies names.
+pub fn records_are_copied()
+    ensures { CopyIsMet }
+{}
+
+/// And the premise is needed: in a run of a well-formed program a body follows a value of such a type, and the step looks at the object and
 /// changes it.
 pub fn premise_is_needed()
     ensures { PremiseIsNeeded }

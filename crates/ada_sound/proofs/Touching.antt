@@ -43,7 +43,7 @@ use Rattle.ada_meaning.specs.declared.event.Cause.{Cause}
 use Rattle.ada_meaning.specs.Step.{first_or, operands_of}
 use Rattle.ada_owners.specs.Places.{access_at, is_there}
 use Rattle.ada_reaching.specs.Law.{AreApart}
-use Rattle.ada_reaching.specs.Reaching.{IsReaching}
+use Rattle.ada_reaching.specs.Reaching.{IsReaching, none_unnamed}
 use Rattle.ada_owners.specs.Reliance.{Owns}
 use Rattle.ada_program.specs.declared.program.ComponentKind.{ComponentKind}
 
@@ -265,7 +265,7 @@ abbrev pub Watched : ProgramForm → (watch : Option Watch) → (behind : Contro
 Watched p None behind s = Unit {0}
 Watched p (Some w) behind s =
     (object_at s.heap w.holder ≡ Some w.is)
-    × ((apart : ℕ → Bool) × AreApart p (watches (Some w)) apart × IsReaching p (watches (Some w)) apart (is_watched (Some w)) behind s)
+    × ((apart : ℕ → Bool) × AreApart p (watches (Some w)) apart × IsReaching p (watches (Some w)) apart (is_watched (Some w)) none_unnamed behind s)
 
 -- What is known where such a body is called: what waits for it, whether the object is held, which is in hand then, and what it may free, of which there is no alias.
 -- That is no other object to which the activation that waits refers.

@@ -38,7 +38,7 @@ use Rattle.ada_parts.proofs.Facts.{eq_self}
 use Rattle.ada_reaching.proofs.Law.{operation_reaches}
 use Rattle.ada_reaching.specs.Forms.{body_shuns}
 use Rattle.ada_reaching.specs.Law.{AreApart}
-use Rattle.ada_reaching.specs.Reaching.{IsOfShunned, IsReaching}
+use Rattle.ada_reaching.specs.Reaching.{IsOfShunned, IsReaching, none_unnamed}
 use Rattle.ada_tracked.proofs.Lists.{apart_is, is_same}
 use Rattle.ada_typed.proofs.Lying.{IsOperable}
 use Rattle.ada_meaning.specs.Run.{Event}
@@ -235,9 +235,9 @@ module _ (program : Program) (a : Activation Value) (rest : List (Activation Val
         }
 
         -- The body begins so, for a part of another object.
-        reaching : IsReaching p (watches (Some w)) shunned.0 (is_watched (Some w)) behind (operating named number b (Part o place) behind (record s { activations = a ∷ rest; heap = heap; mode = Running }))
+        reaching : IsReaching p (watches (Some w)) shunned.0 (is_watched (Some w)) none_unnamed behind (operating named number b (Part o place) behind (record s { activations = a ∷ rest; heap = heap; mode = Running }))
         reaching =
-            operation_reaches p (watches (Some w)) shunned.0 (is_watched (Some w)) number b (Part o place) behind (record s { activations = a ∷ rest; heap = heap; mode = Running }) there shunned.2 ghosts_there
+            operation_reaches p (watches (Some w)) shunned.0 (is_watched (Some w)) none_unnamed number b (Part o place) behind (record s { activations = a ∷ rest; heap = heap; mode = Running }) there shunned.2 ghosts_there (λ q is. absurd (cc))
             (apart_is w.holder.0 o.0 (λ same. other (id_is w.holder o same)))
 
     -- The object is not calm: for calm ones an Initialize is plain, and a Finalize quiet.

@@ -13,6 +13,7 @@ use Rattle.ada_meaning.specs.Step.{halts, moves, tells, asks, picks}
 use Rattle.ada_quiet.specs.Frugal.{Thrift}
 use Rattle.ada_reaching.proofs.Law.{stays_reaching}
 use Rattle.ada_reaching.specs.Law.{AllGoOn, AreApart, FirstTakesNone, GoesOn}
+use Rattle.ada_reaching.specs.Reaching.{none_unnamed}
 use Rattle.ada_tracked.specs.Law as tracked
 use Rattle.ada_typed.proofs.Kept.{Each}
 use Rattle.ada_untouched.specs.Untouched.{InnermostHousesNone, NewestHousesNone}
@@ -51,7 +52,7 @@ each_and P Q (picks n taken) p q = λ i lt. (p i lt, q i lt)
 -- Where such bodies go on behind a step, what is watched is as it was.
 module _ (p : ProgramForm) (w : Watch) (apart : ℕ → Bool) (are : AreApart p (watches (Some w)) apart) (behind : Control) (before : List Object) (found : object_at before w.holder ≡ Some w.is) where
   abbrev Goes : State → Type 0
-  Goes after = GoesOn p (watches (Some w)) apart (is_watched (Some w)) behind before after
+  Goes after = GoesOn p (watches (Some w)) apart (is_watched (Some w)) none_unnamed behind before after
 
   goes_watched : (after : State) → Goes after → Watched p (Some w) behind after
   goes_watched after g = (g.same w.holder (eq-eqb w.holder.0 w.holder.0 refl) ∙ found, (apart, are, g.reaching))
@@ -78,7 +79,7 @@ module _ (program : Program) (gs : List Suspension) (s : State) (w : Within prog
     watched_stays None behind still on = each_so (Watched (program_form program) None behind) (λ after. tt) (next program.types.items (body_forms program) s)
     watched_stays (Some x) behind (found, (apart, are, reaching)) on =
         each_watched (program_form program) x apart are behind s.heap found (next program.types.items (body_forms program) s)
-        (stays_reaching program sound.well (watches (Some x)) apart are (is_watched (Some x)) behind s sound.typed reaching (record { on = on; takes = takes_none s.control refl })).1
+        (stays_reaching program sound.well (watches (Some x)) apart are (is_watched (Some x)) none_unnamed behind s sound.typed reaching (record { on = on; takes = takes_none s.control refl })).1
 
     module _ (thrift : Thrift) (back : Control) (lower : List Master) where
       -- The end of the body of none of the operations for which these activations wait is next.

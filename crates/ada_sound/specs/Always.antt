@@ -41,7 +41,7 @@ abbrev pub spare_own_types : Implicit → (from : ℕ) → List TypeForm → Boo
 spare_own_types implicit n [] = true
 spare_own_types implicit n (t ∷ ts) = spares_own_type implicit n t && spare_own_types implicit (suc n) ts
 
--- In a program, the end of an object, and its adjustment, free no object of its own access type: what is used then was created earlier (7.6.1).
+-- In a program, the end of an object, and its adjustment, free no object of its own access type: what is used then lies in a collection that was created earlier (7.6.1).
 abbrev pub SparesOwn : Program → Type 0
 SparesOwn program = spare_own_types (implicit_of (program_form program)) 0 (program_form program).types ≡ true
 
@@ -50,7 +50,8 @@ pub record IsChecked (program : Program) : Type 0 where
   -- each number is that of something there, and each form has the types that it wants
   pub well_formed : IsWellFormed (program_form program)
   -- what overrides an operation of a controlled type touches Integers and Booleans alone, and calls nothing, and no exception comes out of Adjust or Finalize
-  -- (7.6); where all that has controlled parts lies in declared objects, or others that are not calm are freed by variables and followed values alone and
+  -- (7.6); where all that has controlled parts lies in declared objects, or others that are not calm are freed by variables and followed values alone (by the latter only what
+  -- is ended by operations that call none themselves) and
   -- collections are created in order, Initialize and Finalize may also allocate, move, follow and free, and call what does so alone, and Adjust of a
   -- type that declares components of access types may allocate, move, follow and free, so that these own what they name, or are null, where no component names an
   -- object with a part that has such an Adjust; none of these bodies allocates an object with controlled parts, and that of a Finalize alone frees some

@@ -370,13 +370,15 @@ pub fn adjusted_records_are_copied()
 /// body changes a record that is gone, or a component that is gone is to get its value back. And no component that owns
 /// what it names is handed over: else it names what a procedure frees that an exception leaves, and the handler follows it.
 ///
-/// So are the other premises. A variable relies on values of its own access type alone: of a program that is not well
-/// formed, one of another type names what goes with a block. And components name what lasts as long as their objects: of
-/// a program whose collections do not nest, an object outlasts what its component names. And a Free is by the instance for
-/// the access type of what it frees (13.11.2): of a program with two declared pools where it is by that for another access
-/// type, the words of an object are to go back to the pool of the other one. And operations are in use: the objects of a
-/// collection are finalized in any order (7.6.1), so a Finalize that frees what a component of its object names may find
-/// it gone, and finalizes it twice; and one that only follows the component comes to an object that is gone.
+/// So are the other premises, but for `SparesOwn`, of which no program here shows it. A variable relies on values of
+/// its own access type alone: of a program that is not well formed, one of another type names what goes with a block.
+/// And components name what lasts as long as their objects: of a program whose collections do not nest, an object
+/// outlasts what its component names. And a Free is by the instance for the access type of what it frees (13.11.2): of
+/// a program with two declared pools where it is by that for another access type, the words of an object are to go
+/// back to the pool of the other one. And operations are in use: the objects of a collection are finalized in any
+/// order (7.6.1), so a Finalize that frees what a component of its object names may find it gone, and finalizes it
+/// twice; and one that only follows the component comes to an object that is gone. The first of the two breaks S8
+/// besides, and the second one keeps `SparesOwn`.
 pub fn rules_are_needed()
     ensures follows { (program : Program) × always.Breaks LostValue program × HaltsSomewhere (Erroneous FollowsGone) program }
     ensures ends { (program : Program) × always.Breaks LostValue program × HaltsSomewhere (Erroneous EndsTwice) program }

@@ -1,10 +1,16 @@
--- A path is followed, beside a hidden component and a ghost, and into them; a component is written, beside a hidden one, and a hidden one is.
+-- A path is followed, beside a hidden component and a ghost, and into them; a component is written, beside a hidden one, and a hidden one is; and a
+-- record is copied as a whole, beside a hidden component and a ghost.
 
-use Rattle.std.proofs.Common.{◌≡◌, ℕ, zero, suc, Bool, true, false, List, [], ◌∷◌, Some, None, refl, ap, ◌∙◌}
+use Rattle.std.proofs.Common.{◌≡◌, ℕ, zero, suc, Bool, true, false, List, [], ◌∷◌, Some, None, refl, ap, ◌∙◌, arith}
 use Rattle.std.specs.Prelude.{◌==◌, ◌&&◌}
 use Rattle.std.specs.List.{slice_get}
 use Rattle.ada_program.specs.Form.{value_of}
 use Rattle.ada_program.specs.ProgramForm.{nowhere}
+use Rattle.ada_program.specs.declared.program.ComponentKind.{ComponentKind}
+use Rattle.ada_program.specs.declared.program.ComponentKind.TheVariants as component
+use Rattle.ada_program.specs.declared.program.PartKind.TheVariants as part
+use Rattle.ada_program.specs.declared.program.TypeDefinition.{TypeDefinition}
+use Rattle.ada_program.specs.declared.program.TypeDefinition.TheVariants as definition
 use Rattle.ada_meaning.specs.declared.state.Id.{Id}
 use Rattle.ada_meaning.specs.declared.state.Mode.TheVariants.{Running}
 use Rattle.ada_meaning.specs.declared.state.Stage.{Stage}
@@ -16,8 +22,11 @@ use Rattle.ada_meaning.specs.Frame.{Frame}
 use Rattle.ada_meaning.specs.Frame as frame
 use Rattle.ada_meaning.specs.Step.{halts, moves, tells, asks, picks, computed, newest}
 use Rattle.ada_meaning.specs.Named.{Object, State, Next, named, next}
+use Rattle.ada_meaning.proofs.OperationExamples.{vec, no_name, component_of}
 use Rattle.ada_untouched.specs.Alike.{ValuesAlike, ObjectsAlike, FoundAlike, HeapsAlike, NextAlike}
-use Rattle.ada_untouched.specs.Example.{FollowsBeside, PremisesAreMet, LooksAtGhost, LooksAtHidden, PremiseIsNeeded, WritesShown, WritesHidden, WritesBeside}
+use Rattle.ada_untouched.specs.Untouched.{hides}
+use Rattle.ada_untouched.specs.Unwritten.{AreShown}
+use Rattle.ada_untouched.specs.Example.{FollowsBeside, PremisesAreMet, LooksAtGhost, LooksAtHidden, PremiseIsNeeded, WritesShown, WritesHidden, WritesBeside, CopiesRecord, CopiesBeside, RecordsAreCopiedBeside}
 
 abbrev holder : Id
 holder = record { 0 = 0 }
@@ -68,10 +77,10 @@ one_ghost o = o.0 == 2
 abbrev no_ghost : Id → Bool
 no_ghost o = false
 
-beside : (v u : Value) → ValuesAlike (hidden_one holder) (Names other ∷ v ∷ []) (Names other ∷ u ∷ [])
-beside v u = record { count = refl; values = at_component }
+beside : (w v u : Value) (vs : List Value) → ValuesAlike (hidden_one holder) (w ∷ v ∷ vs) (w ∷ u ∷ vs)
+beside w v u vs = record { count = refl; values = at_component }
   where
-    at_component : (c : ℕ) → hidden_one holder c ≡ false → slice_get (Names other ∷ v ∷ []) c ≡ slice_get (Names other ∷ u ∷ []) c
+    at_component : (c : ℕ) → hidden_one holder c ≡ false → slice_get (w ∷ v ∷ vs) c ≡ slice_get (w ∷ u ∷ vs) c
     at_component zero shown = refl
     at_component (suc zero) shown = absurd (cc)
     at_component (suc (suc c)) shown = refl
@@ -87,7 +96,7 @@ alike_but_for_both : HeapsAlike hidden_one one_ghost (heap_with (Names ghost) Ex
 alike_but_for_both = record { count = refl; objects = λ o. under o.0 }
   where
     under : (i : ℕ) → FoundAlike (hidden_one (record { 0 = i })) (one_ghost (record { 0 = i })) (slice_get (heap_with (Names ghost) Existing true) i) (slice_get (heap_with Null Gone false) i)
-    under zero = record { values = beside (Names ghost) Null; cell = refl; life = refl }
+    under zero = record { values = beside (Names other) (Names ghost) Null []; cell = refl; life = refl }
     under (suc zero) = itself (hidden_one other) (an_object (Names holder ∷ []) Existing true)
     under (suc (suc zero)) = gone_or_not (hidden_one ghost) (Null ∷ []) Existing Gone true false
     under (suc (suc (suc i))) = tt
@@ -105,7 +114,7 @@ alike_but_for_hidden : HeapsAlike hidden_one no_ghost (heap_with (Names ghost) E
 alike_but_for_hidden = record { count = refl; objects = λ o. under o.0 }
   where
     under : (i : ℕ) → FoundAlike (hidden_one (record { 0 = i })) (no_ghost (record { 0 = i })) (slice_get (heap_with (Names ghost) Existing true) i) (slice_get (heap_with Null Existing true) i)
-    under zero = record { values = beside (Names ghost) Null; cell = refl; life = refl }
+    under zero = record { values = beside (Names other) (Names ghost) Null []; cell = refl; life = refl }
     under (suc zero) = itself (hidden_one other) (an_object (Names holder ∷ []) Existing true)
     under (suc (suc zero)) = itself (hidden_one ghost) (an_object (Null ∷ []) Existing true)
     under (suc (suc (suc i))) = tt
@@ -188,9 +197,9 @@ premise_is_needed = (
   ([], [], hidden_one, into_hidden (heap_with (Names ghost) Existing true), into_hidden (heap_with Null Existing true), looks_at_hidden),
 )
 
--- This is computed and left to do, where the components of the first object hold this.
-abbrev holding : (operands : List Value) → (control : List (Frame Value)) → (first second : Value) → State
-holding operands control v u = record {
+-- This is computed and left to do, over these objects.
+abbrev doing : (operands : List Value) → (control : List (Frame Value)) → List Object → State
+doing operands control heap = record {
   activations = record { procedure = None; places = []; operands = operands } ∷ [];
   masters = [];
   control = control;
@@ -199,8 +208,14 @@ holding operands control v u = record {
   next = 0;
   allocated = 3;
   born = 0;
-  heap = an_object (v ∷ u ∷ []) Existing true ∷ an_object (Names holder ∷ []) Existing true ∷ an_object (Null ∷ []) Existing true ∷ [];
+  heap = heap;
 }
+
+-- So it is where the components of the first object hold this.
+abbrev holding : (operands : List Value) → (control : List (Frame Value)) → (first second : Value) → State
+holding operands control v u =
+    doing operands control
+    (an_object (v ∷ u ∷ []) Existing true ∷ an_object (Names holder ∷ []) Existing true ∷ an_object (Null ∷ []) Existing true ∷ [])
 
 -- A component of it becomes null next.
 abbrev storing : (component : ℕ) → State
@@ -234,3 +249,110 @@ writes_hidden = record {
 
 pub writes_beside : WritesBeside
 writes_beside = (([], [], hidden_one, storing 0, holder, 0, writes_shown), ([], [], hidden_one, storing 1, holder, 1, writes_hidden))
+
+abbrev cell_access : ComponentKind
+cell_access = component.Access (record { 0 = 1 })
+
+-- type Cell; type Cell_Access is access Cell; type Cell is record Left, Right : Cell_Access; end record
+abbrev cells : List TypeDefinition
+cells =
+    definition.Record no_name
+    (vec (component_of (part.Elementary cell_access) 0 0 ∷ component_of (part.Elementary cell_access) 1 0 ∷ []) (omega arith))
+    (vec (cell_access ∷ cell_access ∷ []) (omega arith))
+    None
+    ∷ definition.Access no_name (record { 0 = 0 }) None
+    ∷ []
+
+-- A record lies in the first object behind its hidden second component, and holds this; another one lies in the second object behind its first component.
+abbrev records_with : (hidden left right : Value) → Stage → Bool → List Object
+records_with hidden left right stage there =
+    an_object (Null ∷ hidden ∷ left ∷ right ∷ []) Existing true
+    ∷ an_object (Null ∷ Names holder ∷ Names other ∷ []) Existing true
+    ∷ an_object (Null ∷ []) stage there
+    ∷ []
+
+-- The second one is copied over the first one: it is read, and both of its components are stored.
+abbrev copying : List Object → State
+copying heap = doing (Names other ∷ []) (frame.Copies 1 0 ∷ frame.Fills [] ∷ frame.StoresRecord (Names holder) 2 2 ∷ []) heap
+
+-- Its components are the newest operands then, and no item is left.
+abbrev copied : List Object → State
+copied heap = doing (Names other ∷ Names holder ∷ []) (frame.Fills [] ∷ frame.StoresRecord (Names holder) 2 2 ∷ []) heap
+
+-- They are stored next.
+abbrev storing_both : List Object → State
+storing_both heap = doing (Names other ∷ Names holder ∷ []) (frame.StoresRecord (Names holder) 2 2 ∷ []) heap
+
+-- The one state holds the name of a ghost in the hidden component, and the ghost exists; the other one holds null there, and it is gone.
+abbrev one_with : (left right : Value) → List Object
+one_with left right = records_with (Names ghost) left right Existing true
+
+abbrev other_with : (left right : Value) → List Object
+other_with left right = records_with Null left right Gone false
+
+records_alike : (left right : Value) → HeapsAlike hidden_one one_ghost (one_with left right) (other_with left right)
+records_alike left right = record { count = refl; objects = λ o. under o.0 }
+  where
+    under : (i : ℕ) → FoundAlike (hidden_one (record { 0 = i })) (one_ghost (record { 0 = i })) (slice_get (one_with left right) i) (slice_get (other_with left right) i)
+    under zero = record { values = beside Null (Names ghost) Null (left ∷ right ∷ []); cell = refl; life = refl }
+    under (suc zero) = itself (hidden_one other) (an_object (Null ∷ Names holder ∷ Names other ∷ []) Existing true)
+    under (suc (suc zero)) = gone_or_not (hidden_one ghost) (Null ∷ []) Existing Gone true false
+    under (suc (suc (suc i))) = tt
+
+-- Both states take these steps.
+copies_record : (hidden : Value) (stage : Stage) (there : Bool)
+    → CopiesRecord cells [] other holder 1 2 0 (copying (records_with hidden Null Null stage there)) (doing [] [] (records_with hidden (Names holder) (Names other) stage there))
+unfolding next
+copies_record hidden stage there = record {
+  runs = refl;
+  copies = refl;
+  operand = refl;
+  read = copied (records_with hidden Null Null stage there);
+  ready = storing_both (records_with hidden Null Null stage there);
+  reads = refl;
+  evaluates = refl;
+  stores = refl;
+}
+
+-- No component of the second object is hidden, and none of the record in the first one.
+shown_source : (c : ℕ) → hides hidden_one (Names other) c ≡ false
+shown_source c = refl
+
+shown_target : AreShown hidden_one (Names holder) 2 2
+shown_target zero below = refl
+shown_target (suc zero) below = refl
+shown_target (suc (suc i)) below = absurd (omega (arith, below))
+
+copies_with : CopiesBeside cells [] hidden_one one_ghost (copying (one_with Null Null)) (copying (other_with Null Null))
+    (doing [] [] (one_with (Names holder) (Names other))) (doing [] [] (other_with (Names holder) (Names other)))
+unfolding copies_record
+copies_with = record {
+  source = other;
+  target = holder;
+  first = 1;
+  to = 2;
+  record_type = 0;
+  copies = copies_record (Names ghost) Existing true;
+  copies_too = copies_record Null Gone false;
+  beside = (((refl, shown_source), tt), (tt, tt), (refl, shown_target));
+  ghost = (ghost, record { is_ghost = refl; differs = λ e. absurd (cc) }, record { is_ghost = refl; differs = λ e. absurd (cc) });
+  stays = (1, record { is_hidden = refl; differs = λ e. absurd (cc) }, (Names ghost, refl, refl), (Null, refl, refl));
+  changes = (0, omega arith, (Null, Names holder, refl, refl, λ e. absurd (cc)), (Null, Names holder, refl, refl, λ e. absurd (cc)));
+  alike = record { rest = refl; heaps = records_alike Null Null };
+  alike_once_read = record { rest = refl; heaps = records_alike Null Null };
+  alike_once_ready = record { rest = refl; heaps = records_alike Null Null };
+  alike_behind = record { rest = refl; heaps = records_alike (Names holder) (Names other) };
+}
+
+pub copies_beside : RecordsAreCopiedBeside
+copies_beside = (
+  cells,
+  [],
+  hidden_one,
+  one_ghost,
+  copying (one_with Null Null),
+  copying (other_with Null Null),
+  doing [] [] (one_with (Names holder) (Names other)),
+  doing [] [] (other_with (Names holder) (Names other)),
+  copies_with,
+)

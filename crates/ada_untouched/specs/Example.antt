@@ -1,14 +1,17 @@
 -- The premises of each law are met, and they are needed.
 
-use Rattle.std.specs.Prelude.{◌≡◌, ℕ, Bool, true, false, List, Some}
+use Rattle.std.specs.Prelude.{◌≡◌, ◌≢◌, ℕ, ◌+◌, ◌<◌, Bool, true, false, List, [], ◌∷◌, Some}
 use Rattle.ada_program.specs.declared.program.TypeDefinition.{TypeDefinition}
 use Rattle.ada_program.specs.ProgramForm.{BodyForm}
+use Rattle.ada_program.specs.Typed.{width_of}
 use Rattle.ada_meaning.specs.declared.event.Halt.TheVariants.{Erroneous}
 use Rattle.ada_meaning.specs.declared.event.Why.TheVariants.{FollowsGone}
 use Rattle.ada_meaning.specs.declared.state.Id.{Id}
+use Rattle.ada_meaning.specs.declared.state.Mode.TheVariants.{Running}
 use Rattle.ada_meaning.specs.declared.state.Value.{Value}
 use Rattle.ada_meaning.specs.declared.state.Value.TheVariants.{Names}
-use Rattle.ada_meaning.specs.Event.{Followed}
+use Rattle.ada_meaning.specs.Event.{Followed, Quiet}
+use Rattle.ada_meaning.specs.Frame as frame
 use Rattle.ada_meaning.specs.Step.{halts, moves, newest}
 use Rattle.ada_meaning.specs.Named.{State, named, object_at, look, next}
 use Rattle.ada_meaning.specs.Records.{component_in}
@@ -90,3 +93,56 @@ WritesBeside =
     × WritesShown types bodies hidden s o component)
     × ((types : List TypeDefinition) × (bodies : List BodyForm) × (hidden : (Id → (component : ℕ) → Bool)) × (s : State) × (o : Id) × (component : ℕ)
     × WritesHidden types bodies hidden s o component)
+
+-- A record is copied over another one as a whole (4.3.1, 5.2), in three steps: its components are read, no item is left, and they are stored.
+pub record CopiesRecord (types : List TypeDefinition) (bodies : List BodyForm) (source target : Id) (first to record_type : ℕ) (before after : State) : Type 0 where
+  pub runs : before.mode ≡ Running
+  pub copies :
+      before.control ≡ frame.Copies first record_type ∷ frame.Fills [] ∷ frame.StoresRecord (Names target) to (width_of types record_type) ∷ []
+  pub operand : newest named before ≡ Names source
+  pub read : State
+  pub ready : State
+  pub reads : next types bodies before ≡ moves (Followed (Names source)) read
+  pub evaluates : next types bodies read ≡ moves Quiet ready
+  pub stores : next types bodies ready ≡ moves (Followed (Names target)) after
+
+-- The next step looks at no hidden component and at no ghost, and writes no hidden component.
+abbrev pub GoesBeside : (hidden : Id → (component : ℕ) → Bool) → (ghosts : Id → Bool) → State → Type 0
+GoesBeside hidden ghosts s = Untouched hidden ghosts s × Unwritten hidden s
+
+-- A component of an object holds in a state what it held before, and there is that component.
+abbrev pub Stays : (before after : State) → (o : Id) → (component : ℕ) → Type 0
+Stays before after o component =
+    (v : Value) × (component_in (object_at before.heap o) component ≡ Some v) × (component_in (object_at after.heap o) component ≡ Some v)
+
+-- A component of an object holds something else in a state than before, and there is that component.
+abbrev pub Changes : (before after : State) → (o : Id) → (component : ℕ) → Type 0
+Changes before after o component =
+    (v : Value) × (u : Value) × (component_in (object_at before.heap o) component ≡ Some v) × (component_in (object_at after.heap o) component ≡ Some u)
+    × (v ≢ u)
+
+-- Two states differ in a hidden component of an object, and in a ghost. Both copy a record over one that lies in this object beside the hidden component. No
+-- step looks at the hidden component or at the ghost, or writes the hidden component: it stays in each state, while a component of the record changes, and
+-- behind each step the states are alike again.
+pub record CopiesBeside (types : List TypeDefinition) (bodies : List BodyForm) (hidden : Id → (component : ℕ) → Bool) (ghosts : Id → Bool) (s t after behind : State) : Type 0 where
+  pub source : Id
+  pub target : Id
+  pub first : ℕ
+  pub to : ℕ
+  pub record_type : ℕ
+  pub copies : CopiesRecord types bodies source target first to record_type s after
+  pub copies_too : CopiesRecord types bodies source target first to record_type t behind
+  pub beside : GoesBeside hidden ghosts s × GoesBeside hidden ghosts copies.read × GoesBeside hidden ghosts copies.ready
+  pub ghost : (o : Id) × DifferInGhost ghosts s t o × DifferInGhost ghosts after behind o
+  pub stays : (component : ℕ) × DifferHidden hidden s t target component × Stays s after target component × Stays t behind target component
+  pub changes : (i : ℕ) × (i < width_of types record_type) × Changes s after target (to + i) × Changes t behind target (to + i)
+  pub alike : StatesAlike hidden ghosts s t
+  pub alike_once_read : StatesAlike hidden ghosts copies.read copies_too.read
+  pub alike_once_ready : StatesAlike hidden ghosts copies.ready copies_too.ready
+  pub alike_behind : StatesAlike hidden ghosts after behind
+
+-- So it is somewhere.
+abbrev pub RecordsAreCopiedBeside : Type 0
+RecordsAreCopiedBeside =
+    (types : List TypeDefinition) × (bodies : List BodyForm) × (hidden : (Id → (component : ℕ) → Bool)) × (ghosts : (Id → Bool)) × (s : State) × (t : State)
+    × (after : State) × (behind : State) × CopiesBeside types bodies hidden ghosts s t after behind

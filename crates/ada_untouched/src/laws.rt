@@ -1,7 +1,7 @@
 //! The laws of what a step does not touch, or does not write. Each is a function that does nothing, and whose contract is the
 //! theorem.
 
-ghost use Rattle.ada_untouched.specs.Example.{PremisesAreMet, PremiseIsNeeded, WritesBeside};
+ghost use Rattle.ada_untouched.specs.Example.{PremisesAreMet, PremiseIsNeeded, WritesBeside, RecordsAreCopiedBeside};
 ghost use Rattle.ada_untouched.specs.Law.{UntouchedPartsDoNotMatter, HiddenPartsStay};
 
 /// Where a step looks neither at a hidden component nor at a ghost, a state that is alike but for these takes the same step: the
@@ -32,4 +32,11 @@ pub fn hidden_parts_stay()
 /// is needed: a step that writes a hidden component leaves something else there.
 pub fn writes_beside()
     ensures { WritesBeside }
+{}
+
+/// The premises of both laws are met where a record is copied over another one as a whole: two states that differ in a hidden
+/// component beside it, in the same object, and in a ghost, take the same three steps. The hidden component stays in each, a
+/// component of the record changes, and behind each step the states are alike again.
+pub fn copies_beside()
+    ensures { RecordsAreCopiedBeside }
 {}

@@ -24,9 +24,9 @@ pub enum Verdict {
 /// An operation of a controlled type that is not in use yet, or that memory ran out.
 #[derive(Drop)]
 pub enum UnusedFault {
-    /// It is an Initialize that is neither plain nor, where it may be, frugal, an Adjust that is not quiet or is of a type that
-    /// declares a component of an access type, or a Finalize that is neither quiet nor, where it may be, frugal and silent, and no
-    /// theorem speaks of it. Its body begins here.
+    /// It is an Initialize that is neither plain nor, where it may be, frugal, a Finalize that is neither quiet nor, where it may be,
+    /// frugal and silent, or an Adjust that is neither quiet nor, of a type that declares a component of an access type, simple and
+    /// silent where it may track, and no theorem speaks of it. Its body begins here.
     Operation(Spot),
     NoMemory,
 }
