@@ -9,7 +9,6 @@ use Rattle.ada_program.specs.declared.program.ProcedureNo.{ProcedureNo}
 use Rattle.ada_program.specs.Form.{PathForm, ItemForm, null_item, item_of_path, item_of_value, item_of_record, RightForm, nothing, value_of, allocates, allocates_default, computes, StmtForm, skips, assigns, assigns_record, frees, gets, writes, writes_text, chooses, repeats, counts, exits, calls, returns, raises, encloses, StmtsForm, no_stmts, a_stmt, BranchesForm, otherwise, a_branch, HandlersForm, no_handlers, a_handler, DeclarationForm, creates_pool, collects, declares, declares_record}
 use Rattle.ada_program.specs.ProgramForm.{TypeForm, BodyForm, ProgramForm, main_body}
 use Rattle.ada_program.specs.WellFormed.{finalization_in, finalization_of}
-use Rattle.ada_effects.specs.Effects.{path_raises}
 use Rattle.ada_quiet.specs.Bare.{has_bare_objects}
 use Rattle.ada_quiet.specs.Calm.{calm_types, has_calm_objects}
 use Rattle.ada_quiet.specs.Frugal.{barely_ending_types}
@@ -60,14 +59,9 @@ abbrev pub is_variable : (selectors : List ℕ) → Bool
 is_variable [] = true
 is_variable (c ∷ cs) = false
 
--- A path to what is freed is a variable, or follows an access value to the object in which a component lies (4.1): that is no record object, and none that a formal
--- parameter stands for.
-abbrev pub is_led : PathForm → Bool
-is_led path = is_variable path.selectors || path_raises path
-
--- A path leads to what is freed as a variable, or it follows an access value, and the operations that end the object call none themselves.
+-- A path leads to what is freed as a variable, or as a component, and the operations that end the object call none themselves.
 abbrev pub leads_barely : PathForm → (barely : Bool) → Bool
-leads_barely path barely = is_variable path.selectors || (is_led path && barely)
+leads_barely path barely = is_variable path.selectors || barely
 
 -- Where paths lead so to all objects that are freed (13.11.2) for which an operation may be called that touches storage, this one does, or none may be called for
 -- its object: that is calm.
@@ -75,12 +69,11 @@ abbrev pub frees_led : (led : Bool) → PathForm → (calm barely : Bool) → Bo
 frees_led led path calm barely = not led || (leads_barely path barely || calm)
 
 -- Of each record type with controlled parts, by its number among these, whether it is calm, and whether the operations that end its objects call none themselves; of
--- each procedure, whether it tracks; and whether objects that are not calm are freed by variables and followed values alone.
+-- each procedure, whether it tracks; and whether objects that are not calm are freed by components only if the operations that end them call none themselves.
 module _ (types : List TypeForm) (calm barely : List Bool) (tracks : ℕ → Bool) (led : Bool) where
   abbrev mutual
     -- A statement calls no procedure that tracks (6.4), and its allocator with items makes no object with controlled parts and copies no record with some (4.8). If
-    -- objects that are not calm are freed by variables and followed values alone, it frees none by a component of a record object or of a formal parameter, and by
-    -- another component only what is ended by operations that call none themselves (13.11.2).
+    -- components may free objects that are not calm only where the operations that end these call none themselves, it frees no other one by a component (13.11.2).
     pub calls_apart : StmtForm → Bool
     calls_apart skips = true
     calls_apart (assigns target right) = is_bare_right types right
@@ -130,7 +123,7 @@ operations_apart tracks owns (Some f) =
     overrides_apart tracks f.operations.initialize && (owns || overrides_apart tracks f.operations.adjust) && overrides_apart tracks f.operations.finalize
 
 -- No body calls what tracks, and that overrides nothing else; and no allocator with items makes an object with controlled parts, or copies a record with some. Those
--- that are not calm are freed by variables and followed values alone, or not.
+-- that are not calm are freed by variables, and by components only if the operations that end them call none themselves, where that is asked.
 abbrev pub stand_apart : ProgramForm → (led : Bool) → Bool
 stand_apart p led =
     body_calls_apart p.types (calm_types p) (barely_ending_types p) (is_tracker p) led (main_body p)
@@ -141,7 +134,6 @@ stand_apart p led =
 abbrev pub operations_stand_apart : ProgramForm → Bool
 operations_stand_apart p = stand_apart p false
 
--- So they do, and objects that are not calm are freed by variables and followed values alone, and by the latter only what is ended by operations that call none
--- themselves.
+-- So they do, and objects that are not calm are freed by variables, and by components only if the operations that end them call none themselves.
 abbrev pub parts_are_led : ProgramForm → Bool
 parts_are_led p = stand_apart p true

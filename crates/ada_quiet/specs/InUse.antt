@@ -26,9 +26,9 @@ designates_no_parts types (object_of record_type) = true
 abbrev pub allocates_no_parts : ProgramForm → Bool
 allocates_no_parts p = list_all (designates_no_parts p.types) p.types
 
--- Objects with controlled parts may be allocated beside operations that touch storage, where those that are not calm are freed by variables and followed values alone,
--- by the latter only what is ended by operations that call none themselves, and collections are created in order: no object that is not calm, and none that goes later, has a component that names what goes with it or before it where a master
--- is left (7.6.1).
+-- Objects with controlled parts may be allocated beside operations that touch storage, where those that are not calm are freed by variables, and by components only if
+-- the operations that end them call none themselves, and collections are created in order: no object that is not calm, and none that goes later, has a component
+-- that names what goes with it or before it where a master is left (7.6.1).
 abbrev pub may_allocate_parts : ProgramForm → Bool
 may_allocate_parts p = collections_in_order p && parts_are_led p
 

@@ -1,8 +1,8 @@
 //! Where the operations of controlled types stand apart (7.6): no body calls the procedures that override an Adjust which tracks
 //! components (6.4), and they override no other operation; and no allocator gives values to the components of an object with
 //! controlled parts, or copies a record with some (4.8): so each such object that is allocated is initialized by default. And where
-//! those of them that are not calm are freed by variables and followed values alone (13.11.2), and by a component behind a followed value
-//! only if the operations that end them call none themselves.
+//! those of them that are not calm are freed by variables (13.11.2), and by components only if the operations that end them call none
+//! themselves.
 
 ghost use Rattle.std.specs.Prelude.{◌≡◌, ◌&&◌, ◌||◌, ◌==◌, ℕ, Some, IfOk, OnOk, map};
 ghost use Rattle.std.specs.List.{list_all};
@@ -160,14 +160,13 @@ struct Asked<'a> {
     barely: &'a [bool],
     /// Of each procedure, by its number, whether it is marked: none that is may be called.
     marks: &'a [bool],
-    /// Whether objects that are not calm are freed by variables and followed values alone (13.11.2).
+    /// Whether objects that are not calm are freed by components only if the operations that end them call none themselves (13.11.2).
     led: bool,
 }
 
 /// Whether a statement calls no procedure that is marked (6.4), and its allocator with items makes no object with controlled parts and
-/// copies no record with some (4.8). If objects that are not calm are freed by variables and followed values alone, it frees none by a
-/// component of a record object or of a formal parameter (13.11.2), nor one by a component behind a followed value for which operations
-/// are called that call others.
+/// copies no record with some (4.8). If components may free objects that are not calm only where the operations that end these call none
+/// themselves, it frees no other one by a component (13.11.2).
 #[cycle(statements)]
 #[tactic(auto, using(std::proofs::lemmas::Grind::common_steps, ada_program::specs::Form::statement_rules))]
 fn calls_apart(asked: Asked<'_>, statement: &Stmt) -> bool
@@ -349,7 +348,7 @@ fn are_apart(marks: &[bool], types: &[TypeDefinition]) -> bool
 
 /// Whether what is marked stands apart in a program: no body calls it, and it overrides nothing but Adjust of types that declare such a
 /// component; and no allocator with items makes an object with controlled parts, or copies a record with some. Those that are not calm
-/// are freed by variables and followed values alone, or not.
+/// are freed by variables, and by components only if the operations that end them call none themselves, where that is asked.
 fn marked_stand_apart(
     calm: &[bool],
     barely: &[bool],
@@ -376,8 +375,8 @@ fn marked_stand_apart(
 }
 
 /// Whether no body calls what tracks, and that overrides nothing else; and no allocator with items makes an object with controlled parts,
-/// or copies a record with some. Those that are not calm are freed by variables and followed values alone, or not. Linear in the types,
-/// their components, and all bodies.
+/// or copies a record with some. Those that are not calm are freed by variables, and by components only if the operations that end them
+/// call none themselves, where that is asked. Linear in the types, their components, and all bodies.
 ///
 /// # Errors
 /// `AllocError` where memory was refused.
@@ -401,8 +400,8 @@ pub(crate) fn operations_stand_apart(alloc: Global, program: &Program) -> Result
     stand_apart(alloc, program, false)
 }
 
-/// Whether they do, and objects that are not calm are freed by variables and followed values alone. Linear in the types, their components,
-/// and all bodies.
+/// Whether they do, and objects that are not calm are freed by variables, and by components only if the operations that end them call none
+/// themselves. Linear in the types, their components, and all bodies.
 ///
 /// # Errors
 /// `AllocError` where memory was refused.

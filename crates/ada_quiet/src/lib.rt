@@ -22,14 +22,13 @@
 //! An Initialize and a Finalize may be frugal in a program in which no access type designates a record type with controlled parts, so that
 //! these lie in declared objects alone. They may be frugal, too, in one whose access types designate such record types, if two things hold
 //! of the objects that are not calm. An object is calm, if no operation that touches storage may be called for it, or for a part of it,
-//! where it begins or ends: each Initialize is plain, and each Finalize is quiet. The other objects are freed by variables and followed
-//! values alone (13.11.2), so by no component of a record object or of a formal parameter, though components may own them before: then no
-//! component names one that is finalized but the one that is freed, which lies in an object that an access value names. By such a component
-//! an object is freed only if the operations that end it call none themselves: each Finalize is quiet, or frees no object with controlled
-//! parts. And where the objects of a collection are not calm, neither they nor the objects of an older collection have a component of
-//! their access type, or of one whose collection is created later in the text (7.6.1): then, where a master is left and newer collections
-//! go before older ones, they are finalized while each component still names what is there. Nothing of this is asked of calm objects: no
-//! operation follows a component while one of them is finalized.
+//! where it begins or ends: each Initialize is plain, and each Finalize is quiet. The other objects are freed by variables (13.11.2), and
+//! by components only if the operations that end them call none themselves: each Finalize is quiet, or frees no object with controlled
+//! parts. Components may own them before: so, while an object is finalized that is freed, no component names it but the one that frees it,
+//! if one does. And where the objects of a collection are not calm, neither they nor the objects of an older collection have a component
+//! of their access type, or of one whose collection is created later in the text (7.6.1): then, where a master is left and newer
+//! collections go before older ones, they are finalized while each component still names what is there. Nothing of this is asked of calm
+//! objects: no operation follows a component while one of them is finalized. `may_be_frugal` tells whether a program is such a one.
 //!
 //! In all these programs operations are to stand apart. No procedure that overrides an Adjust of a type with a component of an access
 //! type, declared in it directly, is called or overrides another operation: so it runs nowhere else. And no allocator gives values to
@@ -77,3 +76,4 @@ mod values;
 
 pub use crate::first::first_unused;
 pub use crate::operations::operations_are_quiet;
+pub use crate::uses::may_be_frugal;

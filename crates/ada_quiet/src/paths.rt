@@ -1,10 +1,9 @@
-//! Paths to what is freed (13.11.2): variables, and paths that follow an access value to the object in which a component lies (4.1).
+//! Paths to what is freed (13.11.2): variables and components.
 
 ghost use Rattle.std.specs.Prelude.{◌≡◌};
 ghost use Rattle.ada_program.specs.Form.{path_form};
 ghost use Rattle.ada_quiet.specs.Apart as rules;
 
-use ada_effects::path_raises;
 use ada_program::Path;
 
 /// Whether a path is a variable (4.1).
@@ -14,19 +13,11 @@ fn is_variable(path: &Path) -> bool
     path.selectors.is_empty()
 }
 
-/// Whether a path to what is freed is a variable, or follows an access value to the object in which a component lies (4.1): that is no
-/// record object, and none that a formal parameter stands for.
-fn is_led(path: &Path) -> bool
-    ensures { result ≡ rules.is_led (path_form path.now) }
-{
-    is_variable(path) || path_raises(path)
-}
-
-/// Whether a path to what is freed is a variable, or it follows an access value, and the operations that end the object call none themselves.
+/// Whether a path to what is freed is a variable, or the operations that end the object call none themselves.
 fn leads_barely(path: &Path, barely: bool) -> bool
     ensures { result ≡ rules.leads_barely (path_form path.now) barely }
 {
-    is_variable(path) || is_led(path) && barely
+    is_variable(path) || barely
 }
 
 /// Whether a path leads so to what is freed, or the object is calm, where paths lead so to all objects for which an operation may be called

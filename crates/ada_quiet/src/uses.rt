@@ -45,9 +45,9 @@ fn allocates_no_parts(program: &Program) -> bool
 }
 
 /// Whether objects with controlled parts may be allocated beside operations that touch storage: those that are not calm are freed by
-/// variables and, if the operations that end them call none themselves, by components behind followed values; and collections are created
-/// in order: neither such objects nor those of an older collection have a component of their access type, or of one whose collection is
-/// created later. Linear in the types, their components, and all bodies.
+/// variables, and by components only if the operations that end them call none themselves; and collections are created in order: neither
+/// such objects nor those of an older collection have a component of their access type, or of one whose collection is created later.
+/// Linear in the types, their components, and all bodies.
 ///
 /// # Errors
 /// `AllocError` where memory was refused.
@@ -62,7 +62,7 @@ fn may_allocate_parts(alloc: Global, program: &Program) -> Result<bool, AllocErr
 ///
 /// # Errors
 /// `AllocError` where memory was refused.
-pub(crate) fn may_be_frugal(alloc: Global, program: &Program) -> Result<bool, AllocError>
+pub fn may_be_frugal(alloc: Global, program: &Program) -> Result<bool, AllocError>
     ensures { IfOk result (λ answer. answer ≡ rules.may_be_frugal (program_form program.now)) }
 {
     Ok(

@@ -1,6 +1,6 @@
 -- Procedures that track stand apart in what is left to do (6.4): it calls none of them, and no body that it begins does; no allocator with items makes an object
--- with controlled parts, or copies a record with some (4.8). Where paths lead by variables and followed values alone (4.1) to all objects that are freed and not calm,
--- each statement that frees one has such a path (13.11.2); and one that is no variable leads to an object which ends so that no operation is called that calls another one.
+-- with controlled parts, or copies a record with some (4.8). Where the objects that are freed by components (13.11.2) and are not calm end so that no operation is called
+-- that calls another one, each statement that frees one by a component does so.
 
 use Rattle.std.proofs.Common.{◌≡◌, ℕ, Bool, true, false, ◌&&◌, List}
 use Rattle.std.proofs.lemmas.Bool.{and_parts}

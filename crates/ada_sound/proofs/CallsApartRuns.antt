@@ -18,8 +18,8 @@ use Rattle.ada_sound.proofs.CallsApartSteps.{calls_stay_apart}
 use Rattle.ada_idle.proofs.Coming.{led_next}
 
 module _ (forms : List TypeForm) (calm barely : List Bool) (tracks : ℕ → Bool) (led : Bool) where
-  -- Where paths lead by variables and followed values alone to all objects that are freed and not calm (13.11.2), the one of a statement that is next is a variable, or it
-  -- follows a value, and no operation is called that calls another one, as the object ends; or what it frees is calm.
+  -- There, the path of a statement that is next and frees an object (13.11.2) is a variable, or no operation is called that calls another one, as the object ends; or that
+  -- is calm.
   pub freed_next_led : (access : ℕ) (path : PathForm) (fs : StmtsForm) (k : List (Frame Value)) → CallApart forms calm barely tracks led (frame.Does (a_stmt (frees access path) fs) ∷ k)
       → frees_led led path (has_calm_objects forms calm access) (has_calm_objects forms barely access) ≡ true
   freed_next_led access path fs k apart = (and_parts (calls_apart forms calm barely tracks led (frees access path)) (all_call_apart forms calm barely tracks led fs) apart.0).0

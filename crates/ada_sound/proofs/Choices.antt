@@ -22,8 +22,8 @@ use Rattle.ada_meaning.specs.Event.{Quiet}
 use Rattle.ada_meaning.specs.Step.{halts, moves, tells, asks, picks}
 use Rattle.ada_meaning.specs.Named.{State, Next, next}
 use Rattle.ada_meaning.specs.Run.{Event, Choice, settled, grants, takes, Leads, Run, here, there, Halts, first_state}
-use Rattle.ada_quiet.specs.InUse.{operations_are_in_use}
-use Rattle.ada_sound.specs.Always.{IsChecked, spare_own_types, SparesOwn, Breaks, IsIllFormed, IsIllNested, FreesOthers, NotInUse, InSomeRun, is_seen, IsFineAtEnds, HaltsAfter, HaltsSomewhere}
+use Rattle.ada_quiet.specs.InUse.{may_be_frugal, operations_are_in_use}
+use Rattle.ada_sound.specs.Always.{IsChecked, spare_holders, spare_own_types, SparesHolders, SparesOwn, Breaks, IsIllFormed, IsIllNested, FreesOthers, NotInUse, InSomeRun, is_seen, IsFineAtEnds, HaltsAfter, HaltsSomewhere}
 
 -- Events, and the state that they lead to.
 abbrev pub Came : Type 0
@@ -146,10 +146,14 @@ is_formed p =
 abbrev pub fits : ProgramForm → Bool
 fits p = list_all (components_lie p.types) p.types && (have_operations p.types (callable_in p) 0 p.types && is_formed p)
 
--- Whether what overrides its operations is in use, too, and spares the access types of the objects that it is called for; whether its collections nest; and
+-- Whether what ends objects spares their own access types, and those in whose objects a component may lie that names what ends.
+abbrev pub spares_types : ProgramForm → Bool
+spares_types p = spare_own_types (implicit_of p) 0 p.types && spare_holders (implicit_of p) p.types 0 p.types
+
+-- Whether what overrides its operations is in use, too, and spares these; whether its collections nest; and
 -- whether it frees by the instances for what it frees.
 abbrev pub is_fine : ProgramForm → Bool
-is_fine p = operations_are_in_use p && (spare_own_types (implicit_of p) 0 p.types && fits p)
+is_fine p = operations_are_in_use p && (spares_types p && fits p)
 
 abbrev pub is_nested : ProgramForm → Bool
 is_nested p =
@@ -200,7 +204,7 @@ fits_is p e =
 fine_is : (p : ProgramForm) → is_fine p ≡ true → IsWellFormed p
 fine_is p e = fits_is p (and_parts _ _ (and_parts _ _ e).1).1
 
-spares_is : (p : ProgramForm) → is_fine p ≡ true → spare_own_types (implicit_of p) 0 p.types ≡ true
+spares_is : (p : ProgramForm) → is_fine p ≡ true → spares_types p ≡ true
 spares_is p e = (and_parts _ _ (and_parts _ _ e).1).0
 
 nested_is : (p : ProgramForm) → is_nested p ≡ true → CollectionsNest p
@@ -237,8 +241,17 @@ module _ (program : Program) (bodies : List BodyForm) (fs : StmtsForm) (hs : Han
   pub spares_with : (b : Bool) → spare_own_types (implicit_of (form_with program bodies fs hs)) 0 (form_with program bodies fs hs).types ≡ b → spare_own_types (implicit_of (program_form program)) 0 (program_form program).types ≡ b
   spares_with b e = subst (λ (p : ProgramForm). spare_own_types (implicit_of p) 0 p.types ≡ b) (sym form_is) e
 
-  spares_in : is_fine (form_with program bodies fs hs) ≡ true → SparesOwn program
-  spares_in e = spares_with true (spares_is (form_with program bodies fs hs) e)
+  spares_in : spares_types (form_with program bodies fs hs) ≡ true → SparesOwn program
+  spares_in e = spares_with true (and_parts _ _ e).0
+
+  -- And whether it spares those in which components may lie that name them.
+  spares_holders_in : spares_types (form_with program bodies fs hs) ≡ true → SparesHolders program
+  spares_holders_in e may =
+      subst (λ (p : ProgramForm). spare_holders (implicit_of p) p.types 0 p.types ≡ true) (sym form_is) (and_parts _ _ e).1
+
+  -- Nothing is asked of these where no Finalize may touch storage.
+  pub never_frugal : may_be_frugal (form_with program bodies fs hs) ≡ false → SparesHolders program
+  never_frugal never may = absurd (cc (never, subst (λ (p : ProgramForm). may_be_frugal p ≡ true) form_is may))
 
   nested_in : is_nested (form_with program bodies fs hs) ≡ true → CollectionsNest (program_form program)
   nested_in e = subst CollectionsNest (sym form_is) (nested_is (form_with program bodies fs hs) e)
@@ -256,7 +269,8 @@ module _ (program : Program) (bodies : List BodyForm) (fs : StmtsForm) (hs : Han
         in_use = in_use_in fine;
         nests = nested_in both.0;
         frees_own = own_in both.1;
-        spares_own = spares_in fine;
+        spares_own = spares_in (spares_is (form_with program bodies fs hs) fine);
+        spares_holders = spares_holders_in (spares_is (form_with program bodies fs hs) fine);
         obeys = (normal, raising, flow_in (goes normal raising) e);
       }
 
@@ -269,7 +283,8 @@ module _ (program : Program) (bodies : List BodyForm) (fs : StmtsForm) (hs : Han
         in_use = in_use_in fine;
         nests = nested_in both.0;
         frees_own = own_in both.1;
-        spares_own = spares_in fine;
+        spares_own = spares_in (spares_is (form_with program bodies fs hs) fine);
+        spares_holders = spares_holders_in (spares_is (form_with program bodies fs hs) fine);
         spot = spot;
         faults_there = flow_in (faults spot rule) e;
       }
@@ -342,7 +357,7 @@ module _ (program : Program) (fs : StmtsForm) (hs : HandlersForm) (is : stmt_for
 
   pub ill_formed_by : (normal raising : Option Holds)
       → stmts_fit whole.types whole.variables whole.texts whole.exceptions (callable_in whole) false fs ≡ false → operations_are_in_use whole ≡ true
-      → spare_own_types (implicit_of whole) 0 whole.types ≡ true → is_kept whole ≡ true → flow_of (implicit_of whole) whole ≡ goes normal raising → IsIllFormed program
+      → spares_types whole ≡ true → is_kept whole ≡ true → flow_of (implicit_of whole) whole ≡ goes normal raising → IsIllFormed program
   ill_formed_by normal raising unfit uses spares kept e = record {
     ill_formed = λ w.
         let fits : stmts_fit whole.types whole.variables whole.texts whole.exceptions (callable_in whole) false fs ≡ true = rw is at (w.statements_fit) in
@@ -350,7 +365,8 @@ module _ (program : Program) (fs : StmtsForm) (hs : HandlersForm) (is : stmt_for
     in_use = subst (λ (p : ProgramForm). operations_are_in_use p ≡ true) (sym (form_is program (body_forms program) fs hs refl is has)) uses;
     nests = nested_in program (body_forms program) fs hs refl is has (and_parts _ _ kept).0;
     frees_own = own_in program (body_forms program) fs hs refl is has (and_parts _ _ kept).1;
-    spares_own = spares_with program (body_forms program) fs hs refl is has true spares;
+    spares_own = spares_in program (body_forms program) fs hs refl is has spares;
+    spares_holders = spares_holders_in program (body_forms program) fs hs refl is has spares;
     obeys = (normal, raising, flow_in program (body_forms program) fs hs refl is has (goes normal raising) e);
   }
 
@@ -361,7 +377,8 @@ module _ (program : Program) (fs : StmtsForm) (hs : HandlersForm) (is : stmt_for
     in_use = in_use_in program (body_forms program) fs hs refl is has fine;
     ill_nested = λ w. cc (unnested, w.declarations);
     frees_own = own_in program (body_forms program) fs hs refl is has own;
-    spares_own = spares_in program (body_forms program) fs hs refl is has fine;
+    spares_own = spares_in program (body_forms program) fs hs refl is has (spares_is whole fine);
+    spares_holders = spares_holders_in program (body_forms program) fs hs refl is has (spares_is whole fine);
     obeys = (normal, raising, flow_in program (body_forms program) fs hs refl is has (goes normal raising) e);
   }
 
@@ -374,7 +391,8 @@ module _ (program : Program) (fs : StmtsForm) (hs : HandlersForm) (is : stmt_for
     frees_others = λ w.
         let own : statements_free_own whole.types whole.variables fs ≡ true = rw is at (w.statements) in
         cc (other, own);
-    spares_own = spares_in program (body_forms program) fs hs refl is has fine;
+    spares_own = spares_in program (body_forms program) fs hs refl is has (spares_is whole fine);
+    spares_holders = spares_holders_in program (body_forms program) fs hs refl is has (spares_is whole fine);
     obeys = (normal, raising, flow_in program (body_forms program) fs hs refl is has (goes normal raising) e);
   }
 

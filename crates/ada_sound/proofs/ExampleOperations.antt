@@ -34,9 +34,9 @@ use Rattle.ada_meaning.specs.declared.event.Halt.TheVariants.{Finished, Erroneou
 use Rattle.ada_meaning.specs.declared.event.Why.TheVariants.{FollowsGone, FinalizesTwice}
 use Rattle.ada_meaning.specs.Named.{next}
 use Rattle.ada_meaning.specs.Run.{Choice, grants, takes}
-use Rattle.ada_sound.specs.Always.{IsChecked, FinishesAfter, NotInUse, SparesOwn, HaltsAfter}
+use Rattle.ada_sound.specs.Always.{IsChecked, FinishesAfter, NotInUse, SparesHolders, SparesOwn, HaltsAfter}
 use Rattle.ada_sound.specs.OperationExamples.{count_operations, count_bodies, operating_declarations, operating_stmts, operating_handlers, operating_events, node_operations, two_nodes, freeing_finalize, freed_events, following_finalize, following_events}
-use Rattle.ada_sound.proofs.Choices.{accepted_in, not_in_use_in, spares_with, halts_after_in}
+use Rattle.ada_sound.proofs.Choices.{accepted_in, never_frugal, not_in_use_in, spares_with, halts_after_in}
 use Rattle.ada_sound.proofs.Example.{steps, vec, no_name, spot, link, with_number}
 use Rattle.ada_sound.proofs.ExampleOwners.{access_to, an_integer, an_access, path, whole, part as component}
 use Rattle.ada_sound.proofs.ExampleRecords.{object, of_object, record_at, of_object_type}
@@ -248,6 +248,10 @@ following_not_in_use = not_in_use_in following (following_finalize ∷ []) two_n
 -- It frees nothing.
 pub following_spares : SparesOwn following
 following_spares = spares_with following (following_finalize ∷ []) two_nodes no_handlers following_bodies following_form refl true refl
+
+-- And no Finalize may touch storage there, as far as that is asked.
+pub following_spares_holders : SparesHolders following
+following_spares_holders = never_frugal following (following_finalize ∷ []) two_nodes no_handlers following_bodies following_form refl refl
 
 -- Finalize of the first node follows its component to the second one, which is gone.
 pub follows_gone : HaltsAfter following_events (Erroneous FollowsGone) following

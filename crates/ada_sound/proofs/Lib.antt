@@ -177,12 +177,12 @@ pub mod FrugalUseLets
 mod FrugalUseFrees
 -- no object of its own access type is freed where an object ends, or is adjusted
 pub mod SparesOwn
+-- no object is reached in which a component may lie that names what ends
+pub mod SparesHolders
 -- what is freed next is among what the running body may free
 pub mod FreesCovered
 -- what is finalized at an assignment
 pub mod AssignedParts
--- the objects in which components lie that are freed
-pub mod Holders
 -- what Free of a component does
 pub mod Releases
 -- record objects are declared
@@ -376,6 +376,8 @@ pub mod ExampleOverwriting
 pub mod ExampleEmptying
 -- one in which a component frees such an object
 pub mod ExampleReleasing
+-- the same by a component of a formal parameter
+pub mod ExampleUnshelving
 -- one whose Finalize frees an object whose Finalize frees, too
 pub mod ExampleNesting
 pub mod ExampleAllocating

@@ -13,14 +13,14 @@ use Rattle.ada_meaning.specs.Run.{Event}
 use Rattle.ada_meaning.specs.State.{Activation, Master}
 use Rattle.ada_meaning.specs.Step.{older, operands_of, procedure_of}
 use Rattle.ada_quiet.specs.Frugal.{Thrift}
-use Rattle.ada_reaching.specs.Reaching.{LeftShuns, none_unnamed}
+use Rattle.ada_reaching.specs.Reaching.{LeftShuns}
 use Rattle.ada_typed.proofs.Kept.{behind_call}
 use Rattle.ada_sound.specs.Agreement.{running_procedure}
 use Rattle.ada_sound.proofs.Alters.{Alters}
 use Rattle.ada_sound.proofs.Callers.{Suspension}
 use Rattle.ada_sound.proofs.Invariant.{Control, IsAwaited}
 use Rattle.ada_sound.proofs.Operating.{IsCalm}
-use Rattle.ada_sound.proofs.Touching.{Pause, Watch, Watched, AreInner, Around, origin, is_watched, watches}
+use Rattle.ada_sound.proofs.Touching.{Pause, Watch, Watched, AreInner, Around, origin, is_unnamed, is_watched, watches}
 
 -- What is known of an activation that waits for an operation, behind a step: of the object, what the step leaves, and the operands.
 abbrev pub pause_on :
@@ -122,7 +122,7 @@ IsTreating (f ∷ k) = ⊥
 pub confined_unwatched : (p : ProgramForm) (w : Watch) (behind : Control) (s : State) → IsTreating s.control → Watched p (Some w) behind s → ⊥
 confined_unwatched p w behind s treating (found, (apart, are, reaching)) = first_treats s.control treating reaching.control
   where
-    first_treats : (k : Control) → IsTreating k → LeftShuns p (watches (Some w)) apart (is_watched (Some w)) none_unnamed behind (procedure_of s.activations) k (older s.activations) → ⊥
+    first_treats : (k : Control) → IsTreating k → LeftShuns p (watches p.types (Some w)) apart (is_watched (Some w)) (is_unnamed p.types (Some w)) behind (procedure_of s.activations) k (older s.activations) → ⊥
     first_treats [] first left = first
     first_treats (frame.Treats v treatment tasks ∷ k) first left = left.0
     first_treats (frame.Awaits v by done of part tasks ∷ k) first left = left.0

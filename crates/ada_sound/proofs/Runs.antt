@@ -637,6 +637,7 @@ sound_step program s choice e after r step = record {
   in_use = r.in_use;
   frees_own = r.frees_own;
   spares_own = r.spares_own;
+  spares_holders = r.spares_holders;
   obeys = r.obeys;
   goes = goes_so program s.heap e after (led program s choice e after r step);
   idle = λ none. step_idle program none s after choice e (r.idle none) step;

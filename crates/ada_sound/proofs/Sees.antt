@@ -16,7 +16,7 @@ use Rattle.ada_program.specs.declared.program.Program.{Program}
 use Rattle.ada_program.specs.ProgramForm.{TypeForm, program_form, body_forms, seen_in}
 use Rattle.ada_program.specs.Typed.{components_of, reached_of}
 use Rattle.ada_program.specs.WellFormed.{finalization_in, finalization_of, is_inherited, object_named, IsWellFormed, record_components, reached_components}
-use Rattle.ada_typed.proofs.Bodies.{seen_fits, sees, tables_in}
+use Rattle.ada_typed.proofs.Bodies.{seen_fits, sees}
 use Rattle.ada_typed.proofs.Objects.{record_no_access}
 use Rattle.ada_sound.specs.Untracked.{AdjustsNoOwners}
 use Rattle.ada_sound.proofs.Callers.{Suspension, known_in, rest_of}
@@ -76,7 +76,7 @@ pub allocates_in : (program : Program) (procedure : Option ℕ) (gs : List Suspe
     → AllocatesBare (known_in program procedure gs).program (known_in program procedure gs).touches (known_in program procedure gs).barely k
 allocates_in program procedure gs k well none led apart =
     let own = seen_in procedure (program_form program) in
-    allocates_none (known_in program procedure gs).barely own k (tables_in own (seen_fits (program_form program) well procedure)) (subst AdjustsNoOwners (sym (same_types procedure (program_form program))) none)
+    allocates_none (known_in program procedure gs).barely own k (subst AdjustsNoOwners (sym (same_types procedure (program_form program))) none)
     (subst (λ (types : List TypeForm). FreesLed types (known_in program procedure gs).touches (known_in program procedure gs).barely k) (sym (same_types procedure (program_form program))) led) apart
 
 -- The Adjust that sees to what a record owns is overridden under the number of its type.

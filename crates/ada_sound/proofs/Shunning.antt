@@ -1,10 +1,10 @@
 -- The body of a Finalize shuns an access type (3.10) that the end of an object does not reach, in which such a part lies (7.6, 7.6.1): where the body is frugal, it
 -- follows and frees no value of the type (4.1, 13.11.2), and neither does what it calls.
 
-use Rattle.std.proofs.Common.{◌≡◌, ℕ, Bool, true, false, not, ◌==◌, ◌&&◌, ◌||◌, List, [], ◌∷◌, length, Option, Some, None, refl, sym, ap, ◌∙◌, subst, inl, inr}
+use Rattle.std.proofs.Common.{◌≡◌, ℕ, Bool, true, false, not, ◌==◌, ◌&&◌, ◌||◌, List, [], ◌∷◌, length, Option, Some, None, refl, sym, ap, ◌∙◌, subst, arith, inl, inr}
 use Rattle.std.specs.Prelude.{nat_lt, is_some}
 use Rattle.std.specs.List.{list_all, slice_get, slice_index_or}
-use Rattle.std.proofs.lemmas.Bool.{and_from, and_parts, or_parts, or_left, or_right, or_cases, cases_Bool, eqb-true, eq-eqb, not-true, false_from_ne_true}
+use Rattle.std.proofs.lemmas.Bool.{and_from, and_parts, or_parts, or_left, or_right, or_cases, cases_Bool, eqb-true, eq-eqb, ltb-true, not-true, false_from_ne_true}
 use Rattle.ada_program.specs.declared.program.Program.{Program}
 use Rattle.ada_program.specs.declared.program.VariableKind.{VariableKind}
 use Rattle.ada_program.specs.declared.program.VariableKind.TheVariants as variable
@@ -362,6 +362,42 @@ module _ (p : ProgramForm) (u : ℕ) where
       false_from_ne_true (body_does p.types (does_by p d) d b)
       (λ done. none d is
       (does (use_of d is) (does_by p d) (λ other known. (counts_are_enough p d other).0 known) (ap (called_does p.types (does_by p d) d) there ∙ done)))
+
+-- A frugal body, and the frugal procedures: whatever they use, they have the shape that bodies have which shun no type.
+module _ (p : ProgramForm) (number : ℕ) (b : BodyForm) (there : slice_get p.bodies number ≡ Some b) (frugal : is_frugal_body (thrift_of p false) b ≡ true) where
+  -- It, and they.
+  abbrev frugal_ones : ℕ → Bool
+  frugal_ones n = slice_index_or (frugal_procedures p false) n false || (n == number)
+
+  -- No type has the number behind the last one.
+  none_there : (n : ℕ) → (length p.types == n) && nat_lt n (length p.types) ≡ true → ⊥
+  none_there n is =
+      let both = and_parts (length p.types == n) (nat_lt n (length p.types)) is in
+      omega (arith, eqb-true (length p.types) n both.0, ltb-true n (length p.types) both.1)
+
+  -- So nothing is a use of it.
+  spares_none : (done : Deed → Bool) → Spares p (length p.types) done
+  spares_none done (deed.Raises e) is = absurd (cc is)
+  spares_none done (deed.Frees t) is = absurd (none_there t.0 is)
+  spares_none done (deed.Follows t) is = absurd (none_there t.0 is)
+  spares_none done deed.Allocates is = absurd (cc is)
+
+  frugal_shaped : (c : BodyForm) → is_frugal_body (thrift_of p false) c ≡ true → body_shuns p.types (λ t. false) frugal_ones c ≡ true
+  frugal_shaped c is =
+      body_shaped p (length p.types) frugal_ones (λ n told spares. or_left (slice_index_or (frugal_procedures p false) n false) (n == number) told) c is
+      (spares_none (λ d. body_does p.types (does_by p d) d c))
+
+  ones_shaped : AreApart p (λ t. false) frugal_ones
+  ones_shaped n c among at = elim (or_cases (slice_index_or (frugal_procedures p false) n false) (n == number) among) [
+    | inl told ↦ frugal_shaped c (frugal_at p false n c told at)
+    | inr same ↦
+        let one : b ≡ c = cc (there, at, ap (λ (m : ℕ). slice_get p.bodies m) (eqb-true n number same)) in
+        frugal_shaped c (subst (λ (x : BodyForm). is_frugal_body (thrift_of p false) x ≡ true) one frugal)
+  ]
+
+  -- So it is with the body, and with all that it calls.
+  pub body_is_shaped : (among : ℕ → Bool) × AreApart p (λ t. false) among × (body_shuns p.types (λ t. false) among b ≡ true)
+  body_is_shaped = (frugal_ones, ones_shaped, frugal_shaped b frugal)
 
 -- The Finalize of a part of an object, whose end does not reach an access type.
 module _

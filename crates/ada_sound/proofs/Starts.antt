@@ -18,7 +18,7 @@ use Rattle.ada_meaning.specs.Step.{blanks}
 use Rattle.ada_meaning.specs.Named.{State, named}
 use Rattle.ada_meaning.specs.Run.{Event, Run, here, first_state}
 use Rattle.ada_typed.proofs.Kept.{behind_call}
-use Rattle.ada_sound.specs.Always.{SparesOwn}
+use Rattle.ada_sound.specs.Always.{SparesHolders, SparesOwn}
 use Rattle.ada_sound.specs.Agreement.{running_procedure}
 use Rattle.ada_idle.proofs.Idle.{IsIdle}
 use Rattle.ada_idle.proofs.Runs.{first_idle}
@@ -74,6 +74,7 @@ pub record Sound (program : Program) (s : State) : Type 0 where
   pub in_use : operations_are_in_use (program_form program) ≡ true
   pub frees_own : FreesItsOwn (program_form program)
   pub spares_own : SparesOwn program
+  pub spares_holders : SparesHolders program
   pub obeys : Obeys program
   pub goes : Ordinary program s ⊎ (Operates program s ⊎ (Touching program s ⊎ AdjustingCopy program s))
   pub idle : makes_parts (program_form program) ≡ false → IsIdle (program_form program).types s
@@ -129,13 +130,14 @@ ready_first program input well obeys =
       },
     )
 
-pub sound_first : (program : Program) (input : List ℤ) → IsWellFormed (program_form program) → operations_are_in_use (program_form program) ≡ true → CollectionsNest (program_form program) → FreesItsOwn (program_form program) → SparesOwn program → ObeysRules program → Sound program (first_state program input)
-sound_first program input well uses nest own spares obeys = let obeys_so : Obeys program = (tracks_safely (program_form program) well uses, obeys) in record {
+pub sound_first : (program : Program) (input : List ℤ) → IsWellFormed (program_form program) → operations_are_in_use (program_form program) ≡ true → CollectionsNest (program_form program) → FreesItsOwn (program_form program) → SparesOwn program → SparesHolders program → ObeysRules program → Sound program (first_state program input)
+sound_first program input well uses nest own spares holders obeys = let obeys_so : Obeys program = (tracks_safely (program_form program) well uses, obeys) in record {
   reached = (input, [], here);
   well = well;
   in_use = uses;
   frees_own = own;
   spares_own = spares;
+  spares_holders = holders;
   obeys = obeys_so;
   goes = inl (record {
     suspensions = [];

@@ -178,7 +178,7 @@ module _ (known : Known) (copies : CopiesWell known.program.types) (may : ℕ �
 
     frame_fine : (f : Frame Value) → (calls_next (f ∷ k) ≡ true → MayCall known bodies) → AllocatesBare known.program known.touches known.barely (f ∷ k) → crosses Running (f ∷ k) ≡ false → RunsTyped known s.heap (f ∷ k) a.places a.operands → StateTyped known.program may (outers known).under s.heap s.masters → FinalizesBy may known.program.types types bodies f (running k a rest s) → FreesAmong may (f ∷ k) → ((mode : Mode) (behind : Control) → f ∷ k ≡ Leaves mode ∷ behind → HeldIn s.heap s.masters × NamedBelow (outers known) s.heap s.masters × AreInOrder known.ahead known.program.types (innermost s.masters)) → ReadyBy known f k s.heap a.places a.operands s.masters → Fine known s.heap s.masters (frame_next named types bodies f (running k a rest s))
     frame_fine (Elaborates ds fs hs) calling bare inner t kept well freely low r = declarations_fine known a rest s copies fs hs k types ds t.3 t.1.2 r
-    frame_fine (Does fs) calling bare inner t kept well freely low r = stmts_fine known a rest s may types reaches bodies copies t.1.1 fs calling k bare.1 bare.0 (homes_in kept well) freely t.1.2.0 (t.1.2.1 kept.own) r
+    frame_fine (Does fs) calling bare inner t kept well freely low r = stmts_fine known a rest s may types reaches bodies copies t.1.1 fs calling k bare.0 (homes_in kept well) freely t.1.2.0 (t.1.2.1 kept.own) r
     frame_fine (Decides fs branches) calling bare inner t kept well freely low r = decided_fine known (record a { operands = older a.operands }) rest s fs branches (named.reads_boolean (first_or Null a.operands)) k r
     frame_fine (Repeats condition body) calling bare inner t kept well freely low r = repeats_fine known a rest s condition body k r
     frame_fine (Turns e body) calling bare inner t kept well freely low r = turned_fine known (record a { operands = older a.operands }) rest s e body (named.reads_boolean (first_or Null a.operands)) k r
@@ -190,7 +190,7 @@ module _ (known : Known) (copies : CopiesWell known.program.types) (may : ℕ �
     frame_fine (Leaves mode) calling bare inner t kept well freely low r = leave_fine known types mode k a rest s s.masters r (low mode k refl).0 (low mode k refl).1 (low mode k refl).2
     frame_fine (Calls procedure b actuals) calling bare inner t kept well freely low r = absurd (cc inner)
     frame_fine (Returns actuals references) calling bare inner t kept well freely low r = absurd (cc inner)
-    frame_fine (Evaluates right) calling bare inner t kept well freely low r = evaluates_fine known k a rest s kept.plain types reaches right (λ access items is. bare.2 access items k (ap (λ (r : RightForm). Evaluates r ∷ k) is)) t.0 t.1 r
+    frame_fine (Evaluates right) calling bare inner t kept well freely low r = evaluates_fine known k a rest s kept.plain types reaches right (λ access items is. bare.1 access items k (ap (λ (r : RightForm). Evaluates r ∷ k) is)) t.0 t.1 r
     frame_fine (Computes e) calling bare inner t kept well freely low r = expression_fine known k a rest s e t.1.0 t.1.1 r
     frame_fine (Follows cs) calling bare inner t kept well freely low r = path_fine kept.plain cs a.operands t r
     frame_fine (TestsNull equal) calling bare inner t kept well freely low r = null_test_fine known k a rest s (older a.operands) r equal (named.reads_null (first_or Null a.operands))

@@ -20,8 +20,8 @@ touches_in p access = may_be_frugal p && not (are_calm_in p access)
 abbrev pub ends_barely_in : ProgramForm → (access : ℕ) → Bool
 ends_barely_in p access = has_calm_objects p.types (barely_ending_types p) access
 
--- Where an object is freed next for which such an operation is called, the path to it is a variable; or it follows an access value to the object in which a component
--- lies (4.1, 13.11.2), and what is called then frees no object with controlled parts. An object that is freed is of an access type, among these types.
+-- Where an object is freed next for which such an operation is called, the path to it is a variable, or what is called then frees no object with controlled parts
+-- (4.1, 13.11.2). An object that is freed is of an access type, among these types.
 abbrev pub FreesLed : List TypeForm → (touches barely : ℕ → Bool) → List (Frame Value) → Type 0
 FreesLed types touches barely (Does (a_stmt (frees access path) fs) ∷ k) = is_access types access ≡ true → touches access ≡ true → leads_barely path (barely access) ≡ true
 FreesLed types touches barely k = Unit {0}

@@ -2,7 +2,7 @@
 -- one at the leaving of its master, or where a variable is freed that names it, or another record is assigned to it. What holds there, and what is kept of all that
 -- waits for it.
 
-use Rattle.std.proofs.Common.{◌≡◌, ◌≢◌, ℕ, true, false, List, [], ◌∷◌, ◌++◌, ◌⊎◌, Option, drop, length, suc, take}
+use Rattle.std.proofs.Common.{◌≡◌, ◌≢◌, ℕ, true, false, List, [], ◌∷◌, ◌++◌, ◌⊎◌, Option, drop, length, suc, take, not, ◌&&◌}
 use Rattle.std.specs.Prelude.{Bool, Some, None, ◌==◌}
 use Rattle.std.specs.List.{slice_get, slice_set, list_any}
 use Rattle.ada_parts.specs.Task.{Task}
@@ -10,7 +10,7 @@ use Rattle.ada_program.specs.declared.program.Exception.{Exception}
 use Rattle.ada_quiet.specs.Bare.{has_bare_objects}
 use Rattle.ada_quiet.specs.InUse.{may_be_frugal}
 use Rattle.ada_program.specs.declared.program.Program.{Program}
-use Rattle.ada_program.specs.ProgramForm.{ProgramForm, program_form, seen_in}
+use Rattle.ada_program.specs.ProgramForm.{TypeForm, ProgramForm, program_form, seen_in}
 use Rattle.ada_program.specs.WellFormed.{is_access, variable_kind, reached_components}
 use Rattle.ada_deeds.specs.Implicit.{implicit_of}
 use Rattle.ada_effects.specs.Effects.{Implicit, assignment_frees}
@@ -33,7 +33,7 @@ use Rattle.ada_sound.proofs.Callers.{Suspension, known_in, Stands, callers_of}
 use Rattle.ada_sound.proofs.Fits.{Fit, Outsiders, IsPlace, IsRelied, IsSaid, IsUnreferred, component_access, none_spared, outer_hold, outer_value, place_at, Reference, IsReferred}
 use Rattle.ada_sound.proofs.FrugalControl.{Frugally, FrugalLeads, IsFreed}
 use Rattle.ada_sound.proofs.Held.{FreeIf, holder_if}
-use Rattle.ada_sound.proofs.Invariant.{body_among, CoveredIn, Control, Rooms, Roomed, GoesTo, MayAwait, RoomFor, RunsOn, Known, IsNewest, Ready, Spares, StartsTo, Unaliased, below, innermost, outers, BeginsWell, CameOut, To, By, ways, IsAwaited, under_in, AssignsWell, IsCopied, LiesAmong, AdjustedBehind, IsCovered, EndsBeside, EndsWellBy}
+use Rattle.ada_sound.proofs.Invariant.{body_among, CoveredIn, Control, Rooms, Roomed, GoesTo, MayAwait, RoomFor, RunsOn, Known, IsNewest, Ready, Spares, StartsTo, Unaliased, below, innermost, outers, BeginsWell, CameOut, To, By, ways, IsAwaited, under_in, AssignsWell, IsCopied, LiesAmong, AdjustedBehind, IsCovered, EndsBarely, EndsWellBy}
 use Rattle.ada_sound.proofs.Operating.{WaitsFor, IsCalm, lets_out, OwnVariables}
 use Rattle.ada_sound.proofs.Stored.{Stored}
 use Rattle.ada_sound.specs.Agreement.{running_procedure}
@@ -43,7 +43,7 @@ use Rattle.ada_meaning.specs.declared.event.Cause.{Cause}
 use Rattle.ada_meaning.specs.Step.{first_or, operands_of}
 use Rattle.ada_owners.specs.Places.{access_at, is_there}
 use Rattle.ada_reaching.specs.Law.{AreApart}
-use Rattle.ada_reaching.specs.Reaching.{IsReaching, none_unnamed}
+use Rattle.ada_reaching.specs.Reaching.{IsReaching}
 use Rattle.ada_owners.specs.Reliance.{Owns}
 use Rattle.ada_program.specs.declared.program.ComponentKind.{ComponentKind}
 
@@ -138,10 +138,15 @@ abbrev pub is_watched : Option Watch → Id → Bool
 is_watched None o = false
 is_watched (Some w) o = w.holder.0 == o.0
 
--- So it is with its type, as those say who watch it.
-abbrev pub watches : Option Watch → (access : ℕ) → Bool
-watches None t = false
-watches (Some w) t = w.is.cell.access == t
+-- So it is with its type, if that is an access type.
+abbrev pub watches : List TypeForm → Option Watch → (access : ℕ) → Bool
+watches types None t = false
+watches types (Some w) t = is_access types w.is.cell.access && (w.is.cell.access == t)
+
+-- Else it is a record object that is declared, which no value names.
+abbrev pub is_unnamed : List TypeForm → Option Watch → Id → Bool
+is_unnamed types None o = false
+is_unnamed types (Some w) o = not (is_access types w.is.cell.access) && is_watched (Some w) o
 
 -- What is behind the finalization of an object that a component names which is freed: the end of the object, and then the component becomes null. It owns the object
 -- still while a Finalize of that runs, and lies in the object that is watched.
@@ -156,7 +161,7 @@ pub record Releases (known : Known) (watch : Option Watch) (object : Id) (access
   pub there : is_there w.is.stage ≡ true
   pub of_type : component_access known.program.types w.is c ≡ Some access
   pub names : slice_get w.is.cell.values c ≡ Some (Names object)
-  pub beside : EndsBeside known access w.is.cell.access
+  pub barely : EndsBarely known access
   pub runs : RunsOn known rest rooms holds
   pub well : EndsWellBy known access holds
   pub covered : IsCovered known.implicit known.program (Freeing number) access
@@ -250,22 +255,23 @@ abbrev pub treated_frees : Implicit → Treatment → (access : ℕ) → (behind
 treated_frees implicit (begins by done) access k t = implicit.start_frees access t
 treated_frees implicit (ends cause) access k t = ended_frees implicit cause access k t
 
--- While a Free ends an object, the one that is watched, if there is one, is there, and is another one; and what is called then neither follows nor frees values of its
--- type, and calls no operation.
+-- While a Free ends an object, the one that is watched, if there is one, is there, and is another one, in which a component of the freed one's access type lies; and what
+-- is called then calls no operation.
 abbrev pub IsSpared : Known → Treatment → Id → (access : ℕ) → List Object → (watch : Option Watch) → Type 0
 IsSpared known treatment o access heap None = Unit {0}
 IsSpared known (begins by done) o access heap (Some w) = ⊥
 IsSpared known (ends cause) o access heap (Some w) =
-    (object_at heap w.holder ≡ Some w.is) × (w.holder ≢ o) × (is_access known.program.types w.is.cell.access ≡ true)
-    × (known.implicit.end_reaches access w.is.cell.access ≡ false) × (known.barely access ≡ true)
+    (object_at heap w.holder ≡ Some w.is) × (w.holder ≢ o) × ((c : ℕ) × (component_access known.program.types w.is c ≡ Some access))
+    × (known.barely access ≡ true)
 
 -- What is watched, if something is, is there as it was; and the bodies that run in front of this, of procedures among some that neither follow nor free values of its
--- type, refer to nothing in it.
+-- type, if that is an access type, refer to nothing in it.
 abbrev pub Watched : ProgramForm → (watch : Option Watch) → (behind : Control) → State → Type 0
 Watched p None behind s = Unit {0}
 Watched p (Some w) behind s =
     (object_at s.heap w.holder ≡ Some w.is)
-    × ((apart : ℕ → Bool) × AreApart p (watches (Some w)) apart × IsReaching p (watches (Some w)) apart (is_watched (Some w)) none_unnamed behind s)
+    × ((apart : ℕ → Bool) × AreApart p (watches p.types (Some w)) apart
+    × IsReaching p (watches p.types (Some w)) apart (is_watched (Some w)) (is_unnamed p.types (Some w)) behind s)
 
 -- What is known where such a body is called: what waits for it, whether the object is held, which is in hand then, and what it may free, of which there is no alias.
 -- That is no other object to which the activation that waits refers.

@@ -1,10 +1,11 @@
 -- The treatment of an object calls an operation that touches storage: its body begins in a sound state (7.6, 7.6.1), where no operation runs, or inside another one, which
 -- frees the object (13.11.2).
 
-use Rattle.std.proofs.Common.{◌≡◌, ◌≢◌, inl, inr, ℕ, Bool, true, false, not, ◌&&◌, List, ◌∷◌, refl, sym, ap, subst, ◌∙◌, []}
+use Rattle.std.proofs.Common.{◌≡◌, ◌≢◌, inl, inr, ℕ, Bool, true, false, not, ◌==◌, ◌&&◌, List, ◌∷◌, refl, sym, ap, subst, ◌∙◌, []}
 use Rattle.std.specs.Prelude.{Option, Some, None}
 use Rattle.std.specs.List.{slice_get}
 use Rattle.std.specs.Option.{option_map}
+use Rattle.std.proofs.lemmas.Bool.{and_parts}
 use Rattle.std.proofs.lemmas.Option.{slice_get-map}
 use Rattle.ada_deeds.specs.Implicit.{implicit_of}
 use Rattle.ada_effects.specs.Effects.{assignment_frees}
@@ -38,7 +39,7 @@ use Rattle.ada_parts.proofs.Facts.{eq_self}
 use Rattle.ada_reaching.proofs.Law.{operation_reaches}
 use Rattle.ada_reaching.specs.Forms.{body_shuns}
 use Rattle.ada_reaching.specs.Law.{AreApart}
-use Rattle.ada_reaching.specs.Reaching.{IsOfShunned, IsReaching, none_unnamed}
+use Rattle.ada_reaching.specs.Reaching.{IsGhost, IsReaching}
 use Rattle.ada_tracked.proofs.Lists.{apart_is, is_same}
 use Rattle.ada_typed.proofs.Lying.{IsOperable}
 use Rattle.ada_meaning.specs.Run.{Event}
@@ -51,13 +52,14 @@ use Rattle.ada_typed.proofs.Kept.{behind_call}
 use Rattle.ada_typed.proofs.Overridings.{OperationFor, beginning_for, ending_for}
 use Rattle.ada_sound.proofs.Alters.{Alters}
 use Rattle.ada_sound.proofs.Callers.{Suspension, known_in, Stands, callers_of}
-use Rattle.ada_sound.proofs.Shunning.{finalize_shuns}
+use Rattle.ada_sound.specs.Always.{spare_holders}
+use Rattle.ada_sound.proofs.Shunning.{body_is_shaped, finalize_shuns}
 use Rattle.ada_sound.proofs.FrugalControl.{Frugally, IsFreed, frugal_starts}
-use Rattle.ada_sound.proofs.Touching.{CoversBy, Enters, GoesBy, IsEnding, IsSpared, Touching, Watch, Watched, is_watched, watches, origin}
+use Rattle.ada_sound.proofs.Touching.{CoversBy, Enters, GoesBy, IsEnding, IsSpared, Touching, Watch, Watched, is_unnamed, is_watched, watches, origin}
 use Rattle.ada_sound.proofs.Trackers.{touches_apart}
 use Rattle.ada_sound.proofs.TouchingBegins.{Begun, IsAlone, alone, touching_begins}
 use Rattle.ada_sound.proofs.TouchingRests.{IsEnd, assigns_by, at_start, ends_by}
-use Rattle.ada_sound.proofs.Fits.{IsWithin, access_is}
+use Rattle.ada_sound.proofs.Fits.{IsWithin, access_is, component_access}
 use Rattle.ada_sound.proofs.AssignedParts.{treated_frees_of, IsAssignedBehind}
 use Rattle.ada_sound.proofs.BareObjects.{allocated_is_bare, frugal_frees_bare, operable_is_not_bare}
 use Rattle.ada_sound.proofs.QuietOperations.{LetsNone, MayTouch, TouchesStorage, ends_here}
@@ -73,6 +75,7 @@ use Rattle.ada_sound.proofs.OperationBegins.{formal_holds, formal_within}
 use Rattle.ada_sound.proofs.OperationStarts.{calm_behind, is_awaited, live_there}
 use Rattle.ada_sound.proofs.Returns.{same_types}
 use Rattle.ada_sound.proofs.SparesOwn.{assigned_spares}
+use Rattle.ada_sound.proofs.SparesHolders.{holder_spared}
 use Rattle.ada_sound.proofs.Starts.{Sound}
 use Rattle.ada_sound.proofs.Treatments.{Begins}
 use Rattle.ada_meaning.specs.declared.event.Cause.{Cause}
@@ -207,37 +210,50 @@ module _ (program : Program) (a : Activation Value) (rest : List (Activation Val
 
     -- What is watched, if something is, is left alone by the body of a Finalize that begins, and by those that it calls.
     watched_begins : (by : Treatment) (watch : Option Watch) (o : Id) (access of part number : ℕ) (b : BodyForm) (place : Place) (behind : Control) (heap : List Object) → IsOperable p.types access of part
-        → IsCalled (operations_of program.types.items of) by number → slice_get (body_forms program) number ≡ Some b → TouchesStorage p by b → IsSpared known by o access heap watch
+        → IsCalled (operations_of program.types.items of) by number → slice_get (body_forms program) number ≡ Some b → TouchesStorage p by b → spare_holders (implicit_of p) p.types 0 p.types ≡ true → IsSpared known by o access heap watch
         → Watched p watch behind (operating named number b (Part o place) behind (record s { activations = a ∷ rest; heap = heap; mode = Running }))
-    watched_begins by None o access of part number b place behind heap operable called there stores spared = tt
-    watched_begins (begins by done) (Some w) o access of part number b place behind heap operable called there stores spared = absurd spared
-    watched_begins (ends cause) (Some w) o access of part number b place behind heap operable called there stores (at, other, accessed, apart, barely) = (at, (shunned.0, shunned.1, reaching))
+    watched_begins by None o access of part number b place behind heap operable called there stores spares spared = tt
+    watched_begins (begins by done) (Some w) o access of part number b place behind heap operable called there stores spares spared = absurd spared
+    watched_begins (ends cause) (Some w) o access of part number b place behind heap operable called there stores spares (at, other, (c, holds), barely) = (at, (shunned.0, shunned.1, reaching))
       where
         -- It frees no object with controlled parts, as it touches storage.
         frugal : is_frugal_body (thrift_of p false) b ≡ true
         frugal = elim (barely_finalize program sound.well access of part number b operable barely cause called there) [ inl quiet ↦ absurd (cc (quiet, stores)) | inr is ↦ is ]
 
-        -- The procedures that it calls are among some whose bodies neither follow nor free values of the type of what is watched.
-        shunned : (among : ℕ → Bool) × AreApart p (watches (Some w)) among × (body_shuns p.types (watches (Some w)) among b ≡ true)
-        shunned = finalize_shuns program sound.well access of part number w.is.cell.access b operable called there frugal apart
+        -- The end of the object reaches none of the type of what is watched, in which a component lies that names it.
+        apart : (implicit_of p).end_reaches access w.is.cell.access ≡ false
+        apart =
+            holder_spared p spares w.is.cell.access c access
+            (subst (λ (types : List TypeForm). component_access types w.is c ≡ Some access) (same_types a.procedure p) holds)
 
-        -- That is an access type.
-        is_access_here : is_access p.types w.is.cell.access ≡ true
-        is_access_here = subst (λ (types : List TypeForm). is_access types w.is.cell.access ≡ true) (same_types a.procedure p) accessed
+        -- The procedures that it calls are among some whose bodies neither follow nor free values of that type, if it is an access type.
+        shunned_by : (accessed : Bool) → (among : ℕ → Bool) × AreApart p (λ t. accessed && (w.is.cell.access == t)) among × (body_shuns p.types (λ t. accessed && (w.is.cell.access == t)) among b ≡ true)
+        shunned_by true = finalize_shuns program sound.well access of part number w.is.cell.access b operable called there frugal apart
+        shunned_by false = body_is_shaped p number b there frugal
 
-        -- What is watched is there.
-        ghosts_there : (q : Id) → is_watched (Some w) q ≡ true → IsOfShunned p.types (watches (Some w)) (object_at heap q)
-        ghosts_there q is = record {
+        shunned : (among : ℕ → Bool) × AreApart p (watches p.types (Some w)) among × (body_shuns p.types (watches p.types (Some w)) among b ≡ true)
+        shunned = shunned_by (is_access p.types w.is.cell.access)
+
+        -- What is watched is there: it is of that type, or no value names it.
+        ghost_by : (accessed : Bool) → is_access p.types w.is.cell.access ≡ accessed → (q : Id) → is_watched (Some w) q ≡ true
+            → IsGhost p.types (λ t. accessed && (w.is.cell.access == t)) (not accessed && is_watched (Some w) q) (object_at heap q)
+        ghost_by true is q same = record {
           object = w.is;
-          there = subst (λ (r : Id). object_at heap r ≡ Some w.is) (id_is w.holder q (is_same w.holder.0 q.0 is)) at;
+          there = subst (λ (r : Id). object_at heap r ≡ Some w.is) (id_is w.holder q (is_same w.holder.0 q.0 same)) at;
           shunned = eq_self w.is.cell.access;
-          accessed = is_access_here;
+          accessed = is;
         }
+        ghost_by false is q same = rw same (record {
+          object = w.is;
+          there = subst (λ (r : Id). object_at heap r ≡ Some w.is) (id_is w.holder q (is_same w.holder.0 q.0 same)) at;
+          declared = is;
+        })
 
         -- The body begins so, for a part of another object.
-        reaching : IsReaching p (watches (Some w)) shunned.0 (is_watched (Some w)) none_unnamed behind (operating named number b (Part o place) behind (record s { activations = a ∷ rest; heap = heap; mode = Running }))
+        reaching : IsReaching p (watches p.types (Some w)) shunned.0 (is_watched (Some w)) (is_unnamed p.types (Some w)) behind (operating named number b (Part o place) behind (record s { activations = a ∷ rest; heap = heap; mode = Running }))
         reaching =
-            operation_reaches p (watches (Some w)) shunned.0 (is_watched (Some w)) none_unnamed number b (Part o place) behind (record s { activations = a ∷ rest; heap = heap; mode = Running }) there shunned.2 ghosts_there (λ q is. absurd (cc))
+            operation_reaches p (watches p.types (Some w)) shunned.0 (is_watched (Some w)) (is_unnamed p.types (Some w)) number b (Part o place) behind (record s { activations = a ∷ rest; heap = heap; mode = Running }) there shunned.2
+            (ghost_by (is_access p.types w.is.cell.access) refl) (λ q is. (and_parts (not (is_access p.types w.is.cell.access)) (is_watched (Some w) q) is).1)
             (apart_is w.holder.0 o.0 (λ same. other (id_is w.holder o same)))
 
     -- The object is not calm: for calm ones an Initialize is plain, and a Finalize quiet.
@@ -288,7 +304,7 @@ module _ (program : Program) (a : Activation Value) (rest : List (Activation Val
         touches_let program sound.well c.x.cell.access c.of operated.1 c.number c.b operable c.treatment touches silent c.called c.there frugal in
         rw c.is (touching_begins program sound.well sound.obeys c.number (touches_apart program sound.obeys.0 c.of c.number c.treatment touches c.called) c.b c.there single a rest gs s k c.o c.x c.heap c.found (live_there c.x.stage c.live) c.place within c.treatment frugal sound.spares_own at c.behind frees
         (covers_by c.x.cell.access c.of operated.1 c.number c.b c.treatment operable c.called c.there frugal) lets e c.of c.tasks c.alters waits (is_awaited p.types c.o c.of c.treatment c.tasks k c.behind waits) stands
-        (watched_begins c.treatment at.watch c.o c.x.cell.access c.of operated.1 c.number c.b c.place c.behind c.heap operable c.called c.there stores at.spared))
+        (watched_begins c.treatment at.watch c.o c.x.cell.access c.of operated.1 c.number c.b c.place c.behind c.heap operable c.called c.there stores (sound.spares_holders may) at.spared))
 
     -- That is known of it, whatever runs behind it.
     pub touching_starts : (e : Event) (after : State) (c : Begins known a rest s program.types.items (body_forms program) k IsOperated e after) → MayTouch c.treatment → may_be_frugal p ≡ true → LetsNone p c.treatment c.b → is_frugal_body (thrift_of p (ends_here c.treatment)) c.b ≡ true → TouchesStorage p c.treatment c.b

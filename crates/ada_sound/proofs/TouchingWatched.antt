@@ -13,7 +13,6 @@ use Rattle.ada_meaning.specs.Step.{halts, moves, tells, asks, picks}
 use Rattle.ada_quiet.specs.Frugal.{Thrift}
 use Rattle.ada_reaching.proofs.Law.{stays_reaching}
 use Rattle.ada_reaching.specs.Law.{AllGoOn, AreApart, FirstTakesNone, GoesOn}
-use Rattle.ada_reaching.specs.Reaching.{none_unnamed}
 use Rattle.ada_tracked.specs.Law as tracked
 use Rattle.ada_typed.proofs.Kept.{Each}
 use Rattle.ada_untouched.specs.Untouched.{InnermostHousesNone, NewestHousesNone}
@@ -22,7 +21,7 @@ use Rattle.ada_sound.proofs.FrugalLeaves.{innermost_houses_none, leaves_own}
 use Rattle.ada_sound.proofs.Invariant.{Control}
 use Rattle.ada_sound.proofs.Pauses.{AllWatched}
 use Rattle.ada_sound.proofs.Starts.{Sound}
-use Rattle.ada_sound.proofs.Touching.{AreInner, Watch, Watched, Within, is_watched, watches}
+use Rattle.ada_sound.proofs.Touching.{AreInner, Watch, Watched, Within, is_unnamed, is_watched, watches}
 
 -- Two notions of masters that are the home of no objects are one.
 newest_so : (is : List Item) → tracked.NewestHousesNone is → NewestHousesNone is
@@ -50,9 +49,9 @@ each_and P Q (asks request answered) p q = λ granted. (p granted, q granted)
 each_and P Q (picks n taken) p q = λ i lt. (p i lt, q i lt)
 
 -- Where such bodies go on behind a step, what is watched is as it was.
-module _ (p : ProgramForm) (w : Watch) (apart : ℕ → Bool) (are : AreApart p (watches (Some w)) apart) (behind : Control) (before : List Object) (found : object_at before w.holder ≡ Some w.is) where
+module _ (p : ProgramForm) (w : Watch) (apart : ℕ → Bool) (are : AreApart p (watches p.types (Some w)) apart) (behind : Control) (before : List Object) (found : object_at before w.holder ≡ Some w.is) where
   abbrev Goes : State → Type 0
-  Goes after = GoesOn p (watches (Some w)) apart (is_watched (Some w)) none_unnamed behind before after
+  Goes after = GoesOn p (watches p.types (Some w)) apart (is_watched (Some w)) (is_unnamed p.types (Some w)) behind before after
 
   goes_watched : (after : State) → Goes after → Watched p (Some w) behind after
   goes_watched after g = (g.same w.holder (eq-eqb w.holder.0 w.holder.0 refl) ∙ found, (apart, are, g.reaching))
@@ -79,7 +78,7 @@ module _ (program : Program) (gs : List Suspension) (s : State) (w : Within prog
     watched_stays None behind still on = each_so (Watched (program_form program) None behind) (λ after. tt) (next program.types.items (body_forms program) s)
     watched_stays (Some x) behind (found, (apart, are, reaching)) on =
         each_watched (program_form program) x apart are behind s.heap found (next program.types.items (body_forms program) s)
-        (stays_reaching program sound.well (watches (Some x)) apart are (is_watched (Some x)) none_unnamed behind s sound.typed reaching (record { on = on; takes = takes_none s.control refl })).1
+        (stays_reaching program sound.well (watches (program_form program).types (Some x)) apart are (is_watched (Some x)) (is_unnamed (program_form program).types (Some x)) behind s sound.typed reaching (record { on = on; takes = takes_none s.control refl })).1
 
     module _ (thrift : Thrift) (back : Control) (lower : List Master) where
       -- The end of the body of none of the operations for which these activations wait is next.

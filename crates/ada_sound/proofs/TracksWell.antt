@@ -18,7 +18,6 @@ use Rattle.ada_quiet.specs.InUse.{may_allocate_parts, may_be_frugal, is_copied_i
 use Rattle.ada_quiet.specs.Calm.{are_calm_in, calm_types}
 use Rattle.ada_quiet.specs.Frugal.{barely_ending_types}
 use Rattle.ada_sound.proofs.CalmObjects.{calm_if_bare}
-use Rattle.ada_typed.proofs.Bodies.{TablesFit, tables_in, seen_fits}
 use Rattle.ada_sound.proofs.Callers.{Suspension, known_in}
 use Rattle.ada_sound.proofs.CallsApart.{CallApart}
 use Rattle.ada_sound.proofs.CallsApartRuns.{freed_next_led, no_record_allocated, no_tracker_called}
@@ -60,7 +59,7 @@ copies_at program procedure gs well (inr stand) = subst CopiesWell (sym (same_ty
 abbrev pub CallsApartIn : ProgramForm → Control → Type 0
 CallsApartIn p k = operations_stand_apart p ≡ true → CallApart p.types (calm_types p) (barely_ending_types p) (is_tracker p) false k
 
--- So it is, and where paths lead by variables and followed values alone to all objects that are freed and not calm, those in it do.
+-- So it is, and where components free objects that are not calm only if no operation is called then that calls another one, those in it do.
 abbrev pub StaysApart : ProgramForm → Control → Type 0
 StaysApart p k = (led : Bool) → stand_apart p led ≡ true → CallApart p.types (calm_types p) (barely_ending_types p) (is_tracker p) led k
 
@@ -113,12 +112,12 @@ makes_apart p s apart' access items behind is = by (may_be_frugal p) refl
 
 -- And the records among those items own nothing.
 pub tracked_bare :
-    (program : Program) → IsWellFormed (program_form program) → TracksApart (program_form program) → (own : ProgramForm) → own.types ≡ (program_form program).types → TablesFit own
+    (program : Program) → IsWellFormed (program_form program) → TracksApart (program_form program) → (own : ProgramForm) → own.types ≡ (program_form program).types
     → (s : State) → FreesLed (program_form program).types (touches_in (program_form program)) (ends_barely_in (program_form program)) s.control → CallsApartIn (program_form program) s.control
     → AllocatesBare own (touches_in (program_form program)) (ends_barely_in (program_form program)) s.control
-tracked_bare program well stand own same fit s led apart' =
+tracked_bare program well stand own same s led apart' =
     let p = program_form program in
-    allocates_bare (ends_barely_in p) own fit (subst CopiesWell (sym same) (tracked_well program well stand.1)) s.control
+    allocates_bare (ends_barely_in p) own (subst CopiesWell (sym same) (tracked_well program well stand.1)) s.control
     (λ access items behind is. subst (λ (types : List TypeForm). list_all (is_bare_item types) items ≡ true) (sym same) (bare_next p s stand.0 apart' access items behind is).1)
     (subst (λ (types : List TypeForm). FreesLed types (touches_in p) (ends_barely_in p) s.control) (sym same) led) (makes_apart p s apart')
 
@@ -130,7 +129,7 @@ allocates_at program procedure gs s well (inl none) apart' =
 allocates_at program procedure gs s well (inr stand) apart' =
     let p = program_form program in
     let own = seen_in procedure p in
-    tracked_bare program well stand own (same_types procedure p) (tables_in own (seen_fits p well procedure)) s (frees_next_led program well s.control apart') (apart' false)
+    tracked_bare program well stand own (same_types procedure p) s (frees_next_led program well s.control apart') (apart' false)
 
 -- What is called next tracks nothing.
 pub called_apart : (program : Program) (s : State) (number : ℕ) (b : BodyForm) (actuals : List ActualForm) (k : Control) → s.control ≡ Calls number b actuals ∷ k → TracksSafely (program_form program)

@@ -1,13 +1,15 @@
 -- What holds in every run of a program, whatever its input and whatever is granted and picked.
 
-use Rattle.std.specs.Prelude.{◌≡◌, ◌↔◌, ℕ, suc, ℤ, Bool, true, false, not, ◌&&◌, List, [], ◌∷◌, Option, Some, All, AllPairs}
-use Rattle.std.specs.List.{filter}
+use Rattle.std.specs.Prelude.{◌≡◌, ◌↔◌, ℕ, suc, ℤ, Bool, true, false, not, ◌&&◌, List, [], ◌∷◌, Option, Some, None, All, AllPairs}
+use Rattle.std.specs.List.{filter, list_all}
+use Rattle.ada_program.specs.declared.program.ComponentKind.{ComponentKind}
+use Rattle.ada_program.specs.declared.program.ComponentKind.TheVariants as component
 use Rattle.ada_program.specs.declared.program.Program.{Program}
 use Rattle.ada_text.specs.declared.spot.Spot.{Spot}
 use Rattle.ada_flow.specs.declared.rule.Rule.{Rule}
 use Rattle.ada_program.specs.Form.{declaration_forms, stmt_forms, handler_forms}
 use Rattle.ada_program.specs.ProgramForm.{TypeForm, record_of, access_to, object_of, main_body, program_form, seen_in}
-use Rattle.ada_program.specs.WellFormed.{IsWellFormed}
+use Rattle.ada_program.specs.WellFormed.{IsWellFormed, components_reached, named_in}
 use Rattle.ada_program.specs.Nested.{CollectionsNest}
 use Rattle.ada_program.specs.Freed.{FreesItsOwn}
 use Rattle.ada_deeds.specs.Implicit.{implicit_of}
@@ -24,7 +26,7 @@ use Rattle.ada_meaning.specs.Named.{Object, State, object_at}
 use Rattle.ada_meaning.specs.Run.{Event, Run, Halts, first_state}
 use Rattle.ada_meaning.specs.Law.{IsBackHome, items_of, Falls, MastersFall, GivesBackOf, Happened, IsHoused, HasPool, OwnTwoPools, IsDeclaredPool, IsBack, HasEnded}
 use Rattle.ada_sound.specs.Agreement.{Agrees, Place, Turning, IsFlowAt, IsBehind, IsSpokenOf, running_procedure}
-use Rattle.ada_quiet.specs.InUse.{operations_are_in_use}
+use Rattle.ada_quiet.specs.InUse.{may_be_frugal, operations_are_in_use}
 
 -- Of the events of each run, and the state that it comes to.
 abbrev pub InEveryRun : Program → (List Event → State → Type 0) → Type 0
@@ -45,16 +47,40 @@ spare_own_types implicit n (t ∷ ts) = spares_own_type implicit n t && spare_ow
 abbrev pub SparesOwn : Program → Type 0
 SparesOwn program = spare_own_types (implicit_of (program_form program)) 0 (program_form program).types ≡ true
 
+-- Where an object ends that a component names, no object of the type of this number is reached (7.6.1): the component may lie in one.
+abbrev pub spares_holder : Implicit → (holder : ℕ) → ComponentKind → Bool
+spares_holder implicit t (component.Integer initial) = true
+spares_holder implicit t (component.Boolean initial) = true
+spares_holder implicit t (component.Access access) = not (implicit.end_reaches access.0 t)
+
+-- So it is with each component of the objects of the type, if there are some.
+abbrev pub spare_holder : Implicit → (holder : ℕ) → Option (List ComponentKind) → Bool
+spare_holder implicit t None = true
+spare_holder implicit t (Some components) = list_all (spares_holder implicit t) components
+
+-- So it is with each of these types, from a number on.
+abbrev pub spare_holders : Implicit → List TypeForm → (from : ℕ) → List TypeForm → Bool
+spare_holders implicit types n [] = true
+spare_holders implicit types n (t ∷ ts) =
+    spare_holder implicit n (components_reached types (named_in (Some t))) && spare_holders implicit types (suc n) ts
+
+-- In a program in which a Finalize may touch storage, the end of what a component names reaches no object of a type in which such a component lies: so the
+-- one in which it lies stays as it is.
+abbrev pub SparesHolders : Program → Type 0
+SparesHolders program =
+    may_be_frugal (program_form program) ≡ true
+    → spare_holders (implicit_of (program_form program)) (program_form program).types 0 (program_form program).types ≡ true
+
 -- A program has passed all checks.
 pub record IsChecked (program : Program) : Type 0 where
   -- each number is that of something there, and each form has the types that it wants
   pub well_formed : IsWellFormed (program_form program)
   -- what overrides an operation of a controlled type touches Integers and Booleans alone, and calls nothing, and no exception comes out of Adjust or Finalize
-  -- (7.6); where all that has controlled parts lies in declared objects, or others that are not calm are freed by variables and followed values alone (by the latter only what
-  -- is ended by operations that call none themselves) and
-  -- collections are created in order, Initialize and Finalize may also allocate, move, follow and free, and call what does so alone, and Adjust of a
-  -- type that declares components of access types may allocate, move, follow and free, so that these own what they name, or are null, where no component names an
-  -- object with a part that has such an Adjust; none of these bodies allocates an object with controlled parts, and that of a Finalize alone frees some
+  -- (7.6); where all that has controlled parts lies in declared objects, or others that are not calm are freed by variables, and by components only if the operations
+  -- that end them call none themselves, and collections are created in order, Initialize and Finalize may also allocate, move, follow and free, and call what does
+  -- so alone, and Adjust of a type that declares components of access types may allocate, move, follow and free, so that these own what they name, or are null, where
+  -- no component names an object with a part that has such an Adjust; none of these bodies allocates an object with controlled parts, and that of a Finalize alone
+  -- frees some
   pub in_use : operations_are_in_use (program_form program) ≡ true
   -- no object lies in a collection that lasts longer than one in which its components' objects lie (3.10.2, 7.6.1)
   pub nests : CollectionsNest (program_form program)
@@ -62,6 +88,8 @@ pub record IsChecked (program : Program) : Type 0 where
   pub frees_own : FreesItsOwn (program_form program)
   -- where an object ends, or is adjusted, none of its own access type is freed (7.6.1)
   pub spares_own : SparesOwn program
+  -- where an object ends that a component names, none is reached in which such a component lies (7.6.1)
+  pub spares_holders : SparesHolders program
   -- the flow of values breaks no rule
   pub obeys : ObeysRules program
 
@@ -157,6 +185,7 @@ pub record Breaks (rule : Rule) (program : Program) : Type 0 where
   pub nests : CollectionsNest (program_form program)
   pub frees_own : FreesItsOwn (program_form program)
   pub spares_own : SparesOwn program
+  pub spares_holders : SparesHolders program
   pub spot : Spot
   pub faults_there : program_flow program ≡ faults spot rule
 
@@ -167,6 +196,7 @@ pub record IsIllFormed (program : Program) : Type 0 where
   pub nests : CollectionsNest (program_form program)
   pub frees_own : FreesItsOwn (program_form program)
   pub spares_own : SparesOwn program
+  pub spares_holders : SparesHolders program
   pub obeys : ObeysRules program
 
 -- The program has passed all other checks, but its collections do not nest.
@@ -176,6 +206,7 @@ pub record IsIllNested (program : Program) : Type 0 where
   pub ill_nested : CollectionsNest (program_form program) → ⊥
   pub frees_own : FreesItsOwn (program_form program)
   pub spares_own : SparesOwn program
+  pub spares_holders : SparesHolders program
   pub obeys : ObeysRules program
 
 -- The program has passed all other checks, but it frees by an instance for another access type.
@@ -185,6 +216,7 @@ pub record FreesOthers (program : Program) : Type 0 where
   pub nests : CollectionsNest (program_form program)
   pub frees_others : FreesItsOwn (program_form program) → ⊥
   pub spares_own : SparesOwn program
+  pub spares_holders : SparesHolders program
   pub obeys : ObeysRules program
 
 -- The program is well formed, its collections nest, it frees by the instances for what it frees, and it obeys the rules, but something that overrides an

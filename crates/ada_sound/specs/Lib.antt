@@ -23,6 +23,7 @@ pub mod PoolExamples
 -- the same where operations of controlled types are overridden
 pub mod OperationExamples
 pub mod ReleasingExample
+pub mod UnshelvingExample
 pub mod NestingExample
 -- what the rules let through
 pub mod Owners

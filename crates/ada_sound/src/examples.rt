@@ -22,6 +22,7 @@ ghost use Rattle.ada_sound.specs.CallExamples as call_examples;
 ghost use Rattle.ada_sound.specs.PoolExamples as pool_examples;
 ghost use Rattle.ada_sound.specs.OperationExamples as operation_examples;
 ghost use Rattle.ada_sound.specs.ReleasingExample as releasing_example;
+ghost use Rattle.ada_sound.specs.UnshelvingExample as unshelving_example;
 ghost use Rattle.ada_sound.specs.NestingExample as nesting_example;
 
 /// The laws are not empty: a program is accepted and comes to a statement; it finishes after it has followed an access
@@ -171,6 +172,11 @@ pub fn premises_are_met()
 /// allocated object: Finalize frees the cell, the words of the freed object go back, and then the component is null; the other
 /// object is there until the main procedure is left.
 ///
+/// And one is accepted that frees such an object by a component of a formal parameter (6.4.1, 13.11.2): a declared record object,
+/// without controlled parts, is passed by reference to a procedure that frees what its component names. Finalize frees the cell,
+/// in a master of its own, the words of the freed object go back, and the component of the record object is null, which is there
+/// until the main procedure is left.
+///
 /// And one is accepted whose Finalize frees an object with such a Finalize (7.6.1, 13.11.2): a record object owns an allocated one,
 /// which owns a cell. Where the main procedure is left, Finalize of the record object moves what it owns to a variable and
 /// frees that: the Finalize of the allocated object runs inside, frees the cell, and is left; then the words of that object go
@@ -245,6 +251,12 @@ pub fn operations_are_accepted()
         × (declaration_forms program ≡ releasing_example.releasing_declarations)
         × (stmt_forms program ≡ releasing_example.releasing_stmts)
         × IsChecked program × FinishesAfter releasing_example.releasing_events program }
+    ensures unshelves { (program : Program)
+        × (operations_of program.types.items 0 ≡ operation_examples.tidying_operations)
+        × (body_forms program ≡ unshelving_example.unshelving_bodies)
+        × (declaration_forms program ≡ unshelving_example.unshelving_declarations)
+        × (stmt_forms program ≡ unshelving_example.unshelving_stmts)
+        × IsChecked program × FinishesAfter unshelving_example.unshelving_events program }
     ensures nests { (program : Program)
         × (operations_of program.types.items 0 ≡ operation_examples.tidying_operations)
         × (operations_of program.types.items 1 ≡ nesting_example.keeping_operations)
@@ -370,7 +382,7 @@ pub fn adjusted_records_are_copied()
 /// body changes a record that is gone, or a component that is gone is to get its value back. And no component that owns
 /// what it names is handed over: else it names what a procedure frees that an exception leaves, and the handler follows it.
 ///
-/// So are the other premises, but for `SparesOwn`, of which no program here shows it. A variable relies on values of
+/// So are the other premises, but for `SparesOwn` and `SparesHolders`, of which no program here shows it. A variable relies on values of
 /// its own access type alone: of a program that is not well formed, one of another type names what goes with a block.
 /// And components name what lasts as long as their objects: of a program whose collections do not nest, an object
 /// outlasts what its component names. And a Free is by the instance for the access type of what it frees (13.11.2): of
@@ -378,7 +390,7 @@ pub fn adjusted_records_are_copied()
 /// back to the pool of the other one. And operations are in use: the objects of a collection are finalized in any
 /// order (7.6.1), so a Finalize that frees what a component of its object names may find it gone, and finalizes it
 /// twice; and one that only follows the component comes to an object that is gone. The first of the two breaks S8
-/// besides, and the second one keeps `SparesOwn`.
+/// besides, and the second one keeps `SparesOwn` and `SparesHolders`.
 pub fn rules_are_needed()
     ensures follows { (program : Program) × always.Breaks LostValue program × HaltsSomewhere (Erroneous FollowsGone) program }
     ensures ends { (program : Program) × always.Breaks LostValue program × HaltsSomewhere (Erroneous EndsTwice) program }
@@ -470,6 +482,6 @@ pub fn rules_are_needed()
     ensures follows_gone { (program : Program)
         × (operations_of program.types.items 0 ≡ operation_examples.node_operations)
         × (body_forms program ≡ operation_examples.following_finalize ∷ []) × (stmt_forms program ≡ operation_examples.two_nodes)
-        × always.NotInUse program × always.SparesOwn program
+        × always.NotInUse program × always.SparesOwn program × always.SparesHolders program
         × always.HaltsAfter operation_examples.following_events (Erroneous FollowsGone) program }
 {}

@@ -21,6 +21,7 @@ use Rattle.ada_operations.specs.declared.rule.OperationRule.{OperationRule}
 use Rattle.ada_operations.specs.declared.rule.OperationRule.TheVariants.{FinalizeOrder, MayPropagate, FinalizeAllocates}
 use Rattle.ada_operations.specs.Operations.{HasFault, IsFirstFault as IsFirstOf, rule_number}
 use Rattle.ada_quiet.specs.First.{HasUnused, IsFirst as IsFirstPlace}
+use Rattle.ada_quiet.specs.InUse.{may_be_frugal}
 use Rattle.ada_resolve.specs.declared.fault.NameFault.{NameFault}
 use Rattle.ada_resolve.specs.declared.fault.NameFault.TheVariants as names
 use Rattle.ada_resolve.specs.declared.fault.NameRule.{NameRule}
@@ -29,10 +30,12 @@ use Rattle.ada_flow.specs.declared.fault.FlowFault.{FlowFault}
 use Rattle.ada_flow.specs.declared.fault.FlowFault.TheVariants as flow
 use Rattle.ada_effects.specs.Effects.{Implicit}
 use Rattle.ada_text.specs.Exactly.{Exactly}
+use Rattle.ada_sound.specs.Always.{SparesHolders, spare_holders}
+use Rattle.ada_verdict.specs.declared.fault.UnusedFault.{UnusedFault}
 use Rattle.ada_verdict.specs.declared.fault.UnusedFault.TheVariants as unused
 use Rattle.ada_verdict.specs.declared.fault.Verdict.{Verdict}
 use Rattle.ada_verdict.specs.declared.fault.Verdict.TheVariants as verdict
-use Rattle.ada_verdict.specs.First.{IsSourceOf, IsProgramOf, IsAccepted, IsFirstIn, IsFirst, RefusesRightly, HasFaultOrProgram}
+use Rattle.ada_verdict.specs.First.{IsSourceOf, IsProgramOf, IsAccepted, IsFirstIn, IsFirst, IsFirstUnused, RefusesRightly, HasFaultOrProgram}
 use Rattle.ada_verdict.specs.declared.rules.TheConstants as rules
 use Rattle.ada_verdict.specs.Refusal.{Told, told, rule_text, refusal_of}
 
@@ -168,6 +171,20 @@ no_early tokens text tree syntax source (verdict.Operations f) early b p a = abs
 no_early tokens text tree syntax source (verdict.Unused f) early b p a = absurd (cc early)
 no_early tokens text tree syntax source (verdict.Flow f) early b p a = absurd (cc early)
 
+-- What is first unused obeys the rules of flow.
+unused_obeys : (p : Program) (f : UnusedFault) → IsFirstUnused p f → ObeysRules p
+unused_obeys p (unused.Operation spot) first = first.0
+unused_obeys p unused.Holder first = first.0
+unused_obeys p unused.NoMemory first = first
+
+-- In a program of this form the end of what a component names reaches no object of a type in which such a component lies.
+abbrev SparesHoldersIn : ProgramForm → Type 0
+SparesHoldersIn p = may_be_frugal p ≡ true → spare_holders (implicit_of p) p.types 0 p.types ≡ true
+
+-- Programs that are alike spare alike.
+same_spared : (p q : Program) → program_form p ≡ program_form q → SparesHolders p → SparesHolders q
+same_spared p q same spares = subst SparesHoldersIn same spares
+
 -- A later phase begins with a program.
 late_program : (source : List ℕ) (v : Verdict) → is_late v ≡ true → IsFirst source v → (p : Program) × IsProgramOf source p
 late_program source (verdict.Text f) late a = absurd (cc late)
@@ -255,7 +272,9 @@ no_first tokens text tree syntax source (verdict.Operations (operations.Broken s
     no_broken (program_form b.0) (program_form p) spot rule (one_program tokens tree source b.0 p b.1 a.0) b.2 a.1.0
 no_first tokens text tree syntax source (verdict.Operations operations.NoMemory) b p a = refl
 no_first tokens text tree syntax source (verdict.Unused (unused.Operation spot)) b p a =
-    no_place HasUnused (program_form b.0) (program_form p) spot (one_program tokens tree source b.0 p b.1 a.0) b.2.1.1 a.1.2
+    no_place HasUnused (program_form b.0) (program_form p) spot (one_program tokens tree source b.0 p b.1 a.0) b.2.1.1 a.1.2.0
+no_first tokens text tree syntax source (verdict.Unused unused.Holder) b p a =
+    absurd (b.2.1.2 (same_spared p b.0 (one_program tokens tree source p b.0 a.0 b.1) a.1.2.1))
 no_first tokens text tree syntax source (verdict.Unused unused.NoMemory) b p a = refl
 no_first tokens text tree syntax source (verdict.Flow (flow.Broken spot rule)) b p a =
     obeys_none p spot rule (same_judgement p b.0 (one_program tokens tree source p b.0 a.0 b.1) ∙ b.2.1) a.1.1
@@ -308,12 +327,17 @@ late_one tokens tree source (verdict.Unused f) (verdict.Operations (operations.B
     no_broken (program_form b.0) (program_form a.0) spot rule (one_program tokens tree source b.0 a.0 b.1 a.1) b.2 a.2.0
 late_one tokens tree source (verdict.Unused (unused.Operation spot)) (verdict.Unused (unused.Operation other)) x y a b n m =
     one_place HasUnused (program_form a.0) (program_form b.0) spot other (one_program tokens tree source a.0 b.0 a.1 b.1) a.2.1.1 b.2.1.1 rules.NOT_IN_PROFILE.now
-late_one tokens tree source (verdict.Unused (unused.Operation spot)) (verdict.Flow (flow.Broken other rule)) x y a b n m =
-    obeys_none a.0 other rule (same_judgement a.0 b.0 (one_program tokens tree source a.0 b.0 a.1 b.1) ∙ b.2.1) a.2.1.0
+late_one tokens tree source (verdict.Unused (unused.Operation spot)) (verdict.Unused unused.Holder) x y a b n m =
+    no_place HasUnused (program_form a.0) (program_form b.0) spot (one_program tokens tree source a.0 b.0 a.1 b.1) a.2.1.1 b.2.1.1
+late_one tokens tree source (verdict.Unused unused.Holder) (verdict.Unused (unused.Operation spot)) x y a b n m =
+    no_place HasUnused (program_form b.0) (program_form a.0) spot (one_program tokens tree source b.0 a.0 b.1 a.1) b.2.1.1 a.2.1.1
+late_one tokens tree source (verdict.Unused unused.Holder) (verdict.Unused unused.Holder) x y a b n m = refl
+late_one tokens tree source (verdict.Unused f) (verdict.Flow (flow.Broken other rule)) x y a b n m =
+    obeys_none a.0 other rule (same_judgement a.0 b.0 (one_program tokens tree source a.0 b.0 a.1 b.1) ∙ b.2.1) (unused_obeys a.0 f a.2.1)
 late_one tokens tree source (verdict.Flow f) (verdict.Operations (operations.Broken spot rule)) x y a b n m =
     no_broken (program_form b.0) (program_form a.0) spot rule (one_program tokens tree source b.0 a.0 b.1 a.1) b.2 a.2.0
-late_one tokens tree source (verdict.Flow (flow.Broken other rule)) (verdict.Unused (unused.Operation spot)) x y a b n m =
-    obeys_none b.0 other rule (same_judgement b.0 a.0 (one_program tokens tree source b.0 a.0 b.1 a.1) ∙ a.2.1) b.2.1.0
+late_one tokens tree source (verdict.Flow (flow.Broken other rule)) (verdict.Unused g) x y a b n m =
+    obeys_none b.0 other rule (same_judgement b.0 a.0 (one_program tokens tree source b.0 a.0 b.1 a.1) ∙ a.2.1) (unused_obeys b.0 g b.2.1)
 late_one tokens tree source (verdict.Flow (flow.Broken spot rule)) (verdict.Flow (flow.Broken other another)) x y a b n m =
     breach_one spot other rule another (sym a.2.1 ∙ same_judgement a.0 b.0 (one_program tokens tree source a.0 b.0 a.1 b.1) ∙ b.2.1)
 late_one tokens tree source v (verdict.Operations operations.NoMemory) x y a b n m = absurd (m refl)

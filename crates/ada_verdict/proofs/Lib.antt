@@ -2,3 +2,5 @@
 pub mod Firsts
 -- what ends and adjustments spare
 pub mod Spares
+-- the objects in which components lie
+pub mod SparedHolders

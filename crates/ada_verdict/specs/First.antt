@@ -16,6 +16,7 @@ use Rattle.ada_resolve.specs.Resolution.{Resolves}
 use Rattle.ada_resolve.specs.View.{Faults}
 use Rattle.ada_flow.specs.Flow.{ObeysRules}
 use Rattle.ada_flow.specs.Told.{IsFirstFault as IsFirstFlowFault}
+use Rattle.ada_sound.specs.Always.{SparesHolders}
 use Rattle.ada_verdict.specs.declared.fault.UnusedFault.{UnusedFault}
 use Rattle.ada_verdict.specs.declared.fault.UnusedFault.TheVariants as unused
 use Rattle.ada_verdict.specs.declared.fault.Verdict.{Verdict}
@@ -38,10 +39,11 @@ pub record IsProgramOf (source : List ℕ) (program : Program) : Type 0 where
 abbrev pub OperationsObey : Program → Type 0
 OperationsObey program = IsFirstOf (program_form program) None
 
--- Each operation is in use: Initialize is plain or, where it may be, frugal, Adjust is quiet, or, of a type that declares a component of an access type, simple and
--- silent, where it may track, and Finalize is quiet or, where it may be, frugal and silent.
+-- Each operation is in use: Initialize is plain or, where it may be, frugal, Adjust is quiet, or, of a type that declares a component of an access type, simple
+-- and silent, where it may track, and Finalize is quiet or, where it may be, frugal and silent. And where an object ends that a component names, none is reached
+-- in which such a component lies.
 abbrev pub OperationsAreInUse : Program → Type 0
-OperationsAreInUse program = IsFirstNotInUse (program_form program) None
+OperationsAreInUse program = IsFirstNotInUse (program_form program) None × SparesHolders program
 
 -- Nothing is wrong with a program, by the phases behind names: its operations obey their rules, it obeys the rules of flow, where what operations may
 -- do that are called implicitly counts, and its operations are in use.
@@ -57,9 +59,10 @@ abbrev pub IsFirstBroken : Program → OperationFault → Type 0
 IsFirstBroken program (operations.Broken spot rule) = IsFirstOf (program_form program) (Some (spot, rule))
 IsFirstBroken program operations.NoMemory = Unit {0}
 
--- The first operation that is not in use, where the rules of flow are obeyed.
+-- The first operation that is not in use, where the rules of flow are obeyed; or none is, but an end may reach an object in which such a component lies.
 abbrev pub IsFirstUnused : Program → UnusedFault → Type 0
 IsFirstUnused program (unused.Operation spot) = ObeysRules program × IsFirstNotInUse (program_form program) (Some spot)
+IsFirstUnused program unused.Holder = ObeysRules program × IsFirstNotInUse (program_form program) None × (SparesHolders program → ⊥)
 IsFirstUnused program unused.NoMemory = ObeysRules program
 
 -- The first fault of a program, behind names: that of the first phase that has one.

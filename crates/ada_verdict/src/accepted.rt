@@ -1,6 +1,6 @@
 //! The checker: one phase after another, and the program that it accepts.
 
-ghost use Rattle.std.specs.Prelude.{◌≡◌, true, IfOk, IfErr};
+ghost use Rattle.std.specs.Prelude.{◌≡◌, ◌⊎◌, true, IfOk, IfErr};
 ghost use Rattle.ada_deeds.specs.Implicit.{implicit_of};
 ghost use Rattle.ada_effects.specs.Found.{implicit_in};
 ghost use Rattle.ada_flow.specs.Flow.{ObeysRules};
@@ -11,11 +11,13 @@ ghost use Rattle.ada_program.specs.Nested.{CollectionsNest};
 ghost use Rattle.ada_program.specs.ProgramForm.{program_form};
 ghost use Rattle.ada_program.specs.WellFormed.{IsWellFormed};
 ghost use Rattle.ada_quiet.specs.InUse.{operations_are_in_use};
-ghost use Rattle.ada_sound.specs.Always.{IsChecked};
+ghost use Rattle.ada_sound.specs.Always.{IsChecked, SparesHolders};
 ghost use Rattle.ada_tree.specs.StatementView.{unit_of};
+ghost use Rattle.ada_verdict.specs.declared.fault.UnusedFault.TheVariants as unused;
 ghost use Rattle.ada_verdict.specs.First.{HasNoFault, IsAccepted, IsFirst, IsFirstIn, IsFirstUnused, IsProgramOf, IsSourceOf, OperationsAreInUse, RefusesRightly};
 
 use crate::fault::{UnusedFault, Verdict};
+use crate::holders::spare_holders;
 use crate::laws::accepted_sources_have_no_fault;
 use ada_effects::Implicit;
 use ada_flow::{FlowFault, flow};
@@ -23,7 +25,7 @@ use ada_operations::laws::ends_spare_their_own;
 use ada_operations::operations;
 use ada_parser::parse;
 use ada_program::Program;
-use ada_quiet::first_unused;
+use ada_quiet::{first_unused, may_be_frugal};
 use ada_resolve::resolve;
 use ada_sound::laws::rules_imply_safety;
 use ada_tree::unit::Unit;
@@ -109,11 +111,12 @@ fn judge(alloc: Global, program: &Program) -> Result<(), Verdict>
     requires { IsWellFormed (program_form program.now) }
     ensures fine { IfOk result (λ _. HasNoFault program.now) }
     ensures in_use { IfOk result (λ _. operations_are_in_use (program_form program.now) ≡ true) }
+    ensures holders { IfOk result (λ _. SparesHolders program.now) }
     ensures refused { IfErr result (λ verdict. IsFirstIn program.now verdict) }
 {
     let implicit = operations(alloc, program)?;
     obey(alloc, program, &implicit)?;
-    use_all(alloc, program)?;
+    use_all(alloc, program, &implicit)?;
     Ok(())
 }
 
@@ -130,19 +133,37 @@ fn obey(alloc: Global, program: &Program, implicit: &Implicit) -> Result<(), Flo
 }
 
 /// Each operation is in use: Initialize is plain or, where it may be, frugal, Adjust is quiet, or, of a type that declares a component
-/// of an access type, simple and silent, where it may track, and Finalize is quiet or, where it may be, frugal and silent.
+/// of an access type, simple and silent, where it may track, and Finalize is quiet or, where it may be, frugal and silent. And where an
+/// object ends that a component names, none is reached in which such a component lies.
 ///
 /// # Errors
-/// The first one that is not, or want of memory.
-fn use_all(alloc: Global, program: &Program) -> Result<(), UnusedFault>
-    requires { ObeysRules program.now }
+/// The first one that is not, or that an object may be reached so, or want of memory.
+fn use_all(alloc: Global, program: &Program, implicit: &Implicit) -> Result<(), UnusedFault>
+    requires obeys { ObeysRules program.now }
+    requires known { implicit_in implicit.now ≡ implicit_of (program_form program.now) }
     ensures used { IfOk result (λ _. OperationsAreInUse program.now) }
     ensures in_use { IfOk result (λ _. operations_are_in_use (program_form program.now) ≡ true) }
     ensures refused { IfErr result (λ fault. IsFirstUnused program.now fault) }
 {
     match first_unused(alloc, program)? {
         Some(spot) => Err(UnusedFault::Operation(spot)),
-        None => Ok(()),
+        None => hold_still(alloc, program, implicit),
+    }
+}
+
+/// Where an object ends that a component names, none is reached in which such a component lies, if a Finalize may touch storage.
+///
+/// # Errors
+/// That one may be reached, or want of memory.
+fn hold_still(alloc: Global, program: &Program, implicit: &Implicit) -> Result<(), UnusedFault>
+    requires { implicit_in implicit.now ≡ implicit_of (program_form program.now) }
+    ensures spared { IfOk result (λ _. SparesHolders program.now) }
+    ensures refused { IfErr result (λ fault. (fault ≡ unused.Holder × (SparesHolders program.now → ⊥)) ⊎ fault ≡ unused.NoMemory) }
+{
+    if spare_holders(&program.types, implicit) || !may_be_frugal(alloc, program)? {
+        Ok(())
+    } else {
+        Err(UnusedFault::Holder)
     }
 }
 

@@ -8,6 +8,7 @@
 
 mod accepted;
 mod fault;
+mod holders;
 pub mod laws;
 mod refusal;
 pub mod rules;

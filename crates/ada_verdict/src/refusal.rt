@@ -88,7 +88,8 @@ fn unused_refusal(fault: &UnusedFault) -> Option<Refusal>
     ensures { shown_if result ≡ printed.unused_told fault.now }
 {
     match fault {
-        UnusedFault::Operation(spot) => { refused(*spot, rules::NOT_IN_PROFILE) }
+        UnusedFault::Operation(spot) => refused(*spot, rules::NOT_IN_PROFILE),
+        UnusedFault::Holder => refused(START, rules::NOT_IN_PROFILE),
         UnusedFault::NoMemory => None,
     }
 }

@@ -1,10 +1,11 @@
--- By thirteen programs and their runs.
+-- By fourteen programs and their runs.
 use Rattle.ada_sound.proofs.ExampleOperations as operations
 use Rattle.ada_sound.proofs.ExampleTidying as tidying
 use Rattle.ada_sound.proofs.ExampleOverwriting as overwriting
 use Rattle.ada_sound.proofs.ExampleEmptying as emptying
 use Rattle.ada_sound.proofs.ExampleBoxing as boxing
 use Rattle.ada_sound.proofs.ExampleReleasing as releasing
+use Rattle.ada_sound.proofs.ExampleUnshelving as unshelving
 use Rattle.ada_sound.proofs.ExampleNesting as nesting
 use Rattle.ada_sound.proofs.ExampleAllocating as allocating
 use Rattle.ada_sound.proofs.ExampleUndoing as undoing
@@ -72,6 +73,15 @@ returns c = record {
     releasing.releasing_does,
     releasing.releasing_accepted,
     releasing.releases,
+  );
+  unshelves = (
+    unshelving.unshelving,
+    unshelving.unshelving_overrides,
+    unshelving.unshelving_has,
+    unshelving.unshelving_declares,
+    unshelving.unshelving_does,
+    unshelving.unshelving_accepted,
+    unshelving.unshelves,
   );
   nests = (
     nesting.nesting,

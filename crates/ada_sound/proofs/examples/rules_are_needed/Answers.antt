@@ -138,5 +138,6 @@ returns-clause-follows_gone c = (
   operations.following_form,
   operations.following_not_in_use,
   operations.following_spares,
+  operations.following_spares_holders,
   operations.follows_gone,
 )

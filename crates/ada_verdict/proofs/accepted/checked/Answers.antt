@@ -18,6 +18,7 @@ invariant_of-result c = record {
   nests = c.in_ok-program.ensures.nests;
   frees_own = c.in_ok-program.ensures.frees_own;
   spares_own = all_spare c.ends_spare_their_own.ensures (program_form c.in_ok-program.program) c.in_ok-judge.ensures.fine.0;
+  spares_holders = c.in_ok-judge.ensures.holders;
   obeys = c.in_ok-judge.ensures.fine.1;
 }
 
@@ -28,5 +29,6 @@ returns-clause-sound c = record {
   nests = c.in_ok-program.ensures.nests;
   frees_own = c.in_ok-program.ensures.frees_own;
   spares_own = all_spare c.ends_spare_their_own.ensures (program_form c.in_ok-program.program) c.in_ok-judge.ensures.fine.0;
+  spares_holders = c.in_ok-judge.ensures.holders;
   obeys = c.in_ok-judge.ensures.fine.1;
 }
