@@ -143,7 +143,7 @@ abbrev pub watches : List TypeForm → Option Watch → (access : ℕ) → Bool
 watches types None t = false
 watches types (Some w) t = is_access types w.is.cell.access && (w.is.cell.access == t)
 
--- Else it is a record object that is declared, which no value names.
+-- Else it is a record object that is declared, which no access value names, and no variable or operand of the bodies that are called.
 abbrev pub is_unnamed : List TypeForm → Option Watch → Id → Bool
 is_unnamed types None o = false
 is_unnamed types (Some w) o = not (is_access types w.is.cell.access) && is_watched (Some w) o

@@ -223,7 +223,7 @@ module _ (program : Program) (a : Activation Value) (rest : List (Activation Val
         -- The end of the object reaches none of the type of what is watched, in which a component lies that names it.
         apart : (implicit_of p).end_reaches access w.is.cell.access ≡ false
         apart =
-            holder_spared p spares w.is.cell.access c access
+            holder_spared (implicit_of p) p.types spares w.is.cell.access c access
             (subst (λ (types : List TypeForm). component_access types w.is c ≡ Some access) (same_types a.procedure p) holds)
 
         -- The procedures that it calls are among some whose bodies neither follow nor free values of that type, if it is an access type.
@@ -234,7 +234,7 @@ module _ (program : Program) (a : Activation Value) (rest : List (Activation Val
         shunned : (among : ℕ → Bool) × AreApart p (watches p.types (Some w)) among × (body_shuns p.types (watches p.types (Some w)) among b ≡ true)
         shunned = shunned_by (is_access p.types w.is.cell.access)
 
-        -- What is watched is there: it is of that type, or no value names it.
+        -- What is watched is there: it is of that type, or a record object that is declared.
         ghost_by : (accessed : Bool) → is_access p.types w.is.cell.access ≡ accessed → (q : Id) → is_watched (Some w) q ≡ true
             → IsGhost p.types (λ t. accessed && (w.is.cell.access == t)) (not accessed && is_watched (Some w) q) (object_at heap q)
         ghost_by true is q same = record {

@@ -5,6 +5,7 @@ use Rattle.std.specs.List.{filter, list_all}
 use Rattle.ada_program.specs.declared.program.ComponentKind.{ComponentKind}
 use Rattle.ada_program.specs.declared.program.ComponentKind.TheVariants as component
 use Rattle.ada_program.specs.declared.program.Program.{Program}
+use Rattle.ada_program.specs.declared.program.TypeNo.{TypeNo}
 use Rattle.ada_text.specs.declared.spot.Spot.{Spot}
 use Rattle.ada_flow.specs.declared.rule.Rule.{Rule}
 use Rattle.ada_program.specs.Form.{declaration_forms, stmt_forms, handler_forms}
@@ -25,6 +26,7 @@ use Rattle.ada_meaning.specs.Beginning.{BeginsStatement}
 use Rattle.ada_meaning.specs.Named.{Object, State, object_at}
 use Rattle.ada_meaning.specs.Run.{Event, Run, Halts, first_state}
 use Rattle.ada_meaning.specs.Law.{IsBackHome, items_of, Falls, MastersFall, GivesBackOf, Happened, IsHoused, HasPool, OwnTwoPools, IsDeclaredPool, IsBack, HasEnded}
+use Rattle.ada_scopes.specs.Scopes.{HoldsNames}
 use Rattle.ada_sound.specs.Agreement.{Agrees, Place, Turning, IsFlowAt, IsBehind, IsSpokenOf, running_procedure}
 use Rattle.ada_quiet.specs.InUse.{may_be_frugal, operations_are_in_use}
 
@@ -47,13 +49,13 @@ spare_own_types implicit n (t ∷ ts) = spares_own_type implicit n t && spare_ow
 abbrev pub SparesOwn : Program → Type 0
 SparesOwn program = spare_own_types (implicit_of (program_form program)) 0 (program_form program).types ≡ true
 
--- Where an object ends that a component names, no object of the type of this number is reached (7.6.1): the component may lie in one.
+-- Where an object ends that a component names, no value of the access type of this number is followed or freed (7.6.1): the component may lie in one of its objects.
 abbrev pub spares_holder : Implicit → (holder : ℕ) → ComponentKind → Bool
 spares_holder implicit t (component.Integer initial) = true
 spares_holder implicit t (component.Boolean initial) = true
 spares_holder implicit t (component.Access access) = not (implicit.end_reaches access.0 t)
 
--- So it is with each component of the objects of the type, if there are some.
+-- So it is with each component of the objects of the type, if there are some. No value of a type is followed by which a record object is known.
 abbrev pub spare_holder : Implicit → (holder : ℕ) → Option (List ComponentKind) → Bool
 spare_holder implicit t None = true
 spare_holder implicit t (Some components) = list_all (spares_holder implicit t) components
@@ -64,12 +66,19 @@ spare_holders implicit types n [] = true
 spare_holders implicit types n (t ∷ ts) =
     spare_holder implicit n (components_reached types (named_in (Some t))) && spare_holders implicit types (suc n) ts
 
--- In a program in which a Finalize may touch storage, the end of what a component names reaches no object of a type in which such a component lies: so the
--- one in which it lies stays as it is.
+-- In a program in which a Finalize may touch storage, the end of what a component names reaches no access type whose objects have such a component: so the object in
+-- which it lies stays as it is.
 abbrev pub SparesHolders : Program → Type 0
 SparesHolders program =
     may_be_frugal (program_form program) ≡ true
     → spare_holders (implicit_of (program_form program)) (program_form program).types 0 (program_form program).types ≡ true
+
+-- That is told exactly: of each component of the objects of each type.
+abbrev pub HoldersAreTold : Type 0
+HoldersAreTold =
+    (implicit : Implicit) (types : List TypeForm)
+    → (spare_holders implicit types 0 types ≡ true)
+    ↔ ((holder c : ℕ) (t : TypeNo) → HoldsNames types holder c t → implicit.end_reaches t.0 holder ≡ false)
 
 -- A program has passed all checks.
 pub record IsChecked (program : Program) : Type 0 where
@@ -88,7 +97,7 @@ pub record IsChecked (program : Program) : Type 0 where
   pub frees_own : FreesItsOwn (program_form program)
   -- where an object ends, or is adjusted, none of its own access type is freed (7.6.1)
   pub spares_own : SparesOwn program
-  -- where an object ends that a component names, none is reached in which such a component lies (7.6.1)
+  -- where a Finalize may touch storage, the end of what a component names reaches no access type whose objects have such a component (7.6.1)
   pub spares_holders : SparesHolders program
   -- the flow of values breaks no rule
   pub obeys : ObeysRules program

@@ -116,6 +116,12 @@ pub fn rules_imply_safety()
     ensures { (program : Program) → IsChecked program → Safe program }
 {}
 
+/// The premise on holders, the objects in which components lie, says exactly this (7.6.1): of whatever type a component of the
+/// objects of another type is, the end of an object of the former follows and frees no value of the latter.
+pub fn holders_are_told()
+    ensures { always.HoldersAreTold }
+{}
+
 /// The rules let Free through only where the variable owns what it names, or holds null (13.11.2); it owns nothing
 /// after.
 pub fn only_owners_are_freed()

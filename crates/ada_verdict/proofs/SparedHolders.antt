@@ -19,6 +19,7 @@ split implicit types n [] i lt = absurd (omega (arith, lt))
 split implicit types n (t ∷ rest) zero lt = refl
 split implicit types n (t ∷ rest) (suc i) lt = split implicit types n rest i (omega (arith, lt))
 
+-- What is so of the types from a number on is so of the one of that number, and of those behind it.
 spare_more : (implicit : Implicit) (types : List TypeForm) (n : ℕ) → n < length types →
     spare_from implicit types n ≡ (spare_holder implicit n (reached_components types n) && spare_from implicit types (suc n))
 spare_more implicit types n lt = split implicit types n types n lt

@@ -40,8 +40,8 @@ abbrev pub OperationsObey : Program → Type 0
 OperationsObey program = IsFirstOf (program_form program) None
 
 -- Each operation is in use: Initialize is plain or, where it may be, frugal, Adjust is quiet, or, of a type that declares a component of an access type, simple
--- and silent, where it may track, and Finalize is quiet or, where it may be, frugal and silent. And where an object ends that a component names, none is reached
--- in which such a component lies.
+-- and silent, where it may track, and Finalize is quiet or, where it may be, frugal and silent. And where one may touch storage, the end of what a
+-- component names reaches no access type whose objects have such a component.
 abbrev pub OperationsAreInUse : Program → Type 0
 OperationsAreInUse program = IsFirstNotInUse (program_form program) None × SparesHolders program
 
@@ -59,7 +59,8 @@ abbrev pub IsFirstBroken : Program → OperationFault → Type 0
 IsFirstBroken program (operations.Broken spot rule) = IsFirstOf (program_form program) (Some (spot, rule))
 IsFirstBroken program operations.NoMemory = Unit {0}
 
--- The first operation that is not in use, where the rules of flow are obeyed; or none is, but an end may reach an object in which such a component lies.
+-- The first operation that is not in use, where the rules of flow are obeyed; or each is in use, but the end of what a component names may reach a
+-- holder of such a component.
 abbrev pub IsFirstUnused : Program → UnusedFault → Type 0
 IsFirstUnused program (unused.Operation spot) = ObeysRules program × IsFirstNotInUse (program_form program) (Some spot)
 IsFirstUnused program unused.Holder = ObeysRules program × IsFirstNotInUse (program_form program) None × (SparesHolders program → ⊥)

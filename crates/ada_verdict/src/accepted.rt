@@ -133,11 +133,11 @@ fn obey(alloc: Global, program: &Program, implicit: &Implicit) -> Result<(), Flo
 }
 
 /// Each operation is in use: Initialize is plain or, where it may be, frugal, Adjust is quiet, or, of a type that declares a component
-/// of an access type, simple and silent, where it may track, and Finalize is quiet or, where it may be, frugal and silent. And where an
-/// object ends that a component names, none is reached in which such a component lies.
+/// of an access type, simple and silent, where it may track, and Finalize is quiet or, where it may be, frugal and silent. And where one
+/// may touch storage, the end of what a component names reaches no access type whose objects have such a component.
 ///
 /// # Errors
-/// The first one that is not, or that an object may be reached so, or want of memory.
+/// The first one that is not, or that the end of what a component names may reach a holder of such a component, or want of memory.
 fn use_all(alloc: Global, program: &Program, implicit: &Implicit) -> Result<(), UnusedFault>
     requires obeys { ObeysRules program.now }
     requires known { implicit_in implicit.now ≡ implicit_of (program_form program.now) }
@@ -147,15 +147,19 @@ fn use_all(alloc: Global, program: &Program, implicit: &Implicit) -> Result<(), 
 {
     match first_unused(alloc, program)? {
         Some(spot) => Err(UnusedFault::Operation(spot)),
-        None => hold_still(alloc, program, implicit),
+        None => spare_all_holders(alloc, program, implicit),
     }
 }
 
-/// Where an object ends that a component names, none is reached in which such a component lies, if a Finalize may touch storage.
+/// Where a Finalize may touch storage, the end of what a component names reaches no access type whose objects have such a component.
 ///
 /// # Errors
-/// That one may be reached, or want of memory.
-fn hold_still(alloc: Global, program: &Program, implicit: &Implicit) -> Result<(), UnusedFault>
+/// That it may reach one, or want of memory.
+fn spare_all_holders(
+    alloc: Global,
+    program: &Program,
+    implicit: &Implicit,
+) -> Result<(), UnusedFault>
     requires { implicit_in implicit.now ≡ implicit_of (program_form program.now) }
     ensures spared { IfOk result (λ _. SparesHolders program.now) }
     ensures refused { IfErr result (λ fault. (fault ≡ unused.Holder × (SparesHolders program.now → ⊥)) ⊎ fault ≡ unused.NoMemory) }
