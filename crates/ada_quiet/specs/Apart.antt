@@ -1,17 +1,15 @@
 -- Operations of controlled types stand apart: nothing calls a procedure that overrides an Adjust which tracks components, and it overrides no other operation (7.6); and no
 -- allocator gives values to the components of an object with controlled parts, or copies a record with some (4.8): so each such object that is allocated is
--- initialized by default. And paths to such objects that are freed (13.11.2).
+-- initialized by default.
 
-use Rattle.std.specs.Prelude.{ℕ, Bool, true, false, ◌&&◌, ◌||◌, not, ◌==◌, List, [], ◌∷◌, Option, Some, None, is_some}
+use Rattle.std.specs.Prelude.{ℕ, Bool, true, false, ◌&&◌, ◌||◌, not, ◌==◌, List, Option, Some, None, is_some}
 use Rattle.std.specs.List.{list_all, list_any}
 use Rattle.ada_program.specs.declared.program.Finalization.{Finalization}
 use Rattle.ada_program.specs.declared.program.ProcedureNo.{ProcedureNo}
-use Rattle.ada_program.specs.Form.{PathForm, ItemForm, null_item, item_of_path, item_of_value, item_of_record, RightForm, nothing, value_of, allocates, allocates_default, computes, StmtForm, skips, assigns, assigns_record, frees, gets, writes, writes_text, chooses, repeats, counts, exits, calls, returns, raises, encloses, StmtsForm, no_stmts, a_stmt, BranchesForm, otherwise, a_branch, HandlersForm, no_handlers, a_handler, DeclarationForm, creates_pool, collects, declares, declares_record}
+use Rattle.ada_program.specs.Form.{ItemForm, null_item, item_of_path, item_of_value, item_of_record, RightForm, nothing, value_of, allocates, allocates_default, computes, StmtForm, skips, assigns, assigns_record, frees, gets, writes, writes_text, chooses, repeats, counts, exits, calls, returns, raises, encloses, StmtsForm, no_stmts, a_stmt, BranchesForm, otherwise, a_branch, HandlersForm, no_handlers, a_handler, DeclarationForm, creates_pool, collects, declares, declares_record}
 use Rattle.ada_program.specs.ProgramForm.{TypeForm, BodyForm, ProgramForm, main_body}
 use Rattle.ada_program.specs.WellFormed.{finalization_in, finalization_of}
 use Rattle.ada_quiet.specs.Bare.{has_bare_objects}
-use Rattle.ada_quiet.specs.Calm.{calm_types, has_calm_objects}
-use Rattle.ada_quiet.specs.Frugal.{barely_ending_types}
 use Rattle.ada_quiet.specs.Quiet.{has_access}
 
 -- What overrides an operation, if one is overridden, is this procedure.
@@ -54,31 +52,15 @@ declares_apart types (declares_record x t initial) = true
 abbrev pub declare_apart : List TypeForm → List DeclarationForm → Bool
 declare_apart types ds = list_all (declares_apart types) ds
 
--- A path is a variable (4.1).
-abbrev pub is_variable : (selectors : List ℕ) → Bool
-is_variable [] = true
-is_variable (c ∷ cs) = false
-
--- A path leads to what is freed as a variable, or as a component, and the operations that end the object call none themselves.
-abbrev pub leads_barely : PathForm → (barely : Bool) → Bool
-leads_barely path barely = is_variable path.selectors || barely
-
--- Where paths lead so to all objects that are freed (13.11.2) for which an operation may be called that touches storage, this one does, or none may be called for
--- its object: that is calm.
-abbrev pub frees_led : (led : Bool) → PathForm → (calm barely : Bool) → Bool
-frees_led led path calm barely = not led || (leads_barely path barely || calm)
-
--- Of each record type with controlled parts, by its number among these, whether it is calm, and whether the operations that end its objects call none themselves; of
--- each procedure, whether it tracks; and whether objects that are not calm are freed by components only if the operations that end them call none themselves.
-module _ (types : List TypeForm) (calm barely : List Bool) (tracks : ℕ → Bool) (led : Bool) where
+-- Of each procedure, whether it tracks.
+module _ (types : List TypeForm) (tracks : ℕ → Bool) where
   abbrev mutual
-    -- A statement calls no procedure that tracks (6.4), and its allocator with items makes no object with controlled parts and copies no record with some (4.8). If
-    -- components may free objects that are not calm only where the operations that end these call none themselves, it frees no other one by a component (13.11.2).
+    -- A statement calls no procedure that tracks (6.4), and its allocator with items makes no object with controlled parts and copies no record with some (4.8).
     pub calls_apart : StmtForm → Bool
     calls_apart skips = true
     calls_apart (assigns target right) = is_bare_right types right
     calls_apart (assigns_record target items) = true
-    calls_apart (frees access path) = frees_led led path (has_calm_objects types calm access) (has_calm_objects types barely access)
+    calls_apart (frees access path) = true
     calls_apart (gets target) = true
     calls_apart (writes e) = true
     calls_apart (writes_text text) = true
@@ -107,9 +89,9 @@ module _ (types : List TypeForm) (calm barely : List Bool) (tracks : ℕ → Boo
     handlers_call_apart (a_handler choices fs hs) = all_call_apart fs && handlers_call_apart hs
 
 -- So it is with a body.
-abbrev pub body_calls_apart : List TypeForm → (calm barely : List Bool) → (tracks : ℕ → Bool) → (led : Bool) → BodyForm → Bool
-body_calls_apart types calm barely tracks led b =
-    declare_apart types b.declarations && all_call_apart types calm barely tracks led b.statements && handlers_call_apart types calm barely tracks led b.handlers
+abbrev pub body_calls_apart : List TypeForm → (tracks : ℕ → Bool) → BodyForm → Bool
+body_calls_apart types tracks b =
+    declare_apart types b.declarations && all_call_apart types tracks b.statements && handlers_call_apart types tracks b.handlers
 
 -- What overrides an operation, if one is overridden, does not track.
 abbrev pub overrides_apart : (tracks : ℕ → Bool) → Option ProcedureNo → Bool
@@ -122,18 +104,9 @@ operations_apart tracks owns None = true
 operations_apart tracks owns (Some f) =
     overrides_apart tracks f.operations.initialize && (owns || overrides_apart tracks f.operations.adjust) && overrides_apart tracks f.operations.finalize
 
--- No body calls what tracks, and that overrides nothing else; and no allocator with items makes an object with controlled parts, or copies a record with some. Those
--- that are not calm are freed by variables, and by components only if the operations that end them call none themselves, where that is asked.
-abbrev pub stand_apart : ProgramForm → (led : Bool) → Bool
-stand_apart p led =
-    body_calls_apart p.types (calm_types p) (barely_ending_types p) (is_tracker p) led (main_body p)
-    && list_all (body_calls_apart p.types (calm_types p) (barely_ending_types p) (is_tracker p) led) p.bodies
-    && list_all (λ t. operations_apart (is_tracker p) (has_access (Some t)) (finalization_in (Some t))) p.types
-
--- Operations stand apart in a program, whatever frees objects with controlled parts.
+-- Operations stand apart in a program: no body calls what tracks, and that overrides nothing else; and no allocator with items makes an object with controlled parts, or
+-- copies a record with some.
 abbrev pub operations_stand_apart : ProgramForm → Bool
-operations_stand_apart p = stand_apart p false
-
--- So they do, and objects that are not calm are freed by variables, and by components only if the operations that end them call none themselves.
-abbrev pub parts_are_led : ProgramForm → Bool
-parts_are_led p = stand_apart p true
+operations_stand_apart p =
+    body_calls_apart p.types (is_tracker p) (main_body p) && list_all (body_calls_apart p.types (is_tracker p)) p.bodies
+    && list_all (λ t. operations_apart (is_tracker p) (has_access (Some t)) (finalization_in (Some t))) p.types

@@ -7,11 +7,8 @@ use Rattle.std.specs.List.{list_all, slice_get, slice_index_or}
 use Rattle.ada_program.specs.Form.{StmtForm, skips, assigns, assigns_record, frees, gets, writes, writes_text, chooses, repeats, counts, exits, calls, returns, raises, encloses, StmtsForm, no_stmts, a_stmt, BranchesForm, otherwise, a_branch, HandlersForm, no_handlers, a_handler, DeclarationForm, creates_pool, collects, declares, declares_record}
 use Rattle.ada_program.specs.declared.program.ProcedureNo.{ProcedureNo}
 use Rattle.ada_program.specs.ProgramForm.{TypeForm, BodyForm, ProgramForm}
-use Rattle.ada_program.specs.declared.program.Finalization.{Finalization}
-use Rattle.ada_program.specs.WellFormed.{finalization_in, finalization_of}
+use Rattle.ada_program.specs.WellFormed.{finalization_of}
 use Rattle.ada_quiet.specs.Bare.{has_bare_objects, allocates_bare}
-use Rattle.ada_quiet.specs.Calm.{calm_by}
-use Rattle.ada_quiet.specs.Quiet.{is_quiet_operation}
 use Rattle.ada_effects.specs.Effects.{Effects, no_implicit, effects_of, body_raises}
 
 -- A declaration is that of a variable (3.3.1), and what that is given at first is no new object with controlled parts: no record object, no collection and no pool
@@ -112,12 +109,3 @@ is_silent_procedure effects (Some b) = is_silent_body effects b
 abbrev pub is_silent_operation : ProgramForm → Option ProcedureNo → Bool
 is_silent_operation p None = true
 is_silent_operation p (Some procedure) = is_silent_procedure (own_effects p) (slice_get p.bodies procedure.0)
-
--- What overrides Finalize of a type is quiet, or it is frugal and frees no object with controlled parts: so it calls no operation.
-abbrev pub ends_barely : ProgramForm → Option Finalization → Bool
-ends_barely p None = true
-ends_barely p (Some f) = is_quiet_operation p f.operations.finalize || is_frugal_operation p false f.operations.finalize
-
--- Of the record types of a program with controlled parts, by their numbers among these, whether that is so of each record that lies in an object of the type.
-abbrev pub barely_ending_types : ProgramForm → List Bool
-barely_ending_types p = calm_by (λ t. ends_barely p (finalization_in (Some t))) p.types

@@ -13,7 +13,7 @@ use Rattle.ada_quiet.specs.Bare.{collections_in_order}
 use Rattle.ada_quiet.specs.Calm.{names_no_trackers}
 use Rattle.ada_quiet.specs.Frugal.{is_frugal_operation, is_silent_operation}
 use Rattle.ada_quiet.specs.Simple.{is_simple_operation}
-use Rattle.ada_quiet.specs.Apart.{operations_stand_apart, parts_are_led}
+use Rattle.ada_quiet.specs.Apart.{operations_stand_apart}
 use Rattle.ada_quiet.specs.Idle.{makes_parts, copies_parts}
 
 -- A type designates no record type with controlled parts (3.10, 7.6), if it is an access type.
@@ -26,17 +26,12 @@ designates_no_parts types (object_of record_type) = true
 abbrev pub allocates_no_parts : ProgramForm → Bool
 allocates_no_parts p = list_all (designates_no_parts p.types) p.types
 
--- Objects with controlled parts may be allocated beside operations that touch storage, where those that are not calm are freed by variables, and by components only if
--- the operations that end them call none themselves, and collections are created in order: no object that is not calm, and none that goes later, has a component
--- that names what goes with it or before it where a master is left (7.6.1).
-abbrev pub may_allocate_parts : ProgramForm → Bool
-may_allocate_parts p = collections_in_order p && parts_are_led p
-
--- An Initialize and a Finalize may be frugal in a program that allocates no object with controlled parts, or may allocate some beside them, and whose operations
--- stand apart: so an Initialize is called where an object is declared or allocated (7.6), and a Finalize where an object's master is left, an exception comes out
--- of the initialization of one (7.6.1), another record is assigned to it, or a variable or a component is freed that names it (13.11.2).
+-- An Initialize and a Finalize may be frugal in a program that allocates no object with controlled parts, or whose collections are created in order: where a master is
+-- left, no object that is not calm, and none that goes later, has a component that names what goes with it or before it (7.6.1). And operations stand apart: so an
+-- Initialize is called where an object is declared or allocated (7.6), and a Finalize where an object's master is left, an exception comes out of the initialization of
+-- one (7.6.1), another record is assigned to it, or a variable or a component is freed that names it (13.11.2).
 abbrev pub may_be_frugal : ProgramForm → Bool
-may_be_frugal p = (allocates_no_parts p || may_allocate_parts p) && operations_stand_apart p
+may_be_frugal p = (allocates_no_parts p || collections_in_order p) && operations_stand_apart p
 
 -- How many components there are, if they are those of something.
 abbrev pub count_found : Option (List ComponentKind) → ℕ

@@ -1,8 +1,6 @@
 //! Where the operations of controlled types stand apart (7.6): no body calls the procedures that override an Adjust which tracks
 //! components (6.4), and they override no other operation; and no allocator gives values to the components of an object with
-//! controlled parts, or copies a record with some (4.8): so each such object that is allocated is initialized by default. And where
-//! those of them that are not calm are freed by variables (13.11.2), and by components only if the operations that end them call none
-//! themselves.
+//! controlled parts, or copies a record with some (4.8): so each such object that is allocated is initialized by default.
 
 ghost use Rattle.std.specs.Prelude.{◌≡◌, ◌&&◌, ◌||◌, ◌==◌, ℕ, Some, IfOk, OnOk, map};
 ghost use Rattle.std.specs.List.{list_all};
@@ -15,11 +13,8 @@ ghost use Rattle.ada_quiet.specs.Known.{is_marked};
 ghost use Rattle.ada_quiet.specs.Quiet.{has_access};
 
 use crate::bare::has_bare_objects;
-use crate::barely::barely_ending_types;
-use crate::calm::{calm_types, has_calm_objects};
 use crate::marks::{has_mark, mark};
 use crate::operations::have_access;
-use crate::paths::frees_led;
 use ada_program::parts::finalization_of;
 use ada_program::program::{
     Branch, Declaration, Finalization, Handler, Item, Procedure, Right, TypeDefinition,
@@ -149,83 +144,61 @@ fn declare_apart(types: &[TypeDefinition], declarations: &[Declaration]) -> bool
     true
 }
 
-/// What is asked of the statements of a program.
-#[derive(Clone, Copy)]
-struct Asked<'a> {
-    /// The types of the program.
-    types: &'a [TypeDefinition],
-    /// Of each record type with controlled parts, by its number among these, whether it is calm.
-    calm: &'a [bool],
-    /// Of each of these, whether its objects are ended by operations that call none themselves.
-    barely: &'a [bool],
-    /// Of each procedure, by its number, whether it is marked: none that is may be called.
-    marks: &'a [bool],
-    /// Whether objects that are not calm are freed by components only if the operations that end them call none themselves (13.11.2).
-    led: bool,
-}
-
 /// Whether a statement calls no procedure that is marked (6.4), and its allocator with items makes no object with controlled parts and
-/// copies no record with some (4.8). If components may free objects that are not calm only where the operations that end these call none
-/// themselves, it frees no other one by a component (13.11.2).
+/// copies no record with some (4.8).
 #[cycle(statements)]
 #[tactic(auto, using(std::proofs::lemmas::Grind::common_steps, ada_program::specs::Form::statement_rules))]
-fn calls_apart(asked: Asked<'_>, statement: &Stmt) -> bool
-    ensures { result ≡ rules.calls_apart (types_in asked.entry.types.now) asked.entry.calm.now asked.entry.barely.now
-        (is_marked asked.entry.marks.now) asked.entry.led (stmt_form statement.now) }
+fn calls_apart(types: &[TypeDefinition], marks: &[bool], statement: &Stmt) -> bool
+    ensures { result ≡ rules.calls_apart (types_in types.now) (is_marked marks.now) (stmt_form statement.now) }
 {
     match statement {
         Stmt::Null
         | Stmt::AssignRecord { .. }
+        | Stmt::Free { .. }
         | Stmt::Get(_)
         | Stmt::PutImage(_)
         | Stmt::PutText(_)
         | Stmt::Exit { .. }
         | Stmt::Return(_)
         | Stmt::Raise(_) => true,
-        Stmt::Assign { target: _, value } => is_bare_right(asked.types, value),
-        Stmt::Free { access, path } => {
-            let calm = has_calm_objects(asked.types, asked.calm, *access);
-            let barely = has_calm_objects(asked.types, asked.barely, *access);
-            frees_led(asked.led, path, calm, barely)
-        }
+        Stmt::Assign { target: _, value } => is_bare_right(types, value),
         Stmt::Call {
             procedure,
             actuals: _,
-        } => !has_mark(asked.marks, procedure.0),
+        } => !has_mark(marks, procedure.0),
         Stmt::If {
             branches,
             otherwise,
-        } => branches_call_apart(asked, branches) && all_call_apart(asked, otherwise),
+        } => branches_call_apart(types, marks, branches) && all_call_apart(types, marks, otherwise),
         Stmt::Loop {
             condition: _,
             statements,
             end: _,
-        } => all_call_apart(asked, statements),
+        } => all_call_apart(types, marks, statements),
         Stmt::For {
             parameter: _,
             first: _,
             last: _,
             statements,
             end: _,
-        } => all_call_apart(asked, statements),
+        } => all_call_apart(types, marks, statements),
         Stmt::Block {
             declarations,
             statements,
             handlers,
-        } => declare_apart(asked.types, declarations)
-            && all_call_apart(asked, statements)
-            && handlers_call_apart(asked, handlers),
+        } => declare_apart(types, declarations)
+            && all_call_apart(types, marks, statements)
+            && handlers_call_apart(types, marks, handlers),
     }
 }
 
 /// Whether that is so with statements.
 #[cycle(statements)]
-fn all_call_apart(asked: Asked<'_>, statements: &[Stmt]) -> bool
-    ensures { result ≡ rules.all_call_apart (types_in asked.entry.types.now) asked.entry.calm.now asked.entry.barely.now
-        (is_marked asked.entry.marks.now) asked.entry.led (stmts_form statements.now) }
+fn all_call_apart(types: &[TypeDefinition], marks: &[bool], statements: &[Stmt]) -> bool
+    ensures { result ≡ rules.all_call_apart (types_in types.now) (is_marked marks.now) (stmts_form statements.now) }
 {
     'statements: for statement in statements {
-        if !calls_apart(asked, statement) {
+        if !calls_apart(types, marks, statement) {
             return false;
         }
     }
@@ -234,17 +207,12 @@ fn all_call_apart(asked: Asked<'_>, statements: &[Stmt]) -> bool
 
 /// Whether that is so with branches (5.3).
 #[cycle(statements)]
-fn branches_call_apart(asked: Asked<'_>, branches: &[Branch]) -> bool
-    ensures { let types = types_in asked.entry.types.now in
-        let calm = asked.entry.calm.now in
-        let barely = asked.entry.barely.now in
-        let tracks = is_marked asked.entry.marks.now in
-        let led = asked.entry.led in
-        (others : StmtsForm) → rules.branches_call_apart types calm barely tracks led (branches_form branches.now others)
-        ≡ (result && rules.all_call_apart types calm barely tracks led others) }
+fn branches_call_apart(types: &[TypeDefinition], marks: &[bool], branches: &[Branch]) -> bool
+    ensures { (others : StmtsForm) → rules.branches_call_apart (types_in types.now) (is_marked marks.now) (branches_form branches.now others)
+        ≡ (result && rules.all_call_apart (types_in types.now) (is_marked marks.now) others) }
 {
     'branches: for branch in branches {
-        if !all_call_apart(asked, &branch.statements) {
+        if !all_call_apart(types, marks, &branch.statements) {
             return false;
         }
     }
@@ -253,12 +221,11 @@ fn branches_call_apart(asked: Asked<'_>, branches: &[Branch]) -> bool
 
 /// Whether that is so with handlers (11.2).
 #[cycle(statements)]
-fn handlers_call_apart(asked: Asked<'_>, handlers: &[Handler]) -> bool
-    ensures { result ≡ rules.handlers_call_apart (types_in asked.entry.types.now) asked.entry.calm.now asked.entry.barely.now
-        (is_marked asked.entry.marks.now) asked.entry.led (handlers_form handlers.now) }
+fn handlers_call_apart(types: &[TypeDefinition], marks: &[bool], handlers: &[Handler]) -> bool
+    ensures { result ≡ rules.handlers_call_apart (types_in types.now) (is_marked marks.now) (handlers_form handlers.now) }
 {
     'handlers: for handler in handlers {
-        if !all_call_apart(asked, &handler.statements) {
+        if !all_call_apart(types, marks, &handler.statements) {
             return false;
         }
     }
@@ -266,18 +233,17 @@ fn handlers_call_apart(asked: Asked<'_>, handlers: &[Handler]) -> bool
 }
 
 /// Whether that is so with the bodies of these procedures. Linear in the bodies.
-fn bodies_call_apart(asked: Asked<'_>, procedures: &[Procedure]) -> bool
-    ensures { result ≡ list_all (rules.body_calls_apart (types_in asked.entry.types.now) asked.entry.calm.now asked.entry.barely.now
-        (is_marked asked.entry.marks.now) asked.entry.led) (map body_form procedures.now) }
+fn bodies_call_apart(types: &[TypeDefinition], marks: &[bool], procedures: &[Procedure]) -> bool
+    ensures { result ≡ list_all (rules.body_calls_apart (types_in types.now) (is_marked marks.now)) (map body_form procedures.now) }
 {
     'procedures: for procedure in procedures {
-        if !declare_apart(asked.types, &procedure.declarations) {
+        if !declare_apart(types, &procedure.declarations) {
             return false;
         }
-        if !all_call_apart(asked, &procedure.statements) {
+        if !all_call_apart(types, marks, &procedure.statements) {
             return false;
         }
-        if !handlers_call_apart(asked, &procedure.handlers) {
+        if !handlers_call_apart(types, marks, &procedure.handlers) {
             return false;
         }
     }
@@ -285,13 +251,12 @@ fn bodies_call_apart(asked: Asked<'_>, procedures: &[Procedure]) -> bool
 }
 
 /// Whether that is so with the main procedure's body. Linear in the body.
-fn main_calls_apart(asked: Asked<'_>, program: &Program) -> bool
-    ensures { result ≡ rules.body_calls_apart (types_in asked.entry.types.now) asked.entry.calm.now asked.entry.barely.now
-        (is_marked asked.entry.marks.now) asked.entry.led (main_body (program_form program.now)) }
+fn main_calls_apart(marks: &[bool], program: &Program) -> bool
+    ensures { let p = program_form program.now in result ≡ rules.body_calls_apart p.types (is_marked marks.now) (main_body p) }
 {
-    declare_apart(asked.types, &program.declarations)
-        && all_call_apart(asked, &program.statements)
-        && handlers_call_apart(asked, &program.handlers)
+    declare_apart(&program.types, &program.declarations)
+        && all_call_apart(&program.types, marks, &program.statements)
+        && handlers_call_apart(&program.types, marks, &program.handlers)
 }
 
 /// Whether what overrides an operation is not marked, if one is overridden.
@@ -347,66 +312,26 @@ fn are_apart(marks: &[bool], types: &[TypeDefinition]) -> bool
 }
 
 /// Whether what is marked stands apart in a program: no body calls it, and it overrides nothing but Adjust of types that declare such a
-/// component; and no allocator with items makes an object with controlled parts, or copies a record with some. Those that are not calm
-/// are freed by variables, and by components only if the operations that end them call none themselves, where that is asked.
-fn marked_stand_apart(
-    calm: &[bool],
-    barely: &[bool],
-    marks: &[bool],
-    program: &Program,
-    led: bool,
-) -> bool
+/// component; and no allocator with items makes an object with controlled parts, or copies a record with some.
+fn marked_stand_apart(marks: &[bool], program: &Program) -> bool
     ensures { let p = program_form program.now in
-        let calls_apart = rules.body_calls_apart p.types calm.now barely.now (is_marked marks.now) led in
         let tracks = is_marked marks.now in
-        result ≡ (calls_apart (main_body p) && list_all calls_apart p.bodies
+        result ≡ (rules.body_calls_apart p.types tracks (main_body p) && list_all (rules.body_calls_apart p.types tracks) p.bodies
         && list_all (λ t. rules.operations_apart tracks (has_access (Some t)) (finalization_in (Some t))) p.types) }
 {
-    let asked = Asked {
-        types: &program.types,
-        calm,
-        barely,
-        marks,
-        led,
-    };
-    main_calls_apart(asked, program)
-        && bodies_call_apart(asked, &program.procedures)
+    main_calls_apart(marks, program)
+        && bodies_call_apart(&program.types, marks, &program.procedures)
         && are_apart(marks, &program.types)
 }
 
-/// Whether no body calls what tracks, and that overrides nothing else; and no allocator with items makes an object with controlled parts,
-/// or copies a record with some. Those that are not calm are freed by variables, and by components only if the operations that end them
-/// call none themselves, where that is asked. Linear in the types, their components, and all bodies.
-///
-/// # Errors
-/// `AllocError` where memory was refused.
-fn stand_apart(alloc: Global, program: &Program, led: bool) -> Result<bool, AllocError>
-    ensures { IfOk result (λ answer. answer ≡ rules.stand_apart (program_form program.now) led) }
-{
-    let calm = calm_types(alloc, program)?;
-    let barely = barely_ending_types(alloc, program)?;
-    let marks = trackers(alloc, program)?;
-    Ok(marked_stand_apart(&calm, &barely, &marks, program, led))
-}
-
-/// Whether operations stand apart in a program, whatever frees objects with controlled parts. Linear in the types, their components, and
-/// all bodies.
+/// Whether operations stand apart in a program: no body calls what tracks, and that overrides nothing else; and no allocator with items
+/// makes an object with controlled parts, or copies a record with some. Linear in the types, their components, and all bodies.
 ///
 /// # Errors
 /// `AllocError` where memory was refused.
 pub(crate) fn operations_stand_apart(alloc: Global, program: &Program) -> Result<bool, AllocError>
     ensures { IfOk result (λ answer. answer ≡ rules.operations_stand_apart (program_form program.now)) }
 {
-    stand_apart(alloc, program, false)
-}
-
-/// Whether they do, and objects that are not calm are freed by variables, and by components only if the operations that end them call none
-/// themselves. Linear in the types, their components, and all bodies.
-///
-/// # Errors
-/// `AllocError` where memory was refused.
-pub(crate) fn parts_are_led(alloc: Global, program: &Program) -> Result<bool, AllocError>
-    ensures { IfOk result (λ answer. answer ≡ rules.parts_are_led (program_form program.now)) }
-{
-    stand_apart(alloc, program, true)
+    let marks = trackers(alloc, program)?;
+    Ok(marked_stand_apart(&marks, program))
 }

@@ -20,15 +20,16 @@
 //! parts.
 //!
 //! An Initialize and a Finalize may be frugal in a program in which no access type designates a record type with controlled parts, so that
-//! these lie in declared objects alone. They may be frugal, too, in one whose access types designate such record types, if two things hold
-//! of the objects that are not calm. An object is calm, if no operation that touches storage may be called for it, or for a part of it,
-//! where it begins or ends: each Initialize is plain, and each Finalize is quiet. The other objects are freed by variables (13.11.2), and
-//! by components only if the operations that end them call none themselves: each Finalize is quiet, or frees no object with controlled
-//! parts. Components may own them before: so, while an object is finalized that is freed, no component names it but the one that frees it,
-//! if one does. And where the objects of a collection are not calm, neither they nor the objects of an older collection have a component
-//! of their access type, or of one whose collection is created later in the text (7.6.1): then, where a master is left and newer
-//! collections go before older ones, they are finalized while each component still names what is there. Nothing of this is asked of calm
-//! objects: no operation follows a component while one of them is finalized. `may_be_frugal` tells whether a program is such a one.
+//! these lie in declared objects alone. They may be frugal, too, in one whose access types designate such record types, if its collections
+//! are created in order: where the objects of one are not calm, neither they nor the objects of an older collection have a component of
+//! their access type, or of one whose collection is created later in the text (7.6.1). Then, where a master is left and newer collections
+//! go before older ones, they are finalized while each component still names what is there. An object is calm, if no operation that
+//! touches storage may be called for it, or for a part of it, where it begins or ends: each Initialize is plain, and each Finalize is
+//! quiet. No operation follows a component while such an object is finalized. `may_be_frugal` tells whether a program is such a one.
+//!
+//! Variables and components free objects (13.11.2), whatever runs where these end. While an object is finalized that is freed, no component
+//! names it but the one that frees it, if one does; and nothing that runs there comes to the object in which that component lies
+//! (`SparesHolders`, which `ada_verdict` asks of a program besides).
 //!
 //! In all these programs operations are to stand apart. No procedure that overrides an Adjust of a type with a component of an access
 //! type, declared in it directly, is called or overrides another operation: so it runs nowhere else. And no allocator gives values to
@@ -54,7 +55,6 @@
 
 mod apart;
 mod bare;
-mod barely;
 mod bodies;
 mod calm;
 mod collections;
@@ -67,7 +67,6 @@ pub mod laws;
 mod marks;
 mod numbered;
 mod operations;
-mod paths;
 mod simple;
 mod statements;
 mod tracking;

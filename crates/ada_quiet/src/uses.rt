@@ -6,7 +6,7 @@ ghost use Rattle.ada_quiet.specs.First as first;
 ghost use Rattle.ada_quiet.specs.InUse as rules;
 ghost use Rattle.ada_quiet.specs.Known.{IsKnown};
 
-use crate::apart::{operations_stand_apart, parts_are_led};
+use crate::apart::operations_stand_apart;
 use crate::collections::collections_in_order;
 use crate::known::Known;
 use crate::operations::{
@@ -44,21 +44,8 @@ fn allocates_no_parts(program: &Program) -> bool
     true
 }
 
-/// Whether objects with controlled parts may be allocated beside operations that touch storage: those that are not calm are freed by
-/// variables, and by components only if the operations that end them call none themselves; and collections are created in order: neither
-/// such objects nor those of an older collection have a component of their access type, or of one whose collection is created later.
-/// Linear in the types, their components, and all bodies.
-///
-/// # Errors
-/// `AllocError` where memory was refused.
-fn may_allocate_parts(alloc: Global, program: &Program) -> Result<bool, AllocError>
-    ensures { IfOk result (λ answer. answer ≡ rules.may_allocate_parts (program_form program.now)) }
-{
-    Ok(collections_in_order(alloc, program)? && parts_are_led(alloc, program)?)
-}
-
-/// Whether an Initialize and a Finalize may be frugal in a program: no object with controlled parts is allocated, or each may be, and
-/// operations stand apart. Linear in the types, their components, and all bodies.
+/// Whether an Initialize and a Finalize may be frugal in a program: no object with controlled parts is allocated, or collections are
+/// created in order, and operations stand apart. Linear in the types, their components, and all bodies.
 ///
 /// # Errors
 /// `AllocError` where memory was refused.
@@ -66,7 +53,7 @@ pub fn may_be_frugal(alloc: Global, program: &Program) -> Result<bool, AllocErro
     ensures { IfOk result (λ answer. answer ≡ rules.may_be_frugal (program_form program.now)) }
 {
     Ok(
-        (allocates_no_parts(program) || may_allocate_parts(alloc, program)?)
+        (allocates_no_parts(program) || collections_in_order(alloc, program)?)
             && operations_stand_apart(alloc, program)?,
     )
 }

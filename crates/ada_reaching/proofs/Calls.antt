@@ -4,6 +4,7 @@ use Rattle.std.proofs.Common.{◌≡◌, ℕ, Bool, true, ◌++◌, List, [], �
 use Rattle.std.specs.List.{list_all, slice_get}
 use Rattle.std.proofs.lemmas.Bool.{and_parts}
 use Rattle.ada_program.specs.declared.program.Exception.TheVariants.{ConstraintError}
+use Rattle.ada_program.specs.declared.program.TypeDefinition.{TypeDefinition}
 use Rattle.ada_program.specs.declared.program.VariableKind.{VariableKind}
 use Rattle.ada_program.specs.Form.{ActualForm, in_value, in_null, in_access, in_record, in_out_path, in_out_access, in_out_component, in_out_record}
 use Rattle.ada_program.specs.ProgramForm.{BodyForm, ProgramForm, seen_in}
@@ -86,13 +87,14 @@ module _ (w : World) where
 
   -- The bodies go on as a call comes.
   pub call_goes :
-      AreApart w.p w.shuns w.apart → (procedure : ℕ) (actuals : List ActualForm) (found : Option BodyForm) (s : State) → slice_get w.p.bodies procedure ≡ found
-      → list_all (actual_shuns w.p.types w.shuns w.apart (variables_in w)) actuals ≡ true → w.apart procedure ≡ true
+      (tds : List TypeDefinition) → AreApart w.p tds w.shuns w.apart → (procedure : ℕ) (actuals : List ActualForm) (found : Option BodyForm) (s : State)
+      → slice_get w.p.bodies procedure ≡ found → list_all (actual_shuns w.p.types w.shuns w.apart (variables_in w)) actuals ≡ true
+      → w.apart.calls procedure ≡ true
       → Goes w s (call_next named procedure actuals found s)
-  call_goes are_apart procedure actuals None s is shun apart r h anew = tt
-  call_goes are_apart procedure actuals (Some b) s is shun apart r h anew =
+  call_goes tds are_apart procedure actuals None s is shun apart r h anew = tt
+  call_goes tds are_apart procedure actuals (Some b) s is shun apart r h anew =
       let k = frame.Calls procedure b actuals ∷ s.control in
-      let front = computing_left actuals k shun (((is, are_apart procedure b apart is), anew, h), refl) in
+      let front = computing_left actuals k shun (((is, are_apart.bodies procedure b apart is), anew, h), refl) in
       stays w (at (computing named actuals k) s) r front.0 front.1
 
   -- The bodies go on as a record is referred to.

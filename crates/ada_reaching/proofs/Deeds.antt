@@ -6,6 +6,7 @@ use Rattle.std.specs.List.{list_all, slice_get}
 use Rattle.std.proofs.lemmas.Bool.{and_from, and_parts, or_parts, cases_Bool, cases_lt, eq-eqb, lt-ltb, false_from_ne_true}
 use Rattle.std.proofs.lemmas.Option.{slice_get_past}
 use Rattle.ada_program.specs.declared.program.Exception.TheVariants.{EndError}
+use Rattle.ada_program.specs.declared.program.TypeDefinition.{TypeDefinition}
 use Rattle.ada_program.specs.declared.program.VariableKind.{VariableKind}
 use Rattle.ada_program.specs.declared.program.VariableKind.TheVariants as variable
 use Rattle.ada_program.specs.Form.{PathForm, RecordPathForm, ActualForm, in_value, in_null, in_access, in_record, in_out_path, in_out_access, in_out_component, in_out_record, ExpressionForm, integer, boolean, reads, is_null, applied_to, chained, LinksForm, no_more_links, a_link, ItemForm, null_item, item_of_path, item_of_value, item_of_record, RightForm, nothing, value_of, allocates, allocates_default, computes, DeclarationForm, creates_pool, collects, declares, declares_record, StmtForm, skips, assigns, assigns_record, frees, gets, writes, writes_text, chooses, repeats, counts, exits, calls, returns, raises, encloses, StmtsForm, no_stmts, a_stmt, BranchesForm, otherwise, a_branch, HandlersForm, no_handlers, a_handler}
@@ -24,7 +25,8 @@ use Rattle.ada_deeds.specs.Within.{does_by}
 use Rattle.ada_deeds.proofs.Naming.{KindFits, variable_fits_kind, path_fits_kind}
 use Rattle.ada_deeds.proofs.Within.{counts_are_enough}
 use Rattle.ada_typed.proofs.Bodies.{SeenFits, seen_as, seen_fits}
-use Rattle.ada_reaching.specs.Forms.{may_follow, selectors_shun, path_shuns, record_path_shuns, expression_shuns, links_shun, condition_shuns, item_shuns, right_shuns, actual_shuns, declaration_shuns, declarations_shun, statement_shuns, statements_shun, branches_shun, handlers_shun}
+use Rattle.ada_reaching.specs.Apart.{Apart}
+use Rattle.ada_reaching.specs.Forms.{may_end, may_follow, selectors_shun, path_shuns, record_path_shuns, expression_shuns, links_shun, condition_shuns, item_shuns, right_shuns, actual_shuns, declaration_shuns, declarations_shun, statement_shuns, statements_shun, branches_shun, handlers_shun}
 use Rattle.ada_reaching.specs.Law.{AreApart}
 use Rattle.ada_reaching.specs.Deeds.{AreShaped, UseNone, UnusedObjectsAreUntouched}
 use Rattle.ada_reaching.proofs.Law.{shunned_untouched}
@@ -69,7 +71,7 @@ selected_fits types types_fit (Some (variable.Record object)) c fits =
     path_fits_kind types types_fit (of_kind (variable.Record object) ∷ []) (and_from _ true (and_from _ true fits refl) refl) (component_path true c)
 
 -- Of a program's types, some are shunned.
-module _ (types : List TypeForm) (shuns apart : ℕ → Bool) where
+module _ (types : List TypeForm) (shuns : ℕ → Bool) (apart : Apart) where
   -- An access type that is shunned.
   abbrev is_shunned : (access : ℕ) → Bool
   is_shunned t = shuns t && is_access types t
@@ -320,14 +322,15 @@ module _ (types : List TypeForm) (shuns apart : ℕ → Bool) where
         statement_idle (frees access path) shape none =
             let leads = path_shuns types shuns apart variables path in
             let may = may_follow shuns (path_kind types variables path) in
+            let ends = may_end apart (path_kind types variables path) in
             let shapes =
-            and_parts (path_shuns types (λ t. false) apart variables path && may_follow (λ t. false) (path_kind types variables path)) (has_bare_objects types access) shape in
+            and_parts (path_shuns types (λ t. false) apart variables path && may_follow (λ t. false) (path_kind types variables path)) ends shape in
             let own = path_access types variables path in
             let names = λ (d : Deed). path_does types variables d path in
             let freed = λ (d : Deed). freeing_does d own in
             let ended = λ (d : Deed). parts_do (known d) Finalize (designated_by types own) in
             let both = first is_use (λ d. names d || freed d) ended none in
-            and_from (leads && may) (has_bare_objects types access)
+            and_from (leads && may) ends
             (and_from leads may (path_idle path (first is_use names freed both)) (led_unused path (frees_none own (second is_use names freed both)))) shapes.1
         statement_idle (gets target) shape none =
             path_idle target (second is_use (λ d. is_raising EndError d) (λ d. path_does types variables d target) none)
@@ -354,10 +357,10 @@ module _ (types : List TypeForm) (shuns apart : ℕ → Bool) where
             (statements_idle fs shapes.1 (second is_use (λ d. from d || to d) inside none))
         statement_idle (exits condition spot) shape none = condition_idle condition none
         statement_idle (calls procedure actuals) shape none =
-            let shapes = and_parts (list_all (actual_shuns types (λ t. false) apart variables) actuals) (apart procedure) shape in
+            let shapes = and_parts (list_all (actual_shuns types (λ t. false) apart variables) actuals) (apart.calls procedure) shape in
             let given = λ (d : Deed). actuals_do types variables d actuals in
             let called = λ (d : Deed). procedure_does (known d) procedure in
-            and_from (list_all (actual_shuns types shuns apart variables) actuals) (apart procedure)
+            and_from (list_all (actual_shuns types shuns apart variables) actuals) (apart.calls procedure)
             (actuals_unused actuals (follows_none given (first is_use given called none))) shapes.1
         statement_idle (returns spot) shape none = refl
         statement_idle (raises e) shape none = refl
@@ -409,7 +412,7 @@ module _ (types : List TypeForm) (shuns apart : ℕ → Bool) where
           → NoneOf is_use (master_does b.declarations b.statements b.handlers) → master_shuns shuns b.declarations b.statements b.handlers ≡ true
       body_idle b = master_from b.declarations b.statements b.handlers (statements_idle b.statements) (handlers_idle b.handlers)
 
-module _ (p : ProgramForm) (shuns apart : ℕ → Bool) (unused : UseNone p shuns apart) where
+module _ (p : ProgramForm) (shuns : ℕ → Bool) (apart : Apart) (unused : UseNone p shuns apart) where
   -- What the body of a procedure does, by what is known of its calls, the procedure does.
   body_done :
       (d : Deed) (procedure : ℕ) (b : BodyForm) → is_deed_of p d ≡ true → slice_get p.bodies procedure ≡ Some b → body_does p.types (does_by p d) d b ≡ true
@@ -419,7 +422,7 @@ module _ (p : ProgramForm) (shuns apart : ℕ → Bool) (unused : UseNone p shun
 
   -- So the body of one of these procedures follows and frees no value of the types.
   body_uses_none :
-      (procedure : ℕ) (b : BodyForm) → apart procedure ≡ true → slice_get p.bodies procedure ≡ Some b
+      (procedure : ℕ) (b : BodyForm) → apart.calls procedure ≡ true → slice_get p.bodies procedure ≡ Some b
       → NoneOf (is_use p.types shuns apart) (λ d. body_does p.types (does_by p d) d b)
   body_uses_none procedure b among is (deed.Raises e) asked = absurd (cc asked)
   body_uses_none procedure b among is (deed.Frees t) asked =
@@ -433,13 +436,17 @@ module _ (p : ProgramForm) (shuns apart : ℕ → Bool) (unused : UseNone p shun
   body_uses_none procedure b among is deed.Allocates asked = absurd (cc asked)
 
   -- So the bodies of these procedures shun the types.
-  pub unused_apart : IsWellFormed p → AreShaped p apart → AreApart p shuns apart
-  unused_apart well shaped procedure b among is =
-      let fits = subst (λ (own : ProgramForm). SeenFits own) (seen_as p procedure b is) (seen_fits p well (Some procedure)) in
-      body_idle p.types shuns apart b.variables well.types_fit fits.variables_fit (does_by p) b (shaped procedure b among is)
-      (body_uses_none procedure b among is)
+  pub unused_apart : (definitions : List TypeDefinition) → IsWellFormed p → AreShaped p definitions apart → AreApart p definitions shuns apart
+  unused_apart definitions well shaped = record {
+    own = shaped.own;
+    bodies = λ procedure b among is.
+        let fits = subst (λ (own : ProgramForm). SeenFits own) (seen_as p procedure b is) (seen_fits p well (Some procedure)) in
+        body_idle p.types shuns apart b.variables well.types_fit fits.variables_fit (does_by p) b (shaped.bodies procedure b among is)
+        (body_uses_none procedure b among is);
+    operations = shaped.operations;
+  }
 
 -- The law.
 pub unused_untouched : UnusedObjectsAreUntouched
 unused_untouched program well input events s run shuns apart shaped unused =
-    shunned_untouched program well input events s run shuns apart (unused_apart (program_form program) shuns apart unused well shaped)
+    shunned_untouched program well input events s run shuns apart (unused_apart (program_form program) shuns apart unused program.types.items well shaped)

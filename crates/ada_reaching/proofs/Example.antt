@@ -1,16 +1,18 @@
 -- A procedure calls another one, which assigns to a component of an object: the name of another one, of an access type that both bodies shun. Or it copies a
--- record that holds that name. Or it follows that name.
+-- record that holds that name. Or it frees an object of which a part is finalized. Or it follows that name.
 
 use Rattle.std.proofs.Common.{◌≡◌, ◌≢◌, ◌<◌, ◌≤◌, ◌⊎◌, ℕ, zero, suc, ◌+◌, Bool, false, true, ◌==◌, ◌||◌, List, [], ◌∷◌, ◌++◌, arith, refl, sym, ap, ◌∙◌, subst, inl, inr}
-use Rattle.std.specs.Prelude.{Option, Some, None, pos}
+use Rattle.std.specs.Prelude.{Option, Some, None, if◌then◌else◌, pos}
 use Rattle.std.specs.List.{slice_get}
-use Rattle.std.proofs.lemmas.Bool.{eqb-true}
+use Rattle.std.proofs.lemmas.Bool.{eqb-true, or_cases}
 use Rattle.ada_values.specs.declared.value.Value.TheVariants as scalar
+use Rattle.ada_parts.specs.Task.{Task}
 use Rattle.ada_program.specs.declared.program.Actual.TheVariants as actual
 use Rattle.ada_program.specs.declared.program.ComponentKind.{ComponentKind}
 use Rattle.ada_program.specs.declared.program.ComponentKind.TheVariants as kind
 use Rattle.ada_program.specs.declared.program.Declaration.TheVariants as declaration
 use Rattle.ada_program.specs.declared.program.Expression.{Integer}
+use Rattle.ada_program.specs.declared.program.Finalization.{Finalization}
 use Rattle.ada_program.specs.declared.program.FormalMode.TheVariants as mode
 use Rattle.ada_program.specs.declared.program.Item.TheVariants as item
 use Rattle.ada_program.specs.declared.program.Part.{Part}
@@ -26,9 +28,10 @@ use Rattle.ada_program.specs.declared.program.TypeDefinition.{TypeDefinition}
 use Rattle.ada_program.specs.declared.program.TypeDefinition.TheVariants as definition
 use Rattle.ada_program.specs.declared.program.Variable.{Variable}
 use Rattle.ada_program.specs.declared.program.VariableKind.TheVariants as variable
+use Rattle.ada_program.specs.Controlled.{operations_by, operations_of, procedure_number}
 use Rattle.ada_program.specs.Form.{expression_form, stmt_form}
-use Rattle.ada_program.specs.ProgramForm.{BodyForm, ProgramForm, body_form, program_form}
-use Rattle.ada_program.specs.WellFormed.{IsWellFormed}
+use Rattle.ada_program.specs.ProgramForm.{BodyForm, ProgramForm, TypeForm, body_form, program_form}
+use Rattle.ada_program.specs.WellFormed.{IsWellFormed, is_access}
 use Rattle.ada_deeds.specs.declared.deed.Callee.{Callee}
 use Rattle.ada_deeds.specs.declared.deed.Callee.TheVariants as callee
 use Rattle.ada_deeds.specs.declared.deed.Deed.{Deed}
@@ -41,17 +44,18 @@ use Rattle.ada_meaning.specs.declared.state.Id.{Id}
 use Rattle.ada_meaning.specs.declared.state.Stage.TheVariants.{Existing}
 use Rattle.ada_meaning.specs.declared.state.Value.{Value}
 use Rattle.ada_meaning.specs.declared.state.Value.TheVariants.{Null, Names, Scalar}
-use Rattle.ada_meaning.specs.Frame.{Frame}
+use Rattle.ada_meaning.specs.Frame.{Frame, Treatment}
 use Rattle.ada_meaning.specs.Frame as frame
 use Rattle.ada_meaning.specs.Named.{Object, object_at, next}
 use Rattle.ada_meaning.specs.Records.{component_at, component_in, IsCopied}
 use Rattle.ada_meaning.specs.Run.{settled, grants, here, there}
 use Rattle.ada_typed.proofs.Example.{vec, no_name, spot, parts}
+use Rattle.ada_reaching.specs.Apart.{Apart, whole}
 use Rattle.ada_reaching.specs.Forms.{body_shuns}
 use Rattle.ada_reaching.specs.Deeds.{AreShaped, DoesFollow, UseNone}
 use Rattle.ada_reaching.specs.Law.{AreApart}
 use Rattle.ada_reaching.specs.Reaching.{IsOfShunned, IsDeclared, IsGhost, none_unnamed}
-use Rattle.ada_reaching.specs.Example.{CopyIsMet, PremiseIsMet, PremiseIsNeeded}
+use Rattle.ada_reaching.specs.Example.{CopyIsMet, FinalizationIsMet, PremiseIsMet, PremiseIsNeeded}
 
 -- What the components of Link hold, Value : Integer := 0 and Next : Near,
 abbrev components : List ComponentKind
@@ -196,49 +200,60 @@ follows_well = record {
 abbrev shuns : ℕ → Bool
 shuns access = access == 1
 
--- They call the first procedure alone,
-abbrev apart : ℕ → Bool
-apart procedure = procedure == 0
+-- They call the first procedure alone, and free no object with controlled parts,
+abbrev apart : List TypeDefinition → Apart
+apart definitions = record { calls = λ procedure. procedure == 0; ends = λ access. false; definitions = definitions }
 
--- whose body does so.
-calls_first :
-    (p : ProgramForm) (own : BodyForm) → slice_get p.bodies 0 ≡ Some own → (shunned : ℕ → Bool) → body_shuns p.types shunned apart own ≡ true
-    → AreApart p shunned apart
-calls_first p own own_is shunned does procedure b is found =
-    let at = subst (λ (n : ℕ). slice_get p.bodies n ≡ Some b) (eqb-true procedure 0 is) found in
+-- What is found is the one body that does so,
+found_shuns :
+    (p : ProgramForm) (shunned : ℕ → Bool) (may : Apart) (own b : BodyForm) (found : Option BodyForm) → found ≡ Some own
+    → body_shuns p.types shunned may own ≡ true → found ≡ Some b → body_shuns p.types shunned may b ≡ true
+found_shuns p shunned may own b found own_is does is =
     let same : own ≡ b = cc in
-    subst (λ (one : BodyForm). body_shuns p.types shunned apart one ≡ true) same does
+    subst (λ (one : BodyForm). body_shuns p.types shunned may one ≡ true) same does
+
+-- that of the first procedure.
+calls_first :
+    (p : ProgramForm) (definitions : List TypeDefinition) (own : BodyForm) → slice_get p.bodies 0 ≡ Some own → (shunned : ℕ → Bool)
+    → body_shuns p.types shunned (apart definitions) own ≡ true → AreApart p definitions shunned (apart definitions)
+calls_first p definitions own own_is shunned does = record {
+  own = refl;
+  bodies = λ procedure b is found.
+      found_shuns p shunned (apart definitions) own b (slice_get p.bodies 0) own_is does
+      (subst (λ (n : ℕ). slice_get p.bodies n ≡ Some b) (eqb-true procedure 0 is) found);
+  operations = λ access of part number tasks ends left overrides. absurd (cc ends);
+}
 
 -- So do all that Fill calls,
-are_apart : AreApart (program_form stores) shuns apart
+are_apart : AreApart (program_form stores) types shuns (apart types)
 unfolding stmt_form
-are_apart = calls_first (program_form stores) (body_form join) refl shuns refl
+are_apart = calls_first (program_form stores) types (body_form join) refl shuns refl
 
 -- which are of that shape,
-shaped : AreShaped (program_form stores) apart
+shaped : AreShaped (program_form stores) types (apart types)
 unfolding stmt_form
-shaped = calls_first (program_form stores) (body_form join) refl (λ access. false) refl
+shaped = calls_first (program_form stores) types (body_form join) refl (λ access. false) refl
 
 -- and the first procedure does no deed that is not found in it and its calls.
-abbrev first_called : Callee
-first_called = callee.Procedure (record { 0 = 0 })
+abbrev called : ℕ → Callee
+called procedure = callee.Procedure (record { 0 = procedure })
 
-not_done : (p : ProgramForm) (d : Deed) → does_by p d first_called ≡ false → ¬ Does p d first_called
-not_done p d none done =
-    let found = (counts_are_enough p d first_called).1 done in
+not_done : (p : ProgramForm) (d : Deed) (procedure : ℕ) → does_by p d (called procedure) ≡ false → ¬ Does p d (called procedure)
+not_done p d procedure none done =
+    let found = (counts_are_enough p d (called procedure)).1 done in
     absurd (cc (sym none ∙ found))
 
 follows_none : ¬ DoesFollow (program_form stores) 0 1
 unfolding expression_form stmt_form
-follows_none = not_done (program_form stores) (Follows (record { 0 = 1 })) refl
+follows_none = not_done (program_form stores) (Follows (record { 0 = 1 })) 0 refl
 
 frees_none : ¬ DoesFree (program_form stores) 0 1
 unfolding expression_form stmt_form
-frees_none = not_done (program_form stores) (Frees (record { 0 = 1 })) refl
+frees_none = not_done (program_form stores) (Frees (record { 0 = 1 })) 0 refl
 
 -- Where it follows no value of Near, and frees none, so it is with all that is called.
-first_uses_none : (p : ProgramForm) → ¬ DoesFollow p 0 1 → ¬ DoesFree p 0 1 → UseNone p shuns apart
-first_uses_none p follows_none frees_none = record {
+first_uses_none : (p : ProgramForm) (definitions : List TypeDefinition) → ¬ DoesFollow p 0 1 → ¬ DoesFree p 0 1 → UseNone p shuns (apart definitions)
+first_uses_none p definitions follows_none frees_none = record {
   follow_none = λ procedure access among is.
       subst (λ (n : ℕ). ¬ DoesFollow p n access) (sym (eqb-true procedure 0 among))
       (subst (λ (t : ℕ). ¬ DoesFollow p 0 t) (sym (eqb-true access 1 is)) follows_none);
@@ -248,8 +263,8 @@ first_uses_none p follows_none frees_none = record {
 }
 
 -- So it is with Join.
-unused : UseNone (program_form stores) shuns apart
-unused = first_uses_none (program_form stores) follows_none frees_none
+unused : UseNone (program_form stores) shuns (apart types)
+unused = first_uses_none (program_form stores) types follows_none frees_none
 
 -- The object of Far,
 abbrev link : Object
@@ -286,10 +301,15 @@ abbrev ghosts : Id → Bool
 ghosts o = o.0 == 1
 
 -- It is of a type that is to be shunned.
+second_there :
+    (definitions : List TypeForm) (other : Object) → is_access definitions 1 ≡ true → (o : Id) → ghosts o ≡ true
+    → IsOfShunned definitions shuns (slice_get (other ∷ near ∷ []) o.0)
+second_there definitions other accessed o is =
+    subst (λ (n : ℕ). IsOfShunned definitions shuns (slice_get (other ∷ near ∷ []) n)) (sym (eqb-true o.0 1 is))
+    (record { object = near; there = refl; shunned = refl; accessed = accessed })
+
 ghosts_there : (o : Id) → ghosts o ≡ true → IsOfShunned (program_form stores).types shuns (slice_get (link ∷ near ∷ []) o.0)
-ghosts_there o is =
-    subst (λ (n : ℕ). IsOfShunned (program_form stores).types shuns (slice_get (link ∷ near ∷ []) n)) (sym (eqb-true o.0 1 is))
-    (record { object = near; there = refl; shunned = refl; accessed = refl })
+ghosts_there = second_there (program_form stores).types link refl
 
 -- The component of the other one holds null before, and no name.
 holds_null : (o : Id) → Some Null ≢ Some (Names o)
@@ -326,51 +346,53 @@ premise_is_met = (
     there settled _ (refl, refl) (there settled _ (refl, refl) (there settled _ (refl, refl) (there settled _ (refl, refl) (there settled _ (refl, refl) (there settled _ (refl, refl) (there settled _ (refl, refl) (there (grants true) _ (refl, refl) (there settled _ (refl, refl) (there settled _ (refl, refl) (there settled _ (refl, refl) (there (grants true) _ (refl, refl) (there settled _ (refl, refl) (there settled _ (refl, refl) (there settled _ (refl, refl) (there settled _ (refl, refl) (there settled _ (refl, refl) (there settled _ (refl, refl) (there settled _ (refl, refl) (there settled _ (refl, refl) (there settled _ (refl, refl) (there settled _ (refl, refl) here))))))))))))))))))))),
     (
       shuns,
-      apart,
+      apart types,
       ghosts,
       none_unnamed,
       _,
       body_form join,
       _,
       record {
-        are_apart = are_apart;
-        shaped = shaped;
-        unused = unused;
-        runs_on = record { procedure = 0; runs = refl; body = refl; steps = (_, refl) };
-        shuns_all = refl;
-        reaching = record {
-          ghosts_there = ghosts_there;
-          are_ghosts = λ o is. absurd (cc);
-          places = (refl, (refl, tt));
-          operands = (refl, tt);
-          control = (
-            refl,
-            refl,
-            (
+        runs_beside = record {
+          are_apart = are_apart;
+          shaped = shaped;
+          unused = unused;
+          runs_on = record { procedure = 0; runs = refl; body = refl; steps = (_, refl) };
+          shuns_all = refl;
+          reaching = record {
+            ghosts_there = ghosts_there;
+            are_ghosts = λ o is. absurd (cc);
+            places = (refl, (refl, tt));
+            operands = (refl, tt);
+            control = (
               refl,
               refl,
               (
                 refl,
                 refl,
                 (
-                  tt,
                   refl,
-                  inr (record {
-                    references = tt;
-                    places = (refl, (refl, tt));
-                    operands = tt;
-                    anew = refl;
-                    others = (refl, refl, (refl, refl, (tt, refl, inl refl)));
-                  }),
+                  refl,
+                  (
+                    tt,
+                    refl,
+                    inr (record {
+                      references = tt;
+                      places = (refl, (refl, tt));
+                      operands = tt;
+                      anew = refl;
+                      others = (refl, refl, (refl, refl, (tt, refl, inl refl)));
+                    }),
+                  ),
                 ),
               ),
-            ),
-          );
-          seeks = λ x at. tt;
+            );
+            seeks = λ x at. tt;
+          };
+          within = record { on = stores_first _ _ _ _; takes = tt };
+          ghost = record { 0 = 1 };
+          is_ghost = refl;
         };
-        within = record { on = stores_first _ _ _ _; takes = tt };
-        ghost = record { 0 = 1 };
-        is_ghost = refl;
         holder = record { 0 = 0 };
         component = 1;
         holds_other = holds_null _;
@@ -459,26 +481,26 @@ copies_well = record {
 }
 
 -- and Copy shuns Near,
-copy_apart : AreApart (program_form copies) shuns apart
+copy_apart : AreApart (program_form copies) copies.types.items shuns (apart copies.types.items)
 unfolding stmt_form
-copy_apart = calls_first (program_form copies) (body_form copy) refl shuns refl
+copy_apart = calls_first (program_form copies) copies.types.items (body_form copy) refl shuns refl
 
 -- is of that shape,
-copy_shaped : AreShaped (program_form copies) apart
+copy_shaped : AreShaped (program_form copies) copies.types.items (apart copies.types.items)
 unfolding stmt_form
-copy_shaped = calls_first (program_form copies) (body_form copy) refl (λ access. false) refl
+copy_shaped = calls_first (program_form copies) copies.types.items (body_form copy) refl (λ access. false) refl
 
 -- follows no value of Near, and frees none.
 copy_follows_none : ¬ DoesFollow (program_form copies) 0 1
 unfolding expression_form stmt_form
-copy_follows_none = not_done (program_form copies) (Follows (record { 0 = 1 })) refl
+copy_follows_none = not_done (program_form copies) (Follows (record { 0 = 1 })) 0 refl
 
 copy_frees_none : ¬ DoesFree (program_form copies) 0 1
 unfolding expression_form stmt_form
-copy_frees_none = not_done (program_form copies) (Frees (record { 0 = 1 })) refl
+copy_frees_none = not_done (program_form copies) (Frees (record { 0 = 1 })) 0 refl
 
-copy_unused : UseNone (program_form copies) shuns apart
-copy_unused = first_uses_none (program_form copies) copy_follows_none copy_frees_none
+copy_unused : UseNone (program_form copies) shuns (apart copies.types.items)
+copy_unused = first_uses_none (program_form copies) copies.types.items copy_follows_none copy_frees_none
 
 -- What Z.all holds,
 abbrev held : List Value
@@ -580,7 +602,7 @@ copy_is_met = (
     there settled _ (refl, refl) (there settled _ (refl, refl) (there settled _ (refl, refl) (there settled _ (refl, refl) (there settled _ (refl, refl) (there settled _ (refl, refl) (there settled _ (refl, refl) (there settled _ (refl, refl) (there (grants true) _ (refl, refl) (there settled _ (refl, refl) (there settled _ (refl, refl) (there settled _ (refl, refl) (there (grants true) _ (refl, refl) (there settled _ (refl, refl) (there settled _ (refl, refl) (there settled _ (refl, refl) (there settled _ (refl, refl) (there settled _ (refl, refl) (there settled _ (refl, refl) (there settled _ (refl, refl) (there (grants true) _ (refl, refl) (there settled _ (refl, refl) (there settled _ (refl, refl) (there settled _ (refl, refl) (there settled _ (refl, refl) (there settled _ (refl, refl) (there settled _ (refl, refl) (there settled _ (refl, refl) (there settled _ (refl, refl) (there settled _ (refl, refl) (there settled _ (refl, refl) (there settled _ (refl, refl) (there settled _ (refl, refl) (there settled _ (refl, refl) (there settled _ (refl, refl) here)))))))))))))))))))))))))))))))))),
     (
       shuns,
-      apart,
+      apart copies.types.items,
       two_ghosts,
       unnamed,
       _,
@@ -588,44 +610,46 @@ copy_is_met = (
       _,
       record {
         stores_ghost = record {
-          are_apart = copy_apart;
-          shaped = copy_shaped;
-          unused = copy_unused;
-          runs_on = record { procedure = 0; runs = refl; body = refl; steps = (_, refl) };
-          shuns_all = refl;
-          reaching = record {
-            ghosts_there = ghosts_among;
-            are_ghosts = λ o is. ap (λ (b : Bool). b || (o.0 == 2)) is;
-            places = (refl, (refl, tt));
-            operands = (refl, (tt, tt));
-            control = (
-              refl,
-              refl,
-              (
+          runs_beside = record {
+            are_apart = copy_apart;
+            shaped = copy_shaped;
+            unused = copy_unused;
+            runs_on = record { procedure = 0; runs = refl; body = refl; steps = (_, refl) };
+            shuns_all = refl;
+            reaching = record {
+              ghosts_there = ghosts_among;
+              are_ghosts = λ o is. ap (λ (b : Bool). b || (o.0 == 2)) is;
+              places = (refl, (refl, tt));
+              operands = (refl, (tt, tt));
+              control = (
                 refl,
                 refl,
                 (
                   refl,
                   refl,
                   (
-                    tt,
                     refl,
-                    inr (record {
-                      references = tt;
-                      places = (refl, (refl, (refl, tt)));
-                      operands = tt;
-                      anew = refl;
-                      others = (refl, refl, (refl, refl, (tt, refl, inl refl)));
-                    }),
+                    refl,
+                    (
+                      tt,
+                      refl,
+                      inr (record {
+                        references = tt;
+                        places = (refl, (refl, (refl, tt)));
+                        operands = tt;
+                        anew = refl;
+                        others = (refl, refl, (refl, refl, (tt, refl, inl refl)));
+                      }),
+                    ),
                   ),
                 ),
-              ),
-            );
-            seeks = λ x at. tt;
+              );
+              seeks = λ x at. tt;
+            };
+            within = record { on = copies_first _ _ _ _ _; takes = tt };
+            ghost = record { 0 = 2 };
+            is_ghost = refl;
           };
-          within = record { on = copies_first _ _ _ _ _; takes = tt };
-          ghost = record { 0 = 2 };
-          is_ghost = refl;
           holder = of_x;
           component = 1;
           holds_other = holds_null _;
@@ -641,6 +665,270 @@ copy_is_met = (
         later = _;
         is_next = refl;
         copied = is_copied;
+      },
+    ),
+  ),
+)
+
+-- The parent part of Box, and Value : Integer := 0,
+abbrev box_parts : List Part
+box_parts =
+    record { name = no_name; kind = part.Parent; first = record { 0 = 0 }; part = record { 0 = 0 } }
+    ∷ record { name = no_name; kind = part.Elementary (kind.Integer (pos 0)); first = record { 0 = 0 }; part = record { 0 = 1 } }
+    ∷ []
+
+-- the third procedure, which overrides Finalize,
+abbrev boxed : Finalization
+boxed = record {
+  number = record { 0 = 0 };
+  parts = 1;
+  limited = true;
+  operations = record { initialize = None; adjust = None; finalize = Some (record { 0 = 2 }) };
+}
+
+-- and all of it: type Box is new Limited_Controlled with record Value : Integer := 0; end record;
+abbrev box : TypeDefinition
+box = definition.Record no_name (vec box_parts (omega arith)) (vec (kind.Integer (pos 0) ∷ []) (omega arith)) (Some boxed)
+
+-- Cell and Near; Box; type Owner is access Box; and what the formal parameter of Finalize is known by.
+abbrev box_types : List TypeDefinition
+box_types =
+    definition.Record no_name (vec parts (omega arith)) (vec (kind.Integer (pos 0) ∷ []) (omega arith)) None
+    ∷ definition.Access no_name (record { 0 = 0 }) None
+    ∷ box
+    ∷ definition.Access no_name (record { 0 = 2 }) None
+    ∷ definition.Object (record { 0 = 2 })
+    ∷ []
+
+-- procedure Drop (B : in out Owner) is begin Free (B); end Drop;
+abbrev drop_box : Procedure
+drop_box = record {
+  formals = vec (mode.InOut ∷ []) (omega arith);
+  variables = vec (record { name = no_name; spot = spot; kind = variable.Access (record { 0 = 3 }); borrows = false } ∷ []) (omega arith);
+  declarations = vec [] (omega arith);
+  statements = vec (stmt.Free (record { 0 = 3 }) far_path ∷ []) (omega arith);
+  handlers = vec [] (omega arith);
+  start = spot;
+  end = spot;
+}
+
+-- overriding procedure Finalize (B : in out Box) is begin null; end Finalize;
+abbrev finalize_box : Procedure
+finalize_box = record {
+  formals = vec (mode.InOut ∷ []) (omega arith);
+  variables = vec (of_link 4 ∷ []) (omega arith);
+  declarations = vec [] (omega arith);
+  statements = vec (stmt.Null ∷ []) (omega arith);
+  handlers = vec [] (omega arith);
+  start = spot;
+  end = spot;
+}
+
+-- Drop (X);
+abbrev drops_x : Stmt
+drops_x = stmt.Call (record { 0 = 0 }) (vec (actual.InOutAccess far_path ∷ []) (omega arith))
+
+-- procedure Fill is X : Owner := new Box; Y : Near := new Cell; begin Drop (X); end Fill;
+abbrev drops : Program
+drops = record (program drops_x) {
+  types = vec box_types (omega arith);
+  procedures = vec (drop_box ∷ fill drops_x ∷ finalize_box ∷ []) (omega arith);
+}
+
+-- It is well formed.
+drops_well : IsWellFormed (program_form drops)
+unfolding expression_form stmt_form
+drops_well = record {
+  types_fit = refl;
+  components_lie = refl;
+  operations_fit = refl;
+  pools_fit = refl;
+  variables_fit = refl;
+  creates_in_order = refl;
+  collections_first = refl;
+  collections_fit = refl;
+  has_one_each = refl;
+  initials_fit = refl;
+  statements_fit = refl;
+  handlers_fit = refl;
+  bodies_fit = refl;
+}
+
+-- Drop and Finalize may be called, and objects of Owner be freed.
+abbrev beside : Apart
+beside = record { calls = λ procedure. (procedure == 0) || (procedure == 2); ends = λ access. access == 3; definitions = box_types }
+
+-- What holds of the first procedure and of the third one holds of those.
+of_both : (P : ℕ → Type 0) → P 0 → P 2 → (procedure : ℕ) → beside.calls procedure ≡ true → P procedure
+of_both P one other procedure is = elim (or_cases (procedure == 0) (procedure == 2) is) [
+  | inl first ↦ subst P (sym (eqb-true procedure 0 first)) one
+  | inr third ↦ subst P (sym (eqb-true procedure 2 third)) other
+]
+
+-- Box overrides Finalize by the third one,
+overrides_by : (is_box : Bool) (number : ℕ) → procedure_number (operations_by (if is_box then Some box else None)).finalize ≡ Some number → number ≡ 2
+overrides_by true number is = cc
+overrides_by false number is = absurd (cc)
+
+-- and no other type does.
+overrides_third : (of number : ℕ) → procedure_number (operations_of box_types of).finalize ≡ Some number → number ≡ 2
+overrides_third of = overrides_by (0 == of)
+
+-- Where both shun some types, so it is with all that is called.
+both_apart :
+    (shunned : ℕ → Bool) → body_shuns (program_form drops).types shunned beside (body_form drop_box) ≡ true
+    → body_shuns (program_form drops).types shunned beside (body_form finalize_box) ≡ true → AreApart (program_form drops) box_types shunned beside
+both_apart shunned one other = record {
+  own = refl;
+  bodies = λ procedure b among.
+      of_both (λ n. slice_get (program_form drops).bodies n ≡ Some b → body_shuns (program_form drops).types shunned beside b ≡ true)
+      (found_shuns (program_form drops) shunned beside (body_form drop_box) b (Some (body_form drop_box)) refl one)
+      (found_shuns (program_form drops) shunned beside (body_form finalize_box) b (Some (body_form finalize_box)) refl other) procedure among;
+  operations = λ access of part number tasks ends left overrides. ap beside.calls (overrides_third of number overrides);
+}
+
+-- They shun Near,
+drops_apart : AreApart (program_form drops) box_types shuns beside
+unfolding stmt_form
+drops_apart = both_apart shuns refl refl
+
+-- are of that shape,
+drops_shaped : AreShaped (program_form drops) box_types beside
+unfolding stmt_form
+drops_shaped = both_apart (λ access. false) refl refl
+
+-- follow no value of Near, and free none.
+drops_follow_none : (procedure : ℕ) → beside.calls procedure ≡ true → ¬ DoesFollow (program_form drops) procedure 1
+unfolding expression_form stmt_form
+drops_follow_none =
+    of_both (λ n. ¬ DoesFollow (program_form drops) n 1) (not_done (program_form drops) (Follows (record { 0 = 1 })) 0 refl)
+    (not_done (program_form drops) (Follows (record { 0 = 1 })) 2 refl)
+
+drops_free_none : (procedure : ℕ) → beside.calls procedure ≡ true → ¬ DoesFree (program_form drops) procedure 1
+unfolding expression_form stmt_form
+drops_free_none =
+    of_both (λ n. ¬ DoesFree (program_form drops) n 1) (not_done (program_form drops) (Frees (record { 0 = 1 })) 0 refl)
+    (not_done (program_form drops) (Frees (record { 0 = 1 })) 2 refl)
+
+drops_unused : UseNone (program_form drops) shuns beside
+drops_unused = record {
+  follow_none = λ procedure access among is.
+      subst (λ (t : ℕ). ¬ DoesFollow (program_form drops) procedure t) (sym (eqb-true access 1 is)) (drops_follow_none procedure among);
+  free_none = λ procedure access among is.
+      subst (λ (t : ℕ). ¬ DoesFree (program_form drops) procedure t) (sym (eqb-true access 1 is)) (drops_free_none procedure among);
+}
+
+-- The object that is freed: it has left its collection, and its controlled part has a value.
+abbrev freed_box : Object
+freed_box = record {
+  cell = record {
+    access = 3;
+    number = 1;
+    home = record { item = 1; pool = Some 0; subpool = None };
+    values = Scalar (scalar.Integer (pos 0)) ∷ [];
+    parts = record { alive = true; turn = 0; number = 1; first = 0 } ∷ [];
+  };
+  stage = Existing;
+  listed = false;
+  out = true;
+}
+
+-- What treats an object is not the end of a body.
+treats_first :
+    (v : Value) (treatment : Treatment) (tasks : List Task) (k l : List (Frame Value)) → frame.Treats v treatment tasks ∷ k ≡ frame.Returns [] [] ∷ l → ⊥
+treats_first v treatment tasks k l same = absurd (cc)
+
+-- So it is where both objects are allocated, Drop is called, and the Finalize of the object that it frees is about to begin.
+pub finalization_is_met : FinalizationIsMet
+unfolding next expression_form stmt_form
+finalization_is_met = (
+  drops,
+  drops_well,
+  (
+    [],
+    _,
+    _,
+    there settled _ (refl, refl) (there settled _ (refl, refl) (there settled _ (refl, refl) (there settled _ (refl, refl) (there settled _ (refl, refl)
+        (there settled _ (refl, refl) (there settled _ (refl, refl) (there (grants true) _ (refl, refl) (there settled _ (refl, refl)
+        (there settled _ (refl, refl) (there settled _ (refl, refl) (there settled _ (refl, refl) (there (grants true) _ (refl, refl)
+        (there settled _ (refl, refl) (there settled _ (refl, refl) (there settled _ (refl, refl) (there settled _ (refl, refl)
+        (there settled _ (refl, refl) (there settled _ (refl, refl) (there settled _ (refl, refl) here))))))))))))))))))),
+    (
+      shuns,
+      beside,
+      ghosts,
+      none_unnamed,
+      _,
+      body_form drop_box,
+      _,
+      record {
+        runs_beside = record {
+          are_apart = drops_apart;
+          shaped = drops_shaped;
+          unused = drops_unused;
+          runs_on = record { procedure = 0; runs = refl; body = refl; steps = (_, refl) };
+          shuns_all = refl;
+          reaching = record {
+            ghosts_there = second_there (program_form drops).types freed_box refl;
+            are_ghosts = λ o is. absurd (cc);
+            places = (refl, tt);
+            operands = tt;
+            control = (
+              (refl, (3, refl, whole)),
+              refl,
+              (
+                refl,
+                refl,
+                (
+                  refl,
+                  refl,
+                  (
+                    tt,
+                    refl,
+                    (
+                      refl,
+                      refl,
+                      (
+                        refl,
+                        refl,
+                        (
+                          tt,
+                          refl,
+                          inr (record {
+                            references = tt;
+                            places = (refl, (refl, tt));
+                            operands = tt;
+                            anew = refl;
+                            others = (refl, refl, (refl, refl, (tt, refl, inl refl)));
+                          }),
+                        ),
+                      ),
+                    ),
+                  ),
+                ),
+              ),
+            );
+            seeks = tt;
+          };
+          within = record { on = treats_first _ _ _ _ _; takes = tt };
+          ghost = record { 0 = 1 };
+          is_ghost = refl;
+        };
+        freed = record { 0 = 0 };
+        object = freed_box;
+        is_there = refl;
+        may_be_freed = refl;
+        number = _;
+        of = _;
+        part = _;
+        tasks = _;
+        later = _;
+        is_next = refl;
+        finalize = 2;
+        overrides = refl;
+        may_be_called = refl;
+        begins = refl;
+        waits = refl;
       },
     ),
   ),
@@ -662,7 +950,7 @@ premise_is_needed = (
         (there settled _ (refl, refl) (there settled _ (refl, refl) (there settled _ (refl, refl) here))))))))))))))))),
     (
       shuns,
-      apart,
+      apart types,
       ghosts,
       body_form (fill sets),
       _,

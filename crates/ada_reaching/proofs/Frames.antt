@@ -36,6 +36,7 @@ use Rattle.ada_reaching.proofs.Assigns.{put_goes, target_goes, store_goes, recor
 use Rattle.ada_reaching.proofs.Calls.{AreParts, refers_goes, open_goes, opens_goes, begun_goes, returned_goes}
 use Rattle.ada_reaching.proofs.Statements.{decided_goes, repeats_go, turned_goes, counting_goes, ranges_go, exited_goes, line_goes, stmts_go, declarations_go}
 use Rattle.ada_reaching.proofs.Rooted.{FrameIsRooted}
+use Rattle.ada_reaching.proofs.Treats.{treats_goes}
 
 -- What is sought from the newest operand is sought from the value that it is.
 pub newest_seeks :
@@ -119,7 +120,7 @@ module _ (w : World) where
     leave_goes mode [] s none r h anew = tt
     leave_goes mode (m ∷ ms) s none r h anew = master_goes mode m.number m.items s none r h anew
 
-  module _ (tds : List TypeDefinition) (known : map type_form tds ≡ w.p.types) (are_apart : AreApart w.p w.shuns w.apart) where
+  module _ (tds : List TypeDefinition) (known : map type_form tds ≡ w.p.types) (are_apart : AreApart w.p tds w.shuns w.apart) where
     -- The bodies go on by what a frame does.
     pub frame_goes :
         (f : Frame Value) (s : State) → Sound w s → (IsLast w.behind f s.control → ⊥) → AreParts (references_at f) → Left w (f ∷ s.control)
@@ -198,14 +199,15 @@ module _ (w : World) where
     frame_goes (frame.Receives c) s sound on parts h none root seeks r =
         receive_goes w (newest named s) c (look s.heap (newest named s)) (popped s) (in_sight w s.heap r.same (newest named s) seeks) (popped_runs w s r) h.2 h.1
     frame_goes (frame.FreesIn access c) s sound on parts h none root seeks r =
-        free_in_goes w tds known access (newest named s) c (popped s) sound.filled seeks (popped_runs w s r) h.2 h.1
+        free_in_goes w tds are_apart.own access (newest named s) c (popped s) sound.filled seeks (popped_runs w s r) h.2 h.1
     frame_goes (frame.Declares x) s sound on parts h none root seeks r =
         stays w (owned (declared x) (put x (newest named s) (popped s)))
         (put_runs w x (newest named s) (popped s) (elsewhere_first w.ghosts w.unnamed (operands s) r.operands) (popped_runs w s r)) h.2 h.1
     frame_goes (frame.DeclaresRecord x record_type) s sound on parts h none root seeks r = absurd (h.0)
-    frame_goes (frame.Treats v treatment tasks) s sound on parts h none root seeks r = absurd (h.0)
+    frame_goes (frame.Treats v treatment tasks) s sound on parts h none root seeks r =
+        treats_goes w tds are_apart v treatment tasks s h.0.0 h.0.1 r h.2 h.1
     frame_goes (frame.Awaits v by done of part tasks) s sound on parts h none root seeks r = absurd (h.0)
-    frame_goes frame.Confines s sound on parts h none root seeks r = absurd (h.0)
+    frame_goes frame.Confines s sound on parts h none root seeks r = stays w s r h.2 h.1
     frame_goes (frame.Resumes mode) s sound on parts h none root seeks r = absurd (h.0)
     frame_goes frame.Writes s sound on parts h none root seeks r =
         line_goes w (reads_integer (newest named s)) (popped s) (popped_runs w s r) h.2 h.1

@@ -18,6 +18,7 @@ use Rattle.ada_meaning.specs.Named.{Object, State, Next, named, object_at, chang
 use Rattle.ada_untouched.specs.Untouched.{IsInSight}
 use Rattle.ada_untouched.proofs.Heaps.{set_there, one_or_other}
 use Rattle.ada_reaching.specs.Reaching.{IsGhost, IsOfShunned, IsDeclared, IsElsewhere, AreElsewhere, LeftShuns, Seeks, OperandSeeks, begins_anew}
+use Rattle.ada_reaching.specs.Apart.{Apart}
 use Rattle.ada_reaching.specs.Law.{GhostsStay, GoesOn, AllGoOn}
 use Rattle.ada_reaching.proofs.Elsewhere.{elsewhere_older, elsewhere_set}
 
@@ -25,7 +26,7 @@ use Rattle.ada_reaching.proofs.Elsewhere.{elsewhere_older, elsewhere_set}
 pub record World : Type 0 where
   pub p : ProgramForm
   pub shuns : ℕ → Bool
-  pub apart : ℕ → Bool
+  pub apart : Apart
   pub ghosts : Id → Bool
   pub unnamed : Id → Bool
   pub behind : List (Frame Value)
@@ -119,7 +120,7 @@ module _ (w : World) where
       there_so true found ghost = (ghost.object, ghost.there)
 
   -- Where what is left to do begins anew, nothing is sought.
-  pub anew_seeks : (may : Bool) (k : List (Frame Value)) (u : ℕ) → begins_anew k ≡ true → Seeks w.p.types w.shuns may u k
+  pub anew_seeks : (may : Bool) (k : List (Frame Value)) (u : ℕ) → begins_anew k ≡ true → Seeks w.p.types w.shuns w.apart may u k
   anew_seeks may [] u anew = tt
   anew_seeks may (frame.Follows cs ∷ k) u anew = absurd (cc)
   anew_seeks may (frame.RefersIn place t ∷ k) u anew = absurd (cc)
@@ -133,11 +134,11 @@ module _ (w : World) where
 
   -- From the object that a value names what is left to do seeks nothing that is shunned.
   abbrev pub ValueSeeks : List Object → Value → List (Frame Value) → Type 0
-  ValueSeeks heap v k = (o : Id) (x : Object) → v ≡ Names o → object_at heap o ≡ Some x → Seeks w.p.types w.shuns (not (w.ghosts o)) x.cell.access k
+  ValueSeeks heap v k = (o : Id) (x : Object) → v ≡ Names o → object_at heap o ≡ Some x → Seeks w.p.types w.shuns w.apart (not (w.ghosts o)) x.cell.access k
 
   -- So it is from the newest operand.
   abbrev pub OperandsSeek : List Object → Mode → List (Frame Value) → List Value → Type 0
-  OperandsSeek heap m k vs = OperandSeeks w.p.types w.shuns w.ghosts heap m k vs
+  OperandsSeek heap m k vs = OperandSeeks w.p.types w.shuns w.apart w.ghosts heap m k vs
 
   -- So it is where no jump is on its way.
   first_seeks : (heap : List Object) (k : List (Frame Value)) (v : Value) (vs : List Value) → ValueSeeks heap v k → OperandsSeek heap Running k (v ∷ vs)

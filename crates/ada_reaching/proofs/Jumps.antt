@@ -147,7 +147,7 @@ module _ (w : World) where
 
   -- The bodies go on by a step in any mode.
   pub step_goes :
-      (tds : List TypeDefinition) → map type_form tds ≡ w.p.types → AreApart w.p w.shuns w.apart → (m : Mode) (k : List (Frame Value)) (s : State) → Sound w s
+      (tds : List TypeDefinition) → map type_form tds ≡ w.p.types → AreApart w.p tds w.shuns w.apart → (m : Mode) (k : List (Frame Value)) (s : State) → Sound w s
       → GoesFurther k → FirstTakesNone k s.masters → FirstIsRooted w.p.types (variables_in w) m k → FirstRefers k → Runs w s → Left w k
       → OperandsSeek w s.heap m k (operands s) → AllGoOn (On w) (next tds w.p.bodies (record s { mode = m; control = k }))
   unfolding next

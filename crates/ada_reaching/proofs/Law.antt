@@ -14,7 +14,7 @@ use Rattle.ada_meaning.specs.declared.state.Mode.{Mode}
 use Rattle.ada_meaning.specs.declared.state.Mode.TheVariants.{Running, Raising, Exiting, Returning}
 use Rattle.ada_meaning.specs.declared.state.Value.{Value}
 use Rattle.ada_meaning.specs.declared.state.Value.TheVariants.{Null, Names, Scalar, Part}
-use Rattle.ada_meaning.specs.Frame.{Frame, is_return}
+use Rattle.ada_meaning.specs.Frame.{Frame}
 use Rattle.ada_meaning.specs.Frame as frame
 use Rattle.ada_meaning.specs.State.{Activation}
 use Rattle.ada_meaning.specs.Step.{held, operating, procedure_of, older, places}
@@ -27,11 +27,12 @@ use Rattle.ada_typed.proofs.Runs.{last_typed, typed_filled, typed_holds}
 use Rattle.ada_typed.proofs.Values.{OperandKind}
 use Rattle.ada_untouched.specs.Untouched.{Untouched}
 use Rattle.ada_reaching.specs.Reaching.{FrameShuns, IsElsewhere, IsGhost, IsReaching, OperandSeeks}
-use Rattle.ada_reaching.specs.Law.{AreApart, IsWithin, GoesOn, AllGoOn, none_hidden, ShunnedObjectsAreUntouched}
+use Rattle.ada_reaching.specs.Apart.{Apart}
+use Rattle.ada_reaching.specs.Law.{AreApart, is_treating, IsWithin, GoesOn, AllGoOn, none_hidden, ShunnedObjectsAreUntouched}
 use Rattle.ada_reaching.specs.Forms.{body_shuns}
 use Rattle.ada_reaching.proofs.Calls.{AreParts}
 use Rattle.ada_reaching.proofs.Elsewhere.{given_places_elsewhere}
-use Rattle.ada_reaching.proofs.Going.{World, Left, Runs}
+use Rattle.ada_reaching.proofs.Going.{World, Runs}
 use Rattle.ada_reaching.proofs.Jumps.{FirstIsRooted, FirstRefers, GoesFurther, step_goes}
 use Rattle.ada_reaching.proofs.Paths.{IsSound}
 use Rattle.ada_reaching.proofs.Rooted.{FrameIsRooted, frame_rooted}
@@ -101,49 +102,48 @@ module _ (p : ProgramForm) (cells : Cells) where
   first_refers w callee (frame.Returns actuals references ∷ k) suspended h = waits_first callee actuals references k suspended _ h
   first_refers w callee (f ∷ k) suspended h = tt
 
-module _ (w : World) (own : ProgramForm) (s : State) where
-  -- A frame does not end the call of an operation where what is left shuns the types.
-  no_operation : (f : Frame Value) (k : List (Frame Value)) → typed.is_operation f ≡ true → Left w (f ∷ k) → ⊥
-  no_operation (frame.Awaits v by done of part tasks) k ends h = h.0
-  no_operation frame.Confines k ends h = h.0
-  no_operation f k ends h = absurd (cc)
+module _ (own : ProgramForm) (s : State) where
+  -- Where the call of an operation ends there is no path.
+  operation_rooted : (f : Frame Value) → typed.is_operation f ≡ true → FrameIsRooted own.types own.variables f
+  operation_rooted (frame.Awaits v by done of part tasks) ends = tt
+  operation_rooted frame.Confines ends = tt
+  operation_rooted f ends = absurd (cc)
 
   -- Where a body runs on, the path of its first frame leads somewhere.
   running_rooted :
-      (f : Frame Value) (k : List (Frame Value)) → typed.TypedIn own s → s.mode ≡ Running → s.control ≡ f ∷ k → Left w (f ∷ k)
-      → FrameIsRooted own.types own.variables f
-  running_rooted f k (typed.running kinds ready fits) runs is h =
+      (f : Frame Value) (k : List (Frame Value)) → typed.TypedIn own s → s.mode ≡ Running → s.control ≡ f ∷ k → FrameIsRooted own.types own.variables f
+  running_rooted f k (typed.running kinds ready fits) runs is =
       frame_rooted own (cells_of s.heap) kinds f k (subst (λ (j : List (Frame Value)). typed.Fits own (cells_of s.heap) kinds j) is fits)
-  running_rooted f k (typed.on_jump mode jumps goes) runs is h =
+  running_rooted f k (typed.on_jump mode jumps goes) runs is =
       let nowhere : typed.Goes own (cells_of s.heap) Running s.control =
       subst (λ (m : Mode). typed.Goes own (cells_of s.heap) m s.control) (sym jumps.jumps ∙ runs) goes in
       absurd nowhere
-  running_rooted f k (typed.operated kinds ready ended) runs is h =
-      absurd (no_operation f k (ap begins_operation (sym is) ∙ operation_first own (cells_of s.heap) kinds s.control ended) h)
-  running_rooted f k (typed.out_of_operation e kinds jumps ended) runs is h =
-      absurd (no_operation f k (ap begins_operation (sym is) ∙ operation_first own (cells_of s.heap) kinds s.control ended) h)
+  running_rooted f k (typed.operated kinds ready ended) runs is =
+      operation_rooted f (ap begins_operation (sym is) ∙ operation_first own (cells_of s.heap) kinds s.control ended)
+  running_rooted f k (typed.out_of_operation e kinds jumps ended) runs is =
+      operation_rooted f (ap begins_operation (sym is) ∙ operation_first own (cells_of s.heap) kinds s.control ended)
 
   -- So it is in any mode.
   first_rooted :
-      (m : Mode) (k : List (Frame Value)) → typed.TypedIn own s → s.mode ≡ m → s.control ≡ k → Left w k → FirstIsRooted own.types own.variables m k
-  first_rooted Running [] typing runs is h = tt
-  first_rooted Running (f ∷ k) typing runs is h = running_rooted f k typing runs is h
-  first_rooted (Raising e) k typing runs is h = tt
-  first_rooted Exiting k typing runs is h = tt
-  first_rooted Returning k typing runs is h = tt
+      (m : Mode) (k : List (Frame Value)) → typed.TypedIn own s → s.mode ≡ m → s.control ≡ k → FirstIsRooted own.types own.variables m k
+  first_rooted Running [] typing runs is = tt
+  first_rooted Running (f ∷ k) typing runs is = running_rooted f k typing runs is
+  first_rooted (Raising e) k typing runs is = tt
+  first_rooted Exiting k typing runs is = tt
+  first_rooted Returning k typing runs is = tt
 
 -- Without operands nothing is sought.
 none_sought :
-    (types : List TypeForm) (shuns : ℕ → Bool) (ghosts : Id → Bool) (heap : List Object) (m : Mode) (k : List (Frame Value))
-    → OperandSeeks types shuns ghosts heap m k []
-none_sought types shuns ghosts heap Running k = tt
-none_sought types shuns ghosts heap (Raising e) k = tt
-none_sought types shuns ghosts heap Exiting k = tt
-none_sought types shuns ghosts heap Returning k = tt
+    (types : List TypeForm) (shuns : ℕ → Bool) (apart : Apart) (ghosts : Id → Bool) (heap : List Object) (m : Mode) (k : List (Frame Value))
+    → OperandSeeks types shuns apart ghosts heap m k []
+none_sought types shuns apart ghosts heap Running k = tt
+none_sought types shuns apart ghosts heap (Raising e) k = tt
+none_sought types shuns apart ghosts heap Exiting k = tt
+none_sought types shuns apart ghosts heap Returning k = tt
 
 -- The body of an operation begins that shuns some access types (7.6), for a part of an object that is no ghost: it runs so, in front of what is behind it.
 pub operation_reaches :
-    (p : ProgramForm) (shuns apart : ℕ → Bool) (ghosts unnamed : Id → Bool) (procedure : ℕ) (b : BodyForm) (reference : Value)
+    (p : ProgramForm) (shuns : ℕ → Bool) (apart : Apart) (ghosts unnamed : Id → Bool) (procedure : ℕ) (b : BodyForm) (reference : Value)
     (behind : List (Frame Value)) (s : State)
     → slice_get p.bodies procedure ≡ Some b → body_shuns p.types shuns apart b ≡ true
     → ((o : Id) → ghosts o ≡ true → IsGhost p.types shuns (unnamed o) (object_at s.heap o)) → ((o : Id) → unnamed o ≡ true → ghosts o ≡ true)
@@ -160,7 +160,7 @@ operation_reaches p shuns apart ghosts unnamed procedure b reference behind s is
         refl,
         inl refl,
       );
-      seeks = none_sought p.types shuns ghosts s.heap s.mode (begins ∷ frame.Returns [] [] ∷ behind);
+      seeks = none_sought p.types shuns apart ghosts s.heap s.mode (begins ∷ frame.Returns [] [] ∷ behind);
     }
 
 -- The first frame is not the end of the outermost body.
@@ -170,10 +170,11 @@ further w (f ∷ k) on = on
 
 -- Of a state whose values are of their kinds.
 pub stays_reaching :
-    (program : Program) → IsWellFormed (program_form program) → (shuns apart : ℕ → Bool) → AreApart (program_form program) shuns apart → (ghosts unnamed : Id → Bool)
+    (program : Program) → IsWellFormed (program_form program) → (shuns : ℕ → Bool) (apart : Apart)
+    → AreApart (program_form program) program.types.items shuns apart → (ghosts unnamed : Id → Bool)
     (behind : List (Frame Value)) (s : State) → typed.Typed (program_form program) s → IsReaching (program_form program) shuns apart ghosts unnamed behind s
     → IsWithin behind s.control s.masters
-    → Untouched none_hidden ghosts s
+    → (is_treating s.control ≡ false → Untouched none_hidden ghosts s)
     × AllGoOn (GoesOn (program_form program) shuns apart ghosts unnamed behind s.heap) (next program.types.items (body_forms program) s)
 stays_reaching program well shuns apart are_apart ghosts unnamed behind s typing reaching within =
     let p = program_form program in
@@ -205,7 +206,7 @@ stays_reaching program well shuns apart are_apart ghosts unnamed behind s typing
     } in
     let root : FirstIsRooted p.types own.variables s.mode s.control =
     subst (λ (ts : List TypeForm). FirstIsRooted ts own.variables s.mode s.control) types
-    (first_rooted w own s s.mode s.control inside refl refl reaching.control) in
+    (first_rooted own s s.mode s.control inside refl refl) in
     let runs : Runs w s = record {
       runs = refl;
       waits = refl;
@@ -213,7 +214,7 @@ stays_reaching program well shuns apart are_apart ghosts unnamed behind s typing
       operands = reaching.operands;
       same = λ o is. refl;
     } in (
-      first_open w s sound runs s.mode s.control reaching.control root reaching.seeks within.takes,
+      λ untreated. first_open w s sound runs s.mode s.control untreated reaching.control root reaching.seeks within.takes,
       step_goes w program.types.items refl are_apart s.mode s.control s sound (further w s.control within.on) within.takes root
           (first_refers p (cells_of s.heap) w procedure s.control (older s.activations) typing.waiting) runs reaching.control reaching.seeks,
     )

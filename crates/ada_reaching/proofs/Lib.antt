@@ -12,6 +12,8 @@ pub mod Paths
 pub mod Rooted
 -- forms
 pub mod Forms
+-- finalizations
+pub mod Treats
 -- frees
 pub mod Frees
 -- assignments, and what is read
@@ -28,6 +30,8 @@ pub mod Jumps
 pub mod Touched
 -- the law
 pub mod Law
+-- what is left behind an operation
+pub mod Behind
 -- the law by what procedures do
 pub mod Deeds
 -- the premise is met, and needed

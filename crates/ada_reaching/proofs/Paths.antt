@@ -267,18 +267,18 @@ module _ (w : World) where
   abbrev pub StepShuns : State → Value → (component : ℕ) → (selectors : List ℕ) → Type 0
   StepShuns s v c cs =
       (o : Id) (x : Object) → v ≡ Names o → object_at s.heap o ≡ Some x
-      → LeadsShunning w.p.types w.shuns (kind_among (reached_components w.p.types x.cell.access) c) cs s.control
+      → LeadsShunning w.p.types w.shuns w.apart (kind_among (reached_components w.p.types x.cell.access) c) cs s.control
 
   -- The bodies go on once a path has found a value.
   reading_goes :
       (cs : List ℕ) (v : Value) (kind : ComponentKind) (s : State) → Fine s → kind_fits w.p.types kind ≡ true → HasKind w.p.types (cells_of s.heap) (held_kind kind) v
-      → LeadsShunning w.p.types w.shuns (Some (held_kind kind)) cs s.control → Runs w s → Left w s.control → On w (reading named cs v s)
+      → LeadsShunning w.p.types w.shuns w.apart (Some (held_kind kind)) cs s.control → Runs w s → Left w s.control → On w (reading named cs v s)
   reading_goes [] v kind s fine fits has leads r h =
       let other = component_elsewhere s.heap r.same kind v fits has in
       sought w v s other r h
       (λ o x e at.
       let named_so = named_kind w.p.types s.heap fine kind o x (subst (λ (u : Value). HasKind w.p.types (cells_of s.heap) (held_kind kind) u) e has) at in
-      seeks_weaker w.p.types w.shuns (not (w.shuns x.cell.access)) (not (w.ghosts o)) x.cell.access s.control
+      seeks_weaker w.p.types w.shuns w.apart (not (w.shuns x.cell.access)) (not (w.ghosts o)) x.cell.access s.control
       (may_seek s.heap r.same o x (subst (λ (u : Value). IsElsewhere w.ghosts w.unnamed u) e other) at)
       (leads.1 x.cell.access (ap (λ (from : VariableKind). value_access (Some from)) named_so)))
   reading_goes (c ∷ cs) v kind s fine fits has leads r h =
@@ -286,7 +286,7 @@ module _ (w : World) where
       sought w v (at (frame.Follows (c ∷ cs) ∷ s.control) s) other r (tt, tt, h)
       (λ o x e at.
       let named_so = named_kind w.p.types s.heap fine kind o x (subst (λ (u : Value). HasKind w.p.types (cells_of s.heap) (held_kind kind) u) e has) at in
-      let own = subst (λ (from : VariableKind). LeadsShunning w.p.types w.shuns (Some from) (c ∷ cs) s.control) named_so leads in
+      let own = subst (λ (from : VariableKind). LeadsShunning w.p.types w.shuns w.apart (Some from) (c ∷ cs) s.control) named_so leads in
       let from : VariableKind = variable.Access (record { 0 = x.cell.access }) in (
         may_seek s.heap r.same o x (subst (λ (u : Value). IsElsewhere w.ghosts w.unnamed u) e other) at (shun_first w.p.types w.shuns (Some from) c cs own.0),
         shun_behind w.p.types w.shuns (Some from) c cs own.0,
@@ -296,13 +296,13 @@ module _ (w : World) where
   -- The bodies go on as a component is read.
   component_goes :
       (v : Value) (c : ℕ) (cs : List ℕ) (o : Id) (x : Object) (found : Option Value) (s : State) → Fine s → object_at s.heap o ≡ Some x
-      → slice_get x.cell.values c ≡ found → LeadsShunning w.p.types w.shuns (kind_among (reached_components w.p.types x.cell.access) c) cs s.control
+      → slice_get x.cell.values c ≡ found → LeadsShunning w.p.types w.shuns w.apart (kind_among (reached_components w.p.types x.cell.access) c) cs s.control
       → Runs w s → Left w s.control → AllGoOn (On w) (component_next named v cs found s)
   component_goes v c cs o x None s fine there is leads r h = tt
   component_goes v c cs o x (Some u) s fine there is leads r h =
       let own = held_in w.p.types s.heap fine o x c u there is in
       reading_goes cs u own.0 s fine (own.3 w.types_fit) own.2
-      (subst (λ (kind : Option VariableKind). LeadsShunning w.p.types w.shuns kind cs s.control) own.1 leads) r h
+      (subst (λ (kind : Option VariableKind). LeadsShunning w.p.types w.shuns w.apart kind cs s.control) own.1 leads) r h
 
   -- So it is, by what is found of the object.
   follow_goes :
@@ -332,14 +332,15 @@ module _ (w : World) where
       let start = begun w.p.types (variables_in w) s.heap (places s) sound x c cs to root in
       step_goes (whole v) (inside v c) cs s sound.filled
       (λ o y e there.
-      subst (λ (kind : Option VariableKind). LeadsShunning w.p.types w.shuns kind cs s.control) (sym (start.lies o y e there))
+      subst (λ (kind : Option VariableKind). LeadsShunning w.p.types w.shuns w.apart kind cs s.control) (sym (start.lies o y e there))
       (begun_shun s x c cs to start shun, λ u is. anew_seeks w (not (w.shuns u)) s.control u anew)) r h
 
   -- The bodies go on as the object is found in which the last component of a path lies.
   pub holder_goes :
       (c : ℕ) (cs : List ℕ) (x : ℕ) (to : VariableKind) (frame_of : ℕ → Frame Value) (s : State) → Sound s → IsRooted w.p.types (variables_in w) x (c ∷ cs) to
       → selectors_shun w.p.types w.shuns (variable_kind (variables_in w) x) (c ∷ cs) ≡ true → Runs w s → ((n : ℕ) → Left w (frame_of n ∷ s.control))
-      → ((may : Bool) (u n : ℕ) → may ≡ true → kind_among (reached_components w.p.types u) n ≡ Some to → Seeks w.p.types w.shuns may u (frame_of n ∷ s.control))
+      → ((may : Bool) (u n : ℕ) → may ≡ true → kind_among (reached_components w.p.types u) n ≡ Some to
+      → Seeks w.p.types w.shuns w.apart may u (frame_of n ∷ s.control))
       → AllGoOn (On w) (holder_next named c cs x frame_of s)
   holder_goes c [] x to frame_of s sound root shun r each seeks =
       let v = held named s x in
@@ -355,7 +356,8 @@ module _ (w : World) where
       let last = last_of d cs in
       step_goes (whole v) (inside v c) (before_last d cs) (at (frame_of last ∷ s.control) s) sound.filled
       (λ o y e there.
-      subst (λ (kind : Option VariableKind). LeadsShunning w.p.types w.shuns kind (before_last d cs) (frame_of last ∷ s.control)) (sym (start.lies o y e there)) (
+      subst (λ (kind : Option VariableKind). LeadsShunning w.p.types w.shuns w.apart kind (before_last d cs) (frame_of last ∷ s.control))
+      (sym (start.lies o y e there)) (
         shun_before w.p.types w.shuns (Some start.kind) d cs own,
         λ u is.
             let kind = selectors_kind w.p.types (Some start.kind) (before_last d cs) in
@@ -370,7 +372,7 @@ module _ (w : World) where
       → IsRooted w.p.types (variables_in w) q.object.root q.object.selectors to
       → selectors_shun w.p.types w.shuns (variable_kind (variables_in w) q.object.root) q.object.selectors ≡ true → may_follow w.shuns (Some to) ≡ true → Runs w s
       → ((place : Place) → Left w (frame_of place ∷ s.control))
-      → ((may : Bool) (u : ℕ) (place : Place) → may ≡ true → Seeks w.p.types w.shuns may u (frame_of place ∷ s.control))
+      → ((may : Bool) (u : ℕ) (place : Place) → may ≡ true → Seeks w.p.types w.shuns w.apart may u (frame_of place ∷ s.control))
       → AllGoOn (On w) (record_holder_next named q frame_of s)
   record_goes q to frame_of s sound root shun may r each seeks = by_selectors q.object.selectors (place_in named v q.object.selectors q) root shun
     where
@@ -390,7 +392,7 @@ module _ (w : World) where
           let start = begun w.p.types (variables_in w) s.heap (places s) sound q.object.root c cs to begins in
           step_goes (whole v) (inside v c) cs (at (frame_of place ∷ s.control) s) sound.filled
           (λ o y e there.
-          subst (λ (kind : Option VariableKind). LeadsShunning w.p.types w.shuns kind cs (frame_of place ∷ s.control)) (sym (start.lies o y e there)) (
+          subst (λ (kind : Option VariableKind). LeadsShunning w.p.types w.shuns w.apart kind cs (frame_of place ∷ s.control)) (sym (start.lies o y e there)) (
             begun_shun s q.object.root c cs to start shun,
             λ u is. seeks (not (w.shuns u)) u place
                 (followed w.shuns (selectors_kind w.p.types (Some start.kind) cs) u is (ap (may_follow w.shuns) start.leads ∙ may)),

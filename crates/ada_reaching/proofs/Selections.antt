@@ -3,7 +3,6 @@
 use Rattle.std.proofs.Common.{◌≡◌, ℕ, zero, suc, Bool, true, false, ◌&&◌, List, [], ◌∷◌, map, Option, Some, None, refl, sym, ap, ◌∙◌, subst}
 use Rattle.std.specs.Prelude.{is_some, not}
 use Rattle.std.specs.List.{list_all, slice_get}
-use Rattle.std.proofs.lemmas.Bool.{eqb-true}
 use Rattle.ada_program.specs.declared.program.ComponentKind.{ComponentKind}
 use Rattle.ada_program.specs.declared.program.ComponentKind.TheVariants as component
 use Rattle.ada_program.specs.declared.program.Finalization.{Finalization}
@@ -14,7 +13,7 @@ use Rattle.ada_program.proofs.Shapes.{same_number}
 use Rattle.ada_program.specs.Controlled.{number_in, number_reached, shapes_of}
 use Rattle.ada_program.specs.Form.{PathForm}
 use Rattle.ada_program.specs.ProgramForm.{TypeForm, record_of, access_to, object_of, VariableForm, type_form}
-use Rattle.ada_program.specs.WellFormed.{value_access, access_of, component_kind, held_kind, kind_among, reached_components, selected_kind, selectors_kind, root_kind, path_kind, variable_kind, finalization_of, named_in, designated_in, components_in, components_reached, kind_fits, parent_first, says_parts, is_numbered_alone, type_fits, same_record, is_freed_by}
+use Rattle.ada_program.specs.WellFormed.{value_access, access_of, component_kind, held_kind, kind_among, reached_components, selected_kind, selectors_kind, root_kind, path_kind, variable_kind, finalization_of, named_in, components_in, components_reached, kind_fits, parent_first, says_parts, is_numbered_alone, type_fits}
 use Rattle.ada_parts.specs.declared.tasks.Direction.{Direction}
 use Rattle.ada_meaning.specs.declared.state.Id.{Id}
 use Rattle.ada_meaning.specs.declared.state.Value.{Value}
@@ -31,6 +30,7 @@ use Rattle.ada_typed.proofs.OfKinds.{and_both}
 use Rattle.ada_typed.proofs.Operators.{and_left, and_right}
 use Rattle.ada_typed.proofs.Parts.{known_number, shown_number}
 use Rattle.ada_typed.proofs.Values.{AreFilled, filled_at, root_same}
+use Rattle.ada_reaching.specs.Apart.{Apart}
 use Rattle.ada_reaching.specs.Reaching.{Seeks}
 use Rattle.ada_reaching.specs.Forms.{may_follow, selectors_shun}
 
@@ -122,26 +122,28 @@ module _ (types : List TypeForm) (shuns : ℕ → Bool) where
   last_kind kind c [] = refl
   last_kind kind c (d ∷ cs) = last_kind (selected_kind types kind c) d cs
 
-  -- From what is held selectors follow nothing that is shunned, and neither does what is sought behind them.
-  abbrev pub LeadsShunning : Option VariableKind → (selectors : List ℕ) → List (Frame Value) → Type 0
-  LeadsShunning kind cs k =
-      (selectors_shun types shuns kind cs ≡ true)
-      × ((u : ℕ) → value_access (selectors_kind types kind cs) ≡ Some u → Seeks types shuns (not (shuns u)) u k)
+  module _ (apart : Apart) where
+    -- From what is held selectors follow nothing that is shunned, and neither does what is sought behind them.
+    abbrev pub LeadsShunning : Option VariableKind → (selectors : List ℕ) → List (Frame Value) → Type 0
+    LeadsShunning kind cs k =
+        (selectors_shun types shuns kind cs ≡ true)
+        × ((u : ℕ) → value_access (selectors_kind types kind cs) ≡ Some u → Seeks types shuns apart (not (shuns u)) u k)
 
-  -- What may be sought of an object that may not always be followed may be sought of one that may.
-  pub seeks_weaker :
-      (may more : Bool) (access : ℕ) (k : List (Frame Value)) → (may ≡ true → more ≡ true) → Seeks types shuns may access k → Seeks types shuns more access k
-  seeks_weaker may more access [] weaker h = tt
-  seeks_weaker may more access (frame.Follows [] ∷ k) weaker h = seeks_weaker may more access k weaker h
-  seeks_weaker may more access (frame.Follows (c ∷ cs) ∷ k) weaker h = (weaker h.0, h.1, h.2)
-  seeks_weaker may more access (frame.RefersIn place t ∷ k) weaker h = weaker h
-  seeks_weaker may more access (frame.OpensIn c ∷ k) weaker h = weaker h
-  seeks_weaker may more access (frame.Targets c right ∷ k) weaker h = weaker h
-  seeks_weaker may more access (frame.TargetsRecord c t items ∷ k) weaker h = weaker h
-  seeks_weaker may more access (frame.Copies c t ∷ k) weaker h = weaker h
-  seeks_weaker may more access (frame.Receives c ∷ k) weaker h = weaker h
-  seeks_weaker may more access (frame.FreesIn t c ∷ k) weaker h = (weaker h.0, h.1, h.2)
-  seeks_weaker may more access (f ∷ k) weaker h = tt
+    -- What may be sought of an object that may not always be followed may be sought of one that may.
+    pub seeks_weaker :
+        (may more : Bool) (access : ℕ) (k : List (Frame Value)) → (may ≡ true → more ≡ true) → Seeks types shuns apart may access k
+        → Seeks types shuns apart more access k
+    seeks_weaker may more access [] weaker h = tt
+    seeks_weaker may more access (frame.Follows [] ∷ k) weaker h = seeks_weaker may more access k weaker h
+    seeks_weaker may more access (frame.Follows (c ∷ cs) ∷ k) weaker h = (weaker h.0, h.1, h.2)
+    seeks_weaker may more access (frame.RefersIn place t ∷ k) weaker h = weaker h
+    seeks_weaker may more access (frame.OpensIn c ∷ k) weaker h = weaker h
+    seeks_weaker may more access (frame.Targets c right ∷ k) weaker h = weaker h
+    seeks_weaker may more access (frame.TargetsRecord c t items ∷ k) weaker h = weaker h
+    seeks_weaker may more access (frame.Copies c t ∷ k) weaker h = weaker h
+    seeks_weaker may more access (frame.Receives c ∷ k) weaker h = weaker h
+    seeks_weaker may more access (frame.FreesIn t c ∷ k) weaker h = (weaker h.0, h.1, h.2)
+    seeks_weaker may more access (f ∷ k) weaker h = tt
 
 -- An access value that may be followed is of a type that is not shunned.
 pub followed : (shuns : ℕ → Bool) (kind : Option VariableKind) (u : ℕ) → value_access kind ≡ Some u → may_follow shuns kind ≡ true → not (shuns u) ≡ true
@@ -227,22 +229,3 @@ pub bare_record :
     → has_parts tds t ≡ false
 bare_record tds types t shown is =
     ap is_some (same_number tds t ∙ ap (λ (ts : List TypeForm). number_in (finalization_of ts t)) shown ∙ none_numbered (finalization_of types t) is)
-
--- Two access types that designate the same record type have objects without controlled parts, or neither has.
-bare_same :
-    (types : List TypeForm) (o q : Option TypeForm) → same_record (designated_in o) (designated_in q) ≡ true → is_bare_access types o ≡ true
-    → is_bare_access types q ≡ true
-bare_same types None q same is = absurd (cc)
-bare_same types (Some (record_of name parts components finalization)) q same is = absurd (cc)
-bare_same types (Some (access_to name designated pool)) None same is = absurd (cc)
-bare_same types (Some (access_to name designated pool)) (Some (record_of other parts components finalization)) same is = absurd (cc)
-bare_same types (Some (access_to name designated pool)) (Some (access_to other own from)) same is =
-    let one : own ≡ designated = eqb-true own designated same in rw one is
-bare_same types (Some (access_to name designated pool)) (Some (object_of record_type)) same is = absurd (cc)
-bare_same types (Some (object_of record_type)) q same is = absurd (cc)
-
--- What is freed by an instance for a type has no controlled parts, where that type says so (13.11.2).
-pub bare_freed :
-    (types : List TypeForm) (access own : ℕ) → is_freed_by types access (Some own) ≡ true → has_bare_objects types access ≡ true
-    → has_bare_objects types own ≡ true
-bare_freed types access own same is = bare_same types (slice_get types access) (slice_get types own) same is

@@ -12,7 +12,7 @@ use Rattle.ada_meaning.specs.Frame as frame
 use Rattle.ada_meaning.specs.Step.{moves, has_parts, at, entered, put, branches_next, decided_next, turn_next, repeats_next, turned_next, count_turn_next, ranges_next, exit_next, exited_next, stmt_next, stmts_next, line_next, declarations_next}
 use Rattle.ada_meaning.specs.Named.{State, named, an_integer}
 use Rattle.ada_meaning.specs.Event.{Quiet}
-use Rattle.ada_reaching.specs.Forms.{may_follow, record_path_shuns, expression_shuns, condition_shuns, item_shuns, actual_shuns, declaration_shuns, declarations_shun, statement_shuns, statements_shun, branches_shun, handlers_shun}
+use Rattle.ada_reaching.specs.Forms.{may_follow, may_end, record_path_shuns, expression_shuns, condition_shuns, item_shuns, actual_shuns, declaration_shuns, declarations_shun, statement_shuns, statements_shun, branches_shun, handlers_shun}
 use Rattle.ada_reaching.specs.Law.{AreApart}
 use Rattle.ada_reaching.proofs.Going.{World, variables_in, Goes, stays, jumps, put_runs}
 use Rattle.ada_reaching.proofs.Paths.{Sound}
@@ -141,7 +141,7 @@ module _ (w : World) where
   line_goes None s r h anew = tt
   line_goes (Some i) s r h anew = stays w s r h anew
 
-  module _ (tds : List TypeDefinition) (known : map type_form tds ≡ w.p.types) (are_apart : AreApart w.p w.shuns w.apart) where
+  module _ (tds : List TypeDefinition) (known : map type_form tds ≡ w.p.types) (are_apart : AreApart w.p tds w.shuns w.apart) where
     -- The bodies go on as a statement begins.
     stmt_goes :
         (f : StmtForm) (s : State) → Sound w s → statement_shuns w.p.types w.shuns w.apart (variables_in w) f ≡ true
@@ -160,7 +160,8 @@ module _ (w : World) where
     stmt_goes (frees access path) s sound shun root r h anew =
         let two = and_parts _ _ shun in
         let one = and_parts _ _ two.0 in
-        frees_go w tds known path.selectors access path.root root.0 s sound root.1 root.2 two.1 (ap (may_follow w.shuns) (sym root.3) ∙ one.1) one.0 r h anew
+        frees_go w tds are_apart.own path.selectors access path.root root.0 s sound root.1 (ap (may_end w.apart) (sym root.3) ∙ two.1)
+        (ap (may_follow w.shuns) (sym root.3) ∙ one.1) one.0 r h anew
     stmt_goes (gets target) s sound shun root r h anew =
         gets_goes w target.selectors target.root root.0 s.input s sound root.1 shun r h anew
     stmt_goes (writes e) s sound shun root r h anew =
@@ -179,8 +180,8 @@ module _ (w : World) where
         (two.0, refl, (two.1, refl, (three.1, anew, h))) refl
     stmt_goes (exits condition spot) s sound shun root r h anew = exit_goes condition s shun r h anew
     stmt_goes (calls procedure actuals) s sound shun root r h anew =
-        let two = and_parts (list_all (actual_shuns w.p.types w.shuns w.apart (variables_in w)) actuals) (w.apart procedure) shun in
-        call_goes w are_apart procedure actuals (slice_get w.p.bodies procedure) s refl two.0 two.1 r h anew
+        let two = and_parts (list_all (actual_shuns w.p.types w.shuns w.apart (variables_in w)) actuals) (w.apart.calls procedure) shun in
+        call_goes w tds are_apart procedure actuals (slice_get w.p.bodies procedure) s refl two.0 two.1 r h anew
     stmt_goes (returns spot) s sound shun root r h anew = jumps w Returning s r h
     stmt_goes (raises e) s sound shun root r h anew = jumps w (Raising e) s r h
     stmt_goes (encloses ds fs hs) s sound shun root r h anew =

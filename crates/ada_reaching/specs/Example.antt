@@ -1,22 +1,26 @@
--- The premise is met: a body stores a value of an access type that it shuns, while the object is there, or copies a record that holds one. And it is needed:
--- one that follows such a value changes the object.
+-- The premise is met: a body stores a value of an access type that it shuns, while the object is there, or copies a record that holds one, or frees another
+-- object that is finalized. And it is needed: one that follows such a value changes the object.
 
 use Rattle.std.specs.Prelude.{◌≡◌, ◌≢◌, ℕ, ℤ, Bool, true, false, List, ◌∷◌, Some}
 use Rattle.std.specs.List.{slice_get}
+use Rattle.ada_parts.specs.Task.{Task, performs}
+use Rattle.ada_program.specs.Controlled.{operations_of, procedure_number}
 use Rattle.ada_program.specs.declared.program.Program.{Program}
 use Rattle.ada_program.specs.ProgramForm.{BodyForm, program_form, body_forms}
 use Rattle.ada_program.specs.Typed.{width_of}
 use Rattle.ada_program.specs.WellFormed.{IsWellFormed}
+use Rattle.ada_meaning.specs.declared.event.Cause.TheVariants.{Freeing}
 use Rattle.ada_meaning.specs.declared.state.Id.{Id}
 use Rattle.ada_meaning.specs.declared.state.Value.{Value}
 use Rattle.ada_meaning.specs.declared.state.Value.TheVariants.{Names}
-use Rattle.ada_meaning.specs.Frame.{Frame}
+use Rattle.ada_meaning.specs.Frame.{Frame, ends}
 use Rattle.ada_meaning.specs.Frame as frame
-use Rattle.ada_meaning.specs.Step.{moves, procedure_of}
-use Rattle.ada_meaning.specs.Named.{State, object_at, next}
+use Rattle.ada_meaning.specs.Step.{moves, older, procedure_of}
+use Rattle.ada_meaning.specs.Named.{Object, State, object_at, next}
 use Rattle.ada_meaning.specs.Records.{component_at, IsCopied}
 use Rattle.ada_meaning.specs.Run.{Event, Run, first_state}
 use Rattle.ada_untouched.specs.Untouched.{Untouched}
+use Rattle.ada_reaching.specs.Apart.{Apart}
 use Rattle.ada_reaching.specs.Forms.{body_shuns}
 use Rattle.ada_reaching.specs.Reaching.{IsOfShunned, IsReaching}
 use Rattle.ada_reaching.specs.Law.{AreApart, IsWithin, none_hidden}
@@ -29,12 +33,12 @@ pub record RunsOn (program : Program) (b : BodyForm) (s after : State) : Type 0 
   pub body : slice_get (program_form program).bodies procedure ≡ Some b
   pub steps : (e : Event) × (next program.types.items (body_forms program) s ≡ moves e after)
 
--- A body that shuns some access types stores the name of a ghost in a component of an object. What it may call is of that shape, and follows and frees no
--- value of these types by what procedures do, too.
-pub record StoresGhost (program : Program) (shuns apart : ℕ → Bool) (ghosts unnamed : Id → Bool) (behind : List (Frame Value)) (b : BodyForm) (s after : State)
-    : Type 0 where
-  pub are_apart : AreApart (program_form program) shuns apart
-  pub shaped : AreShaped (program_form program) apart
+-- It shuns some access types, while an object of one of these is there, a ghost. What it may call is of that shape, and follows and frees no value of these
+-- types by what procedures do, too.
+pub record RunsBeside (program : Program) (shuns : ℕ → Bool) (apart : Apart) (ghosts unnamed : Id → Bool) (behind : List (Frame Value)) (b : BodyForm)
+    (s after : State) : Type 0 where
+  pub are_apart : AreApart (program_form program) program.types.items shuns apart
+  pub shaped : AreShaped (program_form program) program.types.items apart
   pub unused : UseNone (program_form program) shuns apart
   pub runs_on : RunsOn program b s after
   pub shuns_all : body_shuns (program_form program).types shuns apart b ≡ true
@@ -42,15 +46,20 @@ pub record StoresGhost (program : Program) (shuns apart : ℕ → Bool) (ghosts 
   pub within : IsWithin behind s.control s.masters
   pub ghost : Id
   pub is_ghost : ghosts ghost ≡ true
+
+-- Such a body stores the name of the ghost in a component of an object.
+pub record StoresGhost (program : Program) (shuns : ℕ → Bool) (apart : Apart) (ghosts unnamed : Id → Bool) (behind : List (Frame Value)) (b : BodyForm)
+    (s after : State) : Type 0 where
+  pub runs_beside : RunsBeside program shuns apart ghosts unnamed behind b s after
   pub holder : Id
   pub component : ℕ
-  pub holds_other : component_at s.heap holder component ≢ Some (Names ghost)
-  pub stores : component_at after.heap holder component ≡ Some (Names ghost)
+  pub holds_other : component_at s.heap holder component ≢ Some (Names runs_beside.ghost)
+  pub stores : component_at after.heap holder component ≡ Some (Names runs_beside.ghost)
 
 -- Such a body stores it with a record that it copies as a whole, out of another object (4.3.1, 5.2): what it has read of that is about to be written. And there
 -- is an unnamed ghost, too: a record object that is declared (3.3.1).
-pub record CopiesRecord (program : Program) (shuns apart : ℕ → Bool) (ghosts unnamed : Id → Bool) (behind : List (Frame Value)) (b : BodyForm) (s after : State)
-    : Type 0 where
+pub record CopiesRecord (program : Program) (shuns : ℕ → Bool) (apart : Apart) (ghosts unnamed : Id → Bool) (behind : List (Frame Value)) (b : BodyForm)
+    (s after : State) : Type 0 where
   pub stores_ghost : StoresGhost program shuns apart ghosts unnamed behind b s after
   pub declared : Id
   pub is_unnamed : unnamed declared ≡ true
@@ -63,8 +72,29 @@ pub record CopiesRecord (program : Program) (shuns apart : ℕ → Bool) (ghosts
   pub is_next : s.control ≡ frame.StoresRecord (Names stores_ghost.holder) to (width_of program.types.items record_type) ∷ later
   pub copied : IsCopied s.heap after.heap source stores_ghost.holder first to (width_of program.types.items record_type)
 
+-- Such a body frees an object of another access type, which it may free (13.11.2). The type of a part of it overrides Finalize (7.6.1): the body of Finalize
+-- begins, and it is one of those that may be called.
+pub record FinalizesFreed (program : Program) (shuns : ℕ → Bool) (apart : Apart) (ghosts unnamed : Id → Bool) (behind : List (Frame Value)) (b : BodyForm)
+    (s after : State) : Type 0 where
+  pub runs_beside : RunsBeside program shuns apart ghosts unnamed behind b s after
+  pub freed : Id
+  pub object : Object
+  pub is_there : object_at s.heap freed ≡ Some object
+  pub may_be_freed : apart.ends object.cell.access ≡ true
+  pub number : ℕ
+  pub of : ℕ
+  pub part : ℕ
+  pub tasks : List Task
+  pub later : List (Frame Value)
+  pub is_next : s.control ≡ frame.Treats (Names freed) (ends (Freeing number)) (performs of part ∷ tasks) ∷ later
+  pub finalize : ℕ
+  pub overrides : procedure_number (operations_of program.types.items of).finalize ≡ Some finalize
+  pub may_be_called : apart.calls finalize ≡ true
+  pub begins : procedure_of after.activations ≡ Some finalize
+  pub waits : older after.activations ≡ s.activations
+
 -- A body that does not shun these types follows a value of one: the step looks at the object that it names, and changes it.
-pub record FollowsGhost (program : Program) (shuns apart : ℕ → Bool) (ghosts : Id → Bool) (b : BodyForm) (s after : State) : Type 0 where
+pub record FollowsGhost (program : Program) (shuns : ℕ → Bool) (apart : Apart) (ghosts : Id → Bool) (b : BodyForm) (s after : State) : Type 0 where
   pub runs_on : RunsOn program b s after
   pub shuns_not_all : body_shuns (program_form program).types shuns apart b ≡ false
   pub ghosts_there : (o : Id) → ghosts o ≡ true → IsOfShunned (program_form program).types shuns (object_at s.heap o)
@@ -78,7 +108,7 @@ abbrev pub PremiseIsMet : Type 0
 PremiseIsMet =
     (program : Program) × IsWellFormed (program_form program)
     × ((input : List ℤ) × (events : List Event) × (s : State) × Run program (first_state program input) events s
-    × ((shuns : (ℕ → Bool)) × (apart : (ℕ → Bool)) × (ghosts : (Id → Bool)) × (unnamed : (Id → Bool)) × (behind : List (Frame Value))
+    × ((shuns : (ℕ → Bool)) × (apart : Apart) × (ghosts : (Id → Bool)) × (unnamed : (Id → Bool)) × (behind : List (Frame Value))
     × (b : BodyForm) × (after : State)
     × StoresGhost program shuns apart ghosts unnamed behind b s after))
 
@@ -87,14 +117,23 @@ abbrev pub CopyIsMet : Type 0
 CopyIsMet =
     (program : Program) × IsWellFormed (program_form program)
     × ((input : List ℤ) × (events : List Event) × (s : State) × Run program (first_state program input) events s
-    × ((shuns : (ℕ → Bool)) × (apart : (ℕ → Bool)) × (ghosts : (Id → Bool)) × (unnamed : (Id → Bool)) × (behind : List (Frame Value))
+    × ((shuns : (ℕ → Bool)) × (apart : Apart) × (ghosts : (Id → Bool)) × (unnamed : (Id → Bool)) × (behind : List (Frame Value))
     × (b : BodyForm) × (after : State)
     × CopiesRecord program shuns apart ghosts unnamed behind b s after))
+
+-- so is the Finalize of what is freed,
+abbrev pub FinalizationIsMet : Type 0
+FinalizationIsMet =
+    (program : Program) × IsWellFormed (program_form program)
+    × ((input : List ℤ) × (events : List Event) × (s : State) × Run program (first_state program input) events s
+    × ((shuns : (ℕ → Bool)) × (apart : Apart) × (ghosts : (Id → Bool)) × (unnamed : (Id → Bool)) × (behind : List (Frame Value))
+    × (b : BodyForm) × (after : State)
+    × FinalizesFreed program shuns apart ghosts unnamed behind b s after))
 
 -- and so is the other.
 abbrev pub PremiseIsNeeded : Type 0
 PremiseIsNeeded =
     (program : Program) × IsWellFormed (program_form program)
     × ((input : List ℤ) × (events : List Event) × (s : State) × Run program (first_state program input) events s
-    × ((shuns : (ℕ → Bool)) × (apart : (ℕ → Bool)) × (ghosts : (Id → Bool)) × (b : BodyForm) × (after : State)
+    × ((shuns : (ℕ → Bool)) × (apart : Apart) × (ghosts : (Id → Bool)) × (b : BodyForm) × (after : State)
     × FollowsGhost program shuns apart ghosts b s after))

@@ -1,6 +1,6 @@
 -- Bodies that shun some access types (3.10): they follow no value of one (4.1) and free none (13.11.2), and call procedures alone whose bodies do so. They
 -- may move such values, store them, compare them with null, pass them, and copy them with records that have no controlled parts (7.6). They declare no record
--- object, create no collection and no pool, and allocate and free objects without controlled parts alone.
+-- object, create no collection and no pool, and allocate objects without controlled parts alone; of some access types they may free objects with such parts.
 
 use Rattle.std.specs.Prelude.{ℕ, Bool, true, false, not, ◌&&◌, List, [], ◌∷◌, Option, Some, None, is_some}
 use Rattle.std.specs.List.{list_all}
@@ -10,6 +10,7 @@ use Rattle.ada_program.specs.declared.program.VariableKind.TheVariants as variab
 use Rattle.ada_program.specs.ProgramForm.{TypeForm, VariableForm, BodyForm}
 use Rattle.ada_program.specs.WellFormed.{finalization_of, path_kind, selected_kind, variable_kind}
 use Rattle.ada_quiet.specs.Bare.{has_bare_objects}
+use Rattle.ada_reaching.specs.Apart.{Apart}
 
 -- What is held may be followed, and freed: it is no value of an access type that is shunned.
 abbrev pub may_follow : (shuns : ℕ → Bool) → Option VariableKind → Bool
@@ -19,13 +20,21 @@ may_follow shuns (Some variable.Boolean) = true
 may_follow shuns (Some (variable.Access access)) = not (shuns access.0)
 may_follow shuns (Some (variable.Record object)) = true
 
+-- An object that such a value names may be freed (13.11.2).
+abbrev pub may_end : Apart → Option VariableKind → Bool
+may_end apart None = true
+may_end apart (Some variable.Integer) = true
+may_end apart (Some variable.Boolean) = true
+may_end apart (Some (variable.Access access)) = apart.ends access.0
+may_end apart (Some (variable.Record object)) = true
+
 -- Selectors follow no value that is shunned: each follows the value in front of it, and the last value is not followed (4.1.3).
 abbrev pub selectors_shun : List TypeForm → (shuns : ℕ → Bool) → Option VariableKind → (selectors : List ℕ) → Bool
 selectors_shun types shuns kind [] = true
 selectors_shun types shuns kind (c ∷ cs) = may_follow shuns kind && selectors_shun types shuns (selected_kind types kind c) cs
 
 -- In a body with these variables, which calls procedures of these alone.
-module _ (types : List TypeForm) (shuns apart : ℕ → Bool) (variables : List VariableForm) where
+module _ (types : List TypeForm) (shuns : ℕ → Bool) (apart : Apart) (variables : List VariableForm) where
   -- A path follows no value that is shunned (4.1).
   abbrev pub path_shuns : PathForm → Bool
   path_shuns path = selectors_shun types shuns (variable_kind variables path.root) path.selectors
@@ -92,14 +101,14 @@ module _ (types : List TypeForm) (shuns apart : ℕ → Bool) (variables : List 
   declarations_shun ds = list_all declaration_shuns ds
 
   abbrev mutual
-    -- The paths of a statement follow no value that is shunned, and so it is inside it (5.1). No such value is freed (13.11.2), and no record with controlled
-    -- parts is assigned to as a whole (5.2, 7.6).
+    -- The paths of a statement follow no value that is shunned, and so it is inside it (5.1). No such value is freed, nor one of an access type whose objects may not
+    -- be freed (13.11.2), and no record with controlled parts is assigned to as a whole (5.2, 7.6).
     pub statement_shuns : StmtForm → Bool
     statement_shuns skips = true
     statement_shuns (assigns target right) = path_shuns target && right_shuns right
     statement_shuns (assigns_record target items) =
         record_path_shuns target && list_all item_shuns items && not (is_some (finalization_of types target.record_type))
-    statement_shuns (frees access path) = path_shuns path && may_follow shuns (path_kind types variables path) && has_bare_objects types access
+    statement_shuns (frees access path) = path_shuns path && may_follow shuns (path_kind types variables path) && may_end apart (path_kind types variables path)
     statement_shuns (gets target) = path_shuns target
     statement_shuns (writes e) = expression_shuns e
     statement_shuns (writes_text text) = true
@@ -107,7 +116,7 @@ module _ (types : List TypeForm) (shuns apart : ℕ → Bool) (variables : List 
     statement_shuns (repeats condition fs spot) = condition_shuns condition && statements_shun fs
     statement_shuns (counts x low high fs spot) = expression_shuns low && expression_shuns high && statements_shun fs
     statement_shuns (exits condition spot) = condition_shuns condition
-    statement_shuns (calls procedure actuals) = list_all actual_shuns actuals && apart procedure
+    statement_shuns (calls procedure actuals) = list_all actual_shuns actuals && apart.calls procedure
     statement_shuns (returns spot) = true
     statement_shuns (raises e) = true
     statement_shuns (encloses ds fs hs) = declarations_shun ds && statements_shun fs && handlers_shun hs
@@ -128,7 +137,7 @@ module _ (types : List TypeForm) (shuns apart : ℕ → Bool) (variables : List 
     handlers_shun (a_handler choices fs hs) = statements_shun fs && handlers_shun hs
 
 -- All of a body does.
-abbrev pub body_shuns : List TypeForm → (shuns apart : ℕ → Bool) → BodyForm → Bool
+abbrev pub body_shuns : List TypeForm → (shuns : ℕ → Bool) → Apart → BodyForm → Bool
 body_shuns types shuns apart b =
     declarations_shun types shuns apart b.variables b.declarations && statements_shun types shuns apart b.variables b.statements
     && handlers_shun types shuns apart b.variables b.handlers

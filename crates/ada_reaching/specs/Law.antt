@@ -1,8 +1,9 @@
--- The law: bodies that shun some access types look at no object of them, and change none.
+-- The law: bodies that shun some access types look at no object of them, and change none, and neither do the operations of what they free.
 
-use Rattle.std.specs.Prelude.{◌≡◌, ℕ, ℤ, Bool, true, false, List, [], ◌∷◌, Some}
+use Rattle.std.specs.Prelude.{◌≡◌, ◌<◌, ℕ, ℤ, Bool, true, false, List, [], ◌∷◌, Some}
 use Rattle.std.specs.List.{slice_get}
 use Rattle.ada_program.specs.declared.program.Program.{Program}
+use Rattle.ada_program.specs.declared.program.TypeDefinition.{TypeDefinition}
 use Rattle.ada_program.specs.ProgramForm.{BodyForm, ProgramForm, program_form, body_forms}
 use Rattle.ada_program.specs.WellFormed.{IsWellFormed}
 use Rattle.ada_meaning.specs.declared.state.Id.{Id}
@@ -14,12 +15,21 @@ use Rattle.ada_meaning.specs.Step.{halts, moves, tells, asks, picks}
 use Rattle.ada_meaning.specs.Named.{Object, State, Next, object_at, next}
 use Rattle.ada_meaning.specs.Run.{Event, Run, first_state}
 use Rattle.ada_untouched.specs.Untouched.{InnermostHousesNone, Untouched}
+use Rattle.ada_reaching.specs.Apart.{Apart, CallsApart}
 use Rattle.ada_reaching.specs.Forms.{body_shuns}
 use Rattle.ada_reaching.specs.Reaching.{IsReaching}
 
--- The bodies of these procedures shun the types.
-abbrev pub AreApart : ProgramForm → (shuns apart : ℕ → Bool) → Type 0
-AreApart p shuns apart = (procedure : ℕ) (b : BodyForm) → apart procedure ≡ true → slice_get p.bodies procedure ≡ Some b → body_shuns p.types shuns apart b ≡ true
+-- The bodies of these procedures shun the types, and the finalization of what they may free calls such procedures alone.
+pub record AreApart (p : ProgramForm) (definitions : List TypeDefinition) (shuns : ℕ → Bool) (apart : Apart) : Type 0 where
+  pub own : apart.definitions ≡ definitions
+  pub bodies : (procedure : ℕ) (b : BodyForm) → apart.calls procedure ≡ true → slice_get p.bodies procedure ≡ Some b → body_shuns p.types shuns apart b ≡ true
+  pub operations : CallsApart definitions apart
+
+-- The treatment of an object is next (7.6, 7.6.1).
+abbrev pub is_treating : List (Frame Value) → Bool
+is_treating [] = false
+is_treating (frame.Treats v treatment tasks ∷ k) = true
+is_treating (f ∷ k) = false
 
 -- A master that is left has no object to take out (7.6.1).
 abbrev pub TakesNone : Frame Value → List Master → Type 0
@@ -45,24 +55,25 @@ abbrev pub none_hidden : Id → (component : ℕ) → Bool
 none_hidden o c = false
 
 -- The bodies go on so behind the objects that were there, and each ghost stays.
-pub record GoesOn (p : ProgramForm) (shuns apart : ℕ → Bool) (ghosts unnamed : Id → Bool) (behind : List (Frame Value)) (before : List Object) (s : State)
+pub record GoesOn (p : ProgramForm) (shuns : ℕ → Bool) (apart : Apart) (ghosts unnamed : Id → Bool) (behind : List (Frame Value)) (before : List Object) (s : State)
     : Type 0 where
   pub same : GhostsStay ghosts before s.heap
   pub reaching : IsReaching p shuns apart ghosts unnamed behind s
 
--- They do whatever comes next, and whatever is answered. Nothing is picked.
+-- They do whatever comes next, whatever is answered, and whichever of some members is picked.
 abbrev pub AllGoOn : (P : State → Type 0) → Next → Type 0
 AllGoOn P (halts h) = Unit {0}
 AllGoOn P (moves e s) = P s
 AllGoOn P (tells request e s) = P s
 AllGoOn P (asks request answers) = (granted : Bool) → P (answers granted)
-AllGoOn P (picks count taking) = ⊥
+AllGoOn P (picks count taking) = (i : ℕ) → i < count → P (taking i)
 
--- In every run of a well-formed program a step of such bodies looks at no ghost, leaves each as it is, and leaves the bodies so.
+-- In every run of a well-formed program a step of such bodies looks at no ghost, unless an object is treated next, leaves each as it is, and leaves the bodies so.
 abbrev pub ShunnedObjectsAreUntouched : Type 0
 ShunnedObjectsAreUntouched =
     (program : Program) → IsWellFormed (program_form program) → (input : List ℤ) (events : List Event) (s : State)
-    → Run program (first_state program input) events s → (shuns apart : ℕ → Bool) → AreApart (program_form program) shuns apart → (ghosts unnamed : Id → Bool)
+    → Run program (first_state program input) events s → (shuns : ℕ → Bool) (apart : Apart) → AreApart (program_form program) program.types.items shuns apart
+    → (ghosts unnamed : Id → Bool)
     (behind : List (Frame Value)) → IsReaching (program_form program) shuns apart ghosts unnamed behind s → IsWithin behind s.control s.masters
-    → Untouched none_hidden ghosts s
+    → (is_treating s.control ≡ false → Untouched none_hidden ghosts s)
     × AllGoOn (GoesOn (program_form program) shuns apart ghosts unnamed behind s.heap) (next program.types.items (body_forms program) s)

@@ -1,5 +1,7 @@
 -- Bodies that follow and free no value of some access types.
 
+-- what they may call and free
+pub mod Apart
 -- their forms
 pub mod Forms
 -- such bodies run

@@ -1,5 +1,5 @@
 -- Bodies run that shun some access types, while some objects are there, the ghosts: objects of these types, and unnamed ones, declared record objects that no
--- value of the bodies names. What is left of the bodies shuns the types, and refers to no ghost.
+-- value of the bodies names. What is left of the bodies, and of the finalizations of what they free, shuns the types, and refers to no ghost.
 
 use Rattle.std.specs.Prelude.{◌≡◌, ◌⊎◌, ℕ, Bool, true, false, not, ◌&&◌, List, [], ◌∷◌, Option, Some}
 use Rattle.std.specs.List.{list_all, slice_get}
@@ -11,14 +11,16 @@ use Rattle.ada_meaning.specs.declared.state.Mode.{Mode}
 use Rattle.ada_meaning.specs.declared.state.Mode.TheVariants.{Running}
 use Rattle.ada_meaning.specs.declared.state.Value.{Value}
 use Rattle.ada_meaning.specs.declared.state.Value.TheVariants.{Null, Names, Scalar, Part}
-use Rattle.ada_meaning.specs.Frame.{Frame, is_return}
+use Rattle.ada_parts.specs.Task.{Task}
+use Rattle.ada_meaning.specs.Frame.{Frame, Treatment, begins, ends, is_return}
 use Rattle.ada_meaning.specs.Frame as frame
 use Rattle.ada_meaning.specs.State.{Activation}
 use Rattle.ada_meaning.specs.Step.{operands_of, older, places_of, procedure_of}
 use Rattle.ada_meaning.specs.Named.{Object, State, object_at}
 use Rattle.ada_quiet.specs.Bare.{has_bare_objects}
 use Rattle.ada_untouched.specs.Untouched.{IsInSight}
-use Rattle.ada_reaching.specs.Forms.{may_follow, selectors_shun, record_path_shuns, path_shuns, expression_shuns, links_shun, condition_shuns, item_shuns, right_shuns, declarations_shun, statements_shun, branches_shun, handlers_shun, body_shuns}
+use Rattle.ada_reaching.specs.Apart.{Apart, IsLeftOf}
+use Rattle.ada_reaching.specs.Forms.{may_follow, may_end, selectors_shun, record_path_shuns, path_shuns, expression_shuns, links_shun, condition_shuns, item_shuns, right_shuns, declarations_shun, statements_shun, branches_shun, handlers_shun, body_shuns}
 
 -- An object is there, and is of an access type that is shunned (3.10).
 pub record IsOfShunned (types : List TypeForm) (shuns : ℕ → Bool) (found : Option Object) : Type 0 where
@@ -78,9 +80,14 @@ abbrev pub IsInFront : Frame Value → (behind : List (Frame Value)) → Type 0
 IsInFront (frame.Follows cs) k = Unit {0}
 IsInFront f k = begins_anew k ≡ true
 
--- What a frame holds of a body with these variables shuns the types, and names no ghost where it stores, clears, ends or gives back. Nothing treats a record, and
--- what is created, freed or assigned to has no controlled parts.
-module _ (types : List TypeForm) (shuns apart : ℕ → Bool) (bodies : List BodyForm) (ghosts : Id → Bool) (variables : List VariableForm) where
+-- What is left of the treatment of an object is that of the finalization of one that the bodies may free (7.6.1, 13.11.2).
+abbrev pub EndsApart : Apart → Treatment → List Task → Type 0
+EndsApart apart (begins by done) tasks = ⊥
+EndsApart apart (ends cause) tasks = (access : ℕ) × (apart.ends access ≡ true) × IsLeftOf apart.definitions access tasks
+
+-- What a frame holds of a body with these variables shuns the types, and names no ghost where it stores, clears, finalizes, ends or gives back. Nothing begins a
+-- record, and what is created or assigned to has no controlled parts.
+module _ (types : List TypeForm) (shuns : ℕ → Bool) (apart : Apart) (bodies : List BodyForm) (ghosts : Id → Bool) (variables : List VariableForm) where
   abbrev pub FrameShuns : Frame Value → Type 0
   FrameShuns (frame.Elaborates ds fs hs) =
       (declarations_shun types shuns apart variables ds && statements_shun types shuns apart variables fs && handlers_shun types shuns apart variables hs) ≡ true
@@ -105,12 +112,10 @@ module _ (types : List TypeForm) (shuns apart : ℕ → Bool) (bodies : List Bod
   FrameShuns (frame.StoresIn v c) = IsInSight ghosts v
   FrameShuns (frame.TargetsRecord c t items) = list_all (item_shuns types shuns apart variables) items ≡ true
   FrameShuns (frame.StoresRecord v c count) = IsInSight ghosts v
-  FrameShuns (frame.FreesIn access c) = has_bare_objects types access ≡ true
   FrameShuns (frame.Assigns t) = ⊥
   FrameShuns (frame.DeclaresRecord x t) = ⊥
-  FrameShuns (frame.Treats v treatment tasks) = ⊥
+  FrameShuns (frame.Treats v treatment tasks) = IsInSight ghosts v × EndsApart apart treatment tasks
   FrameShuns (frame.Awaits v by done of part tasks) = ⊥
-  FrameShuns frame.Confines = ⊥
   FrameShuns (frame.Resumes mode) = ⊥
   FrameShuns (frame.Ends v) = IsInSight ghosts v
   FrameShuns (frame.GivesBack v cause pool) = IsInSight ghosts v
@@ -143,7 +148,7 @@ AtEnd false end further = further
 -- What is left of the body of a procedure, which runs, and of those that wait for it: each frame is read with the variables of its body, up to the end of the
 -- outermost one.
 abbrev pub LeftShuns :
-    ProgramForm → (shuns apart : ℕ → Bool) → (ghosts unnamed : Id → Bool) → (behind : List (Frame Value)) → (procedure : Option ℕ) → List (Frame Value)
+    ProgramForm → (shuns : ℕ → Bool) → Apart → (ghosts unnamed : Id → Bool) → (behind : List (Frame Value)) → (procedure : Option ℕ) → List (Frame Value)
     → (suspended : List (Activation Value)) → Type 0
 LeftShuns p shuns apart ghosts unnamed behind procedure [] suspended = ⊥
 LeftShuns p shuns apart ghosts unnamed behind procedure (f ∷ k) suspended =
@@ -153,37 +158,37 @@ LeftShuns p shuns apart ghosts unnamed behind procedure (f ∷ k) suspended =
     × LeftShuns p shuns apart ghosts unnamed behind procedure k suspended)
 
 -- What is sought next from an object of an access type: it may be followed then, and from what is selected of it on no value is followed or freed that is
--- shunned.
-abbrev pub Seeks : List TypeForm → (shuns : ℕ → Bool) → (may : Bool) → (access : ℕ) → List (Frame Value) → Type 0
-Seeks types shuns may access [] = Unit {0}
-Seeks types shuns may access (frame.Follows [] ∷ k) = Seeks types shuns may access k
-Seeks types shuns may access (frame.Follows (c ∷ cs) ∷ k) =
+-- shunned, and none freed whose object may not be.
+abbrev pub Seeks : List TypeForm → (shuns : ℕ → Bool) → Apart → (may : Bool) → (access : ℕ) → List (Frame Value) → Type 0
+Seeks types shuns apart may access [] = Unit {0}
+Seeks types shuns apart may access (frame.Follows [] ∷ k) = Seeks types shuns apart may access k
+Seeks types shuns apart may access (frame.Follows (c ∷ cs) ∷ k) =
     (may ≡ true)
     × (selectors_shun types shuns (selected_kind types (Some (variable.Access (record { 0 = access }))) c) cs ≡ true)
     × ((u : ℕ) → value_access (selectors_kind types (selected_kind types (Some (variable.Access (record { 0 = access }))) c) cs) ≡ Some u
-    → Seeks types shuns (not (shuns u)) u k)
-Seeks types shuns may access (frame.RefersIn place t ∷ k) = (may ≡ true)
-Seeks types shuns may access (frame.OpensIn c ∷ k) = (may ≡ true)
-Seeks types shuns may access (frame.Targets c right ∷ k) = (may ≡ true)
-Seeks types shuns may access (frame.TargetsRecord c t items ∷ k) = (may ≡ true)
-Seeks types shuns may access (frame.Copies c t ∷ k) = (may ≡ true)
-Seeks types shuns may access (frame.Receives c ∷ k) = (may ≡ true)
-Seeks types shuns may access (frame.FreesIn t c ∷ k) =
+    → Seeks types shuns apart (not (shuns u)) u k)
+Seeks types shuns apart may access (frame.RefersIn place t ∷ k) = (may ≡ true)
+Seeks types shuns apart may access (frame.OpensIn c ∷ k) = (may ≡ true)
+Seeks types shuns apart may access (frame.Targets c right ∷ k) = (may ≡ true)
+Seeks types shuns apart may access (frame.TargetsRecord c t items ∷ k) = (may ≡ true)
+Seeks types shuns apart may access (frame.Copies c t ∷ k) = (may ≡ true)
+Seeks types shuns apart may access (frame.Receives c ∷ k) = (may ≡ true)
+Seeks types shuns apart may access (frame.FreesIn t c ∷ k) =
     (may ≡ true)
     × (may_follow shuns (selected_kind types (Some (variable.Access (record { 0 = access }))) c) ≡ true)
-    × ((own : ℕ) → value_access (selected_kind types (Some (variable.Access (record { 0 = access }))) c) ≡ Some own → has_bare_objects types own ≡ true)
-Seeks types shuns may access (f ∷ k) = Unit {0}
+    × (may_end apart (selected_kind types (Some (variable.Access (record { 0 = access }))) c) ≡ true)
+Seeks types shuns apart may access (f ∷ k) = Unit {0}
 
 -- So it is from the newest operand, where it names an object and no jump is on its way: no ghost is followed.
-abbrev pub OperandSeeks : List TypeForm → (shuns : ℕ → Bool) → (ghosts : Id → Bool) → List Object → Mode → List (Frame Value) → (operands : List Value) → Type 0
-OperandSeeks types shuns ghosts heap Running k (Names o ∷ vs) = (x : Object) → object_at heap o ≡ Some x → Seeks types shuns (not (ghosts o)) x.cell.access k
-OperandSeeks types shuns ghosts heap mode k vs = Unit {0}
+abbrev pub OperandSeeks : List TypeForm → (shuns : ℕ → Bool) → Apart → (ghosts : Id → Bool) → List Object → Mode → List (Frame Value) → (operands : List Value) → Type 0
+OperandSeeks types shuns apart ghosts heap Running k (Names o ∷ vs) = (x : Object) → object_at heap o ≡ Some x → Seeks types shuns apart (not (ghosts o)) x.cell.access k
+OperandSeeks types shuns apart ghosts heap mode k vs = Unit {0}
 
 -- Such bodies run, while the ghosts are there, some of them unnamed.
-pub record IsReaching (p : ProgramForm) (shuns apart : ℕ → Bool) (ghosts unnamed : Id → Bool) (behind : List (Frame Value)) (s : State) : Type 0 where
+pub record IsReaching (p : ProgramForm) (shuns : ℕ → Bool) (apart : Apart) (ghosts unnamed : Id → Bool) (behind : List (Frame Value)) (s : State) : Type 0 where
   pub ghosts_there : (o : Id) → ghosts o ≡ true → IsGhost p.types shuns (unnamed o) (object_at s.heap o)
   pub are_ghosts : (o : Id) → unnamed o ≡ true → ghosts o ≡ true
   pub places : AreElsewhere ghosts unnamed (places_of s.activations)
   pub operands : AreElsewhere ghosts unnamed (operands_of s.activations)
   pub control : LeftShuns p shuns apart ghosts unnamed behind (procedure_of s.activations) s.control (older s.activations)
-  pub seeks : OperandSeeks p.types shuns ghosts s.heap s.mode s.control (operands_of s.activations)
+  pub seeks : OperandSeeks p.types shuns apart ghosts s.heap s.mode s.control (operands_of s.activations)

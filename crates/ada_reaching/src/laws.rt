@@ -2,7 +2,7 @@
 //! theorem.
 
 ghost use Rattle.ada_reaching.specs.Deeds.{UnusedObjectsAreUntouched};
-ghost use Rattle.ada_reaching.specs.Example.{CopyIsMet, PremiseIsMet, PremiseIsNeeded};
+ghost use Rattle.ada_reaching.specs.Example.{CopyIsMet, FinalizationIsMet, PremiseIsMet, PremiseIsNeeded};
 ghost use Rattle.ada_reaching.specs.Law.{ShunnedObjectsAreUntouched};
 
 /// While a body runs, or a procedure that it calls, that follows and frees no value of some access types, no step looks at objects of
@@ -29,6 +29,13 @@ pub fn premise_is_met()
 /// record object is there that is declared and that none of the bodies names.
 pub fn records_are_copied()
     ensures { CopyIsMet }
+{}
+
+/// So they are where an object is freed that has a controlled part (7.6.1, 13.11.2): in a run of a well-formed program a procedure that
+/// such a body calls frees it, and the Finalize of the part begins, while an object of an access type is there that both bodies shun, and
+/// so does that Finalize.
+pub fn objects_are_finalized()
+    ensures { FinalizationIsMet }
 {}
 
 /// And the premise is needed: in a run of a well-formed program a body follows a value of such a type, and the step looks at the object and

@@ -2,8 +2,9 @@
 //! which none of their references to records and components leads, and change none. Nothing here runs: each function of [`laws`] is a
 //! theorem on the definitions of meaning, and its contract is the statement.
 //!
-//! What a crate above takes from here: `body_shuns` of `specs::Forms`, `IsReaching` of `specs::Reaching`, `operation_reaches` and
-//! `stays_reaching` of `proofs::Law`, and `unused_apart` of `proofs::Deeds`.
+//! What a crate above takes from here: `Apart` of `specs::Apart`, `body_shuns` of `specs::Forms`, `IsReaching` of `specs::Reaching`,
+//! `operation_reaches` and `stays_reaching` of `proofs::Law`, `unused_apart` of `proofs::Deeds`, and what `proofs::Behind` says of an
+//! operation that such bodies wait for.
 #![tactic(auto)]
 
 pub mod laws;

@@ -26,8 +26,7 @@ use Rattle.ada_quiet.specs.Apart.{is_tracker}
 use Rattle.ada_judged.specs.Fitting.{TracksComponents}
 use Rattle.ada_judged.specs.Obeying.{BodyIsOrderly}
 use Rattle.ada_quiet.specs.InUse.{may_be_frugal, may_track}
-use Rattle.ada_quiet.specs.Calm.{are_calmly_copied_in, calm_types}
-use Rattle.ada_quiet.specs.Frugal.{barely_ending_types}
+use Rattle.ada_quiet.specs.Calm.{are_calmly_copied_in}
 use Rattle.ada_beside.specs.Confined.{IsConfined}
 use Rattle.ada_beside.specs.Law.{LieBeside}
 use Rattle.ada_finalized.specs.Law.{NothingBegins}
@@ -113,7 +112,7 @@ pub record Adjusting (program : Program) (s : State) : Type 0 where
   pub bodies : AreOf program (older s.activations) (resting procedure places (begins by done) object access [] place behind lower kept rooms holds ∷ suspensions)
   pub standing : Standing (known_judged program number w.tracks (resting procedure places (begins by done) object access [] place behind lower kept rooms holds ∷ suspensions)) t
   pub typed : typed.TypedIn (known_judged program number w.tracks []).program t
-  pub apart : CallApart (program_form program).types (calm_types (program_form program)) (barely_ending_types (program_form program)) (is_tracker (program_form program)) false t.control
+  pub apart : CallApart (program_form program).types (is_tracker (program_form program)) t.control
   pub ready : Ready (known_judged program number w.tracks (resting procedure places (begins by done) object access [] place behind lower kept rooms holds ∷ suspensions)) t
 
 -- The activation that waits for the body.

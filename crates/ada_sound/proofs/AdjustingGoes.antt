@@ -92,7 +92,7 @@ is_judged program well may frees number b tracks there components orderly =
     record {
       fits = judged_tables p well number b there tracks components;
       covered = λ t covers. judged_covers own tracks (tracks_seen p number b tracks there components) (orderly_seen p number b tracks there orderly) (implicit_of p) t covers;
-      apart = (calls_stand_apart p false (stands_apart p may)).1;
+      apart = (calls_stand_apart p (stands_apart p may)).1;
       stays = λ t typing alone crossing ending.
           each_comes (judged_in tracks own) (next program.types.items (body_forms program) t)
           (judged_stays p well number b there tracks components program.types.items refl t crossing ending typing);

@@ -28,8 +28,6 @@ use Rattle.ada_tracked.specs.Law as matching
 use Rattle.ada_typed.proofs.Bodies.{TablesFit}
 use Rattle.ada_sound.proofs.Gathered.{AllocatesBare}
 use Rattle.ada_quiet.specs.Apart.{is_tracker, body_calls_apart}
-use Rattle.ada_quiet.specs.Calm.{calm_types}
-use Rattle.ada_quiet.specs.Frugal.{barely_ending_types}
 use Rattle.ada_typed.proofs.Control as typed
 use Rattle.ada_typed.proofs.Kept.{Each}
 use Rattle.ada_sound.proofs.AdjustingSeen.{calls_or_copies}
@@ -50,7 +48,7 @@ use Rattle.ada_sound.proofs.Waiting.{low_kept}
 abbrev pub StepsKeep : Known → List TypeDefinition → List BodyForm → Type 0
 StepsKeep known types bodies =
     (t : State) → calls_or_copies t.control ≡ false → inside.crosses t.mode t.control ≡ false → typed.TypedIn known.program t
-    → AllocatesBare known.program known.touches known.barely t.control → AllPairs CollectTwoTypes (items_of t.masters)
+    → AllocatesBare known.program known.touches t.control → AllPairs CollectTwoTypes (items_of t.masters)
     → (may : ℕ → Bool) → FinalizesIn may known.program.types types bodies t.mode t.control t → NoneIsUnder may (outers known).under t.heap
     → (t.mode ≡ Running → FreesAmong may t.control)
     → ((left : Mode) (k : Control) → t.mode ≡ Running → t.control ≡ Leaves left ∷ k
@@ -70,7 +68,7 @@ pub record IsJudged (program : Program) (number : ℕ) (tracks : Tracks) : Type 
   pub owns : typed.OwnBody (judged_in tracks (seen_in (Some number) (program_form program)))
   pub covered : (t : ℕ) → CoveredIn (implicit_of (program_form program)) (judged_in tracks (seen_in (Some number) (program_form program))) t
       → CoveredIn (implicit_of (program_form program)) (seen_in (Some number) (program_form program)) t
-  pub apart : list_all (body_calls_apart (program_form program).types (calm_types (program_form program)) (barely_ending_types (program_form program)) (is_tracker (program_form program)) false) (body_forms program) ≡ true
+  pub apart : list_all (body_calls_apart (program_form program).types (is_tracker (program_form program))) (body_forms program) ≡ true
   pub stays : StepsStayTyped (judged_in tracks (seen_in (Some number) (program_form program))) program.types.items (body_forms program)
   pub keeps : (gs : List Suspension) → StepsKeep (known_judged program number tracks gs) program.types.items (body_forms program)
 

@@ -32,10 +32,10 @@ use Rattle.ada_program.specs.declared.program.Program.{Program}
 use Rattle.ada_program.specs.declared.program.VariableKind.TheVariants as variable_kinds
 use Rattle.ada_quiet.specs.Apart.{body_calls_apart, is_tracker}
 use Rattle.ada_quiet.specs.Bare.{has_bare_objects}
-use Rattle.ada_quiet.specs.Frugal.{barely_ending_types, is_frugal_body, thrift_of}
+use Rattle.ada_quiet.specs.Frugal.{is_frugal_body, thrift_of}
 use Rattle.ada_quiet.specs.InUse.{may_be_frugal, adjusts_alone, count_found, has_one_part}
 use Rattle.ada_quiet.specs.Simple.{is_simple_body}
-use Rattle.ada_quiet.specs.Calm.{are_calmly_copied_in, calm_types, calmly_copied_types, has_calm_objects}
+use Rattle.ada_quiet.specs.Calm.{are_calmly_copied_in, calmly_copied_types, has_calm_objects}
 use Rattle.ada_sound.proofs.AdjustedParts.{adjusted_frees}
 use Rattle.ada_sound.proofs.Adjusting.{IsOfCopy, copied, assigned, AdjustingCopy, LeavesAlone, is_one_of}
 use Rattle.ada_sound.proofs.AdjustingBegins.{Copied, adjusting_begins, begins_as_judged, AdjustsIn}
@@ -275,10 +275,10 @@ module _
         (frugal_frees_bare program well c.number c.b c.there frugal t (judged_covers own w.tracks own_components own_orderly (implicit_of p) t covered))
 
     -- What is left to do calls nothing that tracks.
-    calls_apart : CallApart p.types (calm_types p) (barely_ending_types p) (is_tracker p) false k → CallApart p.types (calm_types p) (barely_ending_types p) (is_tracker p) false (seen_state w begun).control
+    calls_apart : CallApart p.types (is_tracker p) k → CallApart p.types (is_tracker p) (seen_state w begun).control
     calls_apart behind_apart =
-        let own_apart = passed_at (body_calls_apart p.types (calm_types p) (barely_ending_types p) (is_tracker p) false) p.bodies c.number c.b (calls_stand_apart p false (stands_apart p tracks.0)).1 c.there in
-        (judged_apart p.types w.tracks (calm_types p) (barely_ending_types p) (is_tracker p) c.b own_apart, (tt, (tt, behind_apart)))
+        let own_apart = passed_at (body_calls_apart p.types (is_tracker p)) p.bodies c.number c.b (calls_stand_apart p (stands_apart p tracks.0)).1 c.there in
+        (judged_apart p.types w.tracks (is_tracker p) c.b own_apart, (tt, (tt, behind_apart)))
 
     -- The state that stands for the real one is typed.
     judged_typed : typed.TypedIn (judged_in w.tracks own) (seen_state w begun)
@@ -322,7 +322,7 @@ module _
     -- So it begins.
     begins_so :
         is_tracker p c.number ≡ true → Stands program gs (record s { activations = a ∷ rest }) → IsCalm (behind_call k) → under_in (callers_of program gs) ≡ []
-        → CallApart p.types (calm_types p) (barely_ending_types p) (is_tracker p) false k → ((u : Value) → u ≢ Names o → NothingBegins u k) → AdjustsIn program o x.cell.access r c.tasks w begun
+        → CallApart p.types (is_tracker p) k → ((u : Value) → u ≢ Names o → NothingBegins u k) → AdjustsIn program o x.cell.access r c.tasks w begun
     begins_so tracker stands calm settled behind_apart untreated =
         let kept = keeps_tracking program c.number w.tracks in
         let waiting = resting a.procedure a.places (begins c.by c.done) o x.cell.access [] place behind s.masters kept at.works.rooms at.works.holds in
@@ -337,7 +337,7 @@ module _
     -- And so it begins in the real state.
     copy_so :
         is_tracker p c.number ≡ true → Stands program gs (record s { activations = a ∷ rest }) → IsCalm (behind_call k) → under_in (callers_of program gs) ≡ []
-        → CallApart p.types (calm_types p) (barely_ending_types p) (is_tracker p) false k → ((u : Value) → u ≢ Names o → NothingBegins u k) → AdjustingCopy program real
+        → CallApart p.types (is_tracker p) k → ((u : Value) → u ≢ Names o → NothingBegins u k) → AdjustingCopy program real
     copy_so tracker stands calm settled behind_apart untreated =
         let f = begins_so tracker stands calm settled behind_apart untreated in
         record {
@@ -364,7 +364,7 @@ pub adjusting_starts :
     → MayTrack (program_form program) c.b → is_tracker (program_form program) c.number ≡ true
     → AreFilled (program_form program).types (cells_of s.heap) (cells_of s.heap) → typed.Typed (program_form program) after
     → Stands program gs (record s { activations = a ∷ rest }) → IsCalm (behind_call k) → under_in (callers_of program gs) ≡ []
-    → CallApart (program_form program).types (calm_types (program_form program)) (barely_ending_types (program_form program)) (is_tracker (program_form program)) false k → ((u : Value) → u ≢ Names c.to.o → NothingBegins u k)
+    → CallApart (program_form program).types (is_tracker (program_form program)) k → ((u : Value) → u ≢ Names c.to.o → NothingBegins u k)
     → AdjustingCopy program after
 adjusting_starts program well obeys a rest s gs v k IsOperated e after c tracks tracker filled typing stands calm settled behind_apart untreated =
     subst (AdjustingCopy program) (sym c.is)

@@ -1,7 +1,7 @@
 -- Each step of the body of an Adjust that tracks components of its formal parameter (7.6), but its end: the state that stands for the real one takes a step, too, or
 -- stays as it is, and keeps what is known of it.
 
-use Rattle.std.proofs.Common.{◌≡◌, ℕ, Bool, true, false, ◌&&◌, not, List, [], ◌∷◌, refl, sym, ◌∙◌, subst}
+use Rattle.std.proofs.Common.{◌≡◌, ℕ, Bool, true, false, List, [], ◌∷◌, refl, sym, ◌∙◌, subst}
 use Rattle.std.specs.Prelude.{Option, Some}
 use Rattle.std.specs.List.{AllPairs}
 use Rattle.ada_deeds.specs.Implicit.{implicit_of}
@@ -20,7 +20,6 @@ use Rattle.ada_meaning.specs.State.{Activation, Master}
 use Rattle.ada_meaning.specs.Step.{halts, moves, tells, asks, picks, older, places}
 use Rattle.ada_program.specs.declared.program.Program.{Program}
 use Rattle.ada_program.specs.declared.program.TypeDefinition.{TypeDefinition}
-use Rattle.ada_program.specs.Form.{frees, a_stmt}
 use Rattle.ada_program.specs.ProgramForm.{BodyForm, ProgramForm, TypeForm, body_forms, program_form, seen_in}
 use Rattle.ada_program.specs.WellFormed.{IsWellFormed, is_access}
 use Rattle.ada_scopes.specs.Scopes.{CollectTwoTypes}
@@ -36,10 +35,6 @@ use Rattle.ada_typed.proofs.Kept.{Each}
 use Rattle.ada_sound.specs.Agreement.{running_procedure}
 use Rattle.ada_quiet.specs.Apart.{is_tracker}
 use Rattle.ada_quiet.specs.Bare.{has_bare_objects}
-use Rattle.ada_quiet.specs.InUse.{may_be_frugal}
-use Rattle.ada_quiet.specs.Calm.{are_calm_in, calm_types}
-use Rattle.ada_quiet.specs.Frugal.{barely_ending_types}
-use Rattle.ada_sound.proofs.CalmObjects.{calm_if_bare}
 use Rattle.ada_sound.proofs.CallsApart.{CallApart, AllCallApart}
 use Rattle.ada_sound.proofs.CallsApartSteps.{calls_stay_apart}
 use Rattle.ada_sound.proofs.FormalStays.{SamePlaces, AllSamePlaces, places_stay}
@@ -68,7 +63,6 @@ use Rattle.ada_sound.proofs.Standing.{AllStand, FinalizesBy, FinalizesIn, FreesA
 use Rattle.ada_sound.proofs.Steps as inside
 use Rattle.ada_sound.proofs.Stored.{IsUnder, Stored}
 use Rattle.ada_sound.proofs.StoredStates.{ready_stored}
-use Rattle.ada_sound.proofs.Touched.{FreesLed, ends_barely_in, touches_in}
 use Rattle.ada_sound.proofs.Trackers.{tracks_apart}
 use Rattle.ada_sound.proofs.TracksWell.{tracked_bare}
 
@@ -194,30 +188,16 @@ module _
   none_is_under : NoneIsUnder bare_types (outers known).under f.t.heap
   none_is_under o x under found = let none : IsUnder [] o = subst (λ (all : List Id). IsUnder all o) f.settled under in absurd none
 
-  -- So no operation is called for it that touches storage.
-  bare_untouched : (access : ℕ) → bare_types access ≡ true → touches_in p access ≡ true → ⊥
-  bare_untouched access bare = by (may_be_frugal p)
-    where
-      by : (may : Bool) → (may && not (are_calm_in p access)) ≡ true → ⊥
-      by true touches = let is_calm = calm_if_bare p access bare in cc (rw is_calm at touches)
-      by false touches = cc touches
-
-  -- And nothing is asked of the path to it.
-  frees_next_led : (k : Control) → FreesAmong bare_types k → FreesLed p.types (touches_in p) (ends_barely_in p) k
-  frees_next_led [] freely' = tt
-  frees_next_led (frame.Does (a_stmt (frees access path) fs) ∷ k) freely' = λ is touches. absurd (bare_untouched access freely' touches)
-  frees_next_led (g ∷ k) freely' = tt
-
   -- No allocator copies a record with controlled parts, or makes an object with some from items.
-  bare_there : AllocatesBare known.program known.touches known.barely f.t.control
+  bare_there : AllocatesBare known.program known.touches f.t.control
   bare_there =
-      tracked_bare program well (tracks_apart (program_form program) f.tracking) known.program types_are f.t (frees_next_led f.t.control freely) (λ stand. f.apart)
+      tracked_bare program well (tracks_apart (program_form program) f.tracking) known.program types_are f.t (λ stand. f.apart)
 
   places_on : AllSamePlaces s (next tds bodies s)
   places_on = places_stay tds bodies f.w.tracks.first s (within f.w.tracks.first s.control f.simple inner)
 
-  apart_on : AllCallApart p.types (calm_types p) (barely_ending_types p) (is_tracker p) false (next tds bodies f.t)
-  apart_on = calls_stay_apart tds bodies p.types (calm_types p) (barely_ending_types p) (is_tracker p) false judged.apart f.t f.apart
+  apart_on : AllCallApart p.types (is_tracker p) (next tds bodies f.t)
+  apart_on = calls_stay_apart tds bodies p.types (is_tracker p) judged.apart f.t f.apart
 
   -- So the other one takes its step well.
   fine_on : Fine known f.t.heap f.t.masters (next tds bodies f.t)
@@ -266,7 +246,7 @@ module _
   Runs after = SameRun s after × SamePlaces s after
 
   abbrev Kept : State → Type 0
-  Kept stands = typed.TypedIn known.program stands × CallApart p.types (calm_types p) (barely_ending_types p) (is_tracker p) false stands.control
+  Kept stands = typed.TypedIn known.program stands × CallApart p.types (is_tracker p) stands.control
 
   -- What holds behind a step.
   adjusting_by :
@@ -381,7 +361,7 @@ module _
   pub step_on : GoesAdjusting program s f (next tds bodies s)
   step_on =
       next_on (next tds bodies s) (next tds bodies f.t) shown (each_both (SameRun s) (SamePlaces s) (next tds bodies s) real_on (each_next (SamePlaces s) (next tds bodies s) places_on)) simple_on fine_on frugal_on
-      (each_both (typed.TypedIn known.program) (λ stands. CallApart p.types (calm_types p) (barely_ending_types p) (is_tracker p) false stands.control) (next tds bodies f.t) typed_on (each_next (λ (stands : State). CallApart p.types (calm_types p) (barely_ending_types p) (is_tracker p) false stands.control) (next tds bodies f.t) apart_on))
+      (each_both (typed.TypedIn known.program) (λ stands. CallApart p.types (is_tracker p) stands.control) (next tds bodies f.t) typed_on (each_next (λ (stands : State). CallApart p.types (is_tracker p) stands.control) (next tds bodies f.t) apart_on))
 
 -- Each step of the body but its end keeps all that is known while it runs.
 pub adjusting_step :

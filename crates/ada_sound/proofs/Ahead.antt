@@ -4,9 +4,8 @@
 use Rattle.std.proofs.Common.{◌≡◌, ℕ, Bool, true, false, not, ◌&&◌, List, [], ◌∷◌}
 use Rattle.ada_program.specs.ProgramForm.{TypeForm, ProgramForm}
 use Rattle.ada_meaning.specs.State.{Owned, declared, collection, record_object, storage_pool, Item, Master}
-use Rattle.ada_quiet.specs.Bare.{holds_component}
+use Rattle.ada_quiet.specs.Bare.{collections_in_order, holds_component}
 use Rattle.ada_quiet.specs.Calm.{are_calm_in}
-use Rattle.ada_quiet.specs.InUse.{may_allocate_parts}
 
 -- For the objects of an item such an operation may be called: it is a declared object, or, where objects with controlled parts may be allocated, the collection of
 -- an access type whose objects are not calm.
@@ -18,7 +17,7 @@ goes_first parts calm (storage_pool declaration number) = false
 
 -- In the runs of a program.
 abbrev pub ahead_in : ProgramForm → Owned → Bool
-ahead_in p owned = goes_first (may_allocate_parts p) (are_calm_in p) owned
+ahead_in p owned = goes_first (collections_in_order p) (are_calm_in p) owned
 
 -- The objects of an item, if it is a collection, have no component of an access type.
 abbrev pub HoldsNone : List TypeForm → (access : ℕ) → Owned → Type 0

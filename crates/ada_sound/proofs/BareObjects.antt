@@ -13,9 +13,9 @@ use Rattle.ada_program.specs.declared.program.Program.{Program}
 use Rattle.ada_program.specs.ProgramForm.{TypeForm, record_of, access_to, object_of, BodyForm, ProgramForm, program_form, seen_in}
 use Rattle.ada_program.specs.WellFormed.{IsWellFormed, designated_in, finalization_in, finalization_of, is_access, named_in, object_named}
 use Rattle.ada_quiet.specs.Apart.{operations_stand_apart}
-use Rattle.ada_quiet.specs.Bare.{has_bare_objects, is_bare_access}
+use Rattle.ada_quiet.specs.Bare.{collections_in_order, has_bare_objects, is_bare_access}
 use Rattle.ada_quiet.specs.Frugal.{is_frugal_body, thrift_of}
-use Rattle.ada_quiet.specs.InUse.{designates_no_parts, may_allocate_parts, allocates_no_parts, may_be_frugal}
+use Rattle.ada_quiet.specs.InUse.{designates_no_parts, allocates_no_parts, may_be_frugal}
 use Rattle.ada_sound.proofs.FrugalUseFrees.{covered_bare}
 use Rattle.ada_sound.proofs.FrugalUseParts.{some_parts, walked_parts}
 use Rattle.ada_sound.proofs.Invariant.{CoveredIn}
@@ -46,10 +46,10 @@ module _ (program : Program) (well : IsWellFormed (program_form program)) where
   abbrev p : ProgramForm
   p = program_form program
 
-  -- Where operations may be frugal, none is allocated, or each may be.
-  parts_where : may_be_frugal p ≡ true → (allocates_no_parts p ≡ true) ⊎ (may_allocate_parts p ≡ true)
+  -- Where operations may be frugal, none is allocated, or collections are created in order.
+  parts_where : may_be_frugal p ≡ true → (allocates_no_parts p ≡ true) ⊎ (collections_in_order p ≡ true)
   parts_where may =
-      or_cases (allocates_no_parts p) (may_allocate_parts p) (apart (allocates_no_parts p || may_allocate_parts p) (operations_stand_apart p) may).0
+      or_cases (allocates_no_parts p) (collections_in_order p) (apart (allocates_no_parts p || collections_in_order p) (operations_stand_apart p) may).0
 
   -- An object is that of a variable or a component, or it has controlled parts, where an operation is called for one of these.
   pub operable_is_not_bare : (access of part : ℕ) → IsOperable p.types access of part → has_bare_objects p.types access ≡ false
@@ -67,10 +67,10 @@ module _ (program : Program) (well : IsWellFormed (program_form program)) where
   pub frugal_frees_bare : (number : ℕ) (b : BodyForm) → slice_get p.bodies number ≡ Some b → is_frugal_body (thrift_of p false) b ≡ true → (t : ℕ) → CoveredIn (implicit_of p) (seen_in (Some number) p) t → has_bare_objects p.types t ≡ true
   frugal_frees_bare number b there frugal t covered = covered_bare p well number b there frugal t covered
 
-  -- Nothing has controlled parts that is allocated, where operations may be frugal and such an object may not be allocated beside them.
-  pub allocated_is_bare : may_be_frugal p ≡ true → may_allocate_parts p ≡ false → (access : ℕ) → is_access p.types access ≡ true → has_bare_objects p.types access ≡ true
+  -- Nothing has controlled parts that is allocated, where operations may be frugal and collections are not created in order.
+  pub allocated_is_bare : may_be_frugal p ≡ true → collections_in_order p ≡ false → (access : ℕ) → is_access p.types access ≡ true → has_bare_objects p.types access ≡ true
   allocated_is_bare may none access is = by (parts_where may)
     where
-      by : (allocates_no_parts p ≡ true) ⊎ (may_allocate_parts p ≡ true) → has_bare_objects p.types access ≡ true
+      by : (allocates_no_parts p ≡ true) ⊎ (collections_in_order p ≡ true) → has_bare_objects p.types access ≡ true
       by (inl bare) = bare_access p.types bare access is
       by (inr parts) = absurd (cc (none, parts))

@@ -14,7 +14,7 @@ use Rattle.ada_meaning.specs.Step.{older}
 use Rattle.ada_meaning.specs.Named.{State}
 use Rattle.ada_sound.specs.Agreement.{Turning, IsFlowAt, IsBehind, running_procedure}
 use Rattle.ada_sound.proofs.Ahead.{ahead_in}
-use Rattle.ada_sound.proofs.Touched.{touches_in, ends_barely_in}
+use Rattle.ada_sound.proofs.Touched.{touches_in}
 use Rattle.ada_sound.proofs.Fits.{Outer, Reference}
 use Rattle.ada_sound.proofs.Bodies.{IsBody}
 use Rattle.ada_sound.proofs.Invariant.{Control, Rooms, Caller, Known, Standing}
@@ -55,7 +55,6 @@ caller_of program g gs = record {
   program = seen_in g.procedure (program_form program);
   ahead = ahead_in (program_form program);
   touches = touches_in (program_form program);
-  barely = ends_barely_in (program_form program);
   At = Reaches program g.procedure (rest_of gs);
   actuals = g.actuals;
   passed = g.passed;
@@ -82,7 +81,6 @@ known_in program procedure gs = record {
   program = seen_in procedure (program_form program);
   ahead = ahead_in (program_form program);
   touches = touches_in (program_form program);
-  barely = ends_barely_in (program_form program);
   At = Reaches program procedure (rest_of gs);
   callers = callers_of program gs;
   tracked = [];

@@ -1,6 +1,5 @@
 -- Procedures that track stand apart in what is left to do (6.4): it calls none of them, and no body that it begins does; no allocator with items makes an object
--- with controlled parts, or copies a record with some (4.8). Where the objects that are freed by components (13.11.2) and are not calm end so that no operation is called
--- that calls another one, each statement that frees one by a component does so.
+-- with controlled parts, or copies a record with some (4.8).
 
 use Rattle.std.proofs.Common.{◌≡◌, ℕ, Bool, true, false, ◌&&◌, List}
 use Rattle.std.proofs.lemmas.Bool.{and_parts}
@@ -13,24 +12,24 @@ use Rattle.ada_meaning.specs.Named.{Next}
 use Rattle.ada_quiet.specs.Apart.{is_bare_right, declare_apart, all_call_apart, branches_call_apart, handlers_call_apart, body_calls_apart}
 use Rattle.ada_idle.proofs.Frames.{AllFrames, AllFramesNext}
 
-module _ (forms : List TypeForm) (calm barely : List Bool) (tracks : ℕ → Bool) (led : Bool) where
+module _ (forms : List TypeForm) (tracks : ℕ → Bool) where
   -- Declarations, statements and handlers call no procedure that tracks.
   abbrev pub ElaboratesApart : List DeclarationForm → StmtsForm → HandlersForm → Type 0
   ElaboratesApart ds fs hs =
-      (declare_apart forms ds ≡ true) × ((all_call_apart forms calm barely tracks led fs ≡ true) × (handlers_call_apart forms calm barely tracks led hs ≡ true))
+      (declare_apart forms ds ≡ true) × ((all_call_apart forms tracks fs ≡ true) × (handlers_call_apart forms tracks hs ≡ true))
 
   -- Statements that a frame holds call no procedure that tracks; a call is of none, and neither are those of its body. What is evaluated
-  -- makes no object with controlled parts from items, and copies no record with some; and paths lead so to what statements free that is not calm.
+  -- makes no object with controlled parts from items, and copies no record with some.
   abbrev pub FrameCallsApart : Frame Value → Type 0
   FrameCallsApart (frame.Elaborates ds fs hs) = ElaboratesApart ds fs hs
-  FrameCallsApart (frame.Does fs) = all_call_apart forms calm barely tracks led fs ≡ true
-  FrameCallsApart (frame.Decides fs branches) = (all_call_apart forms calm barely tracks led fs ≡ true) × (branches_call_apart forms calm barely tracks led branches ≡ true)
-  FrameCallsApart (frame.Repeats condition fs) = all_call_apart forms calm barely tracks led fs ≡ true
-  FrameCallsApart (frame.Turns condition fs) = all_call_apart forms calm barely tracks led fs ≡ true
-  FrameCallsApart (frame.Ranges x fs) = all_call_apart forms calm barely tracks led fs ≡ true
-  FrameCallsApart (frame.Counts x value last fs) = all_call_apart forms calm barely tracks led fs ≡ true
-  FrameCallsApart (frame.Handles hs) = handlers_call_apart forms calm barely tracks led hs ≡ true
-  FrameCallsApart (frame.Calls procedure b actuals) = (tracks procedure ≡ false) × (body_calls_apart forms calm barely tracks led b ≡ true)
+  FrameCallsApart (frame.Does fs) = all_call_apart forms tracks fs ≡ true
+  FrameCallsApart (frame.Decides fs branches) = (all_call_apart forms tracks fs ≡ true) × (branches_call_apart forms tracks branches ≡ true)
+  FrameCallsApart (frame.Repeats condition fs) = all_call_apart forms tracks fs ≡ true
+  FrameCallsApart (frame.Turns condition fs) = all_call_apart forms tracks fs ≡ true
+  FrameCallsApart (frame.Ranges x fs) = all_call_apart forms tracks fs ≡ true
+  FrameCallsApart (frame.Counts x value last fs) = all_call_apart forms tracks fs ≡ true
+  FrameCallsApart (frame.Handles hs) = handlers_call_apart forms tracks hs ≡ true
+  FrameCallsApart (frame.Calls procedure b actuals) = (tracks procedure ≡ false) × (body_calls_apart forms tracks b ≡ true)
   FrameCallsApart (frame.Evaluates right) = is_bare_right forms right ≡ true
   FrameCallsApart (frame.Targets c right) = is_bare_right forms right ≡ true
   FrameCallsApart f = Unit {0}
@@ -45,9 +44,9 @@ module _ (forms : List TypeForm) (calm barely : List Bool) (tracks : ℕ → Boo
 
   -- So it is with a body, or a block, whose declarations are next (3.11).
   pub elaborates_apart : (ds : List DeclarationForm) (fs : StmtsForm) (hs : HandlersForm)
-      → declare_apart forms ds && all_call_apart forms calm barely tracks led fs && handlers_call_apart forms calm barely tracks led hs ≡ true
+      → declare_apart forms ds && all_call_apart forms tracks fs && handlers_call_apart forms tracks hs ≡ true
       → ElaboratesApart ds fs hs
   elaborates_apart ds fs hs own =
-      let outer = and_parts (declare_apart forms ds && all_call_apart forms calm barely tracks led fs) (handlers_call_apart forms calm barely tracks led hs) own in
-      let inner = and_parts (declare_apart forms ds) (all_call_apart forms calm barely tracks led fs) outer.0 in
+      let outer = and_parts (declare_apart forms ds && all_call_apart forms tracks fs) (handlers_call_apart forms tracks hs) own in
+      let inner = and_parts (declare_apart forms ds) (all_call_apart forms tracks fs) outer.0 in
       (inner.0, (inner.1, outer.1))

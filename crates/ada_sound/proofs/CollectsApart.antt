@@ -10,10 +10,8 @@ use Rattle.ada_meaning.specs.State.{Owned, declared, collection, record_object, 
 use Rattle.ada_meaning.specs.Step.{in_front}
 use Rattle.ada_meaning.specs.Named.{State}
 use Rattle.ada_meaning.specs.Run.{Event, Run, first_state}
-use Rattle.ada_quiet.specs.Apart.{parts_are_led}
 use Rattle.ada_quiet.specs.Calm.{are_calm_in, calm_types, has_calm_objects}
 use Rattle.ada_quiet.specs.Bare.{holds_component, hold_none, hold_none_from, is_apart_from, collect_in_order, collections_in_order}
-use Rattle.ada_quiet.specs.InUse.{may_allocate_parts}
 use Rattle.ada_scopes.proofs.Counts.{opened_by, opened}
 use Rattle.ada_created.proofs.Control.{AllBegun}
 use Rattle.ada_created.proofs.Created.{body_fits_in}
@@ -106,10 +104,7 @@ masters_apart program ordered input events last run =
     begun_apart p.types (calm_types p) last.masters
     (begun_in_runs (InOrder p.types (calm_types p)) program (body_fits_in (InOrder p.types (calm_types p)) p.bodies each.1) each.0 input events last run)
 
--- And so it is in a state that a run comes to, where objects with controlled parts may be allocated beside operations that touch storage.
-pub apart_where_reached : (program : Program) (s : State) → IsReached program s → may_allocate_parts (program_form program) ≡ true
+-- And so it is in a state that a run comes to.
+pub apart_where_reached : (program : Program) (s : State) → IsReached program s → collections_in_order (program_form program) ≡ true
     → MastersApart (program_form program).types (are_calm_in (program_form program)) s.masters
-apart_where_reached program s reached may =
-    let p = program_form program in
-    let two = and_parts (collections_in_order p) (parts_are_led p) may in
-    masters_apart program two.0 reached.0 reached.1 s reached.2
+apart_where_reached program s reached ordered = masters_apart program ordered reached.0 reached.1 s reached.2

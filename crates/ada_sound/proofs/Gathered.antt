@@ -26,7 +26,6 @@ use Rattle.ada_sound.proofs.Untracked.{owns_nothing}
 use Rattle.ada_sound.proofs.Invariant.{AdjustsFirst, Control, IsPlainFirst, NoneBroken, OwnsNothing, OwnNothing, owns_at_first}
 use Rattle.ada_sound.proofs.Followings.{first_kept, kept_apart}
 use Rattle.ada_sound.proofs.Copied.{IsCopy, copied_plain}
-use Rattle.ada_sound.proofs.Touched.{FreesLed}
 
 -- The records among these items own nothing, where flow lets them be items.
 abbrev pub BareItems : List TypeForm → List ItemForm → Type 0
@@ -36,12 +35,10 @@ BareItems types items = (spot : Spot) (target : Option PathForm) (holds : Holds)
 abbrev pub AllocatesApart : (touches : ℕ → Bool) → Control → Type 0
 AllocatesApart touches k = (access : ℕ) (items : List ItemForm) (behind : Control) → k ≡ Evaluates (allocates access items) ∷ behind → touches access ≡ false
 
--- The path to what is freed next, for which an operation is called that touches storage, is a variable, or none is called then that frees an object with controlled
--- parts; records that are items of an allocator that is evaluated next own nothing, and no such operation is called for its object.
-abbrev pub AllocatesBare : ProgramForm → (touches barely : ℕ → Bool) → Control → Type 0
-AllocatesBare p touches barely k =
-    FreesLed p.types touches barely k
-    × ((access : ℕ) (items : List ItemForm) (behind : Control) → k ≡ Evaluates (allocates access items) ∷ behind → BareItems p.types items × (touches access ≡ false))
+-- Records that are items of an allocator that is evaluated next own nothing, and no operation is called for its object that touches storage.
+abbrev pub AllocatesBare : ProgramForm → (touches : ℕ → Bool) → Control → Type 0
+AllocatesBare p touches k =
+    (access : ℕ) (items : List ItemForm) (behind : Control) → k ≡ Evaluates (allocates access items) ∷ behind → BareItems p.types items × (touches access ≡ false)
 
 module _ (types : List TypeForm) (none : AdjustsNoOwners types) where
   -- A record that is copied as an item.
@@ -183,9 +180,9 @@ items_bare types none spot target holds earlier (i ∷ items) kept =
     (item_bare types none spot target holds earlier i two.0, items_bare types none spot target holds (named_by_item i ++ earlier) items two.1)
 
 -- Where no Adjust is of a type that declares components of access types, records that are items own nothing.
-pub allocates_none : {touches : ℕ → Bool} (barely : ℕ → Bool) (p : ProgramForm) (k : Control) → AdjustsNoOwners p.types → FreesLed p.types touches barely k → AllocatesApart touches k → AllocatesBare p touches barely k
-allocates_none barely p k none led apart =
-    (led, λ access items behind is. ((λ spot target holds kept. items_bare p.types none spot target holds [] items kept), apart access items behind is))
+pub allocates_none : {touches : ℕ → Bool} (p : ProgramForm) (k : Control) → AdjustsNoOwners p.types → AllocatesApart touches k → AllocatesBare p touches k
+allocates_none p k none apart access items behind is =
+    ((λ spot target holds kept. items_bare p.types none spot target holds [] items kept), apart access items behind is)
 
 -- A record that has no controlled parts owns nothing, where it may be copied.
 record_bare : (types : List TypeForm) → CopiesWell types → (t : ℕ) → finalization_of types t ≡ None → leaves_owners types t ≡ false → is_owning_record types t ≡ false
@@ -214,6 +211,6 @@ all_bare types copies spot target holds earlier (i ∷ items) bare kept =
     (one_bare types copies spot target holds earlier i each.0 two.0, all_bare types copies spot target holds (named_by_item i ++ earlier) items each.1 two.1)
 
 -- So do those of an allocator that is evaluated next, where it copies no such record.
-pub allocates_bare : {touches : ℕ → Bool} (barely : ℕ → Bool) (p : ProgramForm) → CopiesWell p.types → (k : Control) → ((access : ℕ) (items : List ItemForm) (behind : Control) → k ≡ Evaluates (allocates access items) ∷ behind → list_all (is_bare_item p.types) items ≡ true) → FreesLed p.types touches barely k → AllocatesApart touches k → AllocatesBare p touches barely k
-allocates_bare barely p copies k bare led apart =
-    (led, λ access items behind is. ((λ spot target holds kept. all_bare p.types copies spot target holds [] items (bare access items behind is) kept), apart access items behind is))
+pub allocates_bare : {touches : ℕ → Bool} (p : ProgramForm) → CopiesWell p.types → (k : Control) → ((access : ℕ) (items : List ItemForm) (behind : Control) → k ≡ Evaluates (allocates access items) ∷ behind → list_all (is_bare_item p.types) items ≡ true) → AllocatesApart touches k → AllocatesBare p touches k
+allocates_bare p copies k bare apart access items behind is =
+    ((λ spot target holds kept. all_bare p.types copies spot target holds [] items (bare access items behind is) kept), apart access items behind is)

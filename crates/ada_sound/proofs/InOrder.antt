@@ -23,8 +23,7 @@ use Rattle.ada_scopes.proofs.Components.{items_fit, objects_gone}
 use Rattle.ada_scopes.proofs.Runs.{Scoped}
 use Rattle.ada_sound.proofs.Ahead.{goes_first, ahead_in, HoldsNone, AllHoldNone, houses_others, AtOthers, HoldNoneFrom, IsApart, ItemsApart, MastersApart}
 use Rattle.ada_quiet.specs.Calm.{are_calm_in}
-use Rattle.ada_quiet.specs.Bare.{is_component_of, has_component_of, record_has_component_of, holds_component}
-use Rattle.ada_quiet.specs.InUse.{may_allocate_parts}
+use Rattle.ada_quiet.specs.Bare.{collections_in_order, is_component_of, has_component_of, record_has_component_of, holds_component}
 use Rattle.ada_sound.proofs.Fits.{from_ahead}
 use Rattle.ada_sound.proofs.FrugalFrees.{component_access}
 use Rattle.ada_sound.proofs.Invariant.{innermost}
@@ -155,10 +154,10 @@ none_ahead calm (i ∷ is) all =
 
 -- No component is of the type of a declared object. A collection goes where no objects from the first one on that is left of those for which such an operation may
 -- be called have a component of its type.
-order_of : (program : Program) → IsWellFormed (program_form program) → (s : State) → Scoped (program_form program) s → (may_allocate_parts (program_form program) ≡ true → MastersApart (program_form program).types (are_calm_in (program_form program)) s.masters) → (m : ℕ) (i : Item) (is : List Item) (ms : List Master) → s.masters ≡ record { number = m; items = i ∷ is } ∷ ms → (owned : Owned) → i.owned ≡ owned → GoesInOrder (ahead_in (program_form program)) (program_form program).types i is
+order_of : (program : Program) → IsWellFormed (program_form program) → (s : State) → Scoped (program_form program) s → (collections_in_order (program_form program) ≡ true → MastersApart (program_form program).types (are_calm_in (program_form program)) s.masters) → (m : ℕ) (i : Item) (is : List Item) (ms : List Master) → s.masters ≡ record { number = m; items = i ∷ is } ∷ ms → (owned : Owned) → i.owned ≡ owned → GoesInOrder (ahead_in (program_form program)) (program_form program).types i is
 order_of program well s nested apart m i is ms masters (declared x) own = λ access pool houses. (let none : Houses (declared x) access pool = rw own at houses in absurd none)
 order_of program well s nested apart m i is ms masters (storage_pool declaration number) own = λ access pool houses. (let none : Houses (storage_pool declaration number) access pool = rw own at houses in absurd none)
-order_of program well s nested apart m i is ms masters (collection t pool) own = by (may_allocate_parts p) refl
+order_of program well s nested apart m i is ms masters (collection t pool) own = by (collections_in_order p) refl
   where
     p : ProgramForm
     p = program_form program
@@ -172,7 +171,7 @@ order_of program well s nested apart m i is ms masters (collection t pool) own =
     fit : ItemsFit p.types (i ∷ is)
     fit = fit_before p.types (i ∷ is) (items_of ms) (subst (λ (ms' : List Master). ItemsFit p.types (items_of ms')) masters (items_fit p s nested))
 
-    by : (may : Bool) → may_allocate_parts p ≡ may → GoesInOrder (goes_first may (are_calm_in p)) p.types i is
+    by : (may : Bool) → collections_in_order p ≡ may → GoesInOrder (goes_first may (are_calm_in p)) p.types i is
     by true may access pool' houses =
         let items : ItemsApart p.types (are_calm_in p) (i ∷ is) = (subst (MastersApart p.types (are_calm_in p)) masters (apart may)).0 in
         let created : IsApart p.types (are_calm_in p) t is = rw own at (items.0) in
@@ -184,7 +183,7 @@ order_of program well s nested apart m i is ms masters (record_object t) own = �
     let none : is_access (program_form program).types t ≡ false = rw own at fits in
     none_of_record (program_form program).types (are_calm_in (program_form program)) access well.types_fit (rw own_type at none) (from_ahead (ahead_in (program_form program)) (i ∷ is))
 
-pub in_order : (program : Program) → IsWellFormed (program_form program) → (s : State) → Scoped (program_form program) s → (may_allocate_parts (program_form program) ≡ true → MastersApart (program_form program).types (are_calm_in (program_form program)) s.masters) → (types : List TypeForm) → types ≡ (program_form program).types → (ms : List Master) → s.masters ≡ ms → AreInOrder (ahead_in (program_form program)) types (innermost ms)
+pub in_order : (program : Program) → IsWellFormed (program_form program) → (s : State) → Scoped (program_form program) s → (collections_in_order (program_form program) ≡ true → MastersApart (program_form program).types (are_calm_in (program_form program)) s.masters) → (types : List TypeForm) → types ≡ (program_form program).types → (ms : List Master) → s.masters ≡ ms → AreInOrder (ahead_in (program_form program)) types (innermost ms)
 in_order program well s nested apart types same [] masters = tt
 in_order program well s nested apart types same (m ∷ ms) masters = by m.items masters
   where

@@ -84,17 +84,16 @@ Roomed below [] (gone ∷ rooms) = ⊥
 Roomed below (m ∷ ms) (gone ∷ rooms) = ItemsAmong m.items gone.types × Roomed below ms rooms
 
 -- A caller, whose activation is suspended: what is known of implicit calls; the program as its body sees it, for the objects of which items an operation may be
--- called that touches storage where a master is left, for objects of which types one may be called, and for which none where they end that calls another one, and what
--- is known where flow comes to a place in it; the actual parameters of its call, their values, what refers to the components that get something back, the objects to which all that refers leads, those that
--- are under way, as a treatment finalizes them, and what an operation is called for, as if a variable held it; what the procedure keeps of the parameters; what
--- is left to do once the call has come to its end, the masters that are entered then, and their rooms; what its variables hold, and what is known of them
--- behind the call, as if nothing were handed over.
+-- called that touches storage where a master is left, for objects of which types one may be called, and what is known where flow comes to a place in it; the
+-- actual parameters of its call, their values, what refers to the components that get something back, the objects to which all that refers leads, those that are
+-- under way, as a treatment finalizes them, and what an operation is called for, as if a variable held it; what the procedure keeps of the parameters; what is
+-- left to do once the call has come to its end, the masters that are entered then, and their rooms; what its variables hold, and what is known of them behind the
+-- call, as if nothing were handed over.
 pub record Caller : Type 1 where
   pub implicit : Implicit
   pub program : ProgramForm
   pub ahead : Owned → Bool
   pub touches : (access : ℕ) → Bool
-  pub barely : (access : ℕ) → Bool
   pub At : Control → Holds → Type 0
   pub actuals : List ActualForm
   pub passed : List Value
@@ -113,14 +112,14 @@ pub record Caller : Type 1 where
 abbrev pub waiting_holds : Caller → Holds
 waiting_holds w = left_unkept [] w.actuals w.before
 
--- What is known of implicit calls, the program as the running body sees it, for the objects of which items an operation may be called that touches storage where a master is left (7.6.1),
--- for objects of which types one may be called, and for which none where they end that calls another one (7.6), what is known where flow comes to a place in it, and its callers, the nearest one first; and which of its variables stand for components that the body tracks (7.6).
+-- What is known of implicit calls, the program as the running body sees it, for the objects of which items an operation may be called that touches storage where a
+-- master is left (7.6.1), for objects of which types one may be called (7.6), what is known where flow comes to a place in it, and its callers, the nearest one
+-- first; and which of its variables stand for components that the body tracks (7.6).
 pub record Known : Type 1 where
   pub implicit : Implicit
   pub program : ProgramForm
   pub ahead : Owned → Bool
   pub touches : (access : ℕ) → Bool
-  pub barely : (access : ℕ) → Bool
   pub At : Control → Holds → Type 0
   pub callers : List Caller
   pub tracked : List ℕ
@@ -884,16 +883,12 @@ abbrev pub PassesNone : List TypeForm → Option VariableKind → List ℕ → O
 PassesNone types kind cs None = Unit {0}
 PassesNone types kind cs (Some t) = passes_type types kind cs t ≡ false
 
--- Where operations may be called for an object of this access type that touch storage, those that end it call no others.
-abbrev pub EndsBarely : Known → (access : ℕ) → Type 0
-EndsBarely known t = known.touches t ≡ true → known.barely t ≡ true
-
 -- Of what the end of an object of this access type may free, no suspended activation and no variable has an alias, and the running body may free it (7.6.1).
 abbrev pub EndsWellBy : Known → (access : ℕ) → Holds → Type 0
 EndsWellBy known t holds = Spares known (known.implicit.end_frees t) × Unaliased known.program.variables (known.implicit.end_frees t) holds
 
 -- A component is to be freed (13.11.2), by the instance for its own access type, to which these selectors lead, and this one behind them: no value on the
--- way is of that type, whose aliases are lost then, and where an exception is raised; the operations that are called then call no others; less may be known behind it,
+-- way is of that type, whose aliases are lost then, and where an exception is raised; less may be known behind it,
 -- where its finalization frees objects.
 pub record Releasing (known : Known) (heap : List Object) (v : Value) (cs : List ℕ) (instance c : ℕ) (k : Control) (rooms : Rooms) (holds : Holds) : Type 0 where
   pub from : Option VariableKind
@@ -906,7 +901,6 @@ pub record Releasing (known : Known) (heap : List Object) (v : Value) (cs : List
   pub spares : (t : ℕ) → access ≡ Some t → NoOuterAlias known.program.types (outers known) t
   pub covered : (t : ℕ) → access ≡ Some t → CoveredIn known.implicit known.program t
   pub raises : RaisesAt known v cs k rooms (behind_end known.program.variables access holds)
-  pub barely : (t : ℕ) → access ≡ Some t → EndsBarely known t
   pub runs : To (λ less. RunsOn known k rooms less × ((t : ℕ) → access ≡ Some t → EndsWellBy known t less)) (behind_end known.program.variables access holds)
 
 -- A condition is awaited: by branches, by a loop, by an exit.
@@ -1146,15 +1140,13 @@ FreesWell known heap (Some o) holds =
     (object : Object) → object_at heap o ≡ Some object
     → EndsWellBy known object.cell.access holds
 
--- A component that is freed names the object under way, if there is one, and is of its type; and operations that touch storage, and are called for that, call no
--- others.
+-- A component that is freed names the object under way, if there is one, and is of its type.
 abbrev pub IsNamedIn : Known → List Object → (holder : Value) → (c : ℕ) → (under : Option Id) → Type 0
 IsNamedIn known heap v c None = Unit {0}
 IsNamedIn known heap Null c (Some o) = ⊥
 IsNamedIn known heap (Names p) c (Some o) =
     (holder : Object) × (object : Object) × (object_at heap p ≡ Some holder) × (object_at heap o ≡ Some object)
     × (component_access known.program.types holder c ≡ Some object.cell.access) × (slice_get holder.cell.values c ≡ Some (Names o))
-    × EndsBarely known object.cell.access
 IsNamedIn known heap (Scalar v) c (Some o) = ⊥
 IsNamedIn known heap (Part p place) c (Some o) = ⊥
 
@@ -1582,7 +1574,7 @@ Ready known s = IsActive s.activations × ReadyIn known s.mode s.control s.heap 
 
 -- A caller as the body at work.
 abbrev pub known_of : Caller → List Caller → Known
-known_of w ws = record { implicit = w.implicit; program = w.program; ahead = w.ahead; touches = w.touches; barely = w.barely; At = w.At; callers = ws; tracked = [] }
+known_of w ws = record { implicit = w.implicit; program = w.program; ahead = w.ahead; touches = w.touches; At = w.At; callers = ws; tracked = [] }
 
 -- The variable that an actual parameter hands over to a formal one of mode `in out` of an access type, if it does; and that of a formal parameter, by its
 -- number.

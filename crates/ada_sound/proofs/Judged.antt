@@ -8,7 +8,7 @@ use Rattle.ada_deeds.specs.Implicit.{implicit_of}
 use Rattle.ada_flow.specs.Tracking.{Tracks, judged, tracked_numbers}
 use Rattle.ada_tracked.specs.Forms.{seen_declarations, seen_stmts, seen_handlers}
 use Rattle.ada_sound.proofs.Ahead.{ahead_in}
-use Rattle.ada_sound.proofs.Touched.{touches_in, ends_barely_in}
+use Rattle.ada_sound.proofs.Touched.{touches_in}
 use Rattle.ada_sound.proofs.Callers.{Suspension, callers_of}
 use Rattle.ada_sound.proofs.Invariant.{Known}
 
@@ -28,7 +28,6 @@ known_judged program number tracks gs = record {
   program = judged_in tracks (seen_in (Some number) (program_form program));
   ahead = ahead_in (program_form program);
   touches = touches_in (program_form program);
-  barely = ends_barely_in (program_form program);
   At = λ place holds. Unit {0};
   callers = callers_of program gs;
   tracked = tracked_numbers tracks;

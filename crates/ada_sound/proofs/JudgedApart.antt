@@ -1,7 +1,7 @@
 -- The forms of a body that tracks components of its formal parameter (7.6) call no procedure that tracks, as they are judged, where they call none as they are;
 -- and no allocator of theirs with items makes an object with controlled parts, or copies a record with some (4.8).
 
-use Rattle.std.proofs.Common.{◌≡◌, ℕ, Bool, true, false, ◌&&◌, List, [], ◌∷◌, refl, ap, ◌∙◌}
+use Rattle.std.proofs.Common.{◌≡◌, ℕ, Bool, true, ◌&&◌, List, [], ◌∷◌, refl, ap, ◌∙◌}
 use Rattle.std.specs.List.{list_all}
 use Rattle.ada_flow.specs.Tracking.{Tracks}
 use Rattle.ada_program.specs.Form.{ItemForm, null_item, item_of_path, item_of_value, item_of_record, RightForm, nothing, value_of, allocates, allocates_default, computes, StmtForm, skips, assigns, assigns_record, frees, gets, writes, writes_text, chooses, repeats, counts, exits, calls, returns, raises, encloses, StmtsForm, no_stmts, a_stmt, BranchesForm, otherwise, a_branch, HandlersForm, no_handlers, a_handler, DeclarationForm, creates_pool, collects, declares, declares_record}
@@ -41,9 +41,9 @@ module _ (types : List TypeForm) (tracks : Tracks) where
   declarations_same (d ∷ ds) = rw (declaration_same d, declarations_same ds) refl
 
   -- Statements call the same.
-  module _ (calm barely : List Bool) (apart : ℕ → Bool) where
+  module _ (apart : ℕ → Bool) where
     mutual
-      stmt_same : (f : StmtForm) → calls_apart types calm barely apart false (seen_stmt tracks f) ≡ calls_apart types calm barely apart false f
+      stmt_same : (f : StmtForm) → calls_apart types apart (seen_stmt tracks f) ≡ calls_apart types apart f
       stmt_same skips = refl
       stmt_same (assigns target right) = rw (right_same right) refl
       stmt_same (assigns_record target items) = refl
@@ -60,26 +60,26 @@ module _ (types : List TypeForm) (tracks : Tracks) where
       stmt_same (raises e) = refl
       stmt_same (encloses ds fs hs) = rw (declarations_same ds, stmts_same fs, handlers_same hs) refl
 
-      stmts_same : (fs : StmtsForm) → all_call_apart types calm barely apart false (seen_stmts tracks fs) ≡ all_call_apart types calm barely apart false fs
+      stmts_same : (fs : StmtsForm) → all_call_apart types apart (seen_stmts tracks fs) ≡ all_call_apart types apart fs
       stmts_same no_stmts = refl
       stmts_same (a_stmt f fs) = rw (stmt_same f, stmts_same fs) refl
 
-      branches_same : (branches : BranchesForm) → branches_call_apart types calm barely apart false (seen_branches tracks branches) ≡ branches_call_apart types calm barely apart false branches
+      branches_same : (branches : BranchesForm) → branches_call_apart types apart (seen_branches tracks branches) ≡ branches_call_apart types apart branches
       branches_same (otherwise fs) = stmts_same fs
       branches_same (a_branch e fs branches) = rw (stmts_same fs, branches_same branches) refl
 
-      handlers_same : (hs : HandlersForm) → handlers_call_apart types calm barely apart false (seen_handlers tracks hs) ≡ handlers_call_apart types calm barely apart false hs
+      handlers_same : (hs : HandlersForm) → handlers_call_apart types apart (seen_handlers tracks hs) ≡ handlers_call_apart types apart hs
       handlers_same no_handlers = refl
       handlers_same (a_handler choices fs hs) = rw (stmts_same fs, handlers_same hs) refl
 
     body_same :
-        (b : BodyForm) → (declare_apart types (seen_declarations tracks b.declarations) && all_call_apart types calm barely apart false (seen_stmts tracks b.statements) && handlers_call_apart types calm barely apart false (seen_handlers tracks b.handlers))
-        ≡ body_calls_apart types calm barely apart false b
+        (b : BodyForm) → (declare_apart types (seen_declarations tracks b.declarations) && all_call_apart types apart (seen_stmts tracks b.statements) && handlers_call_apart types apart (seen_handlers tracks b.handlers))
+        ≡ body_calls_apart types apart b
     body_same b = rw (declarations_same b.declarations, stmts_same b.statements, handlers_same b.handlers) refl
 
     -- So does a body whose declarations are next.
     pub judged_apart :
-        (b : BodyForm) → body_calls_apart types calm barely apart false b ≡ true
-        → ElaboratesApart types calm barely apart false (seen_declarations tracks b.declarations) (seen_stmts tracks b.statements) (seen_handlers tracks b.handlers)
+        (b : BodyForm) → body_calls_apart types apart b ≡ true
+        → ElaboratesApart types apart (seen_declarations tracks b.declarations) (seen_stmts tracks b.statements) (seen_handlers tracks b.handlers)
     judged_apart b own =
-        elaborates_apart types calm barely apart false (seen_declarations tracks b.declarations) (seen_stmts tracks b.statements) (seen_handlers tracks b.handlers) (body_same b ∙ own)
+        elaborates_apart types apart (seen_declarations tracks b.declarations) (seen_stmts tracks b.statements) (seen_handlers tracks b.handlers) (body_same b ∙ own)

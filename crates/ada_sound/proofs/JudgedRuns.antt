@@ -21,7 +21,7 @@ use Rattle.ada_judged.proofs.Obeying.{obey_as_variables}
 use Rattle.ada_judged.proofs.ObeyingForms.{gone_alike}
 use Rattle.ada_judged.proofs.FittingBodies.{tracked_fit_as_variables}
 use Rattle.ada_sound.proofs.Ahead.{ahead_in}
-use Rattle.ada_sound.proofs.Touched.{touches_in, ends_barely_in}
+use Rattle.ada_sound.proofs.Touched.{touches_in}
 use Rattle.ada_sound.proofs.Bodies.{IsFine, seen_is, obeys_at}
 use Rattle.ada_sound.proofs.BodyRuns.{whole_flow, any_body_runs, fine_keeps}
 use Rattle.ada_sound.proofs.Callers.{Suspension, callers_of, rest_of}
@@ -98,7 +98,6 @@ module _ (program : Program) (own : ProgramForm) (tracks : Tracks) (g : Suspensi
     program = judged_in tracks own;
     ahead = ahead_in (program_form program);
     touches = touches_in (program_form program);
-    barely = ends_barely_in (program_form program);
     At = λ place holds. Unit {0};
     callers = callers_of program (g ∷ gs);
     tracked = tracked_numbers tracks;

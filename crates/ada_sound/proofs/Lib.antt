@@ -284,10 +284,13 @@ pub mod InOrder
 pub mod Operated
 -- what is behind its object, where it is called
 pub mod TouchingRests
--- the bodies of a Finalize, which shun access types
+-- bodies that shun access types: frugal ones have their shape
 pub mod Shunning
+-- and that of a Finalize shuns what the end of its object does not reach
+pub mod ShunningEnds
 -- where its body begins
 pub mod TouchingBegins
+pub mod WatchedBegins
 pub mod TouchingStarts
 -- what a body sees
 pub mod Sees

@@ -1,6 +1,6 @@
 -- The body of an operation runs that touches Integers and Booleans alone (7.6): no other one is under way, or one that touches storage is, which frees the object.
 
-use Rattle.std.proofs.Common.{◌≡◌, ℕ, true, List, ◌∷◌, ◌++◌}
+use Rattle.std.proofs.Common.{◌≡◌, ℕ, true, List, [], ◌∷◌, ◌++◌, ◌⊎◌}
 use Rattle.std.specs.Prelude.{Some}
 use Rattle.ada_program.specs.declared.program.Exception.{Exception}
 use Rattle.ada_program.specs.declared.program.Program.{Program}
@@ -17,13 +17,21 @@ use Rattle.ada_meaning.specs.Run.{Event}
 use Rattle.ada_meaning.specs.State.{Activation, Master}
 use Rattle.ada_parts.specs.Task.{Task}
 use Rattle.ada_quiet.specs.Quiet.{is_plain_body}
+use Rattle.ada_typed.proofs.Kept.{behind_call}
 use Rattle.ada_sound.specs.Callees.{IsCovered}
 use Rattle.ada_sound.proofs.Alters.{Alters}
 use Rattle.ada_sound.proofs.Bodies.{IsBody}
-use Rattle.ada_sound.proofs.Callers.{Suspension, known_in, Stands}
-use Rattle.ada_sound.proofs.Invariant.{Control, Says, TreatsBy}
-use Rattle.ada_sound.proofs.Operating.{Body, WaitsFor, behind_operation, lets_out}
-use Rattle.ada_sound.proofs.Touching.{Around}
+use Rattle.ada_sound.proofs.Callers.{Suspension, known_in, Stands, callers_of}
+use Rattle.ada_sound.proofs.FrugalControl.{IsFreed}
+use Rattle.ada_sound.proofs.Invariant.{Control, Says, TreatsBy, under_in}
+use Rattle.ada_sound.proofs.Operating.{Body, IsCalm, WaitsFor, behind_operation, lets_out}
+use Rattle.ada_sound.proofs.Touching.{Within}
+
+-- What is around the body of such an operation, by what it is called for, where these activations wait: no operation runs, or one that touches storage is under
+-- way, in which the object is freed (13.11.2).
+abbrev pub AroundTreated : (program : Program) → Treatment → List Suspension → State → Type 0
+AroundTreated program treatment gs s =
+    (IsCalm (behind_call s.control) × (under_in (callers_of program gs) ≡ [])) ⊎ (IsFreed treatment × Within program gs s)
 
 -- The object that an operation is called for is treated; and what waits for it goes on behind that, whatever the body does.
 pub record Suspended (program : Program) (object : Id) (treatment : Treatment) (caller : Activation Value) (rest : List (Activation Value)) (behind : Control) (lower : List Master) (s : State) : Type 0 where
@@ -34,7 +42,7 @@ pub record Suspended (program : Program) (object : Id) (treatment : Treatment) (
   pub waits : WaitsFor (program_form program).types object of treatment tasks after behind
   pub treats : TreatsBy (known_in program caller.procedure suspensions) (Names object) treatment tasks after s.heap caller.places caller.operands lower
   pub stands : Stands program suspensions (behind_operation (caller ∷ rest) behind lower s)
-  pub around : Around program suspensions (behind_operation (caller ∷ rest) behind lower s)
+  pub around : AroundTreated program treatment suspensions (behind_operation (caller ∷ rest) behind lower s)
 
 -- The body of such an operation runs.
 pub record Operates (program : Program) (s : State) : Type 0 where

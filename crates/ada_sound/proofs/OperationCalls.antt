@@ -1,39 +1,40 @@
 -- The body of an operation comes to its end (7.6): what waits for it goes on; and an exception that comes out of an Initialize undoes the object (7.6.1).
 
-use Rattle.std.proofs.Common.{◌≡◌, ℕ, true, List, ◌∷◌, refl, inl, inr, subst, sym}
+use Rattle.std.proofs.Common.{◌≡◌, ℕ, true, List, [], ◌∷◌, refl, inl, inr, subst, sym}
 use Rattle.std.specs.Prelude.{Some}
 use Rattle.std.specs.List.{slice_set}
-use Rattle.ada_parts.specs.Part.{Part}
 use Rattle.ada_parts.specs.Task.{Task}
 use Rattle.ada_program.specs.declared.program.Exception.{Exception}
 use Rattle.ada_program.specs.declared.program.Program.{Program}
 use Rattle.ada_program.specs.ProgramForm.{program_form, TypeForm}
+use Rattle.ada_effects.specs.Effects.{Implicit}
 use Rattle.ada_deeds.specs.Implicit.{implicit_of}
-use Rattle.ada_meaning.specs.declared.event.Birth.{Birth}
 use Rattle.ada_meaning.specs.declared.event.Birth.TheVariants.{Creation, Copy, Adjustment}
+use Rattle.ada_meaning.specs.declared.event.Cause.TheVariants.{Leaving, Freeing, Assigning, Undoing}
 use Rattle.ada_meaning.specs.declared.state.Id.{Id}
 use Rattle.ada_meaning.specs.declared.state.Value.{Value}
 use Rattle.ada_meaning.specs.declared.state.Value.TheVariants.{Names}
-use Rattle.ada_meaning.specs.declared.state.Mode.{Mode}
 use Rattle.ada_meaning.specs.declared.state.Mode.TheVariants.{Running, Raising}
 use Rattle.ada_meaning.specs.Event.{Quiet}
-use Rattle.ada_meaning.specs.Frame.{Treatment, begins, ends, Awaits}
+use Rattle.ada_meaning.specs.Frame.{Treatment, begins, ends, Confines, Ends}
 use Rattle.ada_meaning.specs.State.{Activation, Master}
+use Rattle.ada_meaning.specs.Step.{treating}
 use Rattle.ada_meaning.specs.Named.{Object, State, object_at, filled}
-use Rattle.ada_quiet.specs.Frugal.{Thrift}
+use Rattle.ada_owners.proofs.Objects.{id_is}
 use Rattle.ada_sound.proofs.Alters.{Alters, alters_same, alters_set}
-use Rattle.ada_sound.proofs.Invariant.{Known, Control, IsLive, TreatsBy, ReadyIn}
+use Rattle.ada_sound.proofs.Invariant.{Known, Control, EndsTo, IsLive, TreatsBy, ReadyIn}
 use Rattle.ada_sound.proofs.Callers.{Suspension, known_in}
-use Rattle.ada_sound.proofs.FrugalControl.{Frugal, Frugally}
+use Rattle.ada_sound.proofs.FrugalControl.{IsFreed}
+use Rattle.ada_sound.proofs.Objects.{set_other}
 use Rattle.ada_sound.proofs.Ready.{stays}
 use Rattle.ada_sound.proofs.Returns.{CrossesTo, same_types}
 use Rattle.ada_sound.proofs.Waiting.{stands_kept}
 use Rattle.ada_sound.proofs.Written.{treats_written}
-use Rattle.ada_sound.proofs.OperationStarts.{found_by, is_awaited}
+use Rattle.ada_sound.proofs.OperationStarts.{found_by}
 use Rattle.ada_sound.proofs.Operating.{StaysLive, WaitsFor, lets_out, behind_operation}
-use Rattle.ada_sound.proofs.Operates.{Suspended}
-use Rattle.ada_sound.proofs.Pauses.{around_on}
-use Rattle.ada_sound.proofs.Touching.{Around, Within}
+use Rattle.ada_sound.proofs.Operates.{AroundTreated, Suspended}
+use Rattle.ada_sound.proofs.Pauses.{EndsBehind, OthersStay, within_kept}
+use Rattle.ada_sound.proofs.Touching.{Around}
 
 pub is_live : (heap : List Object) (o : Id) (x : Object) → object_at heap o ≡ Some x → StaysLive x.stage → IsLive heap (Names o)
 is_live heap o x found live = (x.cell, rw found (found_by x x.stage live))
@@ -52,17 +53,26 @@ ready_raising known o of (begins Copy done) access tasks k behind heap places op
 ready_raising known o of (begins (Adjustment number) done) access tasks k behind heap places operands ms e x found same live waits out r = absurd (cc out)
 ready_raising known o of (ends cause) access tasks k behind heap places operands ms e x found same live waits out r = absurd (cc out)
 
--- No frugal body waits for an operation that begins a part of an object.
-never_begins : (frugal : Thrift) (lower : List Master) (back : Control) (s : State) (v : Value) (by : Birth) (done : List Part) (of part : ℕ) (tasks : List Task) (k : Control) → s.control ≡ Awaits v by done of part tasks ∷ k → Frugally frugal lower back s → ⊥
-never_begins frugal lower back s v by done of part tasks k is f = go s.mode (rw is at f.frugal)
-  where
-    go : (mode : Mode) → Frugal frugal back mode (Awaits v by done of part tasks ∷ k) f.upper → ⊥
-    go mode (inl q) = q.0
-    go mode (inr (runs, leaving)) = leaving
+-- Where an object is freed, no exception comes out of the body.
+none_let_out : (implicit : Implicit) (access : ℕ) (treatment : Treatment) (e : Exception) → IsFreed treatment → lets_out implicit access treatment e ≡ true → ⊥
+none_let_out implicit access (begins by done) e freed out = freed
+none_let_out implicit access (ends cause) e freed out = cc out
 
--- So none is called where an operation that touches storage is under way: nothing with controlled parts is made there.
-pub none_begun : (program : Program) (gs : List Suspension) (s : State) (v : Value) (by : Birth) (done : List Part) (of part : ℕ) (tasks : List Task) (k : Control) → s.control ≡ Awaits v by done of part tasks ∷ k → Within program gs s → ⊥
-none_begun program gs s v by done of part tasks k is w = never_begins w.thrift w.outermost.lower w.outermost.behind s v by done of part tasks k is w.frugal
+-- It ends behind that.
+freed_ends :
+    (known : Known) (types : List TypeForm) (o : Id) (of : ℕ) (treatment : Treatment) (tasks : List Task) (k behind : Control) (heap : List Object)
+    (places operands : List Value) (ms : List Master) → IsFreed treatment
+    → WaitsFor types o of treatment tasks k behind → TreatsBy known (Names o) treatment tasks k heap places operands ms → EndsBehind o behind
+freed_ends known types o of (begins by done) tasks k behind heap places operands ms freed waits treats = absurd freed
+freed_ends known types o of (ends (Leaving m item)) tasks k behind heap places operands ms freed waits treats = absurd freed
+freed_ends known types o of (ends (Freeing number)) tasks k behind heap places operands ms freed (is, inside) treats = by k is treats
+  where
+    by : (k : Control) → behind ≡ Confines ∷ treating (Names o) (ends (Freeing number)) tasks k → EndsTo known (Names o) k heap places ms → EndsBehind o behind
+    by [] is none = absurd none
+    by (Ends w ∷ k) is (same, ending) = record { cause = Freeing number; tasks = tasks; rest = k; is = rw same at is }
+    by (f ∷ k) is none = absurd none
+freed_ends known types o of (ends (Assigning number)) tasks k behind heap places operands ms freed waits treats = absurd freed
+freed_ends known types o of (ends (Undoing number)) tasks k behind heap places operands ms freed waits treats = absurd freed
 
 module _ (program : Program) (o : Id) (treatment : Treatment) (caller : Activation Value) (rest : List (Activation Value)) (behind : Control) (lower : List Master) where
   -- The types are those that the caller sees.
@@ -87,26 +97,37 @@ module _ (program : Program) (o : Id) (treatment : Treatment) (caller : Activati
         (record { procedure = refl; suspended = refl }) (alters_same s.heap Quiet);
   }
 
+  -- What is around the body is around what goes on behind it.
+  pub around_behind :
+      (s : State) (w : Suspended program o treatment caller rest behind lower s)
+      → Around program w.suspensions (behind_operation (caller ∷ rest) behind lower s)
+  around_behind s w = elim w.around [ inl none ↦ inl none | inr (freed, within) ↦ inr within ]
+
   -- What is around it is so behind an exception: that comes out of an operation that begins a part of an object, and none is called where one that touches storage
   -- is under way.
   pub around_raising : (s : State) (access : ℕ) (e : Exception) → lets_out (implicit_of (program_form program)) access treatment e ≡ true → (w : Suspended program o treatment caller rest behind lower s)
       → Around program w.suspensions (record (behind_operation (caller ∷ rest) behind lower s) { mode = Raising e })
-  around_raising s access e out w = by treatment refl w.around
-    where
-      by : (of : Treatment) → of ≡ treatment → Around program w.suspensions (behind_operation (caller ∷ rest) behind lower s) → Around program w.suspensions (record (behind_operation (caller ∷ rest) behind lower s) { mode = Raising e })
-      by of same (inl none) = inl none
-      by (begins birth done) same (inr within) =
-          let waits = subst (λ (t : Treatment). WaitsFor (program_form program).types o w.of t w.tasks w.after behind) (sym same) w.waits in
-          absurd (none_begun program w.suspensions (behind_operation (caller ∷ rest) behind lower s) (Names o) birth done w.of waits.0 w.tasks w.after waits.1 within)
-      by (ends cause) same (inr within) =
-          let out' : lets_out (implicit_of (program_form program)) access (ends cause) e ≡ true = rw (← same) at out in
-          absurd (cc out')
+  around_raising s access e out w =
+      elim w.around [ inl none ↦ inl none | inr (freed, within) ↦ absurd (none_let_out (implicit_of (program_form program)) access treatment e freed out) ]
 
-  -- What is around it stays so, whatever the body does to objects.
-  around_still : (s after : State) → Alters s.heap Quiet after.heap → (w : Suspended program o treatment caller rest behind lower s) → Around program w.suspensions (behind_operation (caller ∷ rest) behind lower after)
-  around_still s after alters w =
-      around_on program w.suspensions (behind_operation (caller ∷ rest) behind lower s) (behind_operation (caller ∷ rest) behind lower after) Quiet w.around refl refl refl refl alters
-      (is_awaited (program_form program).types o w.of treatment w.tasks w.after behind w.waits)
+  -- What is around it stays so, whatever the body does to the object.
+  module _ (s after : State) (alters : Alters s.heap Quiet after.heap) (others : OthersStay o s.heap after.heap)
+      (w : Suspended program o treatment caller rest behind lower s) where
+    abbrev behind_in : State → State
+    behind_in t = behind_operation (caller ∷ rest) behind lower t
+
+    ends_next : IsFreed treatment → EndsBehind o behind
+    ends_next freed =
+        freed_ends (known_in program caller.procedure w.suspensions) (program_form program).types o w.of treatment w.tasks w.after behind s.heap
+        caller.places caller.operands lower freed w.waits w.treats
+
+    around_still : AroundTreated program treatment w.suspensions (behind_in after)
+    around_still = by w.around
+      where
+        by : AroundTreated program treatment w.suspensions (behind_in s) → AroundTreated program treatment w.suspensions (behind_in after)
+        by (inl none) = inl none
+        by (inr (freed, within)) =
+            inr (freed, within_kept program (behind_in s) (behind_in after) o (ends_next freed) others refl refl w.suspensions Quiet within refl refl alters)
 
   -- The body writes an Integer or a Boolean into the object: what waits for it waits still.
   pub waits_written : (s after : State) (x : Object) (c : ℕ) (v : Value) → object_at s.heap o ≡ Some x → ((p : Id) → v ≡ Names p → ⊥) → after.heap ≡ slice_set s.heap o.0 (filled c v x) → Suspended program o treatment caller rest behind lower s → Suspended program o treatment caller rest behind lower after
@@ -120,7 +141,9 @@ module _ (program : Program) (o : Id) (treatment : Treatment) (caller : Activati
     stands = stands_kept program (behind_operation (caller ∷ rest) behind lower s) (behind_operation (caller ∷ rest) behind lower after) w.suspensions w.stands Quiet
         (record { procedure = refl; suspended = refl })
         (rw heap (alters_set s.heap Quiet o x (filled c v x) found (refl, refl, refl) (λ h. h) (λ h. inl h)));
-    around = around_still s after (rw heap (alters_set s.heap Quiet o x (filled c v x) found (refl, refl, refl) (λ h. h) (λ h. inl h))) w;
+    around =
+        around_still s after (rw heap (alters_set s.heap Quiet o x (filled c v x) found (refl, refl, refl) (λ h. h) (λ h. inl h)))
+        (λ q other. rw heap (set_other s.heap o.0 q.0 (filled c v x) (λ same. other (id_is q o same)))) w;
   }
 
   -- It writes nothing.
@@ -134,5 +157,5 @@ module _ (program : Program) (o : Id) (treatment : Treatment) (caller : Activati
     treats = rw heap w.treats;
     stands = stands_kept program (behind_operation (caller ∷ rest) behind lower s) (behind_operation (caller ∷ rest) behind lower after) w.suspensions w.stands Quiet
         (record { procedure = refl; suspended = refl }) (rw heap (alters_same s.heap Quiet));
-    around = around_still s after (rw heap (alters_same s.heap Quiet)) w;
+    around = around_still s after (rw heap (alters_same s.heap Quiet)) (λ q other. rw heap refl) w;
   }

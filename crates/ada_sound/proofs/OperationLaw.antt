@@ -24,7 +24,7 @@ use Rattle.ada_meaning.specs.Named.{State, Next, named}
 use Rattle.ada_meaning.specs.Run.{Event}
 use Rattle.ada_sound.proofs.Invariant.{Control}
 use Rattle.ada_sound.proofs.Returns.{CrossesTo}
-use Rattle.ada_sound.proofs.OperationCalls.{goes_behind, raises_behind, around_raising, waits_on, waits_written}
+use Rattle.ada_sound.proofs.OperationCalls.{goes_behind, raises_behind, around_behind, around_raising, waits_on, waits_written}
 use Rattle.ada_sound.proofs.Operating.{Sight, IsScalar, Finds, Comes, Body, behind_operation}
 use Rattle.ada_sound.proofs.Operates.{Suspended, Operates}
 use Rattle.ada_sound.proofs.OperationSteps.{acting, After, Wrote, GoesOnIn}
@@ -78,7 +78,10 @@ ends_is s a caller rest behind lower = refl
 -- So its caller goes on, and what was around the operation is around it.
 pub operation_ends : (program : Program) (s : State) (o : Operates program s)
     → CrossesTo program o.suspended.suspensions s.heap Quiet (behind_operation (o.caller ∷ o.rest) o.behind o.lower s) × Around program o.suspended.suspensions (behind_operation (o.caller ∷ o.rest) o.behind o.lower s)
-operation_ends program s o = (goes_behind program o.object o.treatment o.caller o.rest o.behind o.lower s o.body.x o.body.found o.body.live o.suspended, o.suspended.around)
+operation_ends program s o = (
+  goes_behind program o.object o.treatment o.caller o.rest o.behind o.lower s o.body.x o.body.found o.body.live o.suspended,
+  around_behind program o.object o.treatment o.caller o.rest o.behind o.lower s o.suspended,
+)
 
 -- An exception comes out of it: the object that is treated is undone next (7.6.1).
 pub operation_raises : (program : Program) (s : State) (o : Operates program s) (x : Exception) → body_raises no_calls (main_body (seen_in (Some o.procedure) (program_form program))) (is_same x) ≡ true

@@ -1,31 +1,39 @@
 -- What waits for operations that touch storage stays as it is known, whatever the bodies in front of it do (7.6, 7.6.1): each object stays the object that it was, and
--- each activation that waits keeps the operands that it had. Where a treatment is next, or the end of an operation, nothing is watched.
+-- each activation that waits keeps the operands that it had. Where a part of an object has been finalized that ends behind, what is watched is another object.
 
-use Rattle.std.proofs.Common.{◌≡◌, ℕ, zero, suc, List, [], ◌∷◌, length, drop, sym, ap, ◌∙◌, subst, inl, inr, arith}
+use Rattle.std.proofs.Common.{◌≡◌, ◌≢◌, ℕ, zero, suc, false, List, [], ◌∷◌, length, drop, sym, ap, ◌∙◌, subst, inl, inr, arith}
 use Rattle.std.proofs.Math.Nat.{add-zero}
-use Rattle.std.specs.Prelude.{◌+◌, Option, Some, None}
+use Rattle.std.specs.Prelude.{◌+◌, ◌==◌, Option, Some, None}
+use Rattle.ada_parts.specs.Task.{Task}
 use Rattle.ada_program.specs.declared.program.Program.{Program}
 use Rattle.ada_program.specs.ProgramForm.{ProgramForm, program_form}
+use Rattle.ada_meaning.specs.declared.event.Cause.{Cause}
+use Rattle.ada_meaning.specs.declared.state.Id.{Id}
 use Rattle.ada_meaning.specs.declared.state.Value.{Value}
+use Rattle.ada_meaning.specs.declared.state.Value.TheVariants.{Names}
+use Rattle.ada_meaning.specs.Frame.{ends}
 use Rattle.ada_meaning.specs.Frame as frame
-use Rattle.ada_meaning.specs.Named.{State}
+use Rattle.ada_meaning.specs.Named.{Object, State, object_at}
 use Rattle.ada_meaning.specs.Run.{Event}
 use Rattle.ada_meaning.specs.State.{Activation, Master}
-use Rattle.ada_meaning.specs.Step.{older, operands_of, procedure_of}
+use Rattle.ada_meaning.specs.Step.{older, operands_of, procedure_of, treating}
 use Rattle.ada_quiet.specs.Frugal.{Thrift}
-use Rattle.ada_reaching.specs.Reaching.{LeftShuns}
-use Rattle.ada_typed.proofs.Kept.{behind_call}
+use Rattle.ada_owners.proofs.Objects.{id_is}
+use Rattle.ada_reaching.specs.Apart.{Apart}
+use Rattle.ada_reaching.specs.Law.{GhostsStay}
+use Rattle.ada_reaching.specs.Reaching.{IsReaching}
+use Rattle.ada_reaching.proofs.Behind.{ends_other, reaching_kept}
+use Rattle.ada_tracked.proofs.Lists.{is_apart, is_same}
 use Rattle.ada_sound.specs.Agreement.{running_procedure}
 use Rattle.ada_sound.proofs.Alters.{Alters}
 use Rattle.ada_sound.proofs.Callers.{Suspension}
-use Rattle.ada_sound.proofs.Invariant.{Control, IsAwaited}
-use Rattle.ada_sound.proofs.Operating.{IsCalm}
-use Rattle.ada_sound.proofs.Touching.{Pause, Watch, Watched, AreInner, Around, origin, is_unnamed, is_watched, watches}
+use Rattle.ada_sound.proofs.Invariant.{Control}
+use Rattle.ada_sound.proofs.Touching.{Pause, Watch, Watched, Within, AreInner, origin, is_unnamed, is_watched, watches}
 
 -- What is known of an activation that waits for an operation, behind a step: of the object, what the step leaves, and the operands.
 abbrev pub pause_on :
     (program : Program) (depth later : ℕ) (s after : State) (e : Event) (f : Pause program depth s) → Alters s.heap e after.heap
-    → operands_of (drop (suc later) after.activations) ≡ operands_of (drop (suc depth) s.activations) → Watched (program_form program) f.watch f.behind after → Pause program later after
+    → operands_of (drop (suc later) after.activations) ≡ operands_of (drop (suc depth) s.activations) → Watched program f.watch f.behind after → Pause program later after
 pause_on program depth later s after e f alters same still = record {
   number = f.number;
   is_body = f.is_body;
@@ -68,7 +76,7 @@ module _ (program : Program) (s : State) (thrift : Thrift) (back : Control) (low
   AllWatched after running depth outermost others [] w = Unit {0}
   AllWatched after running depth outermost others (g ∷ inner) (inl call, more) = AllWatched after g.procedure (suc depth) outermost others inner more
   AllWatched after running depth outermost others (g ∷ inner) (inr operation, more) =
-      Watched (program_form program) operation.pause.watch operation.pause.behind after × AllWatched after g.procedure (suc depth) outermost others inner more
+      Watched program operation.pause.watch operation.pause.behind after × AllWatched after g.procedure (suc depth) outermost others inner more
 
   -- The activations that wait, these and those behind them, have the operands that they had.
   abbrev pub SameBehind : (after : State) (depth later : ℕ) → Type 0
@@ -110,76 +118,92 @@ module _ (program : Program) (s : State) (thrift : Thrift) (back : Control) (low
     inner_on after e g.procedure (suc depth) (suc later) outermost others inner more alters (same_further after depth later same) still.1,
   )
 
--- A treatment is next, or the body of an operation has come to its end.
-abbrev pub IsTreating : Control → Type 0
-IsTreating [] = ⊥
-IsTreating (frame.Treats v treatment tasks ∷ k) = Unit {0}
-IsTreating (frame.Awaits v by done of part tasks ∷ k) = Unit {0}
-IsTreating (frame.Confines ∷ k) = Unit {0}
-IsTreating (f ∷ k) = ⊥
+-- A part of an object has been finalized, and what is left of its finalization is next, behind which it ends (7.6.1).
+pub record EndsBehind (o : Id) (k : Control) : Type 0 where
+  pub cause : Cause
+  pub tasks : List Task
+  pub rest : Control
+  pub is : k ≡ frame.Confines ∷ treating (Names o) (ends cause) tasks (frame.Ends (Names o) ∷ rest)
 
--- Then no object is watched: while one is, the bodies that run treat none.
-pub confined_unwatched : (p : ProgramForm) (w : Watch) (behind : Control) (s : State) → IsTreating s.control → Watched p (Some w) behind s → ⊥
-confined_unwatched p w behind s treating (found, (apart, are, reaching)) = first_treats s.control treating reaching.control
-  where
-    first_treats : (k : Control) → IsTreating k → LeftShuns p (watches p.types (Some w)) apart (is_watched (Some w)) (is_unnamed p.types (Some w)) behind (procedure_of s.activations) k (older s.activations) → ⊥
-    first_treats [] first left = first
-    first_treats (frame.Treats v treatment tasks ∷ k) first left = left.0
-    first_treats (frame.Awaits v by done of part tasks ∷ k) first left = left.0
-    first_treats (frame.Confines ∷ k) first left = left.0
-    first_treats (f ∷ k) first left = first
+-- All objects but one stay as they are.
+abbrev pub OthersStay : Id → (before after : List Object) → Type 0
+OthersStay o before after = (q : Id) → q ≢ o → object_at after q ≡ object_at before q
 
--- So it is behind a step.
-pub unwatched_on : (p : ProgramForm) (watch : Option Watch) (behind : Control) (s after : State) → IsTreating s.control → Watched p watch behind s → Watched p watch behind after
-unwatched_on p None behind s after treating still = tt
-unwatched_on p (Some w) behind s after treating still = absurd (confined_unwatched p w behind s treating still)
+-- What is around stays around while no object changes but one that ends behind: what is watched is another one.
+module _ (program : Program) (s after : State) (o : Id) (ending : EndsBehind o s.control) (others : OthersStay o s.heap after.heap)
+    (control : after.control ≡ s.control) (active : after.activations ≡ s.activations) where
+  abbrev p : ProgramForm
+  p = program_form program
 
-pub all_unwatched :
-    (program : Program) (s after : State) (thrift : Thrift) (back : Control) (lower : List Master) → IsTreating s.control
-    → (running : Option ℕ) (depth : ℕ) (outermost : Option ℕ) (others inner : List Suspension) (w : AreInner program s thrift back lower running depth outermost others inner)
-    → AllWatched program s thrift back lower after running depth outermost others inner w
-all_unwatched program s after thrift back lower treating running depth outermost others [] w = tt
-all_unwatched program s after thrift back lower treating running depth outermost others (g ∷ inner) (inl call, more) =
-    all_unwatched program s after thrift back lower treating g.procedure (suc depth) outermost others inner more
-all_unwatched program s after thrift back lower treating running depth outermost others (g ∷ inner) (inr operation, more) = (
-  unwatched_on (program_form program) operation.pause.watch operation.pause.behind s after treating operation.pause.still,
-  all_unwatched program s after thrift back lower treating g.procedure (suc depth) outermost others inner more,
-)
+  -- What is left of its finalization, and its end.
+  abbrev ending_next : Control
+  ending_next = treating (Names o) (ends ending.cause) ending.tasks (frame.Ends (Names o) ∷ ending.rest)
 
--- The end of an operation is one of these.
-awaited_treating : (k : Control) → IsAwaited k → IsTreating k
-awaited_treating [] awaited = awaited
-awaited_treating (frame.Awaits v by done of part tasks ∷ k) awaited = tt
-awaited_treating (frame.Confines ∷ k) awaited = tt
-awaited_treating (f ∷ k) awaited = absurd awaited
+  module _ (w : Watch) (apart : Apart) (behind : Control)
+      (reaching : IsReaching p (watches p.types (Some w)) apart (is_watched (Some w)) (is_unnamed p.types (Some w)) behind s) where
+    holder_other : w.holder ≢ o
+    holder_other same =
+        let seen : (w.holder.0 == o.0) ≡ false =
+        ends_other p (watches p.types (Some w)) apart (is_watched (Some w)) (is_unnamed p.types (Some w)) behind (Names o) ending.cause ending.tasks ending.rest
+        (procedure_of s.activations) (older s.activations) (rw ending.is at reaching.control) in
+        is_apart w.holder.0 o.0 seen (ap (λ (q : Id). q.0) same)
 
--- What is around stays around while objects change alone, where the end of an operation is next.
-pub around_on :
-    (program : Program) (gs : List Suspension) (s after : State) (e : Event) → Around program gs s → after.mode ≡ s.mode → after.control ≡ s.control → after.activations ≡ s.activations
-    → after.masters ≡ s.masters → Alters s.heap e after.heap → IsAwaited s.control → Around program gs after
-around_on program gs s after e (inl (calm, settled)) mode control active masters alters awaited = inl (subst (λ (k : Control). IsCalm (behind_call k)) (sym control) calm, settled)
-around_on program gs s after e (inr w) mode control active masters alters awaited =
-    let same : (n : ℕ) → operands_of (drop (suc n) after.activations) ≡ operands_of (drop (suc n) s.activations) = λ n. ap (λ (all : List (Activation Value)). operands_of (drop (suc n) all)) active in
-    let treating = awaited_treating s.control awaited in
-    let others = origin program (length w.inner) s w.outermost ∷ w.outermost.suspensions in
-    inr (record {
-      inner = w.inner;
-      outermost = pause_on program (length w.inner) (length w.inner) s after e w.outermost alters (same (length w.inner)) (unwatched_on (program_form program) w.outermost.watch w.outermost.behind s after treating w.outermost.still);
-      are = w.are;
-      thrift = w.thrift;
-      goes_by = w.goes_by;
-      within =
-          subst (λ (running : Option ℕ). AreInner program after w.thrift w.outermost.behind w.outermost.lower running zero (Some w.outermost.number) others w.inner) (sym (ap procedure_of active))
-          (inner_on program s w.thrift w.outermost.behind w.outermost.lower after e (running_procedure s) zero zero (Some w.outermost.number) others w.inner w.within alters (λ n. same (zero + n))
-          (all_unwatched program s after w.thrift w.outermost.behind w.outermost.lower treating (running_procedure s) zero (Some w.outermost.number) others w.inner w.within));
-      frugal = record {
-        upper = w.frugal.upper;
-        masters = masters ∙ w.frugal.masters;
-        own = w.frugal.own;
-        frugal = rw (mode, control) w.frugal.frugal;
-      };
-      untreated = w.untreated;
-      calm = w.calm;
-      settled = w.settled;
-      may = w.may;
-    })
+    ghosts_stay : GhostsStay (is_watched (Some w)) s.heap after.heap
+    ghosts_stay q is = others q (λ same. holder_other (id_is w.holder q (is_same w.holder.0 q.0 is) ∙ same))
+
+    reaching_still : IsReaching p (watches p.types (Some w)) apart (is_watched (Some w)) (is_unnamed p.types (Some w)) behind after
+    reaching_still =
+        reaching_kept p (watches p.types (Some w)) apart (is_watched (Some w)) (is_unnamed p.types (Some w)) behind ending_next s after ending.is control active
+        ghosts_stay reaching
+
+  watched_on : (watch : Option Watch) (behind : Control) → Watched program watch behind s → Watched program watch behind after
+  watched_on None behind still = tt
+  watched_on (Some w) behind (found, (apart, are, reaching)) =
+      (others w.holder (holder_other w apart behind reaching) ∙ found, (apart, are, reaching_still w apart behind reaching))
+
+  -- So it is of each of these activations.
+  all_on :
+      (thrift : Thrift) (back : Control) (lower : List Master) (running : Option ℕ) (depth : ℕ) (outermost : Option ℕ) (waiting inner : List Suspension)
+      (w : AreInner program s thrift back lower running depth outermost waiting inner)
+      → AllWatched program s thrift back lower after running depth outermost waiting inner w
+  all_on thrift back lower running depth outermost waiting [] w = tt
+  all_on thrift back lower running depth outermost waiting (g ∷ inner) (inl call, more) =
+      all_on thrift back lower g.procedure (suc depth) outermost waiting inner more
+  all_on thrift back lower running depth outermost waiting (g ∷ inner) (inr operation, more) = (
+    watched_on operation.pause.watch operation.pause.behind operation.pause.still,
+    all_on thrift back lower g.procedure (suc depth) outermost waiting inner more,
+  )
+
+  pub within_kept :
+      (gs : List Suspension) (e : Event) → Within program gs s → after.mode ≡ s.mode → after.masters ≡ s.masters → Alters s.heap e after.heap
+      → Within program gs after
+  within_kept gs e w mode masters alters =
+      let same : (n : ℕ) → operands_of (drop (suc n) after.activations) ≡ operands_of (drop (suc n) s.activations) =
+      λ n. ap (λ (all : List (Activation Value)). operands_of (drop (suc n) all)) active in
+      let last = Some w.outermost.number in
+      let waiting = origin program (length w.inner) s w.outermost ∷ w.outermost.suspensions in
+      record {
+        inner = w.inner;
+        outermost =
+            pause_on program (length w.inner) (length w.inner) s after e w.outermost alters (same (length w.inner))
+            (watched_on w.outermost.watch w.outermost.behind w.outermost.still);
+        are = w.are;
+        thrift = w.thrift;
+        goes_by = w.goes_by;
+        within =
+            subst (λ (procedure : Option ℕ). AreInner program after w.thrift w.outermost.behind w.outermost.lower procedure 0 last waiting w.inner)
+            (sym (ap procedure_of active))
+            (inner_on program s w.thrift w.outermost.behind w.outermost.lower after e (running_procedure s) 0 0 last waiting w.inner w.within alters
+            (λ n. same (0 + n))
+            (all_on w.thrift w.outermost.behind w.outermost.lower (running_procedure s) 0 last waiting w.inner w.within));
+        frugal = record {
+          upper = w.frugal.upper;
+          masters = masters ∙ w.frugal.masters;
+          own = w.frugal.own;
+          frugal = rw (mode, control) w.frugal.frugal;
+        };
+        untreated = w.untreated;
+        calm = w.calm;
+        settled = w.settled;
+        may = w.may;
+      }

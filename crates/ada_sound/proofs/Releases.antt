@@ -11,7 +11,6 @@ use Rattle.ada_program.specs.declared.program.Exception.{Exception}
 use Rattle.ada_program.specs.declared.program.Exception.TheVariants.{ConstraintError}
 use Rattle.ada_program.specs.declared.program.VariableKind.{VariableKind}
 use Rattle.ada_program.specs.Form.{PathForm, StmtsForm}
-use Rattle.ada_quiet.specs.Apart.{leads_barely}
 use Rattle.ada_effects.specs.Effects.{Implicit, path_raises}
 use Rattle.ada_program.specs.ProgramForm.{TypeForm, VariableForm}
 use Rattle.ada_program.specs.WellFormed.{is_access, access_of, variable_kind, selected_kind, selectors_kind, path_kind, path_access, is_this, is_freed_by}
@@ -39,7 +38,7 @@ use Rattle.ada_sound.proofs.Stored.{stored_part}
 use Rattle.ada_sound.proofs.Alters.{alters_set}
 use Rattle.ada_sound.proofs.Assigned.{this_is, freed_at}
 use Rattle.ada_sound.proofs.Homes.{HaveHomes, same_one, stands_there, freed_home}
-use Rattle.ada_sound.proofs.Invariant.{Spares, CoveredIn, begun, outers, Known, Control, Goes, To, Raised, RunsOn, PassesNone, EndsBarely, EndsWellBy, FreesWell, Releasing, Working, Ending, Stepped, Fine, ways}
+use Rattle.ada_sound.proofs.Invariant.{Spares, CoveredIn, begun, outers, Known, Control, Goes, To, Raised, RunsOn, PassesNone, EndsWellBy, FreesWell, Releasing, Working, Ending, Stepped, Fine, ways}
 use Rattle.ada_sound.proofs.Ready.{running, at_work, stays, runs_ready, jumps_less, treats_ready}
 use Rattle.ada_sound.proofs.Outcomes.{ends_goes}
 use Rattle.ada_sound.proofs.Roots.{access_leads, root_object, object_there, front_raises}
@@ -122,8 +121,8 @@ passes_root types outer heap kind v b c cs to (Some t) leads spares passes = by 
 
 module _ (known : Known) (a : Activation Value) (rest : List (Activation Value)) (s : State) where
   -- A Free of a component begins: its object is found first.
-  pub free_begins : (c : ℕ) (cs : List ℕ) (access : ℕ) (path : PathForm) (fs : StmtsForm) (k : Control) (among : Exception → Bool) → (path_raises path ≡ true → among ConstraintError ≡ true) → is_freed_by known.program.types access (path_access known.program.types known.program.variables path) ≡ true → is_this access (path_access known.program.types known.program.variables path) ≡ true → Spares known (λ t. is_this t (path_access known.program.types known.program.variables path)) → path.selectors ≡ c ∷ cs → (is_access known.program.types access ≡ true → known.touches access ≡ true → leads_barely path (known.barely access) ≡ true) → Working known s.heap a.places s.masters (λ rooms holds. Goes (frees_seen known.program.types known.program.variables no_tracks false known.implicit (c ∷ cs) path holds) (To (FreesTo known access (Does fs ∷ k) rooms)) (Raised among (ways known k rooms))) → Fine known s.heap s.masters (path_next named (before_last (inside (place_at a.places path.root) c) cs) (begun a.places path) (running (FreesIn access (last_of (inside (place_at a.places path.root) c) cs) ∷ Does fs ∷ k) a rest s))
-  free_begins c cs access path fs k among may freed by_own spares is led w =
+  pub free_begins : (c : ℕ) (cs : List ℕ) (access : ℕ) (path : PathForm) (fs : StmtsForm) (k : Control) (among : Exception → Bool) → (path_raises path ≡ true → among ConstraintError ≡ true) → is_freed_by known.program.types access (path_access known.program.types known.program.variables path) ≡ true → is_this access (path_access known.program.types known.program.variables path) ≡ true → Spares known (λ t. is_this t (path_access known.program.types known.program.variables path)) → path.selectors ≡ c ∷ cs → Working known s.heap a.places s.masters (λ rooms holds. Goes (frees_seen known.program.types known.program.variables no_tracks false known.implicit (c ∷ cs) path holds) (To (FreesTo known access (Does fs ∷ k) rooms)) (Raised among (ways known k rooms))) → Fine known s.heap s.masters (path_next named (before_last (inside (place_at a.places path.root) c) cs) (begun a.places path) (running (FreesIn access (last_of (inside (place_at a.places path.root) c) cs) ∷ Does fs ∷ k) a rest s))
+  free_begins c cs access path fs k among may freed by_own spares is w =
       let types = known.program.types in
       let variables = known.program.variables in
       let own = path_access types variables path in
@@ -144,12 +143,6 @@ module _ (known : Known) (a : Activation Value) (rest : List (Activation Value))
       let is_own : (t : ℕ) → own ≡ Some t → is_access types t ≡ true = λ t same. (let one : at.0 ≡ t = let other = at.1 in cc (same, other) in rw (← one) at.3) in
       let of_own : own ≡ Some access = this_is access own by_own in
       let same_type : (t : ℕ) → own ≡ Some t → t ≡ access = λ t same. cc (same, of_own) in
-      let ends_barely : (t : ℕ) → own ≡ Some t → EndsBarely known t = λ t same touches. (
-      let one = same_type t same in
-      let led_so = led (rw one at (is_own t same)) (rw one at touches) in
-      let here : known.barely access ≡ true = rw is at led_so in
-      rw one here
-      ) in
       finds_fine known a rest s a.operands (FreesIn access (last_of (inside v c) cs) ∷ Does fs ∷ k) (before_last (inside v c) cs) (begun a.places path)
       (at_work w (record {
         from = b.from;
@@ -164,7 +157,6 @@ module _ (known : Known) (a : Activation Value) (rest : List (Activation Value))
         raises = front_raises known (begun a.places path) (Does fs ∷ k) w.rooms (behind_end variables own w.holds) path.of_record c (inside v c) cs
             (λ whole. object_there path.root path.spot kept.0 (root_object types variables path leads.0 leads.1 whole) w.fit)
             (λ raises. (let follows : path_raises path ≡ true = rw is raises in g.2 follows ConstraintError (may follows)));
-        barely = ends_barely;
         runs = (g.1.0, g.1.1, (g.1.2.0, λ t same. rw (same_type t same) (g.1.2.1)));
       }))
       (root_follows path.root path.spot kept.0 w.fit)
@@ -212,7 +204,6 @@ module _ (known : Known) (a : Activation Value) (rest : List (Activation Value))
         let runs : To (λ less. RunsOn known k w.rooms less × EndsWellBy known t less) (behind_end known.program.variables (Some t) w.holds) = rw is_t at all_run in
         let home = freed_home access p there.object homes w.stored there.found exists (rw there.access (w.rest.own t is_t)) (there.access ∙ by_own) in
         let leads : component_access known.program.types object c ≡ Some there.object.cell.access = names_own o object found w ∙ (is_t ∙ ap Some (sym there.access)) in
-        let barely : EndsBarely known there.object.cell.access = rw there.access (w.rest.barely t is_t) in
         let parts = set_here s.heap p.0 there.object (parted there.object) there.found in
         let well : FreesWell known (slice_set s.heap p.0 (parted there.object)) (Some p) runs.0 = λ other at. (
         let one : other ≡ parted there.object = cc (at, parts) in
@@ -231,7 +222,7 @@ module _ (known : Known) (a : Activation Value) (rest : List (Activation Value))
             (
               (object, elsewhere.0, held),
               (λ same. apart (cc same)),
-              (object, parted there.object, elsewhere.0, parts, leads, at, barely),
+              (object, parted there.object, elsewhere.0, parts, leads, at),
               record {
                 rooms = w.rooms;
                 holds = runs.0;

@@ -71,8 +71,6 @@ use Rattle.ada_sound.proofs.AdjustingCopies.{InCopy, WentOn, copy_goes, copy_sto
 use Rattle.ada_finalized.proofs.Standing.{nothing_begins, untreated_start}
 use Rattle.ada_sound.proofs.CallsApartRuns.{step_apart}
 use Rattle.ada_quiet.specs.Apart.{is_tracker}
-use Rattle.ada_quiet.specs.Calm.{calm_types}
-use Rattle.ada_quiet.specs.Frugal.{barely_ending_types}
 use Rattle.ada_sound.proofs.QuietOperations.{AdjustsCopy, IsUsedAs, operations_nest, used_as}
 use Rattle.ada_sound.proofs.TouchingStarts.{touching_outermost}
 use Rattle.ada_sound.proofs.TouchingSteps.{InTouching, Went, GoesTouching, touching_step}
@@ -387,7 +385,7 @@ module _ (program : Program) (a : Activation Value) (rest : List (Activation Val
         let adjusting = adjusting_starts program sound.well sound.obeys a rest s o.suspensions v k IsOperated e after c tracks.0 tracks.1
         (filled_in_program (program_form program) a.procedure whole sound.typed.inside)
         (step_typed program sound.well whole after settled e sound.typed (rw is (refl, refl)))
-        (restand Running (Treats v treatment tasks) o.suspensions o.stands) o.calm o.settled (sound.apart false (stands_apart (program_form program) tracks.0.0)).1 (λ u ne. nothing_begins u k untreated) in
+        (restand Running (Treats v treatment tasks) o.suspensions o.stands) o.calm o.settled (sound.apart (stands_apart (program_form program) tracks.0.0)).1 (λ u ne. nothing_begins u k untreated) in
         inr (inr (inr (record {
           body = adjusting;
           alters = rw c.is (alters_same s.heap e);
@@ -642,7 +640,7 @@ sound_step program s choice e after r step = record {
   goes = goes_so program s.heap e after (led program s choice e after r step);
   idle = λ none. step_idle program none s after choice e (r.idle none) step;
   copies = λ none. step_adjusts_none program none s after choice e (r.copies none) step;
-  apart = λ are_led stand. step_apart (program_form program).types (calm_types (program_form program)) (barely_ending_types (program_form program)) (is_tracker (program_form program)) are_led program (calls_stand_apart (program_form program) are_led stand).1 s after choice e (r.apart are_led stand) step;
+  apart = λ stand. step_apart (program_form program).types (is_tracker (program_form program)) program (calls_stand_apart (program_form program) stand).1 s after choice e (r.apart stand) step;
   typed = step_typed program r.well s after choice e r.typed step;
   nested = step_nested program s after choice e (λ treats. operations_nest (program_form program) r.well (treats_in_use program s r s.control refl treats)) r.nested step;
 }

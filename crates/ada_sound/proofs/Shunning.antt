@@ -1,36 +1,27 @@
--- The body of a Finalize shuns an access type (3.10) that the end of an object does not reach, in which such a part lies (7.6, 7.6.1): where the body is frugal, it
--- follows and frees no value of the type (4.1, 13.11.2), and neither does what it calls.
+-- Frugal bodies are of the shape of bodies that shun access types (3.10). They call frugal procedures alone; and where they use no value of a type, neither
+-- does what they call, nor the end of what they free (4.1, 7.6.1, 13.11.2).
 
-use Rattle.std.proofs.Common.{◌≡◌, ℕ, Bool, true, false, not, ◌==◌, ◌&&◌, ◌||◌, List, [], ◌∷◌, length, Option, Some, None, refl, sym, ap, ◌∙◌, subst, arith, inl, inr}
+use Rattle.std.proofs.Common.{◌≡◌, ℕ, Bool, true, false, not, ◌==◌, ◌&&◌, ◌||◌, List, [], ◌∷◌, length, Option, Some, None, refl}
 use Rattle.std.specs.Prelude.{nat_lt, is_some}
-use Rattle.std.specs.List.{list_all, slice_get, slice_index_or}
-use Rattle.std.proofs.lemmas.Bool.{and_from, and_parts, or_parts, or_left, or_right, or_cases, cases_Bool, eqb-true, eq-eqb, ltb-true, not-true, false_from_ne_true}
-use Rattle.ada_program.specs.declared.program.Program.{Program}
+use Rattle.std.specs.List.{list_all, slice_index_or}
+use Rattle.std.proofs.lemmas.Bool.{and_from, and_parts, or_parts}
 use Rattle.ada_program.specs.declared.program.VariableKind.{VariableKind}
 use Rattle.ada_program.specs.declared.program.VariableKind.TheVariants as variable
-use Rattle.ada_program.specs.Controlled.{operations_of, procedure_number}
 use Rattle.ada_program.specs.Form.{PathForm, RecordPathForm, ActualForm, in_value, in_null, in_access, in_record, in_out_path, in_out_access, in_out_component, in_out_record, ExpressionForm, integer, boolean, reads, is_null, applied_to, chained, LinksForm, no_more_links, a_link, ItemForm, null_item, item_of_path, item_of_value, item_of_record, RightForm, nothing, value_of, allocates, allocates_default, computes, DeclarationForm, creates_pool, collects, declares, declares_record, StmtForm, skips, assigns, assigns_record, frees, gets, writes, writes_text, chooses, repeats, counts, exits, calls, returns, raises, encloses, StmtsForm, no_stmts, a_stmt, BranchesForm, otherwise, a_branch, HandlersForm, no_handlers, a_handler}
-use Rattle.ada_program.specs.ProgramForm.{TypeForm, VariableForm, BodyForm, ProgramForm, program_form, body_forms}
-use Rattle.ada_program.specs.WellFormed.{IsWellFormed, finalization_of, path_kind, selected_kind, variable_kind}
+use Rattle.ada_program.specs.ProgramForm.{TypeForm, VariableForm, BodyForm, ProgramForm}
+use Rattle.ada_program.specs.WellFormed.{designated_type, finalization_of, is_access, path_kind, selected_kind, type_fits, value_access, variable_fits, variable_kind}
 use Rattle.ada_quiet.specs.Bare.{allocates_bare, has_bare_objects}
 use Rattle.ada_quiet.specs.Frugal.{thrift_of, frugal_procedures, is_frugal_declaration, are_frugal_declarations, is_frugal_stmt, are_frugal, are_frugal_branches, are_frugal_handlers, is_frugal_body}
-use Rattle.ada_quiet.proofs.FrugalAt.{frugal_at}
 use Rattle.ada_deeds.specs.declared.deed.Callee.{Callee}
 use Rattle.ada_deeds.specs.declared.deed.Callee.TheVariants as callee
 use Rattle.ada_deeds.specs.declared.deed.Deed.{Deed}
 use Rattle.ada_deeds.specs.declared.deed.Deed.TheVariants as deed
 use Rattle.ada_deeds.specs.declared.deed.Operation.TheVariants.{Finalize}
-use Rattle.ada_deeds.specs.Does.{called_does, is_deed_of, Does, does}
-use Rattle.ada_deeds.specs.Forms.{expression_does, condition_does, actuals_do, is_left, procedure_does, parts_do, declarations_do, leaving_does, stmt_does, stmts_do, branches_do, handlers_do, body_does}
-use Rattle.ada_deeds.specs.Implicit.{implicit_of, record_at}
-use Rattle.ada_deeds.specs.Within.{does_within, callee_count, does_by}
-use Rattle.ada_deeds.proofs.Within.{counts_are_enough}
-use Rattle.ada_reaching.specs.Forms.{may_follow, selectors_shun, path_shuns, record_path_shuns, expression_shuns, links_shun, condition_shuns, item_shuns, right_shuns, actual_shuns, declaration_shuns, declarations_shun, statement_shuns, statements_shun, branches_shun, handlers_shun, body_shuns}
-use Rattle.ada_reaching.specs.Law.{AreApart}
-use Rattle.ada_reaching.specs.Deeds.{AreShaped, UseNone}
-use Rattle.ada_reaching.proofs.Deeds.{unused_apart}
-use Rattle.ada_typed.proofs.Lying.{IsOperable}
-use Rattle.ada_sound.proofs.FrugalUseEnds.{done_lying}
+use Rattle.ada_deeds.specs.Forms.{path_does, expression_does, condition_does, actuals_do, freeing_does, is_left, procedure_does, parts_do, designated_by, declarations_do, leaving_does, stmt_does, stmts_do, branches_do, handlers_do, body_does}
+use Rattle.ada_deeds.specs.Within.{does_by}
+use Rattle.ada_deeds.proofs.Naming.{KindFits, path_fits_kind}
+use Rattle.ada_reaching.specs.Apart.{Apart}
+use Rattle.ada_reaching.specs.Forms.{may_follow, may_end, selectors_shun, path_shuns, record_path_shuns, expression_shuns, links_shun, condition_shuns, item_shuns, right_shuns, actual_shuns, declaration_shuns, declarations_shun, statement_shuns, statements_shun, branches_shun, handlers_shun, body_shuns}
 
 -- Frugal bodies are of the shape of bodies that shun types.
 
@@ -55,7 +46,7 @@ all_so test so [] = refl
 all_so test so (x ∷ xs) = and_from (test x) (list_all test xs) (so x) (all_so test so xs)
 
 -- Whatever a body evaluates has the shape.
-module _ (types : List TypeForm) (apart : ℕ → Bool) (variables : List VariableForm) where
+module _ (types : List TypeForm) (apart : Apart) (variables : List VariableForm) where
   -- So has a path (4.1),
   path_shaped : (path : PathForm) → path_shuns types (λ t. false) apart variables path ≡ true
   path_shaped path = selectors_shaped types (variable_kind variables path.root) path.selectors
@@ -75,13 +66,15 @@ module _ (types : List TypeForm) (apart : ℕ → Bool) (variables : List Variab
     expression_shaped (is_null equal path) = path_shaped path
     expression_shaped (applied_to operator e) = expression_shaped e
     expression_shaped (chained e links) =
-        and_from (expression_shuns types (λ t. false) apart variables e) (links_shun types (λ t. false) apart variables links) (expression_shaped e) (links_shaped links)
+        and_from (expression_shuns types (λ t. false) apart variables e) (links_shun types (λ t. false) apart variables links) (expression_shaped e)
+        (links_shaped links)
 
     -- and right operands,
     links_shaped : (links : LinksForm) → links_shun types (λ t. false) apart variables links ≡ true
     links_shaped no_more_links = refl
     links_shaped (a_link operator e links) =
-        and_from (expression_shuns types (λ t. false) apart variables e) (links_shun types (λ t. false) apart variables links) (expression_shaped e) (links_shaped links)
+        and_from (expression_shuns types (λ t. false) apart variables e) (links_shun types (λ t. false) apart variables links) (expression_shaped e)
+        (links_shaped links)
 
   -- a condition, where there is one,
   condition_shaped : (condition : Option ExpressionForm) → condition_shuns types (λ t. false) apart variables condition ≡ true
@@ -134,32 +127,27 @@ module _ (types : List TypeForm) (apart : ℕ → Bool) (variables : List Variab
 -- What procedures do.
 
 -- A value of an access type is freed (13.11.2),
-abbrev freeing : (access : ℕ) → Deed
+abbrev pub freeing : (access : ℕ) → Deed
 freeing u = deed.Frees (record { 0 = u })
 
 -- or followed (4.1).
-abbrev following : (access : ℕ) → Deed
+abbrev pub following : (access : ℕ) → Deed
 following u = deed.Follows (record { 0 = u })
 
 -- A procedure that may do so, by its number.
-abbrev calling : (procedure : ℕ) → Callee
+abbrev pub calling : (procedure : ℕ) → Callee
 calling n = callee.Procedure (record { 0 = n })
 
 -- A deed is a use of an access type of the program: a value of it is freed or followed.
-abbrev is_use : ProgramForm → (access : ℕ) → Deed → Bool
+abbrev pub is_use : ProgramForm → (access : ℕ) → Deed → Bool
 is_use p u (deed.Raises e) = false
 is_use p u (deed.Frees t) = (u == t.0) && nat_lt t.0 (length p.types)
 is_use p u (deed.Follows t) = (u == t.0) && nat_lt t.0 (length p.types)
 is_use p u deed.Allocates = false
 
 -- What is done is no use of it.
-abbrev Spares : ProgramForm → (access : ℕ) → (done : Deed → Bool) → Type 0
+abbrev pub Spares : ProgramForm → (access : ℕ) → (done : Deed → Bool) → Type 0
 Spares p u done = (d : Deed) → is_use p u d ≡ true → done d ≡ false
-
--- A procedure is frugal, and frees and follows no value of an access type.
-abbrev is_shunning : ProgramForm → (access procedure : ℕ) → Bool
-is_shunning p u n =
-    slice_index_or (frugal_procedures p false) n false && not (does_by p (freeing u) (calling n)) && not (does_by p (following u) (calling n))
 
 module _ (p : ProgramForm) (u : ℕ) where
   -- Where neither of two is a use, the first one is not,
@@ -177,41 +165,31 @@ module _ (p : ProgramForm) (u : ℕ) where
   left_spares hs done spares (deed.Follows t) is = spares (deed.Follows t) is
   left_spares hs done spares deed.Allocates is = absurd (cc is)
 
-  -- A callee does nothing that is no deed of the program.
-  done_none : (d : Deed) (c : Callee) → (is_deed_of p d ≡ true → does_by p d c ≡ false) → does_by p d c ≡ false
-  done_none d c none = elim (cases_Bool (is_deed_of p d)) [
-    | inl is ↦ none is
-    | inr is ↦ ap (λ (b : Bool). b && does_within p d (callee_count p) c) is
-  ]
+  -- Each frugal procedure of which a call is no use may be called,
+  abbrev pub CallsFrugal : Apart → Type 0
+  CallsFrugal apart =
+      (n : ℕ) → slice_index_or (frugal_procedures p true) n false ≡ true → Spares p u (λ d. procedure_does (does_by p d) n) → apart.calls n ≡ true
 
-  -- A frugal procedure frees and follows no value of the type, where a call of it is no use,
-  called_shunning :
-      (n : ℕ) → slice_index_or (frugal_procedures p false) n false ≡ true → Spares p u (λ d. procedure_does (does_by p d) n) → is_shunning p u n ≡ true
-  called_shunning n told spares =
-      let frugal = slice_index_or (frugal_procedures p false) n false in
-      let is_one = λ (there : nat_lt u (length p.types) ≡ true). and_from (u == u) (nat_lt u (length p.types)) (eq-eqb u u refl) there in
-      and_from (frugal && not (does_by p (freeing u) (calling n))) (not (does_by p (following u) (calling n)))
-      (and_from frugal (not (does_by p (freeing u) (calling n))) told
-      (ap not (done_none (freeing u) (calling n) (λ there. spares (freeing u) (is_one there)))))
-      (ap not (done_none (following u) (calling n) (λ there. spares (following u) (is_one there))))
+  -- and objects of each access type may be freed whose end is no use (7.6.1).
+  abbrev pub EndsSpared : Apart → Type 0
+  EndsSpared apart =
+      (access : ℕ) → is_access p.types access ≡ true → Spares p u (λ d. parts_do (does_by p d) Finalize (designated_type p.types access))
+      → apart.ends access ≡ true
 
-  -- and one that does neither is told to be frugal.
-  shunning_parts :
-      (n : ℕ) → is_shunning p u n ≡ true
-      → (slice_index_or (frugal_procedures p false) n false ≡ true) × (does_by p (freeing u) (calling n) ≡ false) × (does_by p (following u) (calling n) ≡ false)
-  shunning_parts n is =
-      let frugal = slice_index_or (frugal_procedures p false) n false in
-      let frees = does_by p (freeing u) (calling n) in
-      let follows = does_by p (following u) (calling n) in
-      let both = and_parts (frugal && not frees) (not follows) is in
-      let two = and_parts frugal (not frees) both.0 in
-      (two.0, not-true frees two.1, not-true follows both.1)
-
-  -- Some procedures are marked, among them each frugal one of which a call is no use.
+  -- So it is with those that a body of a well-formed program goes by.
   module _
-      (apart : ℕ → Bool)
-      (marked : (n : ℕ) → slice_index_or (frugal_procedures p false) n false ≡ true → Spares p u (λ d. procedure_does (does_by p d) n) → apart n ≡ true)
-      (variables : List VariableForm) where
+      (apart : Apart) (marked : CallsFrugal apart) (ended : EndsSpared apart) (types_fit : list_all (type_fits p.types) p.types ≡ true)
+      (variables : List VariableForm) (variables_fit : list_all (variable_fits p.types) variables ≡ true) where
+    -- What a value names may be freed, where its end is no use.
+    kind_ended :
+        (kind : Option VariableKind) → KindFits p.types kind → Spares p u (λ d. parts_do (does_by p d) Finalize (designated_by p.types (value_access kind)))
+        → may_end apart kind ≡ true
+    kind_ended None fits spares = refl
+    kind_ended (Some variable.Integer) fits spares = refl
+    kind_ended (Some variable.Boolean) fits spares = refl
+    kind_ended (Some (variable.Access access)) fits spares = ended access.0 fits spares
+    kind_ended (Some (variable.Record object)) fits spares = refl
+
     -- A block, or a body: what it declares, its statements and its handlers.
     abbrev master_does : List DeclarationForm → StmtsForm → HandlersForm → Deed → Bool
     master_does ds fs hs d =
@@ -227,15 +205,15 @@ module _ (p : ProgramForm) (u : ℕ) where
     -- where its statements and its handlers have it.
     master_shaped :
         (ds : List DeclarationForm) (fs : StmtsForm) (hs : HandlersForm)
-        → (are_frugal (thrift_of p false) fs ≡ true → Spares p u (λ d. stmts_do p.types variables (does_by p d) d fs)
+        → (are_frugal (thrift_of p true) fs ≡ true → Spares p u (λ d. stmts_do p.types variables (does_by p d) d fs)
         → statements_shun p.types (λ t. false) apart variables fs ≡ true)
-        → (are_frugal_handlers (thrift_of p false) hs ≡ true → Spares p u (λ d. handlers_do p.types variables (does_by p d) d hs)
+        → (are_frugal_handlers (thrift_of p true) hs ≡ true → Spares p u (λ d. handlers_do p.types variables (does_by p d) d hs)
         → handlers_shun p.types (λ t. false) apart variables hs ≡ true)
-        → (are_frugal_declarations p.types ds && are_frugal (thrift_of p false) fs && are_frugal_handlers (thrift_of p false) hs) ≡ true
+        → (are_frugal_declarations p.types ds && are_frugal (thrift_of p true) fs && are_frugal_handlers (thrift_of p true) hs) ≡ true
         → Spares p u (master_does ds fs hs) → master_shuns ds fs hs ≡ true
     master_shaped ds fs hs within behind frugal spares =
-        let parts = and_parts (are_frugal_declarations p.types ds && are_frugal (thrift_of p false) fs) (are_frugal_handlers (thrift_of p false) hs) frugal in
-        let inner = and_parts (are_frugal_declarations p.types ds) (are_frugal (thrift_of p false) fs) parts.0 in
+        let parts = and_parts (are_frugal_declarations p.types ds && are_frugal (thrift_of p true) fs) (are_frugal_handlers (thrift_of p true) hs) frugal in
+        let inner = and_parts (are_frugal_declarations p.types ds) (are_frugal (thrift_of p true) fs) parts.0 in
         let declared = λ (d : Deed). declarations_do p.types variables (does_by p d) d ds in
         let inside = λ (d : Deed). stmts_do p.types variables (does_by p d) d fs in
         let left = λ (d : Deed). is_left hs d && inside d in
@@ -252,7 +230,7 @@ module _ (p : ProgramForm) (u : ℕ) where
     mutual
       -- A frugal statement has the shape, where what it does is no use,
       statement_shaped :
-          (f : StmtForm) → is_frugal_stmt (thrift_of p false) f ≡ true → Spares p u (λ d. stmt_does p.types variables (does_by p d) d f)
+          (f : StmtForm) → is_frugal_stmt (thrift_of p true) f ≡ true → Spares p u (λ d. stmt_does p.types variables (does_by p d) d f)
           → statement_shuns p.types (λ t. false) apart variables f ≡ true
       statement_shaped skips frugal spares = refl
       statement_shaped (assigns target right) frugal spares =
@@ -262,12 +240,16 @@ module _ (p : ProgramForm) (u : ℕ) where
           let leads = record_path_shuns p.types (λ t. false) apart variables target in
           let test = item_shuns p.types (λ t. false) apart variables in
           and_from (leads && list_all test items) (not (is_some (finalization_of p.types target.record_type)))
-          (and_from leads (list_all test items) (record_path_shaped p.types apart variables target) (all_so test (item_shaped p.types apart variables) items)) frugal
+          (and_from leads (list_all test items) (record_path_shaped p.types apart variables target)
+          (all_so test (item_shaped p.types apart variables) items)) frugal
       statement_shaped (frees access path) frugal spares =
           let leads = path_shuns p.types (λ t. false) apart variables path in
-          let may = may_follow (λ t. false) (path_kind p.types variables path) in
-          and_from (leads && may) (has_bare_objects p.types access)
-          (and_from leads may (path_shaped p.types apart variables path) (all_may (path_kind p.types variables path))) frugal
+          let kind = path_kind p.types variables path in
+          let named = λ (d : Deed). path_does p.types variables d path || freeing_does d (value_access kind) in
+          let finalized = λ (d : Deed). parts_do (does_by p d) Finalize (designated_by p.types (value_access kind)) in
+          and_from (leads && may_follow (λ t. false) kind) (may_end apart kind)
+          (and_from leads (may_follow (λ t. false) kind) (path_shaped p.types apart variables path) (all_may kind))
+          (kind_ended kind (path_fits_kind p.types types_fit variables variables_fit path) (second named finalized spares))
       statement_shaped (gets target) frugal spares = path_shaped p.types apart variables target
       statement_shaped (writes e) frugal spares = expression_shaped p.types apart variables e
       statement_shaped (writes_text text) frugal spares = refl
@@ -290,7 +272,7 @@ module _ (p : ProgramForm) (u : ℕ) where
           let given = λ (d : Deed). actuals_do p.types variables d actuals in
           let called = λ (d : Deed). procedure_does (does_by p d) procedure in
           let test = actual_shuns p.types (λ t. false) apart variables in
-          and_from (list_all test actuals) (apart procedure) (all_so test (actual_shaped p.types apart variables) actuals)
+          and_from (list_all test actuals) (apart.calls procedure) (all_so test (actual_shaped p.types apart variables) actuals)
           (marked procedure frugal (second given called spares))
       statement_shaped (returns spot) frugal spares = refl
       statement_shaped (raises e) frugal spares = refl
@@ -298,11 +280,11 @@ module _ (p : ProgramForm) (u : ℕ) where
 
       -- and so have statements,
       statements_shaped :
-          (fs : StmtsForm) → are_frugal (thrift_of p false) fs ≡ true → Spares p u (λ d. stmts_do p.types variables (does_by p d) d fs)
+          (fs : StmtsForm) → are_frugal (thrift_of p true) fs ≡ true → Spares p u (λ d. stmts_do p.types variables (does_by p d) d fs)
           → statements_shun p.types (λ t. false) apart variables fs ≡ true
       statements_shaped no_stmts frugal spares = refl
       statements_shaped (a_stmt f fs) frugal spares =
-          let both = and_parts (is_frugal_stmt (thrift_of p false) f) (are_frugal (thrift_of p false) fs) frugal in
+          let both = and_parts (is_frugal_stmt (thrift_of p true) f) (are_frugal (thrift_of p true) fs) frugal in
           let one = λ (d : Deed). stmt_does p.types variables (does_by p d) d f in
           let more = λ (d : Deed). stmts_do p.types variables (does_by p d) d fs in
           and_from (statement_shuns p.types (λ t. false) apart variables f) (statements_shun p.types (λ t. false) apart variables fs)
@@ -310,11 +292,11 @@ module _ (p : ProgramForm) (u : ℕ) where
 
       -- branches (5.3)
       branches_shaped :
-          (branches : BranchesForm) → are_frugal_branches (thrift_of p false) branches ≡ true
+          (branches : BranchesForm) → are_frugal_branches (thrift_of p true) branches ≡ true
           → Spares p u (λ d. branches_do p.types variables (does_by p d) d branches) → branches_shun p.types (λ t. false) apart variables branches ≡ true
       branches_shaped (otherwise fs) frugal spares = statements_shaped fs frugal spares
       branches_shaped (a_branch e fs branches) frugal spares =
-          let both = and_parts (are_frugal (thrift_of p false) fs) (are_frugal_branches (thrift_of p false) branches) frugal in
+          let both = and_parts (are_frugal (thrift_of p true) fs) (are_frugal_branches (thrift_of p true) branches) frugal in
           let tested = λ (d : Deed). expression_does p.types variables d e in
           let inside = λ (d : Deed). stmts_do p.types variables (does_by p d) d fs in
           let more = λ (d : Deed). branches_do p.types variables (does_by p d) d branches in
@@ -327,152 +309,22 @@ module _ (p : ProgramForm) (u : ℕ) where
 
       -- and handlers (11.2).
       handlers_shaped :
-          (hs : HandlersForm) → are_frugal_handlers (thrift_of p false) hs ≡ true → Spares p u (λ d. handlers_do p.types variables (does_by p d) d hs)
+          (hs : HandlersForm) → are_frugal_handlers (thrift_of p true) hs ≡ true → Spares p u (λ d. handlers_do p.types variables (does_by p d) d hs)
           → handlers_shun p.types (λ t. false) apart variables hs ≡ true
       handlers_shaped no_handlers frugal spares = refl
       handlers_shaped (a_handler choices fs hs) frugal spares =
-          let both = and_parts (are_frugal (thrift_of p false) fs) (are_frugal_handlers (thrift_of p false) hs) frugal in
+          let both = and_parts (are_frugal (thrift_of p true) fs) (are_frugal_handlers (thrift_of p true) hs) frugal in
           let one = λ (d : Deed). stmts_do p.types variables (does_by p d) d fs in
           let more = λ (d : Deed). handlers_do p.types variables (does_by p d) d hs in
           and_from (statements_shun p.types (λ t. false) apart variables fs) (handlers_shun p.types (λ t. false) apart variables hs)
           (statements_shaped fs both.0 (first one more spares)) (handlers_shaped hs both.1 (second one more spares))
 
   -- So has a frugal body.
-  body_shaped :
-      (apart : ℕ → Bool)
-      → ((n : ℕ) → slice_index_or (frugal_procedures p false) n false ≡ true → Spares p u (λ d. procedure_does (does_by p d) n) → apart n ≡ true)
-      → (b : BodyForm) → is_frugal_body (thrift_of p false) b ≡ true → Spares p u (λ d. body_does p.types (does_by p d) d b)
-      → body_shuns p.types (λ t. false) apart b ≡ true
-  body_shaped apart marked b =
-      master_shaped apart marked b.variables b.declarations b.statements b.handlers (statements_shaped apart marked b.variables b.statements)
-      (handlers_shaped apart marked b.variables b.handlers)
-
-  -- A use is a deed of the program.
-  use_of : (d : Deed) → is_use p u d ≡ true → is_deed_of p d ≡ true
-  use_of (deed.Raises e) is = absurd (cc is)
-  use_of (deed.Frees t) is = (and_parts (u == t.0) (nat_lt t.0 (length p.types)) is).1
-  use_of (deed.Follows t) is = (and_parts (u == t.0) (nat_lt t.0 (length p.types)) is).1
-  use_of deed.Allocates is = absurd (cc is)
-
-  -- What the body of a procedure does, the procedure does: where that is no use, what its body does is none.
-  body_spares :
-      (n : ℕ) (b : BodyForm) → slice_get p.bodies n ≡ Some b → ((d : Deed) → is_use p u d ≡ true → ¬ Does p d (calling n))
-      → Spares p u (λ d. body_does p.types (does_by p d) d b)
-  body_spares n b there none d is =
-      false_from_ne_true (body_does p.types (does_by p d) d b)
-      (λ done. none d is
-      (does (use_of d is) (does_by p d) (λ other known. (counts_are_enough p d other).0 known) (ap (called_does p.types (does_by p d) d) there ∙ done)))
-
--- A frugal body, and the frugal procedures: whatever they use, they have the shape that bodies have which shun no type.
-module _ (p : ProgramForm) (number : ℕ) (b : BodyForm) (there : slice_get p.bodies number ≡ Some b) (frugal : is_frugal_body (thrift_of p false) b ≡ true) where
-  -- It, and they.
-  abbrev frugal_ones : ℕ → Bool
-  frugal_ones n = slice_index_or (frugal_procedures p false) n false || (n == number)
-
-  -- No type has the number behind the last one.
-  none_there : (n : ℕ) → (length p.types == n) && nat_lt n (length p.types) ≡ true → ⊥
-  none_there n is =
-      let both = and_parts (length p.types == n) (nat_lt n (length p.types)) is in
-      omega (arith, eqb-true (length p.types) n both.0, ltb-true n (length p.types) both.1)
-
-  -- So nothing is a use of it.
-  spares_none : (done : Deed → Bool) → Spares p (length p.types) done
-  spares_none done (deed.Raises e) is = absurd (cc is)
-  spares_none done (deed.Frees t) is = absurd (none_there t.0 is)
-  spares_none done (deed.Follows t) is = absurd (none_there t.0 is)
-  spares_none done deed.Allocates is = absurd (cc is)
-
-  frugal_shaped : (c : BodyForm) → is_frugal_body (thrift_of p false) c ≡ true → body_shuns p.types (λ t. false) frugal_ones c ≡ true
-  frugal_shaped c is =
-      body_shaped p (length p.types) frugal_ones (λ n told spares. or_left (slice_index_or (frugal_procedures p false) n false) (n == number) told) c is
-      (spares_none (λ d. body_does p.types (does_by p d) d c))
-
-  ones_shaped : AreApart p (λ t. false) frugal_ones
-  ones_shaped n c among at = elim (or_cases (slice_index_or (frugal_procedures p false) n false) (n == number) among) [
-    | inl told ↦ frugal_shaped c (frugal_at p false n c told at)
-    | inr same ↦
-        let one : b ≡ c = cc (there, at, ap (λ (m : ℕ). slice_get p.bodies m) (eqb-true n number same)) in
-        frugal_shaped c (subst (λ (x : BodyForm). is_frugal_body (thrift_of p false) x ≡ true) one frugal)
-  ]
-
-  -- So it is with the body, and with all that it calls.
-  pub body_is_shaped : (among : ℕ → Bool) × AreApart p (λ t. false) among × (body_shuns p.types (λ t. false) among b ≡ true)
-  body_is_shaped = (frugal_ones, ones_shaped, frugal_shaped b frugal)
-
--- The Finalize of a part of an object, whose end does not reach an access type.
-module _
-    (program : Program) (well : IsWellFormed (program_form program)) (access of part number u : ℕ) (b : BodyForm)
-    (operable : IsOperable (program_form program).types access of part)
-    (overrides : procedure_number (operations_of program.types.items of).finalize ≡ Some number)
-    (there : slice_get (body_forms program) number ≡ Some b) (frugal : is_frugal_body (thrift_of (program_form program) false) b ≡ true)
-    (reaches : (implicit_of (program_form program)).end_reaches access u ≡ false) where
-  abbrev p : ProgramForm
-  p = program_form program
-
-  -- It, and the frugal procedures that free and follow no value of the type.
-  abbrev apart : ℕ → Bool
-  apart n = is_shunning p u n || (n == number)
-
-  -- What neither the end of the object does nor one of the others, none of these procedures does.
-  apart_none :
-      (d : Deed) → parts_do (does_by p d) Finalize (record_at p.types access) ≡ false → ((n : ℕ) → is_shunning p u n ≡ true → does_by p d (calling n) ≡ false)
-      → (n : ℕ) → apart n ≡ true → ¬ Does p d (calling n)
-  apart_none d none others n among done = elim (or_cases (is_shunning p u n) (n == number) among) [
-    | inl is ↦ absurd (cc (sym (others n is) ∙ (counts_are_enough p d (calling n)).1 done))
-    | inr same ↦
-        let own = subst (λ (m : ℕ). Does p d (calling m)) (eqb-true n number same) done in
-        absurd (cc (sym none ∙ done_lying program well d Finalize access of part number operable overrides own))
-  ]
-
-  -- So they free and follow no value of the type,
-  unused : UseNone p (λ t. u == t) apart
-  unused =
-      let ended = λ (d : Deed). parts_do (does_by p d) Finalize (record_at p.types access) in
-      let none = or_parts (ended (freeing u)) (ended (following u)) reaches in
-      record {
-        follow_none = λ n t among shunned done.
-            apart_none (following u) none.1 (λ m is. (shunning_parts p u m is).2) n among
-            (subst (λ (v : ℕ). Does p (following v) (calling n)) (sym (eqb-true u t shunned)) done);
-        free_none = λ n t among shunned done.
-            apart_none (freeing u) none.0 (λ m is. (shunning_parts p u m is).1) n among
-            (subst (λ (v : ℕ). Does p (freeing v) (calling n)) (sym (eqb-true u t shunned)) done);
-      }
-
-  -- and no use is among what they do.
-  uses_none : (n : ℕ) → apart n ≡ true → (d : Deed) → is_use p u d ≡ true → ¬ Does p d (calling n)
-  uses_none n among (deed.Raises e) is done = absurd (cc is)
-  uses_none n among (deed.Frees t) is done = unused.free_none n t.0 among (and_parts (u == t.0) (nat_lt t.0 (length p.types)) is).0 done
-  uses_none n among (deed.Follows t) is done = unused.follow_none n t.0 among (and_parts (u == t.0) (nat_lt t.0 (length p.types)) is).0 done
-  uses_none n among deed.Allocates is done = absurd (cc is)
-
-  -- Their bodies are frugal,
-  apart_frugal : (n : ℕ) (c : BodyForm) → apart n ≡ true → slice_get p.bodies n ≡ Some c → is_frugal_body (thrift_of p false) c ≡ true
-  apart_frugal n c among at = elim (or_cases (is_shunning p u n) (n == number) among) [
-    | inl is ↦ frugal_at p false n c (shunning_parts p u n is).0 at
-    | inr same ↦
-        let one : b ≡ c = cc (there, at, ap (λ (m : ℕ). slice_get p.bodies m) (eqb-true n number same)) in
-        subst (λ (x : BodyForm). is_frugal_body (thrift_of p false) x ≡ true) one frugal
-  ]
-
-  -- and have the shape.
-  shaped : AreShaped p apart
-  shaped n c among at =
-      body_shaped p u apart (λ m told spares. or_left (is_shunning p u m) (m == number) (called_shunning p u m told spares)) c (apart_frugal n c among at)
-      (body_spares p u n c at (uses_none n among))
-
-  -- So all of them shun the type.
-  all_apart : AreApart p (λ t. u == t) apart
-  all_apart = unused_apart p (λ t. u == t) apart unused well shaped
-
-  -- The Finalize is one of them.
-  own_apart : (apart : ℕ → Bool) × AreApart p (λ t. u == t) apart × (body_shuns p.types (λ t. u == t) apart b ≡ true)
-  own_apart = (apart, all_apart, all_apart number b (or_right (is_shunning p u number) (number == number) (eq-eqb number number refl)) there)
-
--- The body of a Finalize of a part of an object, whose end does not reach an access type, shuns that type, and so do all that it calls.
-pub finalize_shuns :
-    (program : Program) → IsWellFormed (program_form program) → (access of part number u : ℕ) (b : BodyForm)
-    → IsOperable (program_form program).types access of part → procedure_number (operations_of program.types.items of).finalize ≡ Some number
-    → slice_get (body_forms program) number ≡ Some b → is_frugal_body (thrift_of (program_form program) false) b ≡ true
-    → (implicit_of (program_form program)).end_reaches access u ≡ false
-    → (apart : ℕ → Bool) × AreApart (program_form program) (λ t. u == t) apart × (body_shuns (program_form program).types (λ t. u == t) apart b ≡ true)
-finalize_shuns = own_apart
+  pub body_shaped :
+      (apart : Apart) → CallsFrugal apart → EndsSpared apart → list_all (type_fits p.types) p.types ≡ true → (b : BodyForm)
+      → list_all (variable_fits p.types) b.variables ≡ true → is_frugal_body (thrift_of p true) b ≡ true
+      → Spares p u (λ d. body_does p.types (does_by p d) d b) → body_shuns p.types (λ t. false) apart b ≡ true
+  body_shaped apart marked ended types_fit b variables_fit =
+      master_shaped apart marked ended types_fit b.variables variables_fit b.declarations b.statements b.handlers
+      (statements_shaped apart marked ended types_fit b.variables variables_fit b.statements)
+      (handlers_shaped apart marked ended types_fit b.variables variables_fit b.handlers)

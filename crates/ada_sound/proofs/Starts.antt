@@ -1,7 +1,7 @@
 -- The first state of a program that is well formed, whose collections nest, that frees by the instances for what it frees, and none of an object's own type where
 -- the object ends, and that obeys the rules keeps the invariant.
 
-use Rattle.std.proofs.Common.{◌≡◌, ℕ, zero, suc, Bool, true, false, List, [], ◌∷◌, refl, sym, subst, ◌⊎◌, inl}
+use Rattle.std.proofs.Common.{◌≡◌, ℕ, zero, suc, true, false, List, [], ◌∷◌, refl, sym, subst, ◌⊎◌, inl}
 use Rattle.std.specs.Prelude.{ℤ, Option, Some, None}
 use Rattle.std.specs.List.{slice_get}
 use Rattle.ada_deeds.specs.Implicit.{implicit_of}
@@ -31,9 +31,7 @@ use Rattle.ada_typed.proofs.Control as typed
 use Rattle.ada_typed.proofs.Runs.{first_typed}
 use Rattle.ada_scopes.proofs.Runs.{Scoped, first_nested}
 use Rattle.ada_sound.proofs.Fits.{first_fit}
-use Rattle.ada_quiet.specs.Apart.{is_tracker, stand_apart}
-use Rattle.ada_quiet.specs.Calm.{calm_types}
-use Rattle.ada_quiet.specs.Frugal.{barely_ending_types}
+use Rattle.ada_quiet.specs.Apart.{is_tracker, operations_stand_apart}
 use Rattle.ada_sound.proofs.CallsApart.{CallApart}
 use Rattle.ada_sound.proofs.CallsApartRuns.{first_apart}
 use Rattle.ada_sound.proofs.Trackers.{TracksSafely, tracks_safely, calls_stand_apart}
@@ -79,7 +77,7 @@ pub record Sound (program : Program) (s : State) : Type 0 where
   pub goes : Ordinary program s ⊎ (Operates program s ⊎ (Touching program s ⊎ AdjustingCopy program s))
   pub idle : makes_parts (program_form program) ≡ false → IsIdle (program_form program).types s
   pub copies : copies_parts (program_form program) ≡ false → AdjustsNone (program_form program).types s.control
-  pub apart : (led : Bool) → stand_apart (program_form program) led ≡ true → CallApart (program_form program).types (calm_types (program_form program)) (barely_ending_types (program_form program)) (is_tracker (program_form program)) led s.control
+  pub apart : operations_stand_apart (program_form program) ≡ true → CallApart (program_form program).types (is_tracker (program_form program)) s.control
   pub typed : typed.Typed (program_form program) s
   pub nested : Scoped (program_form program) s
 
@@ -148,9 +146,9 @@ sound_first program input well uses nest own spares holders obeys = let obeys_so
   });
   idle = λ none. first_idle program none input;
   copies = λ none. first_adjusts_none program none input;
-  apart = λ led stand. (
-      let bodies = calls_stand_apart (program_form program) led stand in
-      first_apart (program_form program).types (calm_types (program_form program)) (barely_ending_types (program_form program)) (is_tracker (program_form program)) led program bodies.1 bodies.0 input
+  apart = λ stand. (
+      let bodies = calls_stand_apart (program_form program) stand in
+      first_apart (program_form program).types (is_tracker (program_form program)) program bodies.1 bodies.0 input
       );
   typed = first_typed program input well;
   nested = first_nested program well nest input;

@@ -33,7 +33,7 @@ use Rattle.ada_sound.proofs.Callers.{Suspension, known_in, Stands, callers_of}
 use Rattle.ada_sound.proofs.Fits.{Fit, Outsiders, IsPlace, IsRelied, IsSaid, IsUnreferred, component_access, none_spared, outer_hold, outer_value, place_at, Reference, IsReferred}
 use Rattle.ada_sound.proofs.FrugalControl.{Frugally, FrugalLeads, IsFreed}
 use Rattle.ada_sound.proofs.Held.{FreeIf, holder_if}
-use Rattle.ada_sound.proofs.Invariant.{body_among, CoveredIn, Control, Rooms, Roomed, GoesTo, MayAwait, RoomFor, RunsOn, Known, IsNewest, Ready, Spares, StartsTo, Unaliased, below, innermost, outers, BeginsWell, CameOut, To, By, ways, IsAwaited, under_in, AssignsWell, IsCopied, LiesAmong, AdjustedBehind, IsCovered, EndsBarely, EndsWellBy}
+use Rattle.ada_sound.proofs.Invariant.{body_among, CoveredIn, Control, Rooms, Roomed, GoesTo, MayAwait, RoomFor, RunsOn, Known, IsNewest, Ready, Spares, StartsTo, Unaliased, below, innermost, outers, BeginsWell, CameOut, To, By, ways, IsAwaited, under_in, AssignsWell, IsCopied, LiesAmong, AdjustedBehind, IsCovered, EndsWellBy}
 use Rattle.ada_sound.proofs.Operating.{WaitsFor, IsCalm, lets_out, OwnVariables}
 use Rattle.ada_sound.proofs.Stored.{Stored}
 use Rattle.ada_sound.specs.Agreement.{running_procedure}
@@ -42,6 +42,7 @@ use Rattle.ada_finalized.specs.Law.{NothingBegins}
 use Rattle.ada_meaning.specs.declared.event.Cause.{Cause}
 use Rattle.ada_meaning.specs.Step.{first_or, operands_of}
 use Rattle.ada_owners.specs.Places.{access_at, is_there}
+use Rattle.ada_reaching.specs.Apart.{Apart}
 use Rattle.ada_reaching.specs.Law.{AreApart}
 use Rattle.ada_reaching.specs.Reaching.{IsReaching}
 use Rattle.ada_owners.specs.Reliance.{Owns}
@@ -161,7 +162,6 @@ pub record Releases (known : Known) (watch : Option Watch) (object : Id) (access
   pub there : is_there w.is.stage ≡ true
   pub of_type : component_access known.program.types w.is c ≡ Some access
   pub names : slice_get w.is.cell.values c ≡ Some (Names object)
-  pub barely : EndsBarely known access
   pub runs : RunsOn known rest rooms holds
   pub well : EndsWellBy known access holds
   pub covered : IsCovered known.implicit known.program (Freeing number) access
@@ -255,22 +255,21 @@ abbrev pub treated_frees : Implicit → Treatment → (access : ℕ) → (behind
 treated_frees implicit (begins by done) access k t = implicit.start_frees access t
 treated_frees implicit (ends cause) access k t = ended_frees implicit cause access k t
 
--- While a Free ends an object, the one that is watched, if there is one, is there, and is another one, in which a component of the freed one's access type lies; and what
--- is called then calls no operation.
+-- While a Free ends an object, the one that is watched, if there is one, is there, and is another one, in which a component of the freed one's access type lies.
 abbrev pub IsSpared : Known → Treatment → Id → (access : ℕ) → List Object → (watch : Option Watch) → Type 0
 IsSpared known treatment o access heap None = Unit {0}
 IsSpared known (begins by done) o access heap (Some w) = ⊥
 IsSpared known (ends cause) o access heap (Some w) =
     (object_at heap w.holder ≡ Some w.is) × (w.holder ≢ o) × ((c : ℕ) × (component_access known.program.types w.is c ≡ Some access))
-    × (known.barely access ≡ true)
 
 -- What is watched, if something is, is there as it was; and the bodies that run in front of this, of procedures among some that neither follow nor free values of its
--- type, if that is an access type, refer to nothing in it.
-abbrev pub Watched : ProgramForm → (watch : Option Watch) → (behind : Control) → State → Type 0
-Watched p None behind s = Unit {0}
-Watched p (Some w) behind s =
+-- type, if that is an access type, refer to nothing in it, and the operations of what they free are such procedures.
+abbrev pub Watched : Program → (watch : Option Watch) → (behind : Control) → State → Type 0
+Watched program None behind s = Unit {0}
+Watched program (Some w) behind s =
+    let p = program_form program in
     (object_at s.heap w.holder ≡ Some w.is)
-    × ((apart : ℕ → Bool) × AreApart p (watches p.types (Some w)) apart
+    × ((apart : Apart) × AreApart p program.types.items (watches p.types (Some w)) apart
     × IsReaching p (watches p.types (Some w)) apart (is_watched (Some w)) (is_unnamed p.types (Some w)) behind s)
 
 -- What is known where such a body is called: what waits for it, whether the object is held, which is in hand then, and what it may free, of which there is no alias.
@@ -360,7 +359,7 @@ pub record Pause (program : Program) (depth : ℕ) (s : State) : Type 0 where
   pub computed : operands_of (drop (suc depth) s.activations) ≡ operands
   pub held : Bool
   pub watch : Option Watch
-  pub still : Watched (program_form program) watch behind s
+  pub still : Watched program watch behind s
   pub rests : Rests (known_in program procedure suspensions) treatment held watch object access home places operands also after lower rooms holds
   pub lets : (e : Exception) → body_among (implicit_of (program_form program)) (seen_in (Some number) (program_form program)) e ≡ true → lets_out (implicit_of (program_form program)) access treatment e ≡ true
 

@@ -242,7 +242,7 @@ module _ (program : Program) (well : IsWellFormed (program_form program)) (obeys
     under_low (frame.ends (Undoing number)) q (inr none) = absurd none
 
     pub touching_begins : (e : Event) (of : ℕ) (tasks : List Task) → Alters s.heap e heap → WaitsFor (program_form program).types o of treatment tasks k behind → IsAwaited behind → Stands program gs (record s { activations = a ∷ rest })
-        → Watched (program_form program) at.watch behind (operating named number b (Part o place) behind (record s { activations = a ∷ rest; heap = heap; mode = Running }))
+        → Watched program at.watch behind (operating named number b (Part o place) behind (record s { activations = a ∷ rest; heap = heap; mode = Running }))
         → (begun : Begun program gs treatment behind s.masters (operating named number b (Part o place) behind (record s { activations = a ∷ rest; heap = heap; mode = Running }))) × (begun.pause.object ≡ o) × (begun.pause.after ≡ k)
     touching_begins e of tasks alters awaited waited stands watched =
         let before = record s { activations = a ∷ rest; heap = heap; mode = Running } in

@@ -44,7 +44,7 @@ use Rattle.ada_sound.proofs.Emptying.{null_again}
 use Rattle.ada_sound.proofs.Held.{fit_unheld, held_alone, holder_if, unnamed_hand, with_held}
 use Rattle.ada_sound.proofs.Touching.{AwaitsAmong, IsEnding, IsNamedNowhere, Pause, Empties, Resting, Rests, RestsAsOwned, RestsAtEnd, Starting, Naming, under_way, Undoes, origin, Overwrites, Releases, RestsBy, StoresInto, Watch, Watched}
 use Rattle.ada_sound.proofs.Fits.{Fit, Hand, hold_in, place_at, is_object, stacked, none_spared, plain_place, put_owner, sparing, outer_hold, outer_value_at, spare_fit, weaker_fit, IsReferred, Reference, component_access, component_value, referred_first, store_blank, store_owner}
-use Rattle.ada_sound.proofs.Invariant.{AllWait, Control, Known, Rooms, GoesOn, Working, Ending, EndsTo, ReadyIn, TreatsBy, innermost, outer_of, outers, IsLive, Beginning, StartsTo, BeginsWell, Ready, IsActive, AreSuspended, CopiesBehind, EndsBy, LiesIn, StoresBehind, FreesWell, IsCovered, EndsBarely, EndsWellBy, AwaitsIn, GoesTo, HasRoom, IsHolder, IsMade, Making, NamesTo, RoomFor, To, RunsOn}
+use Rattle.ada_sound.proofs.Invariant.{AllWait, Control, Known, Rooms, GoesOn, Working, Ending, EndsTo, ReadyIn, TreatsBy, innermost, outer_of, outers, IsLive, Beginning, StartsTo, BeginsWell, Ready, IsActive, AreSuspended, CopiesBehind, EndsBy, LiesIn, StoresBehind, FreesWell, IsCovered, EndsWellBy, AwaitsIn, GoesTo, HasRoom, IsHolder, IsMade, Making, NamesTo, RoomFor, To, RunsOn}
 use Rattle.ada_sound.proofs.Operating.{behind_operation, lets_out, WaitsFor}
 use Rattle.ada_sound.proofs.Waiting.{stands_behind}
 use Rattle.ada_sound.proofs.Returns.{CrossesTo, same_types}
@@ -299,7 +299,7 @@ module _ (program : Program) (well : IsWellFormed (program_form program)) (s : S
   -- So it is, before the component becomes null that is freed: it owned the object alone.
   releasing_ends : (cause : Cause) → IsEnd cause → f.treatment ≡ ends cause → (r : Releases own f.watch f.object f.access f.home f.places f.after f.rooms f.holds) → Ending own f.object (frame.GivesBack (Names f.object) (Freeing r.number) f.home.pool ∷ frame.ClearsIn (Names r.w.holder) r.c ∷ r.rest) s.heap f.places f.lower
   releasing_ends cause end is r =
-      let still : Watched (program_form program) (Some r.w) f.behind s = subst (λ (watch : Option Watch). Watched (program_form program) watch f.behind s) r.watched f.still in
+      let still : Watched program (Some r.w) f.behind s = subst (λ (watch : Option Watch). Watched program watch f.behind s) r.watched f.still in
       record {
         object = f.x;
         found = f.found;
@@ -320,7 +320,6 @@ module _ (program : Program) (well : IsWellFormed (program_form program)) (s : S
               f.found,
               r.of_type ∙ ap Some (sym f.of_access),
               r.names,
-              subst (EndsBarely own) (sym f.of_access) r.barely,
             ),
             record {
               rooms = f.rooms;

@@ -88,14 +88,14 @@ module _ (program : Program) (s : State) (f : Touching program s) where
   -- What is watched is so still.
   abbrev pub Still : State → Type 0
   Still after =
-      Watched p outermost.watch outermost.behind after
+      Watched program outermost.watch outermost.behind after
       × AllWatched program s w.thrift outermost.behind outermost.lower after (running_procedure s) 0 (Some outermost.number) behind_it w.inner w.within
 
   -- Whatever is called from now on, and whoever goes on: the outermost operation is the same.
   pub within_on :
       (inner : List Suspension) (e : Event) (after : State) → InnerIn after (running_procedure after) inner
       → operands_of (drop (suc (length inner)) after.activations) ≡ operands_of (drop (suc (length w.inner)) s.activations) → Frugally w.thrift outermost.lower outermost.behind after
-      → Watched p outermost.watch outermost.behind after → Alters s.heap e after.heap → Within program (inner ++ behind_it) after
+      → Watched program outermost.watch outermost.behind after → Alters s.heap e after.heap → Within program (inner ++ behind_it) after
   within_on inner e after are same goes still alters = record {
     inner = inner;
     outermost = pause_on program (length w.inner) (length inner) s after e outermost alters same still;
@@ -113,7 +113,7 @@ module _ (program : Program) (s : State) (f : Touching program s) where
   pub touching_on :
       (inner : List Suspension) (e : Event) (after : State) → InnerIn after (running_procedure after) inner
       → operands_of (drop (suc (length inner)) after.activations) ≡ operands_of (drop (suc (length w.inner)) s.activations) → Frugally w.thrift outermost.lower outermost.behind after
-      → Watched p outermost.watch outermost.behind after → CrossesTo program (inner ++ behind_it) s.heap e after → InTouching program s.heap e after
+      → Watched program outermost.watch outermost.behind after → CrossesTo program (inner ++ behind_it) s.heap e after → InTouching program s.heap e after
   touching_on inner e after are same goes still c = record {
     body = record {
       suspensions = inner ++ behind_it;
@@ -160,7 +160,7 @@ module _ (program : Program) (s : State) (f : Touching program s) where
     -- What is watched is so behind whatever comes next.
     pub still_on : Each Still (next program.types.items (body_forms program) s)
     still_on =
-        each_and (Watched p outermost.watch outermost.behind)
+        each_and (Watched program outermost.watch outermost.behind)
         (λ after. AllWatched program s w.thrift outermost.behind outermost.lower after (running_procedure s) 0 (Some outermost.number) behind_it w.inner w.within)
         (next program.types.items (body_forms program) s)
         (watched_stays program f.suspensions s w sound outermost.watch outermost.behind outermost.still

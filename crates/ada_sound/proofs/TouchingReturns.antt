@@ -195,8 +195,8 @@ module _ (program : Program) (a : Activation Value) (k : Control) (s : State) (m
       Inner running depth inner = AreInner program ending f.within.thrift operation.behind operation.lower running depth (Some operation.number) waiting inner
 
       -- What is watched behind the end.
-      outermost_watched : (ending.control ≡ Returns [] [] ∷ operation.behind → ⊥) → Watched form operation.watch operation.behind back
-      outermost_watched on = subst (Each (Watched form operation.watch operation.behind)) is (watched_stays program f.suspensions ending f.within sound operation.watch operation.behind operation.still on)
+      outermost_watched : (ending.control ≡ Returns [] [] ∷ operation.behind → ⊥) → Watched program operation.watch operation.behind back
+      outermost_watched on = subst (Each (Watched program operation.watch operation.behind)) is (watched_stays program f.suspensions ending f.within sound operation.watch operation.behind operation.still on)
 
       inner_watched : (running : Option ℕ) (depth : ℕ) (inner : List Suspension) (are : Inner running depth inner)
           → AllGoOnInside program f.suspensions ending f.within sound f.within.thrift operation.behind operation.lower running depth (Some operation.number) waiting inner are
@@ -276,7 +276,7 @@ module _ (program : Program) (a : Activation Value) (k : Control) (s : State) (m
             (subst (λ (running : Option ℕ). AreInner program after f.within.thrift operation.behind operation.lower running 0 (Some operation.number) waiting gs) (sym stands.bodies.0) are)
             (sym (ap (λ (all : List Suspension). operands_of (drop (suc (length all)) (a ∷ b ∷ rest))) inner_is))
             (record { upper = o.upper; masters = o.masters; own = o.own; frugal = inl o.leads })
-            (subst (λ (u : State). Watched form operation.watch operation.behind u) reached (outermost_watched further))
+            (subst (λ (u : State). Watched program operation.watch operation.behind u) reached (outermost_watched further))
             c)
 
         operation_ends : Inner g.procedure (suc 0) gs → f.within.inner ≡ g ∷ gs → Ready (known_in program a.procedure (g ∷ gs ++ waiting)) ending → Stands program (g ∷ gs ++ waiting) ending → LeavesBody (g ∷ gs ++ waiting) → InTouching program s.heap Quiet back

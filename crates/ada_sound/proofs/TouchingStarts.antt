@@ -1,11 +1,10 @@
 -- The treatment of an object calls an operation that touches storage: its body begins in a sound state (7.6, 7.6.1), where no operation runs, or inside another one, which
 -- frees the object (13.11.2).
 
-use Rattle.std.proofs.Common.{◌≡◌, ◌≢◌, inl, inr, ℕ, Bool, true, false, not, ◌==◌, ◌&&◌, List, ◌∷◌, refl, sym, ap, subst, ◌∙◌, []}
+use Rattle.std.proofs.Common.{◌≡◌, ◌≢◌, inl, inr, ℕ, Bool, true, false, not, ◌&&◌, List, ◌∷◌, refl, sym, ap, subst, ◌∙◌, []}
 use Rattle.std.specs.Prelude.{Option, Some, None}
 use Rattle.std.specs.List.{slice_get}
 use Rattle.std.specs.Option.{option_map}
-use Rattle.std.proofs.lemmas.Bool.{and_parts}
 use Rattle.std.proofs.lemmas.Option.{slice_get-map}
 use Rattle.ada_deeds.specs.Implicit.{implicit_of}
 use Rattle.ada_effects.specs.Effects.{assignment_frees}
@@ -16,15 +15,14 @@ use Rattle.ada_program.specs.declared.program.Program.{Program}
 use Rattle.ada_program.specs.Controlled.{operations_of}
 use Rattle.ada_program.specs.ProgramForm.{TypeForm, BodyForm, ProgramForm, program_form, body_forms, seen_by, seen_in}
 use Rattle.ada_program.specs.WellFormed.{finalization_of, is_access, variable_kind, object_named, IsWellFormed}
-use Rattle.ada_quiet.specs.Bare.{has_bare_objects}
+use Rattle.ada_quiet.specs.Bare.{collections_in_order, has_bare_objects}
 use Rattle.ada_quiet.specs.Frugal.{is_frugal_body, thrift_of}
-use Rattle.ada_quiet.specs.InUse.{may_allocate_parts, may_be_frugal}
+use Rattle.ada_quiet.specs.InUse.{may_be_frugal, operations_may_be_called}
 use Rattle.ada_meaning.specs.declared.event.Birth.{Birth}
 use Rattle.ada_meaning.specs.declared.event.Birth.TheVariants.{Creation, Copy, Adjustment}
 use Rattle.ada_program.specs.declared.program.Exception.{Exception}
 use Rattle.ada_meaning.specs.declared.state.Id.{Id}
 use Rattle.ada_meaning.specs.declared.state.Mode.TheVariants.{Running}
-use Rattle.ada_meaning.specs.declared.state.Place.{Place}
 use Rattle.ada_meaning.specs.declared.state.Value.{Value}
 use Rattle.ada_meaning.specs.declared.state.Value.TheVariants.{Names, Part}
 use Rattle.ada_meaning.specs.Frame.{Treatment, Treats, begins, ends, Copies, Ends}
@@ -34,13 +32,6 @@ use Rattle.ada_meaning.specs.State.{Activation, Master, Owned, declared, collect
 use Rattle.ada_meaning.specs.Step.{operating, treating}
 use Rattle.ada_meaning.specs.Named.{Object, State, object_at, named}
 use Rattle.ada_owners.specs.Places.{access_at}
-use Rattle.ada_owners.proofs.Objects.{id_is}
-use Rattle.ada_parts.proofs.Facts.{eq_self}
-use Rattle.ada_reaching.proofs.Law.{operation_reaches}
-use Rattle.ada_reaching.specs.Forms.{body_shuns}
-use Rattle.ada_reaching.specs.Law.{AreApart}
-use Rattle.ada_reaching.specs.Reaching.{IsGhost, IsReaching}
-use Rattle.ada_tracked.proofs.Lists.{apart_is, is_same}
 use Rattle.ada_typed.proofs.Lying.{IsOperable}
 use Rattle.ada_meaning.specs.Run.{Event}
 use Rattle.ada_scopes.proofs.Components.{items_fit}
@@ -52,18 +43,16 @@ use Rattle.ada_typed.proofs.Kept.{behind_call}
 use Rattle.ada_typed.proofs.Overridings.{OperationFor, beginning_for, ending_for}
 use Rattle.ada_sound.proofs.Alters.{Alters}
 use Rattle.ada_sound.proofs.Callers.{Suspension, known_in, Stands, callers_of}
-use Rattle.ada_sound.specs.Always.{spare_holders}
-use Rattle.ada_sound.proofs.Shunning.{body_is_shaped, finalize_shuns}
 use Rattle.ada_sound.proofs.FrugalControl.{Frugally, IsFreed, frugal_starts}
-use Rattle.ada_sound.proofs.Touching.{CoversBy, Enters, GoesBy, IsEnding, IsSpared, Touching, Watch, Watched, is_unnamed, is_watched, watches, origin}
+use Rattle.ada_sound.proofs.Touching.{CoversBy, Enters, GoesBy, IsEnding, Touching, origin}
 use Rattle.ada_sound.proofs.Trackers.{touches_apart}
 use Rattle.ada_sound.proofs.TouchingBegins.{Begun, IsAlone, alone, touching_begins}
 use Rattle.ada_sound.proofs.TouchingRests.{IsEnd, assigns_by, at_start, ends_by}
-use Rattle.ada_sound.proofs.Fits.{IsWithin, access_is, component_access}
+use Rattle.ada_sound.proofs.Fits.{IsWithin, access_is}
 use Rattle.ada_sound.proofs.AssignedParts.{treated_frees_of, IsAssignedBehind}
 use Rattle.ada_sound.proofs.BareObjects.{allocated_is_bare, frugal_frees_bare, operable_is_not_bare}
 use Rattle.ada_sound.proofs.QuietOperations.{LetsNone, MayTouch, TouchesStorage, ends_here}
-use Rattle.ada_sound.proofs.CalmObjects.{barely_finalize, calm_finalize, calm_initialize}
+use Rattle.ada_sound.proofs.CalmObjects.{calm_finalize, calm_initialize}
 use Rattle.ada_quiet.specs.Calm.{are_calm_in}
 use Rattle.ada_sound.proofs.Items.{Houses}
 use Rattle.ada_sound.proofs.FrugalUseEnds.{ends_free, ends_in_starts}
@@ -75,9 +64,10 @@ use Rattle.ada_sound.proofs.OperationBegins.{formal_holds, formal_within}
 use Rattle.ada_sound.proofs.OperationStarts.{calm_behind, is_awaited, live_there}
 use Rattle.ada_sound.proofs.Returns.{same_types}
 use Rattle.ada_sound.proofs.SparesOwn.{assigned_spares}
-use Rattle.ada_sound.proofs.SparesHolders.{holder_spared}
 use Rattle.ada_sound.proofs.Starts.{Sound}
+use Rattle.ada_sound.proofs.Treating.{treats_in_use}
 use Rattle.ada_sound.proofs.Treatments.{Begins}
+use Rattle.ada_sound.proofs.WatchedBegins.{watched_begins}
 use Rattle.ada_meaning.specs.declared.event.Cause.{Cause}
 use Rattle.ada_meaning.specs.declared.event.Cause.TheVariants.{Leaving, Freeing, Assigning, Undoing}
 use Rattle.ada_meaning.specs.Finalization.{NothingTreated}
@@ -171,7 +161,7 @@ module _ (program : Program) (a : Activation Value) (rest : List (Activation Val
       goes_ahead (declared y) houses fits = absurd houses
       goes_ahead (record_object t) houses fits = refl
       goes_ahead (storage_pool declaration number) houses fits = absurd houses
-      goes_ahead (collection t pool) houses fits = by (may_allocate_parts p) refl
+      goes_ahead (collection t pool) houses fits = by (collections_in_order p) refl
         where
           parted : has_bare_objects p.types t ≡ false
           parted =
@@ -184,7 +174,7 @@ module _ (program : Program) (a : Activation Value) (rest : List (Activation Val
           other : are_calm_in p t ≡ false
           other = subst (λ (access : ℕ). are_calm_in p access ≡ false) (sym houses.0) not_calm
 
-          by : (b : Bool) → may_allocate_parts p ≡ b → (may_allocate_parts p && not (are_calm_in p t)) ≡ true
+          by : (b : Bool) → collections_in_order p ≡ b → (collections_in_order p && not (are_calm_in p t)) ≡ true
           by true allocates = rw (allocates, other) refl
           by false none = let bare = allocated_is_bare program sound.well may none t of_access in absurd (cc (bare, parted))
 
@@ -208,54 +198,6 @@ module _ (program : Program) (a : Activation Value) (rest : List (Activation Val
           (λ first t behind at. subst (λ (u : Value). AdjustsAlone u behind) named (alone first t behind at))
       enters (ends (Undoing number)) left alone may' treats = ends_for (Undoing number) tt alone treats
 
-    -- What is watched, if something is, is left alone by the body of a Finalize that begins, and by those that it calls.
-    watched_begins : (by : Treatment) (watch : Option Watch) (o : Id) (access of part number : ℕ) (b : BodyForm) (place : Place) (behind : Control) (heap : List Object) → IsOperable p.types access of part
-        → IsCalled (operations_of program.types.items of) by number → slice_get (body_forms program) number ≡ Some b → TouchesStorage p by b → spare_holders (implicit_of p) p.types 0 p.types ≡ true → IsSpared known by o access heap watch
-        → Watched p watch behind (operating named number b (Part o place) behind (record s { activations = a ∷ rest; heap = heap; mode = Running }))
-    watched_begins by None o access of part number b place behind heap operable called there stores spares spared = tt
-    watched_begins (begins by done) (Some w) o access of part number b place behind heap operable called there stores spares spared = absurd spared
-    watched_begins (ends cause) (Some w) o access of part number b place behind heap operable called there stores spares (at, other, (c, holds), barely) = (at, (shunned.0, shunned.1, reaching))
-      where
-        -- It frees no object with controlled parts, as it touches storage.
-        frugal : is_frugal_body (thrift_of p false) b ≡ true
-        frugal = elim (barely_finalize program sound.well access of part number b operable barely cause called there) [ inl quiet ↦ absurd (cc (quiet, stores)) | inr is ↦ is ]
-
-        -- The end of the object reaches none of the type of what is watched, in which a component lies that names it.
-        apart : (implicit_of p).end_reaches access w.is.cell.access ≡ false
-        apart =
-            holder_spared (implicit_of p) p.types spares w.is.cell.access c access
-            (subst (λ (types : List TypeForm). component_access types w.is c ≡ Some access) (same_types a.procedure p) holds)
-
-        -- The procedures that it calls are among some whose bodies neither follow nor free values of that type, if it is an access type.
-        shunned_by : (accessed : Bool) → (among : ℕ → Bool) × AreApart p (λ t. accessed && (w.is.cell.access == t)) among × (body_shuns p.types (λ t. accessed && (w.is.cell.access == t)) among b ≡ true)
-        shunned_by true = finalize_shuns program sound.well access of part number w.is.cell.access b operable called there frugal apart
-        shunned_by false = body_is_shaped p number b there frugal
-
-        shunned : (among : ℕ → Bool) × AreApart p (watches p.types (Some w)) among × (body_shuns p.types (watches p.types (Some w)) among b ≡ true)
-        shunned = shunned_by (is_access p.types w.is.cell.access)
-
-        -- What is watched is there: it is of that type, or a record object that is declared.
-        ghost_by : (accessed : Bool) → is_access p.types w.is.cell.access ≡ accessed → (q : Id) → is_watched (Some w) q ≡ true
-            → IsGhost p.types (λ t. accessed && (w.is.cell.access == t)) (not accessed && is_watched (Some w) q) (object_at heap q)
-        ghost_by true is q same = record {
-          object = w.is;
-          there = subst (λ (r : Id). object_at heap r ≡ Some w.is) (id_is w.holder q (is_same w.holder.0 q.0 same)) at;
-          shunned = eq_self w.is.cell.access;
-          accessed = is;
-        }
-        ghost_by false is q same = rw same (record {
-          object = w.is;
-          there = subst (λ (r : Id). object_at heap r ≡ Some w.is) (id_is w.holder q (is_same w.holder.0 q.0 same)) at;
-          declared = is;
-        })
-
-        -- The body begins so, for a part of another object.
-        reaching : IsReaching p (watches p.types (Some w)) shunned.0 (is_watched (Some w)) (is_unnamed p.types (Some w)) behind (operating named number b (Part o place) behind (record s { activations = a ∷ rest; heap = heap; mode = Running }))
-        reaching =
-            operation_reaches p (watches p.types (Some w)) shunned.0 (is_watched (Some w)) (is_unnamed p.types (Some w)) number b (Part o place) behind (record s { activations = a ∷ rest; heap = heap; mode = Running }) there shunned.2
-            (ghost_by (is_access p.types w.is.cell.access) refl) (λ q is. (and_parts (not (is_access p.types w.is.cell.access)) (is_watched (Some w) q) is).1)
-            (apart_is w.holder.0 o.0 (λ same. other (id_is w.holder o same)))
-
     -- The object is not calm: for calm ones an Initialize is plain, and a Finalize quiet.
     other_object : (access of part number : ℕ) (b : BodyForm) (by : Treatment) → IsOperable p.types access of part → MayTouch by → IsCalled (operations_of program.types.items of) by number
         → slice_get (body_forms program) number ≡ Some b → TouchesStorage p by b → are_calm_in p access ≡ false
@@ -278,9 +220,9 @@ module _ (program : Program) (a : Activation Value) (rest : List (Activation Val
     covers_by access of part number b (ends cause) operable called there frugal t covered = ends_free program sound.well access of part number b operable called there t covered
 
     -- So the body begins, for this object, in front of what is behind its treatment.
-    begins_so : (e : Event) (after : State) (c : Begins known a rest s program.types.items (body_forms program) k IsOperated e after) → MayTouch c.treatment → may_be_frugal p ≡ true → LetsNone p c.treatment c.b → is_frugal_body (thrift_of p (ends_here c.treatment)) c.b ≡ true → TouchesStorage p c.treatment c.b
+    begins_so : operations_may_be_called p ≡ true → (e : Event) (after : State) (c : Begins known a rest s program.types.items (body_forms program) k IsOperated e after) → MayTouch c.treatment → may_be_frugal p ≡ true → LetsNone p c.treatment c.b → is_frugal_body (thrift_of p (ends_here c.treatment)) c.b ≡ true → TouchesStorage p c.treatment c.b
         → typed.Typed p after → (begun : Begun program gs c.treatment c.behind s.masters after) × (begun.pause.object ≡ c.o) × (begun.pause.after ≡ k)
-    begins_so e after c touches may silent frugal stores typing =
+    begins_so uses e after c touches may silent frugal stores typing =
         let operated = c.operated.1 in
         let of_type : c.x.cell.access ≡ operated.0 = kept_type s.heap c.heap e c.o c.x operated.0 c.alters c.found operated.2 in
         let operable : IsOperable p.types c.x.cell.access c.of operated.1 = rw of_type (operated.3) in
@@ -304,12 +246,12 @@ module _ (program : Program) (a : Activation Value) (rest : List (Activation Val
         touches_let program sound.well c.x.cell.access c.of operated.1 c.number c.b operable c.treatment touches silent c.called c.there frugal in
         rw c.is (touching_begins program sound.well sound.obeys c.number (touches_apart program sound.obeys.0 c.of c.number c.treatment touches c.called) c.b c.there single a rest gs s k c.o c.x c.heap c.found (live_there c.x.stage c.live) c.place within c.treatment frugal sound.spares_own at c.behind frees
         (covers_by c.x.cell.access c.of operated.1 c.number c.b c.treatment operable c.called c.there frugal) lets e c.of c.tasks c.alters waits (is_awaited p.types c.o c.of c.treatment c.tasks k c.behind waits) stands
-        (watched_begins c.treatment at.watch c.o c.x.cell.access c.of operated.1 c.number c.b c.place c.behind c.heap operable c.called c.there stores (sound.spares_holders may) at.spared))
+        (watched_begins program sound.well uses a rest gs s c.treatment at.watch c.o c.x.cell.access c.of operated.1 c.number c.b c.place c.behind c.heap operable c.called c.there frugal (sound.spares_holders may) at.spared))
 
     -- That is known of it, whatever runs behind it.
-    pub touching_starts : (e : Event) (after : State) (c : Begins known a rest s program.types.items (body_forms program) k IsOperated e after) → MayTouch c.treatment → may_be_frugal p ≡ true → LetsNone p c.treatment c.b → is_frugal_body (thrift_of p (ends_here c.treatment)) c.b ≡ true → TouchesStorage p c.treatment c.b
+    pub touching_starts : operations_may_be_called p ≡ true → (e : Event) (after : State) (c : Begins known a rest s program.types.items (body_forms program) k IsOperated e after) → MayTouch c.treatment → may_be_frugal p ≡ true → LetsNone p c.treatment c.b → is_frugal_body (thrift_of p (ends_here c.treatment)) c.b ≡ true → TouchesStorage p c.treatment c.b
         → typed.Typed p after → Begun program gs c.treatment c.behind s.masters after
-    touching_starts e after c touches may silent frugal stores typing = (begins_so e after c touches may silent frugal stores typing).0
+    touching_starts uses e after c touches may silent frugal stores typing = (begins_so uses e after c touches may silent frugal stores typing).0
 
   -- Where no operation runs, nothing is treated behind what is treated, but a record that is assigned to.
   module _ (whole : State) (is : whole.control ≡ Treats v treatment tasks ∷ k) (sound : Sound program whole) (still : NoOperationRuns whole.control) where
@@ -381,7 +323,7 @@ module _ (program : Program) (a : Activation Value) (rest : List (Activation Val
       -- Its body runs, as the outermost one.
       pub touching_outermost : may_be_frugal p ≡ true → LetsNone p c.treatment c.b → is_frugal_body (thrift_of p (ends_here c.treatment)) c.b ≡ true → TouchesStorage p c.treatment c.b → typed.Typed p after → Touching program after
       touching_outermost may silent frugal stores typing =
-          let started = begins_so whole same sound lone_outermost stands e after c touches may silent frugal stores typing in
+          let started = begins_so whole same sound lone_outermost stands (treats_in_use program whole sound (Treats v treatment tasks ∷ k) is tt) e after c touches may silent frugal stores typing in
           let begun = started.0 in
           let waits : WaitsFor p.types c.o c.of c.treatment c.tasks k c.behind = subst (λ (types : List TypeForm). WaitsFor types c.o c.of c.treatment c.tasks k c.behind) (same_types a.procedure p) c.waits in
           let runs : Frugally (thrift_of p (ends_here c.treatment)) s.masters c.behind after = rw c.is (frugal_starts (thrift_of p (ends_here c.treatment)) c.number c.b frugal (Part c.o c.place) c.behind (record s { activations = a ∷ rest; heap = c.heap; mode = Running; control = k })) in

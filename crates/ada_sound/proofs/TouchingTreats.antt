@@ -1,8 +1,8 @@
 -- An object that is freed is finalized while an operation that touches storage is under way (7.6.1, 13.11.2): its Finalize begins, inside the other one, or what is left
 -- goes on.
 
-use Rattle.std.proofs.Common.{◌≡◌, ℕ, true, false, List, ◌∷◌, refl, sym, ap, subst, ◌∙◌, inl, inr, ◌+◌, arith, drop, length, suc}
-use Rattle.std.specs.Prelude.{Option, Some}
+use Rattle.std.proofs.Common.{◌≡◌, ℕ, true, false, List, [], ◌∷◌, refl, sym, ap, subst, ◌∙◌, inl, inr, ◌+◌, arith, drop, length, suc}
+use Rattle.std.specs.Prelude.{Option, Some, None}
 use Rattle.ada_parts.specs.Task.{Task}
 use Rattle.ada_program.specs.declared.program.Program.{Program}
 use Rattle.ada_program.specs.ProgramForm.{ProgramForm, TypeForm, program_form, body_forms}
@@ -11,13 +11,16 @@ use Rattle.ada_meaning.specs.declared.state.Mode.TheVariants.{Running}
 use Rattle.ada_meaning.specs.declared.state.Value.{Value}
 use Rattle.ada_meaning.specs.declared.state.Value.TheVariants.{Names, Part}
 use Rattle.ada_meaning.specs.Event.{Quiet}
-use Rattle.ada_meaning.specs.Frame.{Treatment, begins, ends, Treats}
+use Rattle.ada_meaning.specs.Frame.{Treatment, begins, ends, Confines, Treats}
 use Rattle.ada_meaning.specs.State.{Activation, Master}
-use Rattle.ada_meaning.specs.Step.{halts, moves, tells, asks, picks, older, procedure_of, operands_of, frame_next}
+use Rattle.ada_meaning.specs.Step.{halts, moves, tells, asks, picks, older, operating, procedure_of, operands_of, frame_next, treating}
 use Rattle.ada_meaning.specs.Named.{State, Next, named, next}
 use Rattle.ada_meaning.specs.Run.{Event, settled}
 use Rattle.ada_quiet.specs.Frugal.{Thrift, thrift_of, is_frugal_body}
 use Rattle.ada_quiet.specs.InUse.{may_be_frugal}
+use Rattle.ada_reaching.proofs.Behind.{behind_reaches, treating_inside}
+use Rattle.ada_reaching.specs.Apart.{Apart}
+use Rattle.ada_reaching.specs.Reaching.{IsReaching}
 use Rattle.ada_typed.proofs.Control as typed
 use Rattle.ada_typed.proofs.Kept.{Each}
 use Rattle.ada_typed.proofs.Runs.{step_typed}
@@ -29,12 +32,12 @@ use Rattle.ada_sound.proofs.FrugalSteps.{GoesOrBegins, treats_frugally}
 use Rattle.ada_sound.proofs.Invariant.{Control, Known, Stepped}
 use Rattle.ada_sound.proofs.Operating.{PlainBody, WaitsFor, behind_operation}
 use Rattle.ada_sound.proofs.OperationBegins.{begins_operation}
-use Rattle.ada_sound.proofs.Pauses.{all_unwatched, inner_on, unwatched_on}
+use Rattle.ada_sound.proofs.Pauses.{AllWatched, inner_on}
 use Rattle.ada_sound.proofs.QuietOperations.{AdjustsCopy, IsUsedAs, LetsNone, LetsNothingOut, MayTouch, TouchesStorage, ends_here, used_as}
 use Rattle.ada_sound.proofs.Ready.{running}
 use Rattle.ada_sound.proofs.Returns.{CrossesTo, same_types}
 use Rattle.ada_sound.proofs.Starts.{Sound}
-use Rattle.ada_sound.proofs.Touching.{AreInner, GoesBy, Pause, Touching, Within, origin}
+use Rattle.ada_sound.proofs.Touching.{AreInner, GoesBy, Pause, Touching, Watch, Watched, Within, is_unnamed, is_watched, origin, watches}
 use Rattle.ada_sound.proofs.TouchingBegins.{Begun}
 use Rattle.ada_sound.proofs.TouchingGoes.{GoesTouching, InTouching, Still, Went, behind_it, inner_stays, outermost, stays_on, still_on, touching_on, with_parts, within_on}
 use Rattle.ada_sound.proofs.TouchingStands.{touching_stands, treated_begin}
@@ -119,7 +122,7 @@ module _ (program : Program) (a : Activation Value) (rest : List (Activation Val
             let same : length after.activations ≡ length (a ∷ rest) = ap length acts in
             absurd (omega (arith, same, more))
 
-    module _ (e : Event) (after : State) (c : BeginsHere e after) where
+    module _ (e : Event) (after : State) (c : BeginsHere e after) (still : Still program whole f after) where
       ends_it : IsFreed c.treatment
       ends_it = subst IsFreed (sym c.operated.0) freed.0.0
 
@@ -139,11 +142,63 @@ module _ (program : Program) (a : Activation Value) (rest : List (Activation Val
       abbrev behind_it_all : State
       behind_it_all = behind_operation (a ∷ rest) c.behind s.masters after
 
-      -- Nothing is watched while an object is treated.
-      unwatched : (t : State) → Still program whole f t
-      unwatched t = (
-        unwatched_on p operation.watch operation.behind whole t tt operation.still,
-        all_unwatched program whole t thrift operation.behind operation.lower tt a.procedure 0 (Some operation.number) waiting f.within.inner f.within.within,
+      -- The Finalize begins here.
+      abbrev started : State
+      started = record (running k a rest s) { heap = c.heap }
+
+      module _ (w : Watch) (behind : Control) where
+        -- The bodies that run in front of this refer to nothing in what is watched.
+        abbrev Reaches : Apart → State → Type 0
+        Reaches apart t = IsReaching p (watches p.types (Some w)) apart (is_watched (Some w)) (is_unnamed p.types (Some w)) behind t
+
+        -- Where they treat the object, they go on behind its Finalize, if that begins so.
+        reaches_behind : (before apart : Apart) → Reaches before whole → Reaches apart after → Reaches apart behind_it_all
+        reaches_behind before apart treats begun = by c.treatment ends_it waits_here
+          where
+            by : (ending : Treatment) → IsFreed ending → WaitsFor p.types c.o c.of ending c.tasks k c.behind → Reaches apart behind_it_all
+            by (begins how done) freed' waits = absurd freed'
+            by (ends cause) freed' (is, inside) =
+                let left : Control = treating (Names c.o) (ends cause) c.tasks k in
+                let first : Reaches apart (operating named c.number c.b (Part c.o c.place) c.behind started) = rw c.is at begun in
+                let there : Reaches apart (operating named c.number c.b (Part c.o c.place) (Confines ∷ left) started) =
+                subst (λ (j : Control). Reaches apart (operating named c.number c.b (Part c.o c.place) j started)) is first in
+                let within =
+                treating_inside p (watches p.types (Some w)) before (is_watched (Some w)) (is_unnamed p.types (Some w)) behind (Names c.o) (ends cause) c.tasks
+                a.procedure k rest treats.control.2 in
+                let reaching =
+                behind_reaches p (watches p.types (Some w)) apart (is_watched (Some w)) (is_unnamed p.types (Some w)) behind c.number c.b (Part c.o c.place)
+                left started within there in
+                rw (c.is, is) (record {
+                  ghosts_there = reaching.ghosts_there;
+                  are_ghosts = reaching.are_ghosts;
+                  places = reaching.places;
+                  operands = reaching.operands;
+                  control = reaching.control;
+                  seeks = reaching.seeks;
+                })
+
+      -- What is watched where the Finalize begins is so behind it, too.
+      watched_behind :
+          (watch : Option Watch) (behind : Control) → Watched program watch behind whole → Watched program watch behind after
+          → Watched program watch behind behind_it_all
+      watched_behind None behind treats begun = tt
+      watched_behind (Some w) behind (found, (before, are, treats)) (found', (apart, are', begun)) =
+          (found', (apart, are', reaches_behind w behind before apart treats begun))
+
+      all_behind :
+          (procedure : Option ℕ) (depth : ℕ) (last : Option ℕ) (others inner : List Suspension)
+          (are : AreInner program whole thrift operation.behind operation.lower procedure depth last others inner)
+          → AllWatched program whole thrift operation.behind operation.lower after procedure depth last others inner are
+          → AllWatched program whole thrift operation.behind operation.lower behind_it_all procedure depth last others inner are
+      all_behind procedure depth last others [] are begun = tt
+      all_behind procedure depth last others (g ∷ inner) (inl call, more) begun = all_behind g.procedure (suc depth) last others inner more begun
+      all_behind procedure depth last others (g ∷ inner) (inr outer, more) begun =
+          (watched_behind outer.pause.watch outer.pause.behind outer.pause.still begun.0, all_behind g.procedure (suc depth) last others inner more begun.1)
+
+      still_behind : Still program whole f behind_it_all
+      still_behind = (
+        watched_behind operation.watch operation.behind operation.still still.0,
+        all_behind a.procedure 0 (Some operation.number) waiting f.within.inner f.within.within still.1,
       )
 
       same_behind : SameBody whole behind_it_all
@@ -153,7 +208,7 @@ module _ (program : Program) (a : Activation Value) (rest : List (Activation Val
       within_behind =
           subst (λ (all : List Suspension). Within program all behind_it_all) (sym f.within.are)
           (within_on program whole f f.within.inner e behind_it_all
-          (inner_stays program whole f e behind_it_all same_behind alters_here (unwatched behind_it_all))
+          (inner_stays program whole f e behind_it_all same_behind alters_here still_behind)
           refl
           (record {
             upper = f.within.frugal.upper;
@@ -161,7 +216,7 @@ module _ (program : Program) (a : Activation Value) (rest : List (Activation Val
             own = f.within.frugal.own;
             frugal = inl leads_behind;
           })
-          (unwatched behind_it_all).0
+          still_behind.0
           alters_here)
 
       module _ (is : next program.types.items (body_forms program) whole ≡ moves e after) where
@@ -171,7 +226,8 @@ module _ (program : Program) (a : Activation Value) (rest : List (Activation Val
         -- One begins that touches no storage.
         begins_quiet : PlainBody p.types c.b × LetsNothingOut c.treatment c.b → Went program s.heap e after
         begins_quiet plain = inr (inl (record {
-          operates = begins_operation program sound.well a rest f.suspensions s k Operated e after stands_here typed_after c (inr within_behind) plain;
+          operates =
+              begins_operation program sound.well a rest f.suspensions s k Operated e after stands_here typed_after c (inr (ends_it, within_behind)) plain;
           alters = alters_here;
           says = told_says e s.heap after c.tells;
           covered = told_covered program e c.tells;
@@ -212,7 +268,7 @@ module _ (program : Program) (a : Activation Value) (rest : List (Activation Val
               leads = subst (λ (j : Control). FrugalLeads thrift operation.behind j f.within.frugal.upper) (sym begun.is_behind) leads_behind;
             }),
             subst (λ (procedure : Option ℕ). AreInner program after thrift operation.behind operation.lower procedure (suc 0) (Some operation.number) waiting f.within.inner) of_body
-                (inner_on program whole thrift operation.behind operation.lower after e a.procedure 0 (suc 0) (Some operation.number) waiting f.within.inner f.within.within alters_here deeper (unwatched after).1),
+                (inner_on program whole thrift operation.behind operation.lower after e a.procedure 0 (suc 0) (Some operation.number) waiting f.within.inner f.within.within alters_here deeper still.1),
           )
 
           -- Its body is frugal as the others are.
@@ -225,7 +281,7 @@ module _ (program : Program) (a : Activation Value) (rest : List (Activation Val
 
           begins_inside : InTouching program s.heap e after
           begins_inside =
-              touching_on program whole f (waits_for ∷ f.within.inner) e after inner_begun (one_more (length f.within.inner)) runs_begun (unwatched after).0
+              touching_on program whole f (waits_for ∷ f.within.inner) e after inner_begun (one_more (length f.within.inner)) runs_begun still.0
               (subst (λ (all : List Suspension). CrossesTo program (waits_for ∷ all) s.heap e after) f.within.are (record {
                 stepped = record {
                   ready = begun.ready;
@@ -237,8 +293,9 @@ module _ (program : Program) (a : Activation Value) (rest : List (Activation Val
 
         begins_frugal : MayTouch c.treatment → may_be_frugal p ≡ true → LetsNone p c.treatment c.b → is_frugal_body (thrift_of p (ends_here c.treatment)) c.b ≡ true → TouchesStorage p c.treatment c.b → Went program s.heap e after
         begins_frugal touches may silent frugal stores =
+            let uses = treats_in_use program whole sound whole.control refl tt in
             let lone = lone_freed v treatment k freed.0.0 (treated_begin program whole sound f.suspensions f.within f.stands v treatment tasks k refl) in
-            inl (begins_inside (touching_starts program a rest s k v treatment tasks f.suspensions whole refl sound lone stands_here e after c touches may silent frugal stores typed_after) frugal)
+            inl (begins_inside (touching_starts program a rest s k v treatment tasks f.suspensions whole refl sound lone stands_here uses e after c touches may silent frugal stores typed_after) frugal)
 
         begins_as : IsUsedAs p c.of c.number c.treatment c.b → Went program s.heap e after
         begins_as (inl plain) = begins_quiet plain
@@ -254,7 +311,7 @@ module _ (program : Program) (a : Activation Value) (rest : List (Activation Val
         → Each (GoesOrBegins thrift operation.lower operation.behind program.types.items (body_forms program) whole) n → Each (Still program whole f) n → GoesTouching program whole n
     treated_went (halts halt) is t goes still = t
     treated_went (moves e after) is (inl st) goes still = inl (goes_here e after st goes still)
-    treated_went (moves e after) is (inr (inl c)) goes still = begins_there e after c is
+    treated_went (moves e after) is (inr (inl c)) goes still = begins_there e after c still is
     treated_went (moves e after) is (inr (inr c)) goes still = absurd (subst IsFreed (sym c.operated.0) freed.0.0)
     treated_went (tells request e after) is t goes still = absurd t
     treated_went (asks request answered) is t goes still = absurd t

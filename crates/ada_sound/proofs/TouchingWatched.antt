@@ -1,7 +1,7 @@
 -- While the body of an operation runs that touches storage, the object stays as it is in which a component lies that is freed (7.6, 13.11.2): each step of that body,
 -- and of those since then, leaves it alone.
 
-use Rattle.std.proofs.Common.{◌≡◌, ℕ, Bool, List, [], ◌∷◌, ◌++◌, ◌∙◌, refl, inl, inr, suc}
+use Rattle.std.proofs.Common.{◌≡◌, ℕ, List, [], ◌∷◌, ◌++◌, ◌∙◌, refl, inl, inr, suc}
 use Rattle.std.proofs.lemmas.Bool.{eq-eqb}
 use Rattle.std.specs.Prelude.{Option, Some, None}
 use Rattle.ada_program.specs.declared.program.Program.{Program}
@@ -12,6 +12,7 @@ use Rattle.ada_meaning.specs.State.{Item, Master}
 use Rattle.ada_meaning.specs.Step.{halts, moves, tells, asks, picks}
 use Rattle.ada_quiet.specs.Frugal.{Thrift}
 use Rattle.ada_reaching.proofs.Law.{stays_reaching}
+use Rattle.ada_reaching.specs.Apart.{Apart}
 use Rattle.ada_reaching.specs.Law.{AllGoOn, AreApart, FirstTakesNone, GoesOn}
 use Rattle.ada_tracked.specs.Law as tracked
 use Rattle.ada_typed.proofs.Kept.{Each}
@@ -49,19 +50,24 @@ each_and P Q (asks request answered) p q = λ granted. (p granted, q granted)
 each_and P Q (picks n taken) p q = λ i lt. (p i lt, q i lt)
 
 -- Where such bodies go on behind a step, what is watched is as it was.
-module _ (p : ProgramForm) (w : Watch) (apart : ℕ → Bool) (are : AreApart p (watches p.types (Some w)) apart) (behind : Control) (before : List Object) (found : object_at before w.holder ≡ Some w.is) where
+module _
+    (program : Program) (w : Watch) (apart : Apart)
+    (are : AreApart (program_form program) program.types.items (watches (program_form program).types (Some w)) apart) (behind : Control) (before : List Object) (found : object_at before w.holder ≡ Some w.is) where
+  abbrev p : ProgramForm
+  p = program_form program
+
   abbrev Goes : State → Type 0
   Goes after = GoesOn p (watches p.types (Some w)) apart (is_watched (Some w)) (is_unnamed p.types (Some w)) behind before after
 
-  goes_watched : (after : State) → Goes after → Watched p (Some w) behind after
+  goes_watched : (after : State) → Goes after → Watched program (Some w) behind after
   goes_watched after g = (g.same w.holder (eq-eqb w.holder.0 w.holder.0 refl) ∙ found, (apart, are, g.reaching))
 
-  each_watched : (n : Next) → AllGoOn Goes n → Each (Watched p (Some w) behind) n
+  each_watched : (n : Next) → AllGoOn Goes n → Each (Watched program (Some w) behind) n
   each_watched (halts halt) goes = tt
   each_watched (moves e after) goes = goes_watched after goes
   each_watched (tells request e after) goes = goes_watched after goes
   each_watched (asks request answered) goes = λ granted. goes_watched (answered granted) (goes granted)
-  each_watched (picks n taken) goes = absurd goes
+  each_watched (picks n taken) goes = λ i lt. goes_watched (taken i) (goes i lt)
 
 module _ (program : Program) (gs : List Suspension) (s : State) (w : Within program gs s) where
   -- A master that is left is one of the bodies' own, which own variables alone.
@@ -74,10 +80,10 @@ module _ (program : Program) (gs : List Suspension) (s : State) (w : Within prog
 
   module _ (sound : Sound program s) where
     -- What is watched while an operation runs is so still whatever comes next, unless its body ends.
-    pub watched_stays : (watch : Option Watch) (behind : Control) → Watched (program_form program) watch behind s → (s.control ≡ Returns [] [] ∷ behind → ⊥) → Each (Watched (program_form program) watch behind) (next program.types.items (body_forms program) s)
-    watched_stays None behind still on = each_so (Watched (program_form program) None behind) (λ after. tt) (next program.types.items (body_forms program) s)
+    pub watched_stays : (watch : Option Watch) (behind : Control) → Watched program watch behind s → (s.control ≡ Returns [] [] ∷ behind → ⊥) → Each (Watched program watch behind) (next program.types.items (body_forms program) s)
+    watched_stays None behind still on = each_so (Watched program None behind) (λ after. tt) (next program.types.items (body_forms program) s)
     watched_stays (Some x) behind (found, (apart, are, reaching)) on =
-        each_watched (program_form program) x apart are behind s.heap found (next program.types.items (body_forms program) s)
+        each_watched program x apart are behind s.heap found (next program.types.items (body_forms program) s)
         (stays_reaching program sound.well (watches (program_form program).types (Some x)) apart are (is_watched (Some x)) (is_unnamed (program_form program).types (Some x)) behind s sound.typed reaching (record { on = on; takes = takes_none s.control refl })).1
 
     module _ (thrift : Thrift) (back : Control) (lower : List Master) where
@@ -96,6 +102,6 @@ module _ (program : Program) (gs : List Suspension) (s : State) (w : Within prog
           each_so (λ after. AllWatched program s thrift back lower after running depth outermost others [] are) (λ after. tt) (next program.types.items (body_forms program) s)
       all_watched running depth outermost others (g ∷ inner) (inl call, more) on = all_watched g.procedure (suc depth) outermost others inner more on
       all_watched running depth outermost others (g ∷ inner) (inr operation, more) on =
-          each_and (Watched (program_form program) operation.pause.watch operation.pause.behind)
+          each_and (Watched program operation.pause.watch operation.pause.behind)
           (λ after. AllWatched program s thrift back lower after g.procedure (suc depth) outermost others inner more) (next program.types.items (body_forms program) s)
           (watched_stays operation.pause.watch operation.pause.behind operation.pause.still on.0) (all_watched g.procedure (suc depth) outermost others inner more on.1)

@@ -23,12 +23,12 @@ use Rattle.ada_program.specs.ProgramForm.{PartForm, TypeForm, record_of, access_
 use Rattle.ada_program.specs.WellFormed.{IsWellFormed, finalization_in, has_operations, have_operations, overrides_rightly, is_operation, callable_in, profile_of, is_inherited, variable_kind}
 use Rattle.ada_flow.specs.Flow.{is_owning_part, object_record, is_procedure, tracked_of, tracked_by_adjust, tracks_of}
 use Rattle.ada_flow.specs.Tracking.{no_tracks, tracks_behind, access_numbers, number_within}
-use Rattle.ada_quiet.specs.Apart.{is_this_one, is_adjust_of, is_tracker, body_calls_apart, overrides_apart, operations_apart, stand_apart, operations_stand_apart}
+use Rattle.ada_quiet.specs.Apart.{is_this_one, is_adjust_of, is_tracker, body_calls_apart, overrides_apart, operations_apart, operations_stand_apart}
+use Rattle.ada_quiet.specs.Bare.{collections_in_order}
 use Rattle.ada_quiet.specs.Idle.{makes_parts, copies_parts}
-use Rattle.ada_quiet.specs.InUse.{uses_adjust, allocates_no_parts, may_allocate_parts, may_be_frugal, uses_operations, operations_are_idle, operations_may_be_called, operations_are_in_use, is_copied_in_order, may_track, adjusts_nothing, operations_stand_in_order}
+use Rattle.ada_quiet.specs.InUse.{uses_adjust, allocates_no_parts, may_be_frugal, uses_operations, operations_are_idle, operations_may_be_called, operations_are_in_use, is_copied_in_order, may_track, adjusts_nothing, operations_stand_in_order}
 use Rattle.ada_quiet.specs.Quiet.{has_access, is_of_access, operation_body}
-use Rattle.ada_quiet.specs.Calm.{calm_types, names_no_trackers}
-use Rattle.ada_quiet.specs.Frugal.{barely_ending_types}
+use Rattle.ada_quiet.specs.Calm.{names_no_trackers}
 use Rattle.ada_sound.proofs.OperationStarts.{apart}
 use Rattle.ada_sound.specs.Untracked.{AdjustsNoOwners}
 
@@ -90,7 +90,7 @@ module _ (p : ProgramForm) where
 
   -- Where operations may be frugal, they stand apart.
   pub apart_too : may_be_frugal p ≡ true → operations_stand_apart p ≡ true
-  apart_too may = (apart (allocates_no_parts p || may_allocate_parts p) (operations_stand_apart p) may).1
+  apart_too may = (apart (allocates_no_parts p || collections_in_order p) (operations_stand_apart p) may).1
 
   pub stands_apart : may_track p ≡ true → operations_stand_apart p ≡ true
   stands_apart may = apart_too (frugal_too may)
@@ -130,8 +130,8 @@ module _ (p : ProgramForm) where
       by false never uses' = called_safely well uses'
 
   -- Where operations stand apart, no body calls what tracks.
-  pub calls_stand_apart : (led : Bool) → stand_apart p led ≡ true → (body_calls_apart p.types (calm_types p) (barely_ending_types p) (is_tracker p) led (main_body p) ≡ true) × (list_all (body_calls_apart p.types (calm_types p) (barely_ending_types p) (is_tracker p) led) p.bodies ≡ true)
-  calls_stand_apart led stand = apart _ _ (apart (body_calls_apart p.types (calm_types p) (barely_ending_types p) (is_tracker p) led (main_body p) && list_all (body_calls_apart p.types (calm_types p) (barely_ending_types p) (is_tracker p) led) p.bodies) _ stand).0
+  pub calls_stand_apart : operations_stand_apart p ≡ true → (body_calls_apart p.types (is_tracker p) (main_body p) ≡ true) × (list_all (body_calls_apart p.types (is_tracker p)) p.bodies ≡ true)
+  calls_stand_apart stand = apart _ _ (apart (body_calls_apart p.types (is_tracker p) (main_body p) && list_all (body_calls_apart p.types (is_tracker p)) p.bodies) _ stand).0
 
   -- What does not track has a body that tracks nothing.
   none_number : (first : ℕ) (kind : PartKind) → is_of_access kind ≡ false → number_within first kind ≡ []
@@ -231,7 +231,7 @@ touches_apart program (inr tracks) of number treatment may called = by treatment
     plainly : ArePlainlyCalled (is_tracker (program_form program)) (operations_of program.types.items of)
     plainly =
         plainly_found (is_tracker (program_form program)) (λ t. is_number of (number_by (Some t))) program.types.items
-        (apart (body_calls_apart (program_form program).types (calm_types (program_form program)) (barely_ending_types (program_form program)) (is_tracker (program_form program)) false (main_body (program_form program)) && list_all (body_calls_apart (program_form program).types (calm_types (program_form program)) (barely_ending_types (program_form program)) (is_tracker (program_form program)) false) (program_form program).bodies) _
+        (apart (body_calls_apart (program_form program).types (is_tracker (program_form program)) (main_body (program_form program)) && list_all (body_calls_apart (program_form program).types (is_tracker (program_form program))) (program_form program).bodies) _
         tracks.0).1
 
     by : (treatment' : Treatment) → MayTouch treatment' → IsCalled (operations_of program.types.items of) treatment' number → is_tracker (program_form program) number ≡ false

@@ -9,5 +9,5 @@ use Rattle.ada_quiet.proofs.apart.bodies_call_apart.Given as goal
 -- what is left tells of all
 abbrev pub invariant-procedures : goal.invariant-procedures
 invariant-procedures l =
-    list_all (body_calls_apart (types_in l.asked.types.now) l.asked.calm.now l.asked.barely.now (is_marked l.asked.marks.now) l.asked.led) (map body_form (drop l.procedure-index l.procedures))
-    ≡ list_all (body_calls_apart (types_in l.asked.types.now) l.asked.calm.now l.asked.barely.now (is_marked l.asked.marks.now) l.asked.led) (map body_form l.procedures)
+    list_all (body_calls_apart (types_in l.types) (is_marked l.marks)) (map body_form (drop l.procedure-index l.procedures))
+    ≡ list_all (body_calls_apart (types_in l.types) (is_marked l.marks)) (map body_form l.procedures)

@@ -1,0 +1,115 @@
+-- What is left behind an operation of an object that is freed (7.6.1, 13.11.2), where bodies that shun some access types wait for it.
+
+use Rattle.std.proofs.Common.{◌≡◌, ◌≤◌, ◌⊎◌, ℕ, suc, Bool, List, [], ◌∷◌, length, Option, arith, sym, ap, ◌∙◌, subst, inl, inr}
+use Rattle.ada_parts.specs.Task.{Task}
+use Rattle.ada_program.specs.ProgramForm.{TypeForm, BodyForm, ProgramForm}
+use Rattle.ada_meaning.specs.declared.event.Cause.{Cause}
+use Rattle.ada_meaning.specs.declared.state.Id.{Id}
+use Rattle.ada_meaning.specs.declared.state.Mode.{Mode}
+use Rattle.ada_meaning.specs.declared.state.Mode.TheVariants.{Running, Raising, Exiting, Returning}
+use Rattle.ada_meaning.specs.declared.state.Value.{Value}
+use Rattle.ada_meaning.specs.declared.state.Value.TheVariants.{Null, Names, Scalar, Part}
+use Rattle.ada_meaning.specs.Frame.{Frame, Treatment, ends}
+use Rattle.ada_meaning.specs.Frame as frame
+use Rattle.ada_meaning.specs.State.{Activation}
+use Rattle.ada_meaning.specs.Step.{older, operands_of, operating, places_of, procedure_of, treating}
+use Rattle.ada_meaning.specs.Named.{Object, State, named}
+use Rattle.ada_untouched.specs.Untouched.{IsInSight}
+use Rattle.ada_reaching.specs.Apart.{Apart}
+use Rattle.ada_reaching.specs.Law.{GhostsStay}
+use Rattle.ada_reaching.specs.Reaching.{AreElsewhere, IsGhost, IsInner, IsLast, IsReaching, LeftShuns, OperandSeeks}
+
+-- Nothing is sought behind a Finalize.
+confined_seeks :
+    (types : List TypeForm) (shuns : ℕ → Bool) (apart : Apart) (ghosts : Id → Bool) (heap : List Object) (m : Mode) (k : List (Frame Value)) (vs : List Value)
+    → OperandSeeks types shuns apart ghosts heap m (frame.Confines ∷ k) vs
+confined_seeks types shuns apart ghosts heap Running k [] = tt
+confined_seeks types shuns apart ghosts heap Running k (Null ∷ vs) = tt
+confined_seeks types shuns apart ghosts heap Running k (Names o ∷ vs) = λ x at. tt
+confined_seeks types shuns apart ghosts heap Running k (Scalar v ∷ vs) = tt
+confined_seeks types shuns apart ghosts heap Running k (Part o place ∷ vs) = tt
+confined_seeks types shuns apart ghosts heap (Raising e) k vs = tt
+confined_seeks types shuns apart ghosts heap Exiting k vs = tt
+confined_seeks types shuns apart ghosts heap Returning k vs = tt
+
+-- What is treated first makes what is left no shorter.
+treated_longer :
+    (v : Value) (treatment : Treatment) (tasks : List Task) (k : List (Frame Value)) → length k ≤ length (treating v treatment tasks k)
+treated_longer v treatment [] k = omega arith
+treated_longer v treatment (task ∷ tasks) k = omega arith
+
+module _ (p : ProgramForm) (shuns : ℕ → Bool) (apart : Apart) (ghosts unnamed : Id → Bool) (behind : List (Frame Value)) where
+  -- The bodies that wait for an operation go on behind it, unless that is behind all of them.
+  inner_bodies :
+      (k : List (Frame Value)) (suspended : List (Activation Value)) (left : Type 0) → (frame.Confines ∷ k ≡ behind → ⊥)
+      → IsLast behind (frame.Returns [] []) (frame.Confines ∷ k) ⊎ IsInner ghosts unnamed (frame.Returns [] []) (frame.Confines ∷ k) suspended left
+      → IsInner ghosts unnamed (frame.Returns [] []) (frame.Confines ∷ k) suspended left
+  inner_bodies k suspended left inside (inl last) = absurd (inside (ap older last))
+  inner_bodies k suspended left inside (inr inner) = inner
+
+  -- The body of an operation has begun inside such bodies: they go on behind it, unless that is behind all of them.
+  pub behind_reaches :
+      (procedure : ℕ) (b : BodyForm) (reference : Value) (k : List (Frame Value)) (s : State) → (frame.Confines ∷ k ≡ behind → ⊥)
+      → IsReaching p shuns apart ghosts unnamed behind (operating named procedure b reference (frame.Confines ∷ k) s)
+      → IsReaching p shuns apart ghosts unnamed behind (record s { control = frame.Confines ∷ k })
+  behind_reaches procedure b reference k s inside reaching =
+      let inner =
+      inner_bodies k s.activations
+      (LeftShuns p shuns apart ghosts unnamed behind (procedure_of s.activations) (frame.Confines ∷ k) (older s.activations)) inside reaching.control.2 in
+      record {
+        ghosts_there = reaching.ghosts_there;
+        are_ghosts = reaching.are_ghosts;
+        places = inner.places;
+        operands = inner.operands;
+        control = inner.others;
+        seeks = confined_seeks p.types shuns apart ghosts s.heap s.mode k (operands_of s.activations);
+      }
+
+  -- So they do, whatever happens meanwhile to other objects than the ghosts.
+  pub reaching_kept :
+      (k : List (Frame Value)) (s after : State) → s.control ≡ frame.Confines ∷ k → after.control ≡ s.control → after.activations ≡ s.activations
+      → GhostsStay ghosts s.heap after.heap → IsReaching p shuns apart ghosts unnamed behind s → IsReaching p shuns apart ghosts unnamed behind after
+  reaching_kept k s after first same active stay reaching = record {
+    ghosts_there = λ o is. subst (λ (found : Option Object). IsGhost p.types shuns (unnamed o) found) (sym (stay o is)) (reaching.ghosts_there o is);
+    are_ghosts = reaching.are_ghosts;
+    places = subst (λ (acts : List (Activation Value)). AreElsewhere ghosts unnamed (places_of acts)) (sym active) reaching.places;
+    operands = subst (λ (acts : List (Activation Value)). AreElsewhere ghosts unnamed (operands_of acts)) (sym active) reaching.operands;
+    control =
+        subst (λ (left : List (Frame Value)). LeftShuns p shuns apart ghosts unnamed behind (procedure_of after.activations) left (older after.activations))
+        (sym same)
+        (subst (λ (acts : List (Activation Value)). LeftShuns p shuns apart ghosts unnamed behind (procedure_of acts) s.control (older acts)) (sym active)
+        reaching.control);
+    seeks =
+        subst (λ (left : List (Frame Value)). OperandSeeks p.types shuns apart ghosts after.heap after.mode left (operands_of after.activations))
+        (sym (same ∙ first))
+        (confined_seeks p.types shuns apart ghosts after.heap after.mode k (operands_of after.activations));
+  }
+
+  -- An object of which a part is finalized, and which ends behind that, is no ghost.
+  pub ends_other :
+      (v : Value) (cause : Cause) (tasks : List Task) (k : List (Frame Value)) (procedure : Option ℕ) (suspended : List (Activation Value))
+      → LeftShuns p shuns apart ghosts unnamed behind procedure (frame.Confines ∷ treating v (ends cause) tasks (frame.Ends v ∷ k)) suspended
+      → IsInSight ghosts v
+  ends_other v cause [] k procedure suspended left = left.2.0
+  ends_other v cause (task ∷ tasks) k procedure suspended left = left.2.0.0
+
+  -- What is left of such bodies is longer than what is behind all of them.
+  pub left_longer :
+      (procedure : Option ℕ) (k : List (Frame Value)) (suspended : List (Activation Value))
+      → LeftShuns p shuns apart ghosts unnamed behind procedure k suspended → suc (length behind) ≤ length k
+  left_longer procedure [] suspended left = absurd left
+  left_longer procedure (frame.Returns actuals references ∷ k) suspended (inl last) = let same = ap length last in omega (arith, same)
+  left_longer procedure (frame.Returns actuals references ∷ k) suspended (inr inner) =
+      let longer = left_longer (procedure_of suspended) k (older suspended) inner.others in
+      omega (arith, longer)
+  left_longer procedure (f ∷ k) suspended left = let longer = left_longer procedure k suspended left.2 in omega (arith, longer)
+
+  -- So an operation of an object that they treat is not behind all of them.
+  pub treating_inside :
+      (v : Value) (treatment : Treatment) (tasks : List Task) (procedure : Option ℕ) (k : List (Frame Value)) (suspended : List (Activation Value))
+      → LeftShuns p shuns apart ghosts unnamed behind procedure k suspended → frame.Confines ∷ treating v treatment tasks k ≡ behind → ⊥
+  treating_inside v treatment tasks procedure k suspended left same =
+      let longer = left_longer procedure k suspended left in
+      let more = treated_longer v treatment tasks k in
+      let lengths = ap length same in
+      omega (arith, longer, more, lengths)

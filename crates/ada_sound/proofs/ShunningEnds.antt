@@ -1,0 +1,314 @@
+-- The body of a Finalize shuns an access type (3.10) that the end of an object does not reach, in which such a part lies (7.6, 7.6.1): where the body is
+-- frugal, it follows and frees no value of the type (4.1, 13.11.2), and neither do what it calls and the operations of what it frees.
+
+use Rattle.std.proofs.Common.{◌≡◌, ℕ, Bool, true, false, not, ◌==◌, ◌&&◌, ◌||◌, List, [], ◌∷◌, length, Option, Some, None, refl, sym, ap, ◌∙◌, subst, arith, inl, inr}
+use Rattle.std.specs.Prelude.{nat_lt, is_some}
+use Rattle.std.specs.List.{slice_get, slice_index_or}
+use Rattle.std.proofs.lemmas.Bool.{and_from, and_parts, or_parts, cases_Bool, eqb-true, eq-eqb, ltb-true, not-true, false_from_ne_true}
+use Rattle.ada_parts.specs.declared.tasks.Direction.TheVariants.{WholeFirst}
+use Rattle.ada_parts.specs.Shape.{Shape}
+use Rattle.ada_parts.specs.Task.{Task, performs, performed, treats}
+use Rattle.ada_program.specs.declared.program.Program.{Program}
+use Rattle.ada_program.specs.Controlled.{number_reached, operations_of, procedure_number, shapes_of}
+use Rattle.ada_program.specs.ProgramForm.{TypeForm, record_of, access_to, object_of, BodyForm, ProgramForm, program_form, body_forms}
+use Rattle.ada_program.specs.WellFormed.{IsWellFormed, designated_in, designated_type, is_access}
+use Rattle.ada_meaning.specs.declared.event.Cause.TheVariants.{Freeing}
+use Rattle.ada_meaning.specs.Frame.{ends}
+use Rattle.ada_meaning.specs.Step.{all_tasks, member_at, picked_task, tasks_for}
+use Rattle.ada_quiet.specs.Frugal.{thrift_of, frugal_procedures, is_frugal_body}
+use Rattle.ada_quiet.specs.InUse.{operations_may_be_called}
+use Rattle.ada_effects.specs.Effects.{no_calls, body_raises}
+use Rattle.ada_quiet.specs.Quiet.{is_plain_body}
+use Rattle.ada_quiet.proofs.FrugalAt.{frugal_at}
+use Rattle.ada_quiet.proofs.QuietFrugal.{frugal_body}
+use Rattle.ada_deeds.specs.declared.deed.Callee.{Callee}
+use Rattle.ada_deeds.specs.declared.deed.Callee.TheVariants as callee
+use Rattle.ada_deeds.specs.declared.deed.Deed.{Deed}
+use Rattle.ada_deeds.specs.declared.deed.Deed.TheVariants as deed
+use Rattle.ada_deeds.specs.declared.deed.Operation.TheVariants.{Finalize}
+use Rattle.ada_deeds.specs.Does.{called_does, is_deed_of, Does, does}
+use Rattle.ada_deeds.specs.Forms.{body_does, parts_do}
+use Rattle.ada_deeds.specs.Implicit.{implicit_of, record_at, record_in}
+use Rattle.ada_deeds.specs.Within.{does_within, callee_count, does_by}
+use Rattle.ada_deeds.proofs.Within.{counts_are_enough}
+use Rattle.ada_reaching.specs.Apart.{Apart, CallsApart, IsLeftOf, whole, picked, called}
+use Rattle.ada_reaching.specs.Forms.{body_shuns}
+use Rattle.ada_reaching.specs.Law.{AreApart}
+use Rattle.ada_reaching.specs.Deeds.{AreShaped, UseNone}
+use Rattle.ada_reaching.proofs.Deeds.{unused_apart}
+use Rattle.ada_typed.proofs.Bodies.{SeenFits, seen_as, seen_fits}
+use Rattle.ada_typed.proofs.Lying.{IsOperable, Lying, lying_all, lying_taken}
+use Rattle.ada_typed.proofs.Parts.{known_number, shapes_shown}
+use Rattle.ada_sound.proofs.FrugalUseEnds.{done_lying}
+use Rattle.ada_sound.proofs.QuietOperations.{IsUsedAs, used_as}
+use Rattle.ada_sound.proofs.Shunning.{CallsFrugal, EndsSpared, Spares, body_shaped, calling, following, freeing, is_use}
+
+-- A body is frugal, where there is one; it may free objects with controlled parts.
+abbrev is_frugal_one : ProgramForm → Option BodyForm → Bool
+is_frugal_one p None = true
+is_frugal_one p (Some b) = is_frugal_body (thrift_of p true) b
+
+-- A procedure is frugal, and frees and follows no value of an access type.
+abbrev is_shunning : ProgramForm → (access procedure : ℕ) → Bool
+is_shunning p u n =
+    is_frugal_one p (slice_get p.bodies n) && not (does_by p (freeing u) (calling n)) && not (does_by p (following u) (calling n))
+
+-- These procedures, and the access types of which the end of an object does neither.
+abbrev apart_from : Program → (access : ℕ) → Apart
+apart_from program u = record {
+  calls = is_shunning (program_form program) u;
+  ends = λ t. not ((implicit_of (program_form program)).end_reaches t u);
+  definitions = program.types.items;
+}
+
+-- What is left of the finalization of an object speaks of records that lie in it.
+module _ (program : Program) (access : ℕ) where
+  -- All of it does,
+  all_lie : Lying (program_form program).types access (all_tasks program.types.items access WholeFirst)
+  all_lie =
+      let definitions = program.types.items in
+      let forms = (program_form program).types in
+      let number = number_reached definitions access in
+      subst (λ (shapes : List Shape). Lying forms access (tasks_for shapes WholeFirst number)) (shapes_shown definitions forms refl)
+      (lying_all forms access WholeFirst number (known_number definitions forms access refl))
+
+  -- so it does once a component is picked,
+  picked_lies :
+      (tasks : List Task) (i : ℕ) → Lying (program_form program).types access tasks
+      → Lying (program_form program).types access (picked_task (shapes_of program.types.items) WholeFirst tasks i)
+  picked_lies [] i lies = tt
+  picked_lies (treats cs ∷ behind) i lies =
+      let forms = (program_form program).types in
+      subst (λ (shapes : List Shape). Lying forms access (picked_task shapes WholeFirst (treats cs ∷ behind) i)) (shapes_shown program.types.items forms refl)
+      (lying_taken forms access WholeFirst cs behind (member_at WholeFirst (length cs) i) lies)
+  picked_lies (performs of part ∷ behind) i lies = lies
+
+  -- or an operation has been called.
+  performed_lies : (tasks : List Task) → Lying (program_form program).types access tasks → Lying (program_form program).types access (performed tasks)
+  performed_lies [] lies = tt
+  performed_lies (treats cs ∷ behind) lies = lies
+  performed_lies (performs of part ∷ behind) lies = lies.1
+
+  -- So whatever is left does.
+  left_lies : {tasks : List Task} → IsLeftOf program.types.items access tasks → Lying (program_form program).types access tasks
+  left_lies whole = all_lie
+  left_lies (picked {tasks = tasks} i left) = picked_lies tasks i (left_lies left)
+  left_lies (called {tasks = tasks} left) = performed_lies tasks (left_lies left)
+
+-- Of some type, or of none.
+module _ (p : ProgramForm) (u : ℕ) where
+  -- A callee does nothing that is no deed of the program.
+  done_none : (d : Deed) (c : Callee) → (is_deed_of p d ≡ true → does_by p d c ≡ false) → does_by p d c ≡ false
+  done_none d c none = elim (cases_Bool (is_deed_of p d)) [
+    | inl is ↦ none is
+    | inr is ↦ ap (λ (b : Bool). b && does_within p d (callee_count p) c) is
+  ]
+
+  -- Where no use of the type is among what one does, it neither frees nor follows a value of it,
+  callee_spares : (c : Callee) → Spares p u (λ d. does_by p d c) → (does_by p (freeing u) c ≡ false) × (does_by p (following u) c ≡ false)
+  callee_spares c spares =
+      let is_one = λ (there : nat_lt u (length p.types) ≡ true). and_from (u == u) (nat_lt u (length p.types)) (eq-eqb u u refl) there in
+      (done_none (freeing u) c (λ there. spares (freeing u) (is_one there)), done_none (following u) c (λ there. spares (following u) (is_one there)))
+
+  -- and neither does the end of an object, where there is one.
+  parts_spare :
+      (o : Option ℕ) → Spares p u (λ d. parts_do (does_by p d) Finalize o)
+      → (parts_do (does_by p (freeing u)) Finalize o || parts_do (does_by p (following u)) Finalize o) ≡ false
+  parts_spare None spares = refl
+  parts_spare (Some t) spares = let both = callee_spares (callee.Parts Finalize (record { 0 = t })) spares in rw (both.0, both.1) refl
+
+  -- The objects of an access type are records of the type that it designates.
+  record_designated : (access : ℕ) (o : Option TypeForm) → is_some (designated_in o) ≡ true → record_in access o ≡ designated_in o
+  record_designated access None is = absurd (cc is)
+  record_designated access (Some (record_of name parts components finalization)) is = absurd (cc is)
+  record_designated access (Some (access_to name designated pool)) is = refl
+  record_designated access (Some (object_of record_type)) is = absurd (cc is)
+
+  -- So where the end of such an object is no use of the type, it does not reach it.
+  end_spares :
+      (access : ℕ) → is_access p.types access ≡ true → Spares p u (λ d. parts_do (does_by p d) Finalize (designated_type p.types access))
+      → (implicit_of p).end_reaches access u ≡ false
+  end_spares access is spares =
+      let same : record_at p.types access ≡ designated_type p.types access = record_designated access (slice_get p.types access) is in
+      rw same (parts_spare (designated_type p.types access) spares)
+
+  -- A procedure that is told to be frugal has a frugal body, if it has one.
+  told_frugal : (n : ℕ) → slice_index_or (frugal_procedures p true) n false ≡ true → is_frugal_one p (slice_get p.bodies n) ≡ true
+  told_frugal n told = by (slice_get p.bodies n) refl
+    where
+      by : (found : Option BodyForm) → slice_get p.bodies n ≡ found → is_frugal_one p found ≡ true
+      by None there = refl
+      by (Some b) there = frugal_at p true n b told there
+
+  -- A frugal procedure that does neither is one of these,
+  shunning_from :
+      (n : ℕ) → is_frugal_one p (slice_get p.bodies n) ≡ true → does_by p (freeing u) (calling n) ≡ false → does_by p (following u) (calling n) ≡ false
+      → is_shunning p u n ≡ true
+  shunning_from n is frees follows =
+      let frugal = is_frugal_one p (slice_get p.bodies n) in
+      let free = not (does_by p (freeing u) (calling n)) in
+      let follow = not (does_by p (following u) (calling n)) in
+      and_from (frugal && free) follow (and_from frugal free is (ap not frees)) (ap not follows)
+
+  -- and so each of them is.
+  shunning_parts :
+      (n : ℕ) → is_shunning p u n ≡ true
+      → (is_frugal_one p (slice_get p.bodies n) ≡ true) × (does_by p (freeing u) (calling n) ≡ false) × (does_by p (following u) (calling n) ≡ false)
+  shunning_parts n is =
+      let frugal = is_frugal_one p (slice_get p.bodies n) in
+      let frees = does_by p (freeing u) (calling n) in
+      let follows = does_by p (following u) (calling n) in
+      let both = and_parts (frugal && not frees) (not follows) is in
+      let two = and_parts frugal (not frees) both.0 in
+      (two.0, not-true frees two.1, not-true follows both.1)
+
+  -- A use is a deed of the program.
+  use_of : (d : Deed) → is_use p u d ≡ true → is_deed_of p d ≡ true
+  use_of (deed.Raises e) is = absurd (cc is)
+  use_of (deed.Frees t) is = (and_parts (u == t.0) (nat_lt t.0 (length p.types)) is).1
+  use_of (deed.Follows t) is = (and_parts (u == t.0) (nat_lt t.0 (length p.types)) is).1
+  use_of deed.Allocates is = absurd (cc is)
+
+  -- What the body of a procedure does, the procedure does: where that is no use, what its body does is none.
+  body_spares :
+      (n : ℕ) (b : BodyForm) → slice_get p.bodies n ≡ Some b → ((d : Deed) → is_use p u d ≡ true → ¬ Does p d (calling n))
+      → Spares p u (λ d. body_does p.types (does_by p d) d b)
+  body_spares n b there none d is =
+      false_from_ne_true (body_does p.types (does_by p d) d b)
+      (λ done. none d is
+      (does (use_of d is) (does_by p d) (λ other known. (counts_are_enough p d other).0 known) (ap (called_does p.types (does_by p d) d) there ∙ done)))
+
+-- In a well-formed program in which each Finalize is quiet or frugal that may be called.
+module _ (program : Program) (well : IsWellFormed (program_form program)) (uses : operations_may_be_called (program_form program) ≡ true) where
+  abbrev p : ProgramForm
+  p = program_form program
+
+  -- What overrides Finalize is frugal: what is quiet is so, too.
+  finalize_frugal :
+      (of number : ℕ) → procedure_number (operations_of program.types.items of).finalize ≡ Some number
+      → is_frugal_one p (slice_get p.bodies number) ≡ true
+  finalize_frugal of number overrides = by (slice_get p.bodies number) refl
+    where
+      as_used : (b : BodyForm) → IsUsedAs p of number (ends (Freeing number)) b → is_frugal_body (thrift_of p true) b ≡ true
+      as_used b (inl (plain, silent)) =
+          frugal_body (thrift_of p true) p.types b (and_from (is_plain_body p.types b) (not (body_raises no_calls b (λ e. true))) plain.plain (ap not silent))
+      as_used b (inr (inl (may, enabled, frugal, lets, stores))) = frugal
+      as_used b (inr (inr (copies, tracks, own))) = absurd copies
+
+      by : (found : Option BodyForm) → slice_get p.bodies number ≡ found → is_frugal_one p found ≡ true
+      by None there = refl
+      by (Some b) there = as_used b (used_as program uses well of number b there (ends (Freeing number)) (λ copies. absurd copies) overrides)
+
+  -- What the end of an object does not do, a Finalize of a record does not do that lies in it.
+  operation_spares :
+      (access of part number : ℕ) → IsOperable p.types access of part → procedure_number (operations_of program.types.items of).finalize ≡ Some number
+      → (d : Deed) → parts_do (does_by p d) Finalize (record_at p.types access) ≡ false → does_by p d (calling number) ≡ false
+  operation_spares access of part number operable overrides d none =
+      false_from_ne_true (does_by p d (calling number))
+      (λ done.
+      let own = (counts_are_enough p d (calling number)).0 done in
+      let ended = done_lying program well d Finalize access of part number operable overrides own in
+      cc (none, ended))
+
+  -- Of some type, or of none.
+  module _ (u : ℕ) where
+    -- What is apart from it.
+    abbrev apart : Apart
+    apart = apart_from program u
+
+    -- A Finalize of a part of an object is one of these procedures, where the end of the object does not reach the type.
+    operation_shuns :
+        (access of part number : ℕ) → IsOperable p.types access of part → procedure_number (operations_of program.types.items of).finalize ≡ Some number
+        → (implicit_of p).end_reaches access u ≡ false → apart.calls number ≡ true
+    operation_shuns access of part number operable overrides reaches =
+        let ended = λ (d : Deed). parts_do (does_by p d) Finalize (record_at p.types access) in
+        let none = or_parts (ended (freeing u)) (ended (following u)) reaches in
+        shunning_from p u number (finalize_frugal of number overrides)
+        (operation_spares access of part number operable overrides (freeing u) none.0)
+        (operation_spares access of part number operable overrides (following u) none.1)
+
+    -- So is each Finalize that the end of such an object calls.
+    operations_apart : CallsApart program.types.items apart
+    operations_apart access of part number tasks may left overrides =
+        operation_shuns access of part number (left_lies program access left).0 overrides (not-true ((implicit_of p).end_reaches access u) may)
+
+    -- They free and follow no value of the type,
+    unused : UseNone p (λ t. u == t) apart
+    unused = record {
+      follow_none = λ n t among shunned done.
+          let none = (shunning_parts p u n among).2 in
+          let own = (counts_are_enough p (following u) (calling n)).1 (subst (λ (v : ℕ). Does p (following v) (calling n)) (sym (eqb-true u t shunned)) done) in
+          cc (none, own);
+      free_none = λ n t among shunned done.
+          let none = (shunning_parts p u n among).1 in
+          let own = (counts_are_enough p (freeing u) (calling n)).1 (subst (λ (v : ℕ). Does p (freeing v) (calling n)) (sym (eqb-true u t shunned)) done) in
+          cc (none, own);
+    }
+
+    -- and no use is among what they do.
+    uses_none : (n : ℕ) → apart.calls n ≡ true → (d : Deed) → is_use p u d ≡ true → ¬ Does p d (calling n)
+    uses_none n among (deed.Raises e) is done = absurd (cc is)
+    uses_none n among (deed.Frees t) is done = unused.free_none n t.0 among (and_parts (u == t.0) (nat_lt t.0 (length p.types)) is).0 done
+    uses_none n among (deed.Follows t) is done = unused.follow_none n t.0 among (and_parts (u == t.0) (nat_lt t.0 (length p.types)) is).0 done
+    uses_none n among deed.Allocates is done = absurd (cc is)
+
+    -- Each frugal procedure of which a call is no use is among them,
+    calls_frugal : CallsFrugal p u apart
+    calls_frugal n told spares =
+        let none = callee_spares p u (calling n) spares in
+        shunning_from p u n (told_frugal p u n told) none.0 none.1
+
+    -- and so is each access type of which the end of an object is no use.
+    ends_spared : EndsSpared p u apart
+    ends_spared access is spares = ap not (end_spares p u access is spares)
+
+    -- So they have the shape.
+    shaped : AreShaped p program.types.items apart
+    shaped = record {
+      own = refl;
+      bodies = λ n b among there.
+          let fits = subst (λ (own : ProgramForm). SeenFits own) (seen_as p n b there) (seen_fits p well (Some n)) in
+          let frugal = subst (λ (found : Option BodyForm). is_frugal_one p found ≡ true) there (shunning_parts p u n among).0 in
+          body_shaped p u apart calls_frugal ends_spared well.types_fit b fits.variables_fit frugal (body_spares p u n b there (uses_none n among));
+      operations = operations_apart;
+    }
+
+    -- All of them shun the type.
+    all_apart : AreApart p program.types.items (λ t. u == t) apart
+    all_apart = unused_apart p (λ t. u == t) apart unused program.types.items well shaped
+
+  -- A frugal body has the shape of bodies that shun types, whatever it uses, and so have all that it calls, and the operations of what it frees.
+  module _ (number : ℕ) (b : BodyForm) (there : slice_get p.bodies number ≡ Some b) (frugal : is_frugal_body (thrift_of p true) b ≡ true) where
+    -- No type has the number behind the last one: so nothing is a use of it.
+    none_used : (d : Deed) → is_deed_of p d ≡ nat_lt (length p.types) (length p.types) → does_by p d (calling number) ≡ false
+    none_used d same =
+        let last = length p.types in
+        done_none p last d (calling number) (λ is. absurd (omega (arith, ltb-true last last (sym same ∙ is))))
+
+    own_shaped : (apart : Apart) × AreApart p program.types.items (λ t. false) apart × (body_shuns p.types (λ t. false) apart b ≡ true)
+    own_shaped =
+        let u = length p.types in
+        let one = subst (λ (found : Option BodyForm). is_frugal_one p found ≡ true) (sym there) frugal in
+        let among = shunning_from p u number one (none_used (freeing u) refl) (none_used (following u) refl) in
+        (apart_from program u, shaped u, (shaped u).bodies number b among there)
+
+-- The body of a Finalize of a part of an object, whose end does not reach an access type, shuns that type, and so do all that it calls and the operations of
+-- what it frees.
+pub finalize_shuns :
+    (program : Program) → IsWellFormed (program_form program) → operations_may_be_called (program_form program) ≡ true
+    → (access of part number u : ℕ) (b : BodyForm) → IsOperable (program_form program).types access of part
+    → procedure_number (operations_of program.types.items of).finalize ≡ Some number
+    → slice_get (body_forms program) number ≡ Some b → (implicit_of (program_form program)).end_reaches access u ≡ false
+    → (apart : Apart) × AreApart (program_form program) program.types.items (λ t. u == t) apart
+    × (body_shuns (program_form program).types (λ t. u == t) apart b ≡ true)
+finalize_shuns program well uses access of part number u b operable overrides there reaches =
+    let all = all_apart program well uses u in
+    (apart_from program u, all, all.bodies number b (operation_shuns program well uses u access of part number operable overrides reaches) there)
+
+-- The frugal body of a procedure has the shape of bodies that shun types, and so have all that it calls and the operations of what it frees.
+pub body_is_shaped :
+    (program : Program) → IsWellFormed (program_form program) → operations_may_be_called (program_form program) ≡ true → (number : ℕ) (b : BodyForm)
+    → slice_get (body_forms program) number ≡ Some b → is_frugal_body (thrift_of (program_form program) true) b ≡ true
+    → (apart : Apart) × AreApart (program_form program) program.types.items (λ t. false) apart
+    × (body_shuns (program_form program).types (λ t. false) apart b ≡ true)
+body_is_shaped = own_shaped
