@@ -14,7 +14,7 @@ use Rattle.ada_program.specs.declared.program.TypeDefinition.{TypeDefinition}
 use Rattle.ada_program.specs.Form.{ExpressionForm, integer, boolean, reads, is_null, applied_to, chained, LinksForm, no_more_links, a_link, ItemForm, null_item, item_of_path, item_of_value, item_of_record, RightForm, nothing, value_of, allocates, allocates_default, computes, StmtForm, skips, assigns, assigns_record, frees, gets, writes, writes_text, chooses, repeats, counts, exits, calls, returns, raises, encloses, StmtsForm, no_stmts, a_stmt, BranchesForm, otherwise, a_branch, HandlersForm, no_handlers, a_handler, DeclarationForm, creates_pool, collects, declares, declares_record}
 use Rattle.ada_program.specs.Handling.{some_takes, handler_of}
 use Rattle.ada_program.specs.ProgramForm.{BodyForm}
-use Rattle.ada_program.specs.Typed.{reached_of, words_of, pool_named}
+use Rattle.ada_program.specs.Typed.{reached_of, words_of, width_of, pool_named}
 use Rattle.ada_parts.specs.declared.tasks.Direction.TheVariants.{PartsFirst}
 use Rattle.ada_parts.specs.Task.{Task}
 use Rattle.ada_meaning.specs.declared.event.Birth.TheVariants.{Creation}
@@ -27,7 +27,7 @@ use Rattle.ada_meaning.specs.Frame.{Treatment, begins, Frame, is_loop, is_return
 use Rattle.ada_meaning.specs.Frame as frame
 use Rattle.ada_meaning.specs.State.{Activation, Destination, Item, Master, Owned, declared, collection, record_object, storage_pool, home_of, pools_in, pool_for, counted, type_housed}
 use Rattle.ada_meaning.specs.Heap.{Cell, Found, on_null, on_gone, on_other, finds}
-use Rattle.ada_meaning.specs.Step.{moves, all_tasks, treating, at, older, places, operands, operands_of, with_places, set_operands, computed, popped, owned, entered, shorter, put, jumping, in_front, held, newest, reading, component_next, follow_next, path_next, before_last, last_of, named_next, holder_next, expression_next, null_test_next, is_decided, link_next, links_next, outcome_next, items_next, initial_value, initial_values, initialized, new_cell, answered, new_next, right_next, assign_next, target_next, stored_next, store_next, branches_next, decided_next, turn_next, repeats_next, turned_next, count_turn_next, ranges_next, gets_next, received_next, receive_next, exit_next, exited_next, stmt_next, stmts_next, line_next, declarations_next, item_leave_next, master_leave_next, leave_next, frame_next, landed, unwound, pass_next}
+use Rattle.ada_meaning.specs.Step.{moves, all_tasks, treating, at, older, places, operands, operands_of, with_places, set_operands, computed, popped, owned, entered, shorter, put, jumping, in_front, held, newest, reading, component_next, follow_next, path_next, before_last, last_of, named_next, holder_next, place_in, expression_next, null_test_next, is_decided, link_next, links_next, outcome_next, items_next, copied_next, copies_next, record_in, initial_value, initial_values, initialized, new_cell, answered, new_next, right_next, assign_next, target_next, stored_next, store_next, branches_next, decided_next, turn_next, repeats_next, turned_next, count_turn_next, ranges_next, gets_next, received_next, receive_next, exit_next, exited_next, stmt_next, stmts_next, line_next, declarations_next, item_leave_next, master_leave_next, leave_next, frame_next, landed, unwound, pass_next}
 use Rattle.ada_meaning.specs.Named.{Object, State, Next, named, an_integer, a_boolean, whole, inside, look, store, created, create, reads_integer, reads_boolean, reads_null, unary_given, binary_given, next}
 use Rattle.ada_tracked.specs.Frames.{View}
 use Rattle.ada_tracked.specs.Law.{NewestHousesNone, InnermostHousesNone, TakesNone}
@@ -35,7 +35,7 @@ use Rattle.ada_tracked.specs.Seen.{IsOther, AreOther, IsWatched}
 use Rattle.ada_tracked.specs.Simple.{IsVariable}
 use Rattle.ada_tracked.proofs.Found.{found_other}
 use Rattle.ada_tracked.proofs.Heaps.{created_other}
-use Rattle.ada_tracked.proofs.Lists.{other_first, other_older, other_drop, other_in_front, other_got}
+use Rattle.ada_tracked.proofs.Lists.{other_first, other_older, other_drop, other_in_front, other_record, other_got}
 use Rattle.ada_tracked.proofs.Paths.{variable, whole_other}
 use Rattle.ada_beside.specs.Confined.{IsConfinedFrom, ExpressionIsConfined, LinksAreConfined, ConditionIsConfined, ItemsAreConfined, RightIsConfined, DeclarationsAreConfined, StatementIsConfined, StatementsAreConfined, BranchesAreConfined, HandlersAreConfined, StoresReached, FrameIsConfined, BodyIsConfined, OperandsAreConfined, IsConfined}
 use Rattle.ada_beside.specs.Law.{NoneCeases, TreatsNone, IsWithin, GoesOn, AllGoOn}
@@ -199,7 +199,29 @@ module _ (types : List TypeDefinition) (bodies : List BodyForm) (w : View) (reac
   items_go (null_item ∷ is) s confined p h g = gives Null (at (frame.Fills is ∷ s.control) s) (confined.1, h) refl g
   items_go (item_of_path path ∷ is) s confined p h g = named_goes path.selectors path.root (at (frame.Fills is ∷ s.control) s) confined.0 p (confined.1, h) g
   items_go (item_of_value e ∷ is) s confined p h g = stays (at (frame.Computes e ∷ frame.Fills is ∷ s.control) s) (confined.0, (confined.1, h)) g
-  items_go (item_of_record q ∷ is) s confined p h g = absurd confined.0
+  items_go (item_of_record q ∷ is) s confined p h g =
+      let place = place_in named (held named s q.object.root) q.object.selectors q in
+      named_goes q.object.selectors q.object.root (at (frame.Copies place.component q.record_type ∷ frame.Fills is ∷ s.control) s) confined.0 p
+      (tt, (confined.1, h)) g
+
+  -- A body goes on as the components of a record are copied, if the record lies there.
+  copied_goes :
+      (v : Value) (found : Option (List Value)) (s : State) → ((vs : List Value) → found ≡ Some vs → AreOther w.object vs)
+      → Goes s (copied_next named v found s)
+  copied_goes v None s each h g = tt
+  copied_goes v (Some vs) s each h g =
+      stays (set_operands (in_front vs (operands s)) s) h
+      (set_other w.object (in_front vs (operands s)) s.activations (other_in_front w.object vs (operands s) (each vs refl) g))
+
+  -- A body goes on as a record is copied out of an object that has been looked for.
+  copies_goes :
+      (v : Value) (c count : ℕ) (found : Found (Cell Value)) (s : State) → ((cell : Cell Value) → found ≡ finds cell → AreOther w.object cell.values)
+      → Goes s (copies_next named v c count found s)
+  copies_goes v c count on_null s each h g = jumps (Raising ConstraintError) s h
+  copies_goes v c count on_gone s each h g = tt
+  copies_goes v c count on_other s each h g = tt
+  copies_goes v c count (finds cell) s each h g =
+      copied_goes v (record_in cell.values c count) s (λ vs. other_record w.object cell.values c count vs (each cell refl)) h g
 
   -- What a component holds at first leads to no object.
   initial_other : (kind : ComponentKind) → IsOther w.object (initial_value named kind)
@@ -488,7 +510,9 @@ module _ (types : List TypeDefinition) (bodies : List BodyForm) (w : View) (reac
   frame_goes (frame.AppliesAlone operator) s runs confined untreated none p h g =
       outcome_goes (unary_given operator (newest named s)) (popped s) (unary_other w.object operator (newest named s)) h (popped_other s g)
   frame_goes (frame.Fills items) s runs confined untreated none p h g = items_go items s confined p h g
-  frame_goes (frame.Copies c record_type) s runs confined untreated none p h g = absurd confined
+  frame_goes (frame.Copies c record_type) s runs confined untreated none p h g =
+      copies_goes (newest named s) c (width_of types record_type) (look s.heap (newest named s)) (popped s)
+      (λ cell. found_other w.object s.heap (newest named s) cell p.components) h (popped_other s g)
   frame_goes (frame.Creates access count) s runs confined untreated none p h g = new_goes access count (words_of types access) (home_of access s.masters) s p h g
   frame_goes (frame.Stores x) s runs confined untreated none p h g = put_goes x (newest named s) (popped s) h (popped_other s g)
   frame_goes (frame.Targets c right) s runs confined untreated none p h g =

@@ -89,7 +89,7 @@ module _ (w : View) (reaches beside : ℕ → Bool) (apart : LieBeside w reaches
     items_open : (items : List ItemForm) → ItemsAreConfined w.tracks.first reaches items → ItemsAreOpen (hidden_beside w beside) no_ghosts s items
     items_open [] confined = tt
     items_open (item_of_path path ∷ is) confined = path_open path.root path.selectors confined.0
-    items_open (item_of_record p ∷ is) confined = absurd confined.0
+    items_open (item_of_record p ∷ is) confined = path_open p.object.root p.object.selectors confined.0
     items_open (i ∷ is) confined = tt
 
     -- What is assigned reads no hidden component.
@@ -111,6 +111,10 @@ module _ (w : View) (reaches beside : ℕ → Bool) (apart : LieBeside w reaches
     followed_open [] v other = tt
     followed_open (c ∷ cs) v other = (in_sight v, shown_other v c other)
 
+    -- A record is copied out of an object to which an operand leads, if that leads elsewhere.
+    copied_open : (v : Value) → IsOther w.object v → IsInSight no_ghosts v × ((component : ℕ) → hides (hidden_beside w beside) v component ≡ false)
+    copied_open v other = (in_sight v, λ component. shown_other v component other)
+
     -- A frame looks at no hidden component.
     frame_open :
         (f : Frame Value) (k : List (Frame Value)) → FrameIsConfined w reaches f → OperandsAreConfined w reaches Running (f ∷ k) (operands s)
@@ -125,7 +129,7 @@ module _ (w : View) (reaches beside : ℕ → Bool) (apart : LieBeside w reaches
     frame_open (frame.Opens path) k confined others untreated none = absurd confined
     frame_open (frame.OpensIn c) k confined others untreated none = absurd confined
     frame_open (frame.Fills items) k confined others untreated none = items_open items confined
-    frame_open (frame.Copies c t) k confined others untreated none = absurd confined
+    frame_open (frame.Copies c t) k confined others untreated none = copied_open (newest named s) (other_first w.object (operands s) others)
     frame_open (frame.Targets c right) k confined others untreated none = in_sight (newest named s)
     frame_open (frame.StoresIn v c) k confined others untreated none = in_sight v
     frame_open (frame.TargetsRecord c t items) k confined others untreated none = absurd confined

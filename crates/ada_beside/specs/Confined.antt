@@ -1,5 +1,6 @@
--- Of which bodies the law speaks: they free nothing, call nothing, and neither declare, assign, copy nor pass records as wholes; and each of their paths from the
--- formal parameter begins with a component of the record that this is. Their variables have numbers below `first`, and 0 is the formal parameter.
+-- Of which bodies the law speaks: they free nothing, call nothing, and neither declare, assign nor pass records as wholes, and copy them only as items of new
+-- objects; and each of their paths from the formal parameter begins with a component of the record that this is, so what they copy lies in other objects. Their
+-- variables have numbers below `first`, and 0 is the formal parameter.
 
 use Rattle.std.specs.Prelude.{◌≡◌, ℕ, zero, suc, ◌+◌, ◌<◌, Bool, true, List, [], ◌∷◌, Option, Some, None, ◌⊎◌}
 use Rattle.ada_program.specs.Form.{PathForm, ExpressionForm, integer, boolean, reads, is_null, applied_to, chained, LinksForm, no_more_links, a_link, ItemForm, null_item, item_of_path, item_of_value, item_of_record, RightForm, nothing, value_of, allocates, allocates_default, computes, DeclarationForm, creates_pool, collects, declares, declares_record, StmtForm, skips, assigns, assigns_record, frees, gets, writes, writes_text, chooses, repeats, counts, exits, calls, returns, raises, encloses, StmtsForm, no_stmts, a_stmt, BranchesForm, otherwise, a_branch, HandlersForm, no_handlers, a_handler}
@@ -48,12 +49,12 @@ module _ (first : ℕ) (reaches : ℕ → Bool) where
   ConditionIsConfined None = Unit {0}
   ConditionIsConfined (Some e) = ExpressionIsConfined e
 
-  -- Those of an item are, and it is no record.
+  -- Those of an item are, and so is the way to a record that it copies.
   abbrev pub ItemIsConfined : ItemForm → Type 0
   ItemIsConfined null_item = Unit {0}
   ItemIsConfined (item_of_path path) = PathIsConfined path
   ItemIsConfined (item_of_value e) = ExpressionIsConfined e
-  ItemIsConfined (item_of_record p) = ⊥
+  ItemIsConfined (item_of_record p) = PathIsConfined p.object
 
   -- Those of all of these items are.
   abbrev pub ItemsAreConfined : List ItemForm → Type 0
@@ -151,7 +152,7 @@ FrameIsConfined w reaches (frame.Continues links) = LinksAreConfined w.tracks.fi
 FrameIsConfined w reaches (frame.Applies operator) = Unit {0}
 FrameIsConfined w reaches (frame.AppliesAlone operator) = Unit {0}
 FrameIsConfined w reaches (frame.Fills items) = ItemsAreConfined w.tracks.first reaches items
-FrameIsConfined w reaches (frame.Copies c t) = ⊥
+FrameIsConfined w reaches (frame.Copies c t) = Unit {0}
 FrameIsConfined w reaches (frame.Creates access count) = Unit {0}
 FrameIsConfined w reaches (frame.Stores x) = IsVariable w.tracks.first x
 FrameIsConfined w reaches (frame.Targets c right) = RightIsConfined w.tracks.first reaches right

@@ -13,14 +13,15 @@ use Rattle.ada_program.specs.declared.program.VariableKind.{VariableKind}
 use Rattle.ada_program.specs.declared.program.VariableKind.TheVariants as variable
 use Rattle.ada_program.specs.Form.{ExpressionForm, integer, boolean, reads, is_null, applied_to, chained, LinksForm, no_more_links, a_link, ItemForm, null_item, item_of_path, item_of_value, item_of_record, RightForm, nothing, value_of, allocates, allocates_default, computes, DeclarationForm, creates_pool, collects, declares, declares_record}
 use Rattle.ada_program.specs.ProgramForm.{TypeForm, VariableForm}
-use Rattle.ada_program.specs.WellFormed.{creation, is_object, variable_kind, is_borrower, scalar_of, is_this, is_type, unary_type, binary_type, type_of, chain_type, reached_components, parts_named, object_named, component_item_fits, first_fits, item_fits, item_width, items_fit, is_filled, access_fits, scalar_fits, right_fits, item_owns, lends_to, names_before, initial_fits, collections_first, collection_fits, declarations_fit}
+use Rattle.ada_program.specs.WellFormed.{creation, is_object, variable_kind, is_borrower, scalar_of, is_this, is_type, unary_type, binary_type, type_of, chain_type, access_of, reached_components, record_components, object_components, begins_with_record, has_record_at, has_parts_at, parts_named, object_named, component_item_fits, first_fits, item_fits, item_width, items_fit, is_filled, access_fits, scalar_fits, right_fits, item_owns, lends_to, names_before, initial_fits, collections_first, collection_fits, declarations_fit}
 use Rattle.ada_program.specs.Nested.{collected, record_objects}
 use Rattle.ada_effects.specs.Effects.{unary_raises, expression_raises, links_raise, item_raises, items_raise, Implicit, right_raises, right_starts, declaration_raises, declarations_raise, right_frees, declaration_frees, declarations_free, passing_frees, leaving_frees}
-use Rattle.ada_flow.specs.Tracking.{Tracks, judged}
+use Rattle.ada_flow.specs.Tracking.{Tracks, seen, judged}
 use Rattle.ada_tracked.specs.Forms.{seen_expression, seen_links, seen_condition, seen_item, seen_items, seen_right, seen_declaration, seen_declarations}
 use Rattle.ada_tracked.specs.Simple.{ExpressionIsSimple, LinksAreSimple, ConditionIsSimple, ItemIsSimple, ItemsAreSimple, RightIsSimple, DeclarationIsSimple, DeclarationsAreSimple}
 use Rattle.ada_judged.specs.Fitting.{TracksComponents, ExpressionIsOfRecord, LinksAreOfRecord, ConditionIsOfRecord, ItemIsOfRecord, ItemsAreOfRecord, RightIsOfRecord, DeclarationIsOfRecord, DeclarationsAreOfRecord, DeclarationNamesBefore, DeclarationsNameBefore, ExpressionFits, ConditionFits, ItemsFit, RightFits, DeclarationsFit}
 use Rattle.ada_judged.proofs.FittingPaths.{and_left, and_right, and_both, front_kind, front_borrows, path_fits}
+use Rattle.ada_judged.proofs.ObeyingPaths.{sees, behind_alike}
 
 module _ (types : List TypeForm) (tracks : Tracks) (own : List VariableForm) (p : TracksComponents types tracks own) where
   -- The variables as they are judged.
@@ -97,7 +98,11 @@ module _ (types : List TypeForm) (tracks : Tracks) (own : List VariableForm) (p 
   one_item components null_item s r = first_item components null_item s r
   one_item components (item_of_path path) s r = first_item components (item_of_path path) s r
   one_item components (item_of_value e) s r = first_item components (item_of_value e) s r
-  one_item components (item_of_record q) s r = absurd s
+  one_item components (item_of_record q) s r =
+      let copied = record_components types q.record_type in
+      ap (λ (k : Option VariableKind). has_record_at (object_components types (access_of k)) q.first copied
+      && has_parts_at types q.record_type (object_named types (access_of k)) q.first q.part && begins_with_record components copied)
+      (path_fits types tracks own p q.object s r).kind
 
   same_width : (i : ItemForm) → item_width types (seen_item tracks i) ≡ item_width types i
   same_width null_item = refl
@@ -129,7 +134,7 @@ module _ (types : List TypeForm) (tracks : Tracks) (own : List VariableForm) (p 
   one_raises null_item s r = refl
   one_raises (item_of_path path) s r = (path_fits types tracks own p path s r).may_raise
   one_raises (item_of_value e) s r = expression_raise e s r
-  one_raises (item_of_record q) s r = refl
+  one_raises (item_of_record q) s r = behind_alike tracks q.object (seen tracks q.object) (sees tracks q.object)
 
   all_raise : (items : List ItemForm) → ItemsAreSimple tracks.first items → ItemsAreOfRecord items → items_raise (seen_items tracks items) ≡ items_raise items
   all_raise [] s r = refl

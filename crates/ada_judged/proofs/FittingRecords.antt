@@ -16,7 +16,7 @@ use Rattle.ada_program.specs.declared.program.VariableKind.{VariableKind}
 use Rattle.ada_program.specs.declared.program.VariableKind.TheVariants as variable
 use Rattle.ada_program.specs.Form.{PathForm, ExpressionForm, integer, boolean, reads, is_null, applied_to, chained, LinksForm, no_more_links, a_link, ItemForm, null_item, item_of_path, item_of_value, item_of_record, RightForm, nothing, value_of, allocates, allocates_default, computes, DeclarationForm, creates_pool, collects, declares, declares_record, StmtForm, skips, assigns, assigns_record, frees, gets, writes, writes_text, chooses, repeats, counts, exits, calls, returns, raises, encloses, StmtsForm, no_stmts, a_stmt, BranchesForm, otherwise, a_branch, HandlersForm, no_handlers, a_handler}
 use Rattle.ada_program.specs.ProgramForm.{TypeForm, VariableForm}
-use Rattle.ada_program.specs.WellFormed.{variable_kind, selected_kind, is_borrower, selectors_kind, root_kind, scalar_of, value_access, path_kind, path_access, is_this, is_type, given_one, given_two, given_alike, unary_type, binary_type, type_of, chain_type, has_type, reached_components, parts_named, object_named, component_item_fits, first_fits, item_fits, item_width, items_fit, is_filled, access_fits, scalar_fits, right_fits, names_borrower, lends_to, names_before, initial_fits, is_freed_by, condition_fits, has_statement, choice_fits, Profile, collections_first, collection_fits, declarations_fit, statement_fits, stmts_fit, branches_fit, handlers_fit}
+use Rattle.ada_program.specs.WellFormed.{variable_kind, selected_kind, is_borrower, selectors_kind, root_kind, scalar_of, value_access, path_kind, path_access, is_this, is_type, given_one, given_two, given_alike, unary_type, binary_type, type_of, chain_type, has_type, access_of, reached_components, record_components, object_components, begins_with_record, has_record_at, has_parts_at, parts_named, object_named, component_item_fits, first_fits, item_fits, item_width, items_fit, is_filled, access_fits, scalar_fits, right_fits, names_borrower, lends_to, names_before, initial_fits, is_freed_by, condition_fits, has_statement, choice_fits, Profile, collections_first, collection_fits, declarations_fit, statement_fits, stmts_fit, branches_fit, handlers_fit}
 use Rattle.ada_flow.specs.Tracking.{Tracks, is_component, is_one_of}
 use Rattle.ada_tracked.proofs.Lists.{is_same}
 use Rattle.ada_judged.specs.Fitting.{AreOfAccess, TracksComponents, PathIsOfRecord, ExpressionIsOfRecord, LinksAreOfRecord, ConditionIsOfRecord, ItemIsOfRecord, ItemsAreOfRecord, RightIsOfRecord, DeclarationIsOfRecord, DeclarationsAreOfRecord, StatementIsOfRecord, StatementsAreOfRecord, BranchesAreOfRecord, HandlersAreOfRecord}
@@ -38,6 +38,12 @@ access_there (Some k) h = refl
 this_there : (access : ℕ) (o : Option ℕ) → is_this access o ≡ true → is_some o ≡ true
 this_there access None h = absurd (cc)
 this_there access (Some t) h = refl
+
+record_there :
+    (types : List TypeForm) (k : Option VariableKind) (first : ℕ) (components : Option (List ComponentKind))
+    → has_record_at (object_components types (access_of k)) first components ≡ true → is_some k ≡ true
+record_there types None first components h = absurd (cc)
+record_there types (Some k) first components h = refl
 
 freed_there : (types : List TypeForm) (access : ℕ) (o : Option ℕ) → is_freed_by types access o ≡ true → is_some o ≡ true
 freed_there types access None h = absurd (cc)
@@ -161,15 +167,15 @@ module _ (types : List TypeForm) (tracks : Tracks) (own : List VariableForm) (p 
   component_record (component.Integer initial) null_item h = tt
   component_record (component.Integer initial) (item_of_path path) h = absurd (cc)
   component_record (component.Integer initial) (item_of_value e) h = typed_record Integer e h
-  component_record (component.Integer initial) (item_of_record q) h = tt
+  component_record (component.Integer initial) (item_of_record q) h = absurd (cc)
   component_record (component.Boolean initial) null_item h = tt
   component_record (component.Boolean initial) (item_of_path path) h = absurd (cc)
   component_record (component.Boolean initial) (item_of_value e) h = typed_record Boolean e h
-  component_record (component.Boolean initial) (item_of_record q) h = tt
+  component_record (component.Boolean initial) (item_of_record q) h = absurd (cc)
   component_record (component.Access access) null_item h = tt
   component_record (component.Access access) (item_of_path path) h = access_record path (this_there access.0 (path_access types own path) h)
   component_record (component.Access access) (item_of_value e) h = absurd (cc)
-  component_record (component.Access access) (item_of_record q) h = tt
+  component_record (component.Access access) (item_of_record q) h = absurd (cc)
 
   first_record : (components : List ComponentKind) (i : ItemForm) → first_fits types own components i ≡ true → ItemIsOfRecord i
   first_record [] i h = absurd (cc)
@@ -179,7 +185,12 @@ module _ (types : List TypeForm) (tracks : Tracks) (own : List VariableForm) (p 
   item_record components null_item h = tt
   item_record components (item_of_path path) h = first_record components (item_of_path path) h
   item_record components (item_of_value e) h = first_record components (item_of_value e) h
-  item_record components (item_of_record q) h = tt
+  item_record components (item_of_record q) h =
+      let k = path_kind types own q.object in
+      let copied = record_components types q.record_type in
+      let a = has_record_at (object_components types (access_of k)) q.first copied in
+      let b = has_parts_at types q.record_type (object_named types (access_of k)) q.first q.part in
+      path_record q.object (record_there types k q.first copied (and_left a b (and_left (a && b) (begins_with_record components copied) h)))
 
   items_record : (items : List ItemForm) (components : List ComponentKind) → items_fit types own components items ≡ true → ItemsAreOfRecord items
   items_record [] components h = tt

@@ -15,7 +15,7 @@ use Rattle.ada_tracked.specs.Simple.{PathIsSimple}
 use Rattle.ada_tracked.proofs.Lists.{apart_is}
 use Rattle.ada_tracked.proofs.Paths.{within}
 use Rattle.ada_judged.specs.Obeying.{PathIsOrderly, ItemIsOrderly, ItemsAreOrderly, RightIsOrderly, DeclarationIsOrderly, DeclarationsAreOrderly, StatementIsOrderly, StatementsAreOrderly, BranchesAreOrderly, HandlersAreOrderly}
-use Rattle.ada_judged.proofs.ObeyingPaths.{is_end, Sees, plainly, tracked, sees, raises_alike}
+use Rattle.ada_judged.proofs.ObeyingPaths.{is_end, Sees, plainly, tracked, sees, raises_alike, behind_alike}
 use Rattle.ada_judged.proofs.ObeyingExpressions.{expression_raises_alike, condition_raises_alike}
 use Rattle.ada_judged.proofs.ObeyingMoves.{first_true, second_true, both_true, same_seen, IsCleared}
 
@@ -161,7 +161,7 @@ module _ (tracks : Tracks) where
   item_raises_alike null_item g = refl
   item_raises_alike (item_of_path path) g = raises_alike tracks path (seen tracks path) g.1 (sees tracks path)
   item_raises_alike (item_of_value e) g = expression_raises_alike tracks e g
-  item_raises_alike (item_of_record p) g = refl
+  item_raises_alike (item_of_record p) g = behind_alike tracks p.object (seen tracks p.object) (sees tracks p.object)
 
   items_raise_alike : (is : List ItemForm) → ItemsAreOrderly tracks is → items_raise (seen_items tracks is) ≡ items_raise is
   items_raise_alike [] g = refl

@@ -9,14 +9,14 @@ use Rattle.ada_program.specs.ProgramForm.{TypeForm}
 use Rattle.ada_flow.specs.declared.rule.Hold.{Hold}
 use Rattle.ada_flow.specs.declared.rule.Hold.TheVariants.{Null, Kept, Own, Alias, Lost}
 use Rattle.ada_flow.specs.Tracking.{Tracks, seen_from, seen, is_tracked, no_tracks, begins_with, behind_first}
-use Rattle.ada_flow.specs.Flow.{Holds, ends_with, variable_of, moves_it, moves_again, same_selectors, same_path, is_named, is_target, item_move, named_by_item, uses_in_item, uses_in_items, value_use, uses_in_right, taken_by, moved_behind, tracked_by, moved_from, hold_at, broken_in, broken_among, moved_by_items, moved_by_right, right_hold, without_values, evaluation_raises, gives_value}
+use Rattle.ada_flow.specs.Flow.{Holds, ends_with, variable_of, moves_it, moves_again, same_selectors, same_path, is_named, is_target, item_move, named_by_item, uses_in_item, uses_in_items, value_use, uses_in_right, taken_by, moved_behind, tracked_by, moved_from, hold_at, leftmost, leaves_owners, copied_to, shares_it, reaches_it, broken_in, broken_among, moved_by_items, moved_by_right, right_hold, without_values, evaluation_raises, gives_value}
 use Rattle.ada_tracked.specs.Forms.{seen_item, seen_items, seen_right}
 use Rattle.ada_tracked.specs.Simple.{PathIsSimple}
 use Rattle.ada_tracked.proofs.Lists.{is_same, same_number}
 use Rattle.ada_tracked.proofs.Paths.{within}
 use Rattle.ada_judged.specs.Obeying.{ItemIsOrderly, ItemsAreOrderly, RightIsOrderly, GoesAlike}
 use Rattle.ada_judged.proofs.ObeyingPaths.{path_of, is_end, Sees, plainly, tracked, sees, spot_alike, raises_alike, tracked_ends}
-use Rattle.ada_judged.proofs.ObeyingExpressions.{first_none, both_none, first_unbroken, second_unbroken, unbroken, using_alike, same_outcome, compares_alike, expression_unbroken, expression_raises_alike}
+use Rattle.ada_judged.proofs.ObeyingExpressions.{first_none, second_none, both_none, first_unbroken, second_unbroken, unbroken, using_alike, same_outcome, compares_alike, expression_unbroken, expression_raises_alike}
 
 -- Both tests are true.
 pub first_true : (a b : Bool) → (a && b) ≡ true → a ≡ true
@@ -219,7 +219,15 @@ module _ (tracks : Tracks) where
         both_none (broken_in no_tracks holds (item_move judged (seen_paths earlier) (seen tracks path))) None
         (path_unbroken earlier path h g.0 (first_none (broken_in tracks holds (item_move target earlier path)) None e)) refl
     item_unbroken earlier (item_of_value f) h g e = expression_unbroken tracks f holds e
-    item_unbroken earlier (item_of_record p) h g e = absurd g
+    item_unbroken earlier (item_of_record p) h g e =
+        let copy = copied_to (leaves_owners types p.record_type) spot in
+        let share = broken_in tracks holds (shares_it p) in
+        let reach = broken_in tracks holds (reaches_it p.object) in
+        let other = broken_in no_tracks holds (reaches_it (seen tracks p.object)) in
+        let more = leftmost share (leftmost reach None) in
+        both_none copy (leftmost other None) (first_none copy more e)
+        (both_none other None
+        (sym (compares_alike tracks holds p.object) ∙ first_none reach None (second_none share (leftmost reach None) (second_none copy more e))) refl)
 
     named_simple : (earlier : List PathForm) (i : ItemForm) → AllSimple earlier → ItemIsOrderly tracks i → AllSimple (named_by_item i ++ earlier)
     named_simple earlier null_item h g = h

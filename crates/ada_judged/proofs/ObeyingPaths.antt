@@ -5,7 +5,7 @@ use Rattle.std.specs.Prelude.{◌==◌, ◌&&◌, ◌||◌, if◌then◌else◌}
 use Rattle.std.specs.List.{slice_get}
 use Rattle.ada_text.specs.declared.spot.Spot.{Spot}
 use Rattle.ada_program.specs.Form.{PathForm}
-use Rattle.ada_effects.specs.Effects.{follows_value, path_raises}
+use Rattle.ada_effects.specs.Effects.{follows_value, path_raises, is_behind_value}
 use Rattle.ada_flow.specs.Tracking.{Tracks, seen_from, seen, is_one_of, is_tracked}
 use Rattle.ada_tracked.proofs.Lists.{is_same, apart_is}
 
@@ -121,6 +121,24 @@ raises_alike tracks path judged h (plainly e f) = ap path_raises e
 raises_alike tracks path judged h (tracked i c cs root is at e f) =
     ap path_raises e ∙ follows_alike c cs
     ∙ sym (ap (λ (r : Bool). follows_value r path.selectors) (h root) ∙ ap (follows_value true) is)
+
+-- A record lies behind a value where its path begins with a variable that is no record object, or goes on behind what it begins with.
+behind_variable : (cs : List ℕ) → is_behind_value false cs ≡ true
+behind_variable [] = refl
+behind_variable (c ∷ cs) = refl
+
+behind_component : (r : Bool) (c : ℕ) (cs : List ℕ) → is_behind_value r (c ∷ cs) ≡ true
+behind_component true c cs = refl
+behind_component false c cs = refl
+
+-- Whether it does stays so.
+pub behind_alike :
+    (tracks : Tracks) (path judged : PathForm) → Sees tracks path judged
+    → is_behind_value judged.of_record judged.selectors ≡ is_behind_value path.of_record path.selectors
+behind_alike tracks path judged (plainly e f) = ap (λ (p : PathForm). is_behind_value p.of_record p.selectors) e
+behind_alike tracks path judged (tracked i c cs root is at e f) =
+    ap (λ (p : PathForm). is_behind_value p.of_record p.selectors) e ∙ behind_variable cs
+    ∙ sym (ap (is_behind_value path.of_record) is ∙ behind_component path.of_record c cs)
 
 -- Of a tracked component nothing follows, and of one that is not tracked something does.
 pub tracked_ends : (tracks : Tracks) (path judged : PathForm) → Sees tracks path judged → is_tracked tracks path ≡ true → judged.selectors ≡ []

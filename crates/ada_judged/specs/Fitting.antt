@@ -66,12 +66,12 @@ abbrev pub ConditionIsOfRecord : Option ExpressionForm → Type 0
 ConditionIsOfRecord None = Unit {0}
 ConditionIsOfRecord (Some e) = ExpressionIsOfRecord e
 
--- Those of an item do, other than of a record.
+-- Those of an item do, and so does the way to a record that it copies.
 abbrev pub ItemIsOfRecord : ItemForm → Type 0
 ItemIsOfRecord null_item = Unit {0}
 ItemIsOfRecord (item_of_path path) = PathIsOfRecord path
 ItemIsOfRecord (item_of_value e) = ExpressionIsOfRecord e
-ItemIsOfRecord (item_of_record p) = Unit {0}
+ItemIsOfRecord (item_of_record p) = PathIsOfRecord p.object
 
 -- Those of all of these items do.
 abbrev pub ItemsAreOfRecord : List ItemForm → Type 0

@@ -13,9 +13,9 @@ use Rattle.ada_flow.specs.Flow.{Holds, Outcome, goes, then_flow, Around, Keeping
 use Rattle.ada_tracked.specs.Forms.{seen_stmts, seen_branches, seen_handlers, seen_declarations}
 use Rattle.ada_tracked.specs.Simple.{IsVariable, PathIsSimple}
 
--- Of which forms the law speaks: they call nothing, and neither declare, assign, copy nor pass records as wholes, as the forms of which the law on runs does;
--- and besides a path from the formal parameter follows nothing to its first component, since that is a record object, and the next number of the input goes
--- to no tracked component, since those are of access types.
+-- Of which forms the law speaks: they call nothing, neither declare, assign nor pass records as wholes, and copy them only as items of new objects, as the
+-- forms of which the law on runs does; and besides a path from the formal parameter follows nothing to its first component, since that is a record object, and
+-- the next number of the input goes to no tracked component, since those are of access types.
 
 -- A path from a variable of the body, or from a component of its formal parameter, to which nothing is followed.
 abbrev pub PathIsOrderly : Tracks → PathForm → Type 0
@@ -41,12 +41,12 @@ abbrev pub ConditionIsOrderly : Tracks → Option ExpressionForm → Type 0
 ConditionIsOrderly tracks None = Unit {0}
 ConditionIsOrderly tracks (Some e) = ExpressionIsOrderly tracks e
 
--- Those of an item are, and it is no record.
+-- Those of an item are, and so is the way to a record that it copies.
 abbrev pub ItemIsOrderly : Tracks → ItemForm → Type 0
 ItemIsOrderly tracks null_item = Unit {0}
 ItemIsOrderly tracks (item_of_path path) = PathIsOrderly tracks path
 ItemIsOrderly tracks (item_of_value e) = ExpressionIsOrderly tracks e
-ItemIsOrderly tracks (item_of_record p) = ⊥
+ItemIsOrderly tracks (item_of_record p) = PathIsOrderly tracks p.object
 
 -- Those of all of these items are.
 abbrev pub ItemsAreOrderly : Tracks → List ItemForm → Type 0

@@ -62,7 +62,7 @@ other_chosen false one other is h = h
 pub uses_quiet_adjust : (p : ProgramForm) (owns : Bool) (o : Option ProcedureNo) → is_quiet_operation p o ≡ true → (owns && is_some (operation_body p o)) ≡ false →
     uses_adjust p owns o ≡ true
 uses_quiet_adjust p owns o h none =
-    either_second (adjusts_nothing p && is_frugal_operation p false o) (uses_called_adjust p owns o)
+    either_second (adjusts_nothing p && is_frugal_operation p true o) (uses_called_adjust p owns o)
     (other_chosen (owns && is_some (operation_body p o)) (may_track p && is_simple_operation p (adjusts_alone p) o && is_silent_operation p o) (is_quiet_operation p o)
     none h)
 

@@ -1,6 +1,6 @@
 -- The first body in the text that overrides an operation of a controlled type and is not in use, in a program whose operations are not idle: Initialize is neither
--- plain nor frugal, where it may be, Adjust is not quiet, or, of a type with a component of an access type, not simple and silent, or may not track, or frees objects
--- where a record has two controlled parts, or Finalize is neither quiet nor, where it may be, frugal and silent.
+-- plain nor frugal, where it may be, Adjust is not frugal, where none is called, and not quiet, or, of a type with a component of an access type, not simple and
+-- silent, or may not track, or frees objects where a record has two controlled parts, or Finalize is neither quiet nor, where it may be, frugal and silent.
 
 use Rattle.std.specs.Prelude.{◌≡◌, ◌⊎◌, ℕ, Bool, true, false, ◌&&◌, ◌||◌, ◌==◌, nat_lt, if◌then◌else◌, Option, Some, None, is_some}
 use Rattle.std.specs.List.{slice_get}
@@ -32,11 +32,11 @@ Finalizes p procedure = (t : ℕ) × (f : Finalization) × (finalization_of p.ty
 abbrev pub initializes_in_use : ProgramForm → (procedure : ProcedureNo) → BodyForm → Bool
 initializes_in_use p procedure b = is_plain_body p.types b || (may_be_frugal p && is_frugal_operation p false (Some procedure))
 
--- A body adjusts in use: it is frugal, where no Adjust is called; or it is simple and silent, where it may track, if the type declares such a component, and frees
--- objects only where each record has one controlled part at most; and else it is quiet.
+-- A body adjusts in use: it is frugal, where no Adjust is called, and may free objects with controlled parts there; or it is simple and silent, where it may
+-- track, if the type declares such a component, and frees objects only where each record has one controlled part at most; and else it is quiet.
 abbrev pub adjusts_in_use : ProgramForm → (owns : Bool) → (procedure : ProcedureNo) → BodyForm → Bool
 adjusts_in_use p owns procedure b =
-    (adjusts_nothing p && is_frugal_operation p false (Some procedure))
+    (adjusts_nothing p && is_frugal_operation p true (Some procedure))
     || (if owns then may_track p && is_simple_body p.types (adjusts_alone p) b && is_silent_body (own_effects p) b else is_quiet_body p.types b)
 
 -- A body finalizes in use: it is quiet, or frugal and silent, where it may be.
@@ -91,7 +91,7 @@ initializes p frugal initialize = is_plain_operation p initialize || (frugal && 
 -- track or not, and where the copy of a record adjusts one part alone or not, or quiet.
 abbrev pub adjusts : ProgramForm → (nothing tracks alone owns : Bool) → Option ProcedureNo → Bool
 adjusts p nothing tracks alone owns adjust =
-    (nothing && is_frugal_operation p false adjust)
+    (nothing && is_frugal_operation p true adjust)
     || (if owns && is_some (operation_body p adjust)
     then tracks && is_simple_operation p alone adjust && is_silent_operation p adjust
     else is_quiet_operation p adjust)

@@ -101,9 +101,9 @@ uses_called_adjust p owns adjust =
     then may_track p && is_simple_operation p (adjusts_alone p) adjust && is_silent_operation p adjust
     else is_quiet_operation p adjust
 
--- So Adjust is in use; and a frugal one that frees no object with controlled parts is, where none is called.
+-- So Adjust is in use; and where none is called, a frugal one is, which may free objects with controlled parts, too.
 abbrev pub uses_adjust : ProgramForm → (owns : Bool) → Option ProcedureNo → Bool
-uses_adjust p owns adjust = (adjusts_nothing p && is_frugal_operation p false adjust) || uses_called_adjust p owns adjust
+uses_adjust p owns adjust = (adjusts_nothing p && is_frugal_operation p true adjust) || uses_called_adjust p owns adjust
 
 -- The operations of a type, which declares such a component or does not, are in use (7.6, 7.6.1).
 abbrev pub uses_operations : ProgramForm → (owns : Bool) → Option Finalization → Bool

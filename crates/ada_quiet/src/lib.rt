@@ -3,7 +3,7 @@
 //! is frugal that allocates and frees objects without controlled parts, moves and follows, and calls procedures with frugal bodies, but
 //! allocates no object with controlled parts, assigns no record with some as a whole, and declares variables alone, which may be given what
 //! it allocates. A Finalize, and what it calls, may free objects with controlled parts, too (13.11.2): the operations that end these run
-//! inside it. An exception may come out of a frugal Initialize; a Finalize is to be silent too: none comes out. What procedures may raise,
+//! inside it. So may an Adjust that is never called. An exception may come out of a frugal Initialize; a Finalize is to be silent too: none comes out. What procedures may raise,
 //! and which are frugal, where none may free objects with controlled parts and where some may, is found once for all, in the order in which
 //! they call each other.
 //!
@@ -16,8 +16,8 @@
 //! plain or, where it may be, frugal, Finalize is to be quiet or, where it may be, frugal and silent, and Adjust is to be quiet; but of a
 //! type with a component of an access type, declared in it directly, Adjust is to be simple and silent, where it may track that component:
 //! a quiet one would leave it as it is. A simple body allocates objects without controlled parts, and frees some where it may, moves and
-//! follows, calls nothing, copies no record, and declares variables alone, none of which is of an access type whose objects have controlled
-//! parts.
+//! follows, calls nothing, copies no record but into what it allocates, from another object than that of its formal parameter, and declares
+//! variables alone, none of which is of an access type whose objects have controlled parts.
 //!
 //! An Initialize and a Finalize may be frugal in a program in which no access type designates a record type with controlled parts, so that
 //! these lie in declared objects alone. They may be frugal, too, in one whose access types designate such record types, if its collections
@@ -47,10 +47,10 @@
 //! stay, and do so where nothing is freed. Where each record has at most one controlled part, none is left to be adjusted later.
 //!
 //! A program with another body is refused (F23), since no theorem covers it so far: an Initialize, an Adjust or a Finalize that
-//! touches storage in another program, allocates objects with controlled parts, or assigns records with some, an Initialize or an Adjust
-//! that frees objects with controlled parts, an Adjust that touches storage of a type without such a component, operations that call
-//! procedures that are not frugal, an Adjust that calls, or copies records, or frees objects where a record has two controlled parts, and an
-//! Adjust or a Finalize that lets an exception out.
+//! touches storage in another program, allocates objects with controlled parts, or assigns records with some, an Initialize that frees
+//! objects with controlled parts, or an Adjust that may be called and does, one that touches storage of a type without such a component,
+//! operations that call procedures that are not frugal, an Adjust that calls, assigns to records as a whole, copies records out of its own
+//! object, or frees objects where a record has two controlled parts, and an Adjust or a Finalize that lets an exception out.
 #![tactic(auto)]
 
 mod apart;

@@ -72,7 +72,7 @@ pub(crate) fn uses_initialize(
         || frugal && is_frugal_operation(known.sparing, operation)
 }
 
-/// Whether what overrides Adjust is frugal, where no Adjust is called, and frees no object with controlled parts; else whether it is simple
+/// Whether what overrides Adjust is frugal, where no Adjust is called, and may free objects with controlled parts; else whether it is simple
 /// and silent, where it may track, if it is a body, and its type has a component of an access type, declared in it directly; of another
 /// type, whether it is quiet. What tracks may free objects where the copy of a record adjusts one controlled part alone, and there only.
 ///
@@ -91,7 +91,7 @@ pub(crate) fn uses_adjust(
     requires { IsKnown (program_form program.now) known }
     ensures { IfOk result (λ answer. answer ≡ first.adjusts (program_form program.now) nothing tracks alone owns operation) }
 {
-    if nothing && is_frugal_operation(known.sparing, operation) {
+    if nothing && is_frugal_operation(known.ending, operation) {
         return Ok(true);
     }
     if !(owns && is_overridden(program, operation)) {

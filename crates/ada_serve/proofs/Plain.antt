@@ -189,8 +189,8 @@ module _ (program : Program) (well : IsWellFormed (program_form program)) where
   -- So it is with an Adjust that is in use: it is simple, where it may track, or quiet.
   adjust_used : (owns : Bool) (o : Option ProcedureNo) → uses_adjust p owns o ≡ true → operation_creates tds p.bodies o ≡ false
   adjust_used owns o used =
-      operation_either p tds o (adjusts_nothing p && is_frugal_operation p false o) (uses_called_adjust p owns o)
-      (λ nothing. operation_frugal false o (right_of (adjusts_nothing p) (is_frugal_operation p false o) nothing))
+      operation_either p tds o (adjusts_nothing p && is_frugal_operation p true o) (uses_called_adjust p owns o)
+      (λ nothing. operation_frugal true o (right_of (adjusts_nothing p) (is_frugal_operation p true o) nothing))
       (λ called. by (owns && is_some (operation_body p o)) called) used
     where
       by : (tracks : Bool)

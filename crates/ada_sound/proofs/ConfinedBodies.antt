@@ -11,11 +11,12 @@ use Rattle.ada_program.specs.declared.program.ScalarType.TheVariants.{Integer, B
 use Rattle.ada_program.specs.declared.program.TypeNo.{TypeNo}
 use Rattle.ada_program.specs.declared.program.VariableKind.{VariableKind}
 use Rattle.ada_program.specs.declared.program.VariableKind.TheVariants as variable
-use Rattle.ada_program.specs.Form.{PathForm, ExpressionForm, integer, boolean, reads, is_null, applied_to, chained, LinksForm, no_more_links, a_link, ItemForm, null_item, item_of_path, item_of_value, item_of_record, RightForm, nothing, value_of, allocates, allocates_default, computes, DeclarationForm, creates_pool, collects, declares, declares_record, StmtForm, skips, assigns, assigns_record, frees, gets, writes, writes_text, chooses, repeats, counts, exits, calls, returns, raises, encloses, StmtsForm, no_stmts, a_stmt, BranchesForm, otherwise, a_branch, HandlersForm, no_handlers, a_handler}
+use Rattle.ada_program.specs.Form.{PathForm, RecordPathForm, ExpressionForm, integer, boolean, reads, is_null, applied_to, chained, LinksForm, no_more_links, a_link, ItemForm, null_item, item_of_path, item_of_value, item_of_record, RightForm, nothing, value_of, allocates, allocates_default, computes, DeclarationForm, creates_pool, collects, declares, declares_record, StmtForm, skips, assigns, assigns_record, frees, gets, writes, writes_text, chooses, repeats, counts, exits, calls, returns, raises, encloses, StmtsForm, no_stmts, a_stmt, BranchesForm, otherwise, a_branch, HandlersForm, no_handlers, a_handler}
 use Rattle.ada_program.specs.ProgramForm.{TypeForm, VariableForm, BodyForm, ProgramForm, seen_by}
-use Rattle.ada_program.specs.WellFormed.{IsWellFormed, variable_kind, root_kind, selectors_kind, path_kind, scalar_of, value_access, kind_among, is_this, binary_type, type_of, chain_type, has_type, condition_fits, first_fits, item_fits, item_width, items_fit, is_filled, access_fits, scalar_fits, right_fits, reached_components, initial_fits, declarations_fit, Profile, callable_in, statement_fits, stmts_fit, branches_fit, handlers_fit}
+use Rattle.ada_program.specs.WellFormed.{IsWellFormed, is_record_path, variable_kind, root_kind, selectors_kind, path_kind, scalar_of, value_access, kind_among, is_this, binary_type, type_of, chain_type, has_type, condition_fits, first_fits, item_fits, item_width, items_fit, is_filled, access_fits, scalar_fits, right_fits, reached_components, initial_fits, declarations_fit, Profile, callable_in, statement_fits, stmts_fit, branches_fit, handlers_fit}
 use Rattle.ada_flow.specs.Tracking.{Tracks}
 use Rattle.ada_judged.specs.Fitting.{TracksComponents}
+use Rattle.ada_tracked.specs.Simple.{IsFrom}
 use Rattle.ada_beside.specs.Confined.{IsConfinedFrom, PathIsConfined, ExpressionIsConfined, LinksAreConfined, ConditionIsConfined, ItemIsConfined, ItemsAreConfined, RightIsConfined, DeclarationIsConfined, DeclarationsAreConfined, StatementIsConfined, StatementsAreConfined, BranchesAreConfined, HandlersAreConfined}
 use Rattle.ada_quiet.specs.Bare.{has_bare_objects}
 use Rattle.ada_quiet.specs.InUse.{count_found}
@@ -24,7 +25,7 @@ use Rattle.ada_typed.proofs.Bodies.{SeenFits, seen_fits, seen_as}
 use Rattle.ada_typed.proofs.Operators.{typed, unary_operand, binary_operand, chain_left}
 use Rattle.ada_sound.proofs.OnlyRows.{kind_below}
 use Rattle.ada_sound.proofs.OperationStarts.{apart}
-use Rattle.ada_sound.proofs.OrderlyBodies.{access_value, is_value, path_from, right_value, scalar_value, tested_there, this_there, value_there, variable_orderly}
+use Rattle.ada_sound.proofs.OrderlyBodies.{access_value, elsewhere_from, is_value, path_from, record_leads, right_value, scalar_value, tested_there, this_there, value_there, variable_orderly}
 use Rattle.ada_sound.proofs.Roots.{none_behind}
 
 -- A component that is there is one of so many.
@@ -53,16 +54,17 @@ module _ (types : List TypeForm) (tracks : Tracks) (own : List VariableForm) (tr
       go true is' = by (kind_among (reached_components types tracking.object.0) c) refl is'
       go false is' = let none : is_some (selectors_kind types None cs) ≡ false = ap is_some (none_behind types cs) in absurd (cc (none, is'))
 
-  -- Paths to values (4.1).
-  confined_from : (of_record : Bool) (root : ℕ) (cs : List ℕ) → is_value (selectors_kind types (root_kind of_record (variable_kind own root)) cs) ≡ true → IsConfinedFrom tracks.first reaches root cs
-  confined_from of_record root [] is = path_from types tracks own tracking of_record root [] is
-  confined_from of_record zero (c ∷ cs) is =
-      (path_from types tracks own tracking of_record 0 (c ∷ cs) is, begins_within of_record c cs (value_there (selectors_kind types (root_kind of_record (variable_kind own 0)) (c ∷ cs)) is))
-  confined_from of_record (suc x) (c ∷ cs) is = path_from types tracks own tracking of_record (suc x) (c ∷ cs) is
+  -- Paths that lead somewhere (4.1).
+  confined_from : (of_record : Bool) (root : ℕ) (cs : List ℕ) → IsFrom tracks.first root cs → is_some (selectors_kind types (root_kind of_record (variable_kind own root)) cs) ≡ true → IsConfinedFrom tracks.first reaches root cs
+  confined_from of_record root [] from leads = from
+  confined_from of_record zero (c ∷ cs) from leads = (from, begins_within of_record c cs leads)
+  confined_from of_record (suc x) (c ∷ cs) from leads = from
 
   -- A path that leads to a value is confined.
   path_confined : (path : PathForm) → is_value (path_kind types own path) ≡ true → PathIsConfined tracks.first reaches path
-  path_confined path is = confined_from path.of_record path.root path.selectors is
+  path_confined path is =
+      confined_from path.of_record path.root path.selectors (path_from types tracks own tracking path.of_record path.root path.selectors is)
+      (value_there (path_kind types own path) is)
 
   -- So is one that leads to a value of an access type.
   access_confined : (access : ℕ) (path : PathForm) → is_this access (value_access (path_kind types own path)) ≡ true → PathIsConfined tracks.first reaches path
@@ -94,7 +96,12 @@ module _ (types : List TypeForm) (tracks : Tracks) (own : List VariableForm) (tr
   condition_confined None fit = tt
   condition_confined (Some e) fit = typed_confined Boolean e fit
 
-  -- Items that copy no record (4.3.1).
+  -- Items, which copy records out of other objects alone (4.3.1).
+  record_confined : (p : RecordPathForm) → is_record_path types own p ≡ true → is_plain_item (item_of_record p) ≡ true → PathIsConfined tracks.first reaches p.object
+  record_confined p fit plain =
+      let leads = record_leads types own p fit in
+      confined_from p.object.of_record p.object.root p.object.selectors (elsewhere_from types tracks own tracking p.object.of_record p.object.root p.object.selectors plain leads) leads
+
   path_item : (components : List ComponentKind) (path : PathForm) → first_fits types own components (item_of_path path) ≡ true → PathIsConfined tracks.first reaches path
   path_item [] path fit = absurd (cc fit)
   path_item (component.Integer initial ∷ components) path fit = absurd (cc fit)
@@ -111,7 +118,7 @@ module _ (types : List TypeForm) (tracks : Tracks) (own : List VariableForm) (tr
   item_confined components null_item fit plain = tt
   item_confined components (item_of_path path) fit plain = path_item components path fit
   item_confined components (item_of_value e) fit plain = value_item components e fit
-  item_confined components (item_of_record p) fit plain = absurd (cc plain)
+  item_confined components (item_of_record p) fit plain = record_confined p (apart (is_record_path types own p) _ fit).0 plain
 
   items_confined : (components : List ComponentKind) (items : List ItemForm) → items_fit types own components items ≡ true → list_all is_plain_item items ≡ true → ItemsAreConfined tracks.first reaches items
   items_confined components [] fit plain = tt

@@ -8,9 +8,9 @@ use Rattle.ada_values.specs.declared.fault.OperatorFault.{OperatorFault}
 use Rattle.ada_values.specs.declared.fault.OperatorFault.TheVariants.{Overflow, DivisionByZero, WrongType}
 use Rattle.ada_program.specs.declared.program.Exception.{Exception}
 use Rattle.ada_program.specs.declared.program.TypeDefinition.{TypeDefinition}
-use Rattle.ada_program.specs.Form.{ExpressionForm, integer, boolean, reads, is_null, applied_to, chained, LinksForm, no_more_links, a_link, ItemForm, null_item, item_of_path, item_of_value, item_of_record, RightForm, nothing, value_of, allocates, allocates_default, computes, StmtForm, skips, assigns, assigns_record, frees, gets, writes, writes_text, chooses, repeats, counts, exits, calls, returns, raises, encloses, StmtsForm, no_stmts, a_stmt, BranchesForm, otherwise, a_branch, HandlersForm, DeclarationForm, creates_pool, collects, declares, declares_record}
+use Rattle.ada_program.specs.Form.{RecordPathForm, ExpressionForm, integer, boolean, reads, is_null, applied_to, chained, LinksForm, no_more_links, a_link, ItemForm, null_item, item_of_path, item_of_value, item_of_record, RightForm, nothing, value_of, allocates, allocates_default, computes, StmtForm, skips, assigns, assigns_record, frees, gets, writes, writes_text, chooses, repeats, counts, exits, calls, returns, raises, encloses, StmtsForm, no_stmts, a_stmt, BranchesForm, otherwise, a_branch, HandlersForm, DeclarationForm, creates_pool, collects, declares, declares_record}
 use Rattle.ada_program.specs.ProgramForm.{BodyForm}
-use Rattle.ada_program.specs.Typed.{words_of}
+use Rattle.ada_program.specs.Typed.{words_of, width_of}
 use Rattle.ada_parts.specs.Part.{Part}
 use Rattle.ada_meaning.specs.declared.event.Birth.{Birth}
 use Rattle.ada_meaning.specs.declared.event.Birth.TheVariants.{Creation, Copy, Adjustment}
@@ -20,13 +20,14 @@ use Rattle.ada_meaning.specs.declared.event.Halt.TheVariants.{Erroneous}
 use Rattle.ada_meaning.specs.declared.event.Why.TheVariants.{GivesElsewhere}
 use Rattle.ada_meaning.specs.declared.state.Mode.{Mode}
 use Rattle.ada_meaning.specs.declared.state.Mode.TheVariants.{Running, Raising, Exiting, Returning}
+use Rattle.ada_meaning.specs.declared.state.Place.{Place}
 use Rattle.ada_meaning.specs.declared.state.Value.{Value}
 use Rattle.ada_meaning.specs.Event.{Event, Back, Followed, Quiet}
 use Rattle.ada_meaning.specs.Frame.{Frame, is_master, Landing, passes_on, goes_behind, goes_in, breaks_off, escapes, landing}
 use Rattle.ada_meaning.specs.Frame as frame
 use Rattle.ada_meaning.specs.State.{Activation, Destination, Item, Master, Owned, declared, collection, record_object, storage_pool, home_of, pool_freed_to}
 use Rattle.ada_meaning.specs.Heap.{Cell, Found, on_null, on_gone, on_other, finds}
-use Rattle.ada_meaning.specs.Step.{halts, moves, tells, asks, picks, same_pool, freeing, at, older, places_of, with_places, with_operands, places, operands, set_operands, put, newest, popped, held, reading, component_next, follow_next, path_next, selected, before_last, last_of, named_next, holder_next, expression_next, null_test_next, is_decided, link_next, links_next, outcome_next, items_next, answered, new_next, right_next, freeing_next, free_next, end_next, told_back, given_back, back_next, assign_next, target_next, stored_next, store_next, frees_next, freed_next, free_component_next, free_in_next, branches_next, decided_next, turn_next, repeats_next, turned_next, count_turn_next, ranges_next, gets_next, received_next, receive_next, exit_next, exited_next, stmt_next, stmts_next, line_next, declarations_next, taken_out, members_next, item_leave_next, master_leave_next, leave_next, frame_next, undo_next, broken_next, broken_off, landed, pass_next, unwound}
+use Rattle.ada_meaning.specs.Step.{halts, moves, tells, asks, picks, same_pool, freeing, at, older, places_of, with_places, with_operands, places, operands, set_operands, put, newest, popped, held, reading, component_next, follow_next, path_next, selected, before_last, last_of, named_next, holder_next, expression_next, null_test_next, is_decided, link_next, links_next, outcome_next, items_next, record_holder_next, place_in, record_in, copied_next, copies_next, answered, new_next, right_next, freeing_next, free_next, end_next, told_back, given_back, back_next, assign_next, target_next, stored_next, store_next, frees_next, freed_next, free_component_next, free_in_next, branches_next, decided_next, turn_next, repeats_next, turned_next, count_turn_next, ranges_next, gets_next, received_next, receive_next, exit_next, exited_next, stmt_next, stmts_next, line_next, declarations_next, taken_out, members_next, item_leave_next, master_leave_next, leave_next, frame_next, undo_next, broken_next, broken_off, landed, pass_next, unwound}
 use Rattle.ada_meaning.specs.Named.{State, Next, named, whole, inside, look, lent, standing, returned, on_object, reads_integer, reads_boolean, reads_null, unary_given, binary_given, next}
 use Rattle.ada_tracked.specs.Simple.{IsVariable, IsFrom, StatementIsSimple, StatementsAreSimple, FrameIsSimple}
 use Rattle.ada_tracked.specs.Staying.{IsWithinBody}
@@ -152,13 +153,28 @@ module _ (types : List TypeDefinition) (bodies : List BodyForm) (first : ℕ) (w
   outcome_keeps (Err DivisionByZero) s h = operands_keep _ s h
   outcome_keeps (Err WrongType) s h = tt
 
-  -- What is assigned; a record that is copied as an item is none of this body's.
+  -- What is assigned; a record that is an item is copied into operands.
+  record_keeps : (q : RecordPathForm) (frame_of : Place → Frame Value) (s : State) → Has w s → Keeps w (record_holder_next named q frame_of s)
+  record_keeps q frame_of s h =
+      path_keeps (selected named (held named s q.object.root) q.object.selectors) (whole (held named s q.object.root))
+      (at (frame_of (place_in named (held named s q.object.root) q.object.selectors q) ∷ s.control) s) h
+
+  copied_keeps : (o : Value) (found : Option (List Value)) (s : State) → Has w s → Keeps w (copied_next named o found s)
+  copied_keeps o None s h = tt
+  copied_keeps o (Some vs) s h = operands_keep _ s h
+
+  copies_keep : (o : Value) (c count : ℕ) (found : Found (Cell Value)) (s : State) → Has w s → Keeps w (copies_next named o c count found s)
+  copies_keep o c count on_null s h = operands_keep _ s h
+  copies_keep o c count on_gone s h = tt
+  copies_keep o c count on_other s h = tt
+  copies_keep o c count (finds cell) s h = copied_keeps o (record_in cell.values c count) s h
+
   items_keep : (items : List ItemForm) (s : State) → FrameIsSimple first (frame.Fills items) → Has w s → Keeps w (items_next named items s)
   items_keep [] s simple h = h
   items_keep (null_item ∷ is) s simple h = operands_keep _ s h
   items_keep (item_of_path path ∷ is) s simple h = named_keeps path.selectors path.root (at (frame.Fills is ∷ s.control) s) h
   items_keep (item_of_value e ∷ is) s simple h = h
-  items_keep (item_of_record q ∷ is) s simple h = absurd simple.0
+  items_keep (item_of_record q ∷ is) s simple h = record_keeps q (λ place. frame.Copies place.component q.record_type) (at (frame.Fills is ∷ s.control) s) h
 
   answered_keeps :
       (access count words : ℕ) (home : Destination) (s : State) → Has w s → (given : Bool) → Has w (answered named types access count words home s given)
@@ -416,7 +432,8 @@ module _ (types : List TypeDefinition) (bodies : List BodyForm) (first : ℕ) (w
       outcome_keeps (binary_given operator (newest named (popped s)) (newest named s)) (popped (popped s)) (less (popped s) (less s h))
   frame_keeps (frame.AppliesAlone operator) s simple h = outcome_keeps (unary_given operator (newest named s)) (popped s) (less s h)
   frame_keeps (frame.Fills items) s simple h = items_keep items s simple h
-  frame_keeps (frame.Copies c record_type) s simple h = absurd simple
+  frame_keeps (frame.Copies c record_type) s simple h =
+      copies_keep (newest named s) c (width_of types record_type) (look s.heap (newest named s)) (popped s) (less s h)
   frame_keeps (frame.Creates access count) s simple h = new_keeps access count (words_of types access) (home_of access s.masters) s h
   frame_keeps (frame.Stores x) s simple h = put_keeps x (newest named s) (popped s) simple (less s h)
   frame_keeps (frame.Targets c right) s simple h = target_keeps (newest named s) c right (look s.heap (newest named s)) (popped s) (less s h)

@@ -50,7 +50,7 @@ module _ (tracks : Tracks) where
   item_both null_item h = (tt, tt)
   item_both (item_of_path path) h = h
   item_both (item_of_value e) h = expression_both e h
-  item_both (item_of_record p) h = absurd h
+  item_both (item_of_record p) h = h
 
   items_both : (items : List ItemForm) → ItemsAreOrderly tracks items → ItemsAreSimple tracks.first items × ItemsAreOfRecord items
   items_both [] h = (tt, tt)

@@ -10,18 +10,19 @@ use Rattle.ada_program.specs.declared.program.ScalarType.TheVariants.{Integer, B
 use Rattle.ada_program.specs.declared.program.TypeNo.{TypeNo}
 use Rattle.ada_program.specs.declared.program.VariableKind.{VariableKind}
 use Rattle.ada_program.specs.declared.program.VariableKind.TheVariants as variable
-use Rattle.ada_program.specs.Form.{PathForm, ExpressionForm, integer, boolean, reads, is_null, applied_to, chained, LinksForm, no_more_links, a_link, ItemForm, null_item, item_of_path, item_of_value, item_of_record, RightForm, nothing, value_of, allocates, allocates_default, computes, DeclarationForm, creates_pool, collects, declares, declares_record, StmtForm, skips, assigns, assigns_record, frees, gets, writes, writes_text, chooses, repeats, counts, exits, calls, returns, raises, encloses, StmtsForm, no_stmts, a_stmt, BranchesForm, otherwise, a_branch, HandlersForm, no_handlers, a_handler}
+use Rattle.ada_program.specs.Form.{PathForm, RecordPathForm, ExpressionForm, integer, boolean, reads, is_null, applied_to, chained, LinksForm, no_more_links, a_link, ItemForm, null_item, item_of_path, item_of_value, item_of_record, RightForm, nothing, value_of, allocates, allocates_default, computes, DeclarationForm, creates_pool, collects, declares, declares_record, StmtForm, skips, assigns, assigns_record, frees, gets, writes, writes_text, chooses, repeats, counts, exits, calls, returns, raises, encloses, StmtsForm, no_stmts, a_stmt, BranchesForm, otherwise, a_branch, HandlersForm, no_handlers, a_handler}
 use Rattle.ada_program.specs.ProgramForm.{TypeForm, VariableForm, BodyForm, ProgramForm, seen_by}
-use Rattle.ada_program.specs.WellFormed.{IsWellFormed, variable_kind, root_kind, selectors_kind, path_kind, scalar_of, value_access, is_this, binary_type, type_of, chain_type, has_type, condition_fits, first_fits, item_fits, item_width, items_fit, is_filled, access_fits, scalar_fits, right_fits, reached_components, initial_fits, declarations_fit, Profile, callable_in, statement_fits, stmts_fit, branches_fit, handlers_fit, is_freed_by, path_access}
+use Rattle.ada_program.specs.WellFormed.{IsWellFormed, is_record_path, variable_kind, root_kind, selectors_kind, path_kind, scalar_of, value_access, is_this, binary_type, type_of, chain_type, has_type, condition_fits, first_fits, item_fits, item_width, items_fit, is_filled, access_fits, scalar_fits, right_fits, reached_components, initial_fits, declarations_fit, Profile, callable_in, statement_fits, stmts_fit, branches_fit, handlers_fit, is_freed_by, path_access}
 use Rattle.ada_flow.specs.Tracking.{Tracks}
 use Rattle.ada_tracked.specs.Simple.{IsVariable, IsFrom}
 use Rattle.ada_judged.specs.Fitting.{TracksComponents}
 use Rattle.ada_judged.specs.Obeying.{PathIsOrderly, ExpressionIsOrderly, LinksAreOrderly, ConditionIsOrderly, ItemIsOrderly, ItemsAreOrderly, RightIsOrderly, DeclarationIsOrderly, DeclarationsAreOrderly, StatementIsOrderly, StatementsAreOrderly, BranchesAreOrderly, HandlersAreOrderly, BodyIsOrderly}
 use Rattle.ada_judged.proofs.FittingRecords.{statements_record}
 use Rattle.ada_quiet.specs.Bare.{has_bare_objects}
-use Rattle.ada_quiet.specs.Simple.{is_plain_item, is_simple_right, is_simple_declaration, are_simple_declarations, is_simple_stmt, are_simple, are_simple_branches, are_simple_handlers, is_simple_body}
+use Rattle.ada_quiet.specs.Simple.{leads_elsewhere, is_plain_item, is_simple_right, is_simple_declaration, are_simple_declarations, is_simple_stmt, are_simple, are_simple_branches, are_simple_handlers, is_simple_body}
 use Rattle.ada_typed.proofs.Bodies.{SeenFits, seen_fits, seen_as}
 use Rattle.ada_typed.proofs.Operators.{typed, unary_operand, binary_operand, chain_left}
+use Rattle.ada_sound.proofs.Copied.{record_there}
 use Rattle.ada_sound.proofs.OperationStarts.{apart}
 use Rattle.ada_sound.proofs.Roots.{none_behind}
 use Rattle.ada_sound.proofs.SimpleBodies.{simple_parts}
@@ -98,6 +99,10 @@ root_whole : (types : List TypeForm) (of_record : Bool) (object : TypeNo) (cs : 
 root_whole types true object cs is = refl
 root_whole types false object cs is = let none : is_some (selectors_kind types None cs) ≡ false = ap is_some (none_behind types cs) in absurd (cc (none, is))
 
+-- A path to a record leads somewhere.
+pub record_leads : (types : List TypeForm) (variables : List VariableForm) (p : RecordPathForm) → is_record_path types variables p ≡ true → is_some (path_kind types variables p.object) ≡ true
+record_leads types variables p is = ap is_some (record_there types variables p is).leads
+
 -- The forms of a body that tracks components of its formal parameter.
 module _ (types : List TypeForm) (tracks : Tracks) (own : List VariableForm) (tracking : TracksComponents types tracks own) where
   -- A variable that holds a value is one of the body, and not its formal parameter.
@@ -117,14 +122,14 @@ module _ (types : List TypeForm) (tracks : Tracks) (own : List VariableForm) (tr
   path_from of_record root (c ∷ cs) is =
       root_within root (root_there types of_record (variable_kind own root) (c ∷ cs) (value_there (selectors_kind types (root_kind of_record (variable_kind own root)) (c ∷ cs)) is))
 
-  path_whole : (of_record : Bool) (root : ℕ) (cs : List ℕ) → is_value (selectors_kind types (root_kind of_record (variable_kind own root)) cs) ≡ true → root ≡ 0 → of_record ≡ true
-  path_whole of_record root cs is at_root =
-      let leads = value_there (selectors_kind types (root_kind of_record (variable_kind own root)) cs) is in
+  path_whole : (of_record : Bool) (root : ℕ) (cs : List ℕ) → is_some (selectors_kind types (root_kind of_record (variable_kind own root)) cs) ≡ true → root ≡ 0 → of_record ≡ true
+  path_whole of_record root cs leads at_root =
       let formal : variable_kind own root ≡ Some (variable.Record tracking.object) = ap (variable_kind own) at_root ∙ tracking.formal in
       root_whole types of_record tracking.object cs (rw formal at leads)
 
   path_orderly : (path : PathForm) → is_value (path_kind types own path) ≡ true → PathIsOrderly tracks path
-  path_orderly path is = (path_from path.of_record path.root path.selectors is, path_whole path.of_record path.root path.selectors is)
+  path_orderly path is =
+      (path_from path.of_record path.root path.selectors is, path_whole path.of_record path.root path.selectors (value_there (path_kind types own path) is))
 
   access_orderly : (access : ℕ) (path : PathForm) → is_this access (value_access (path_kind types own path)) ≡ true → PathIsOrderly tracks path
   access_orderly access path is = path_orderly path (access_value (path_kind types own path) (this_there access (value_access (path_kind types own path)) is))
@@ -158,7 +163,18 @@ module _ (types : List TypeForm) (tracks : Tracks) (own : List VariableForm) (tr
   condition_orderly None fit = tt
   condition_orderly (Some e) fit = typed_orderly Boolean e fit
 
-  -- Items that copy no record (4.3.1).
+  -- A path that leads into another object than that of the formal parameter does not name that parameter alone.
+  pub elsewhere_from : (of_record : Bool) (root : ℕ) (cs : List ℕ) → leads_elsewhere root cs ≡ true → is_some (selectors_kind types (root_kind of_record (variable_kind own root)) cs) ≡ true → IsFrom tracks.first root cs
+  elsewhere_from of_record zero [] elsewhere leads = absurd (cc elsewhere)
+  elsewhere_from of_record (suc x) [] elsewhere leads = (omega arith, root_within (suc x) (root_there types of_record (variable_kind own (suc x)) [] leads))
+  elsewhere_from of_record root (c ∷ cs) elsewhere leads = root_within root (root_there types of_record (variable_kind own root) (c ∷ cs) leads)
+
+  -- Items, which copy records out of other objects alone (4.3.1).
+  record_orderly : (p : RecordPathForm) → is_record_path types own p ≡ true → is_plain_item (item_of_record p) ≡ true → PathIsOrderly tracks p.object
+  record_orderly p fit plain =
+      let leads = record_leads types own p fit in
+      (elsewhere_from p.object.of_record p.object.root p.object.selectors plain leads, path_whole p.object.of_record p.object.root p.object.selectors leads)
+
   path_item : (components : List ComponentKind) (path : PathForm) → first_fits types own components (item_of_path path) ≡ true → PathIsOrderly tracks path
   path_item [] path fit = absurd (cc fit)
   path_item (component.Integer initial ∷ components) path fit = absurd (cc fit)
@@ -175,7 +191,7 @@ module _ (types : List TypeForm) (tracks : Tracks) (own : List VariableForm) (tr
   item_orderly components null_item fit plain = tt
   item_orderly components (item_of_path path) fit plain = path_item components path fit
   item_orderly components (item_of_value e) fit plain = value_item components e fit
-  item_orderly components (item_of_record p) fit plain = absurd (cc plain)
+  item_orderly components (item_of_record p) fit plain = record_orderly p (apart (is_record_path types own p) _ fit).0 plain
 
   items_orderly : (components : List ComponentKind) (items : List ItemForm) → items_fit types own components items ≡ true → list_all is_plain_item items ≡ true → ItemsAreOrderly tracks items
   items_orderly components [] fit plain = tt

@@ -324,14 +324,14 @@ module _ (p : ProgramForm) where
 
   adjust_nests : (t : ℕ) (owns : Bool) (o : Option ProcedureNo) → overrides_rightly p.types (callable_in p) t o ≡ true → uses_adjust p owns o ≡ true → NestsAnywhere (callees_of p) o
   adjust_nests t owns None right uses = tt
-  adjust_nests t owns (Some procedure) right uses = either (or_cases (adjusts_nothing p && is_frugal_operation p false (Some procedure)) (uses_called_adjust p owns (Some procedure)) uses)
+  adjust_nests t owns (Some procedure) right uses = either (or_cases (adjusts_nothing p && is_frugal_operation p true (Some procedure)) (uses_called_adjust p owns (Some procedure)) uses)
     where
       by : IsQuiet procedure.0 ⊎ (IsSimple procedure.0 × IsSilent procedure.0 × (owns ≡ true)) → NestsAnywhere (callees_of p) (Some procedure)
       by (inl quiet) = plain_nests t (Some procedure) right (plain_operation p (Some procedure) quiet)
       by (inr both) = let b = there_one t (Some procedure) procedure.0 right refl in nests_there procedure.0 b.0 b.1 (λ callees around. simple_nests p.types callees b.0 around (simple_with p.types (adjusts_alone p) b.0 (rw (b.1) at both.0.1)))
 
-      either : ((adjusts_nothing p && is_frugal_operation p false (Some procedure)) ≡ true) ⊎ (uses_called_adjust p owns (Some procedure) ≡ true) → NestsAnywhere (callees_of p) (Some procedure)
-      either (inl nothing) = frugal_nests p false procedure.0 (apart (adjusts_nothing p) (is_frugal_operation p false (Some procedure)) nothing).1
+      either : ((adjusts_nothing p && is_frugal_operation p true (Some procedure)) ≡ true) ⊎ (uses_called_adjust p owns (Some procedure) ≡ true) → NestsAnywhere (callees_of p) (Some procedure)
+      either (inl nothing) = frugal_nests p true procedure.0 (apart (adjusts_nothing p) (is_frugal_operation p true (Some procedure)) nothing).1
       either (inr called) = by (adjust_one owns (Some procedure) procedure.0 called refl)
 
   nests_three : (t : ℕ) (owns : Bool) (f : Option Finalization) → has_operations p.types (callable_in p) t f ≡ true → uses_operations p owns f ≡ true → AllNestAnywhere (callees_of p) (operations_in f)

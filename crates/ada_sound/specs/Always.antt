@@ -85,11 +85,10 @@ pub record IsChecked (program : Program) : Type 0 where
   -- each number is that of something there, and each form has the types that it wants
   pub well_formed : IsWellFormed (program_form program)
   -- what overrides an operation of a controlled type touches Integers and Booleans alone, and calls nothing, and no exception comes out of Adjust or Finalize
-  -- (7.6); where all that has controlled parts lies in declared objects, or others that are not calm are freed by variables, and by components only if the operations
-  -- that end them call none themselves, and collections are created in order, Initialize and Finalize may also allocate, move, follow and free, and call what does
-  -- so alone, and Adjust of a type that declares components of access types may allocate, move, follow and free, so that these own what they name, or are null, where
-  -- no component names an object with a part that has such an Adjust; none of these bodies allocates an object with controlled parts, and that of a Finalize alone
-  -- frees some
+  -- (7.6); where all that has controlled parts lies in declared objects, or collections are created in order, Initialize and Finalize may also allocate, move,
+  -- follow and free, and call what does so alone, and Adjust of a type that declares components of access types may allocate, move, follow and free, so that
+  -- these own what they name, or are null, where no component names an object with a part that has such an Adjust; none of these bodies allocates an object
+  -- with controlled parts, and that of a Finalize alone frees some
   pub in_use : operations_are_in_use (program_form program) ≡ true
   -- no object lies in a collection that lasts longer than one in which its components' objects lie (3.10.2, 7.6.1)
   pub nests : CollectionsNest (program_form program)

@@ -34,7 +34,7 @@ use Rattle.ada_tracked.specs.Law.{Shown}
 use Rattle.ada_tracked.proofs.Lists.{other_drop, other_in_front}
 use Rattle.ada_tracked.proofs.Heaps.{create_blanked, values_created, created_same, created_other}
 use Rattle.ada_tracked.proofs.Found.{running, Stays, plain}
-use Rattle.ada_tracked.proofs.Named.{named_shown}
+use Rattle.ada_tracked.proofs.Named.{named_shown, record_shown}
 
 -- A state by what changes in a step.
 abbrev pub made_of : Activation Value → List (Activation Value) → State → (places operands : List Value) → List Object → List (Frame Value) → State
@@ -104,7 +104,7 @@ module _ (types : List TypeDefinition) (bodies : List BodyForm) (w : View) where
   item_shown t null_item a rest s simple p others stays = plain types bodies w t Quiet (computed Null (running a rest s)) (refl, others)
   item_shown t (item_of_path path) a rest s simple p others stays = named_shown types bodies w t path a rest s simple p others stays
   item_shown t (item_of_value e) a rest s simple p others stays = plain types bodies w t Quiet (at (frame.Computes e ∷ s.control) (running a rest s)) others
-  item_shown t (item_of_record q) a rest s simple p others stays = absurd simple
+  item_shown t (item_of_record q) a rest s simple p others stays = record_shown types bodies w t q a rest s simple p others stays
 
   pub items_shown : (t : State) (items : List ItemForm) (a : Activation Value) (rest : List (Activation Value)) (s : State) → ItemsAreSimple w.tracks.first items → IsWatched w a.places s.heap → AreOther w.object a.operands → Stays types bodies w (running a rest s) t (items_next named (seen_items w.tracks items) (seen_state w (running a rest s))) → Shown types bodies w t (items_next named items (running a rest s)) (items_next named (seen_items w.tracks items) (seen_state w (running a rest s)))
   items_shown t [] a rest s simple p others stays = plain types bodies w t Quiet (running a rest s) others

@@ -15,14 +15,14 @@ use Rattle.ada_meaning.specs.Event.{Event, Followed, Quiet}
 use Rattle.ada_meaning.specs.Frame.{Frame}
 use Rattle.ada_meaning.specs.State.{Activation}
 use Rattle.ada_meaning.specs.Heap.{Cell, Found, on_null, on_gone, on_other, finds}
-use Rattle.ada_meaning.specs.Step.{moves, at, raised, computed, operands, reading, component_next, follow_next, path_next, selected, before_last, last_of}
+use Rattle.ada_meaning.specs.Step.{moves, at, raised, computed, set_operands, in_front, record_in, operands, reading, component_next, follow_next, path_next, selected, before_last, last_of, copied_next, copies_next}
 use Rattle.ada_meaning.specs.Named.{Object, State, Next, named, object_at, existing, look, whole, inside, next}
 use Rattle.ada_meaning.specs.Named as named_heap
 use Rattle.ada_tracked.specs.Frames.{View, watched, number_of, blanked, tracked_values, standing}
 use Rattle.ada_tracked.specs.Seen.{IsOther, AreOther, refers, AreNoReferences, seen_state, plainly, following, IsWatched}
 use Rattle.ada_tracked.specs.Law.{Matches, same, followed, IsSilent, Goes, both, alone, Shown}
 use Rattle.ada_tracked.specs.Law as law
-use Rattle.ada_tracked.proofs.Lists.{other_got, untracked_read, tracked_below, tracked_read, tracked_no_reference, read_within}
+use Rattle.ada_tracked.proofs.Lists.{other_in_front, other_record, other_got, untracked_read, tracked_below, tracked_read, tracked_no_reference, read_within}
 use Rattle.ada_tracked.proofs.Heaps.{other_names, values_there, look_apart, look_there, look_blanked}
 
 -- A state in which a body runs.
@@ -101,6 +101,25 @@ module _ (types : List TypeDefinition) (bodies : List BodyForm) (w : View) where
       subst (λ (found : Found (Cell Value)). Shown types bodies w t (follow_next named v c cs (look s.heap v) (running a rest s)) (follow_next named v c cs found (seen_state w (running a rest s))))
       (sym (look_apart w s.heap p.object p.at_object v (other_names w.object v other)))
       (follow_shown t v c cs (look s.heap v) a rest s (λ cell. found_other w.object s.heap v cell p.components) others)
+
+  -- A record is copied that lies in another object.
+  copied_shown : (t : State) (v : Value) (found : Option (List Value)) (a : Activation Value) (rest : List (Activation Value)) (s : State) → ((vs : List Value) → found ≡ Some vs → AreOther w.object vs) → AreOther w.object a.operands → Shown types bodies w t (copied_next named v found (running a rest s)) (copied_next named v found (seen_state w (running a rest s)))
+  copied_shown t v None a rest s each others = refl
+  copied_shown t v (Some vs) a rest s each others =
+      plain t (Followed v) (set_operands (in_front vs a.operands) (running a rest s)) (other_in_front w.object vs a.operands (each vs refl) others)
+
+  copies_found : (t : State) (v : Value) (c count : ℕ) (found : Found (Cell Value)) (a : Activation Value) (rest : List (Activation Value)) (s : State) → ((cell : Cell Value) → found ≡ finds cell → AreOther w.object cell.values) → AreOther w.object a.operands → Shown types bodies w t (copies_next named v c count found (running a rest s)) (copies_next named v c count found (seen_state w (running a rest s)))
+  copies_found t v c count on_null a rest s each others = plain t Quiet (raised ConstraintError (running a rest s)) tt
+  copies_found t v c count on_gone a rest s each others = refl
+  copies_found t v c count on_other a rest s each others = refl
+  copies_found t v c count (finds cell) a rest s each others =
+      copied_shown t v (record_in cell.values c count) a rest s (λ vs. other_record w.object cell.values c count vs (each cell refl)) others
+
+  pub copies_shown : (t : State) (v : Value) (c count : ℕ) (a : Activation Value) (rest : List (Activation Value)) (s : State) → IsOther w.object v → IsWatched w a.places s.heap → AreOther w.object a.operands → Shown types bodies w t (copies_next named v c count (look s.heap v) (running a rest s)) (copies_next named v c count (look (blanked w s.heap) v) (seen_state w (running a rest s)))
+  copies_shown t v c count a rest s other p others =
+      subst (λ (found : Found (Cell Value)). Shown types bodies w t (copies_next named v c count (look s.heap v) (running a rest s)) (copies_next named v c count found (seen_state w (running a rest s))))
+      (sym (look_apart w s.heap p.object p.at_object v (other_names w.object v other)))
+      (copies_found t v c count (look s.heap v) a rest s (λ cell. found_other w.object s.heap v cell p.components) others)
 
   -- The object itself, from a component that is not tracked.
   pub untracked_path : (t : State) (b : ℕ) (cs : List ℕ) (a : Activation Value) (rest : List (Activation Value)) (s : State) → IsWatched w a.places s.heap → number_of w b ≡ None → AreOther w.object a.operands → Shown types bodies w t (path_next named (b ∷ cs) (Names w.object) (running a rest s)) (path_next named (b ∷ cs) (Names w.object) (seen_state w (running a rest s)))

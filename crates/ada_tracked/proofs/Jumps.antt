@@ -132,7 +132,7 @@ module _ (types : List TypeDefinition) (bodies : List BodyForm) (w : View) where
   jump_shown t m (frame.Applies operator) a rest s simple others = passed t m (frame.Applies operator) (frame.Applies operator) a rest s refl refl (λ e. refl) refl refl (λ e. refl) refl refl others
   jump_shown t m (frame.AppliesAlone operator) a rest s simple others = passed t m (frame.AppliesAlone operator) (frame.AppliesAlone operator) a rest s refl refl (λ e. refl) refl refl (λ e. refl) refl refl others
   jump_shown t m (frame.Fills items) a rest s simple others = passed t m (frame.Fills items) (seen_frame w (frame.Fills items)) a rest s refl refl (λ e. refl) refl refl (λ e. refl) refl refl others
-  jump_shown t m (frame.Copies c record_type) a rest s simple others = absurd simple
+  jump_shown t m (frame.Copies c record_type) a rest s simple others = passed t m (frame.Copies c record_type) (frame.Copies c record_type) a rest s refl refl (λ e. refl) refl refl (λ e. refl) refl refl others
   jump_shown t m (frame.Creates access count) a rest s simple others = passed t m (frame.Creates access count) (frame.Creates access count) a rest s refl refl (λ e. refl) refl refl (λ e. refl) refl refl others
   jump_shown t m (frame.Stores x) a rest s simple others = passed t m (frame.Stores x) (frame.Stores x) a rest s refl refl (λ e. refl) refl refl (λ e. refl) refl refl others
   jump_shown t m (frame.Targets c right) a rest s simple others = passed t m (frame.Targets c right) (seen_frame w (frame.Targets c right)) a rest s refl refl (λ e. refl) refl refl (λ e. refl) refl refl others

@@ -1,6 +1,6 @@
 -- Lists of values, of which some components are tracked.
 
-use Rattle.std.proofs.Common.{◌≡◌, ◌≢◌, ℕ, zero, suc, ◌+◌, ◌<◌, Bool, true, false, List, [], ◌∷◌, ◌++◌, length, drop, Option, Some, None, refl, sym, ap, ◌∙◌, inl, inr, subst, arith, length-set}
+use Rattle.std.proofs.Common.{◌≡◌, ◌≢◌, ℕ, zero, suc, ◌+◌, ◌<◌, Bool, true, false, List, [], ◌∷◌, ◌++◌, length, take, drop, Option, Some, None, refl, sym, ap, ◌∙◌, inl, inr, subst, arith, length-set}
 use Rattle.std.specs.Prelude.{◌==◌, if◌then◌else◌}
 use Rattle.std.specs.List.{slice_get, slice_set, slice_index_or}
 use Rattle.std.proofs.lemmas.Bool.Decides.{eqb_tells}
@@ -8,7 +8,7 @@ use Rattle.std.proofs.lemmas.List.{set-set, set_comm, set-append_left, get_or-se
 use Rattle.ada_meaning.specs.declared.state.Id.{Id}
 use Rattle.ada_meaning.specs.declared.state.Value.{Value}
 use Rattle.ada_meaning.specs.declared.state.Value.TheVariants.{Null}
-use Rattle.ada_meaning.specs.Step.{first_or, older, in_front}
+use Rattle.ada_meaning.specs.Step.{first_or, older, in_front, record_in}
 use Rattle.ada_tracked.specs.Frames.{number_at, blank_values, values_at}
 use Rattle.ada_tracked.specs.Seen.{IsOther, AreOther, AreBelow, IsNoneOf, AreApart, refers, AreNoReferences}
 
@@ -97,6 +97,21 @@ pub other_drop : (o : Id) (n : ℕ) (vs : List Value) → AreOther o vs → AreO
 other_drop o zero vs h = h
 other_drop o (suc n) [] h = tt
 other_drop o (suc n) (v ∷ vs) h = other_drop o n vs h.1
+
+pub other_take : (o : Id) (n : ℕ) (vs : List Value) → AreOther o vs → AreOther o (take n vs)
+other_take o zero vs h = tt
+other_take o (suc n) [] h = tt
+other_take o (suc n) (v ∷ vs) h = (h.0, other_take o n vs h.1)
+
+-- Those of a record that lies in an object of such values.
+pub other_record : (o : Id) (values : List Value) (first count : ℕ) (vs : List Value) → AreOther o values → record_in values first count ≡ Some vs → AreOther o vs
+other_record o values first count vs h is =
+    let us = take count (drop first values) in
+    by_length (length us == count) us (other_take o count (drop first values) (other_drop o first values h)) is
+  where
+    by_length : (b : Bool) (us : List Value) → AreOther o us → (if b then Some us else None) ≡ Some vs → AreOther o vs
+    by_length true us others e = let one : us ≡ vs = cc in subst (λ (xs : List Value). AreOther o xs) one others
+    by_length false us others e = absurd (cc)
 
 pub other_in_front : (o : Id) (vs us : List Value) → AreOther o vs → AreOther o us → AreOther o (in_front vs us)
 other_in_front o [] us h g = g

@@ -3,7 +3,7 @@
 use Rattle.std.proofs.Common.{◌≡◌, ℕ, ◌+◌, ◌<◌, List, [], ◌∷◌, length, false, Some, None, refl, sym, ap, ◌∙◌, subst}
 use Rattle.std.specs.List.{slice_index_or}
 use Rattle.ada_program.specs.declared.program.TypeDefinition.{TypeDefinition}
-use Rattle.ada_program.specs.Form.{PathForm, StmtsForm, a_stmt}
+use Rattle.ada_program.specs.Form.{PathForm, RecordPathForm, item_of_record, StmtsForm, a_stmt}
 use Rattle.ada_program.specs.ProgramForm.{BodyForm}
 use Rattle.ada_meaning.specs.declared.state.Value.{Value}
 use Rattle.ada_meaning.specs.declared.state.Value.TheVariants.{Null, Names}
@@ -11,13 +11,13 @@ use Rattle.ada_meaning.specs.Event.{Quiet}
 use Rattle.ada_meaning.specs.Frame.{Frame}
 use Rattle.ada_meaning.specs.Frame as frame
 use Rattle.ada_meaning.specs.State.{Activation}
-use Rattle.ada_meaning.specs.Step.{at, computed, held, path_next, selected, named_next, before_last, last_of, assign_next, gets_next, frees_next}
+use Rattle.ada_meaning.specs.Step.{at, computed, held, path_next, selected, named_next, place_in, item_next, before_last, last_of, assign_next, gets_next, frees_next}
 use Rattle.ada_meaning.specs.Named.{State, Next, named, whole, inside, next}
 use Rattle.ada_flow.specs.Tracking.{seen}
-use Rattle.ada_tracked.specs.Forms.{seen_right, seen_stmts}
+use Rattle.ada_tracked.specs.Forms.{seen_record, seen_right, seen_stmts}
 use Rattle.ada_tracked.specs.Frames.{View, number_of, seen_control, tracked_values, standing}
 use Rattle.ada_tracked.specs.Simple.{PathIsSimple}
-use Rattle.ada_tracked.specs.Seen.{IsOther, AreOther, seen_state, Waiting, assigning, getting, freeing, waiting_frame, waiting_statement, elsewhere, behind, IsWatched}
+use Rattle.ada_tracked.specs.Seen.{IsOther, AreOther, refers, seen_state, Waiting, assigning, getting, freeing, waiting_frame, waiting_statement, elsewhere, behind, IsWatched}
 use Rattle.ada_tracked.specs.Law.{same, quiet, both, alone, Shown}
 use Rattle.ada_tracked.proofs.Lists.{read_front}
 use Rattle.ada_tracked.proofs.Paths.{Begins, apart, untracked, tracked, begins, within, formal, variable, whole_other}
@@ -44,6 +44,15 @@ waiting_control : (w : View) (waiting : Waiting) (c : ℕ) (k : List (Frame Valu
 waiting_control w (assigning right) c k = refl
 waiting_control w getting c k = refl
 waiting_control w (freeing access) c k = refl
+
+-- The component with which a record begins in its object.
+abbrev component_in : RecordPathForm → State → ℕ
+component_in q s = (place_in named (held named s q.object.root) q.object.selectors q).component
+
+-- It is the one that the way to it says, where that does not begin with a reference.
+first_there : (v : Value) (cs : List ℕ) (q : RecordPathForm) → refers v ≡ false → (place_in named v cs q).component ≡ q.first
+first_there v [] q plain = inside_self v q.first plain
+first_there v (c ∷ cs) q plain = refl
 
 module _ (types : List TypeDefinition) (bodies : List BodyForm) (w : View) where
   -- A path from another variable.
@@ -109,6 +118,40 @@ module _ (types : List TypeDefinition) (bodies : List BodyForm) (w : View) where
 
   pub named_shown : (t : State) (path : PathForm) (a : Activation Value) (rest : List (Activation Value)) (s : State) → PathIsSimple w.tracks.first path → IsWatched w a.places s.heap → AreOther w.object a.operands → Stays types bodies w (running a rest s) t (named_next named (seen w.tracks path).selectors (seen w.tracks path).root (seen_state w (running a rest s))) → Shown types bodies w t (named_next named path.selectors path.root (running a rest s)) (named_next named (seen w.tracks path).selectors (seen w.tracks path).root (seen_state w (running a rest s)))
   named_shown t path a rest s simple p others stays = by_begins t path a rest s simple p others stays (begins w path simple)
+
+  -- A record that is copied begins with the same component of its object, however the way to it is judged.
+  place_by : (q : RecordPathForm) (a : Activation Value) (rest : List (Activation Value)) (s : State) → PathIsSimple w.tracks.first q.object → IsWatched w a.places s.heap → Begins w q.object → component_in (seen_record w.tracks q) (seen_state w (running a rest s)) ≡ component_in q (running a rest s)
+  place_by q a rest s simple p (apart positive kept) =
+      let z = seen_state w (running a rest s) in
+      let lt : q.object.root < w.tracks.first = within w.tracks.first q.object.root q.object.selectors simple in
+      let in_places : q.object.root < length a.places = subst (λ (n : ℕ). q.object.root < n) (sym p.count) lt in
+      ap (λ (path : PathForm). component_in (record q { object = path }) z) kept
+      ∙ ap (λ (v : Value). (place_in named v q.object.selectors q).component) (read_front a.places (tracked_values w s.heap) q.object.root Null in_places)
+  place_by q a rest s simple p (untracked c cs root is none kept) =
+      let z = seen_state w (running a rest s) in
+      ap (λ (path : PathForm). component_in (record q { object = path }) z) kept
+      ∙ ap (λ (ds : List ℕ). (place_in named (held named z q.object.root) ds q).component) is
+      ∙ sym (ap (λ (ds : List ℕ). (place_in named (held named (running a rest s) q.object.root) ds q).component) is)
+  place_by q a rest s simple p (tracked c cs x root is number moved) =
+      let z = seen_state w (running a rest s) in
+      let u = value_at types bodies w s.heap a.places p (w.base + c) in
+      let r = record q { object = record { root = x; of_record = false; selectors = cs; spot = q.object.spot } } in
+      ap (λ (path : PathForm). component_in (record q { object = path }) z) moved
+      ∙ ap (λ (v : Value). (place_in named v cs r).component) (value_held types bodies w s.heap a.places p (w.base + c) x number)
+      ∙ first_there u cs r (value_plain types bodies w s.heap a.places p (w.base + c) x number)
+      ∙ sym (ap (λ (ds : List ℕ). (place_in named (held named (running a rest s) q.object.root) ds q).component) is)
+
+  -- The object in which a record that is copied lies.
+  pub record_shown : (t : State) (q : RecordPathForm) (a : Activation Value) (rest : List (Activation Value)) (s : State) → PathIsSimple w.tracks.first q.object → IsWatched w a.places s.heap → AreOther w.object a.operands → Stays types bodies w (running a rest s) t (item_next named (item_of_record (seen_record w.tracks q)) (seen_state w (running a rest s))) → Shown types bodies w t (item_next named (item_of_record q) (running a rest s)) (item_next named (item_of_record (seen_record w.tracks q)) (seen_state w (running a rest s)))
+  record_shown t q a rest s simple p others stays =
+      let z = seen_state w (running a rest s) in
+      let path = seen w.tracks q.object in
+      let k = frame.Copies (component_in q (running a rest s)) q.record_type ∷ s.control in
+      let goes : item_next named (item_of_record (seen_record w.tracks q)) z ≡ named_next named path.selectors path.root (at (seen_control w k) z) =
+      ap (λ (c : ℕ). named_next named path.selectors path.root (at (frame.Copies c q.record_type ∷ seen_control w s.control) z))
+      (place_by q a rest s simple p (begins w q.object simple)) in
+      subst (λ (n : Next). Shown types bodies w t (item_next named (item_of_record q) (running a rest s)) n) (sym goes)
+      (named_shown t q.object a rest (at k s) simple p others (stays.0, stays.1, stays.2, stays.3 ∙ goes))
 
   -- The object in which the last component of a path lies, where that begins with what another variable holds.
   pub holder_other : (t : State) (waiting : Waiting) (c : ℕ) (cs : List ℕ) (v : Value) (a : Activation Value) (rest : List (Activation Value)) (s : State) → IsOther w.object v → IsWatched w a.places s.heap → AreOther w.object a.operands → Shown types bodies w t (holder_by c cs v (waiting_frame waiting) (running a rest s)) (holder_by c cs v (waiting_frame (seen_waiting w waiting)) (seen_state w (running a rest s)))

@@ -11,7 +11,7 @@ use Rattle.ada_program.specs.declared.program.TypeDefinition.{TypeDefinition}
 use Rattle.ada_program.specs.Form.{PathForm, ExpressionForm, integer, boolean, reads, is_null, applied_to, chained, LinksForm, no_more_links, a_link, ItemForm, null_item, item_of_path, item_of_value, item_of_record, RightForm, nothing, value_of, allocates, allocates_default, computes, StmtForm, skips, assigns, assigns_record, frees, gets, writes, writes_text, chooses, repeats, counts, exits, calls, returns, raises, encloses, StmtsForm, no_stmts, a_stmt, BranchesForm, otherwise, a_branch, HandlersForm, no_handlers, a_handler, DeclarationForm, creates_pool, collects, declares, declares_record}
 use Rattle.ada_program.specs.Handling.{some_takes, handler_of}
 use Rattle.ada_program.specs.ProgramForm.{BodyForm}
-use Rattle.ada_program.specs.Typed.{words_of}
+use Rattle.ada_program.specs.Typed.{words_of, width_of}
 use Rattle.ada_parts.specs.declared.tasks.Direction.TheVariants.{PartsFirst, WholeFirst}
 use Rattle.ada_parts.specs.Task.{Task}
 use Rattle.ada_meaning.specs.declared.event.Birth.TheVariants.{Creation}
@@ -27,7 +27,7 @@ use Rattle.ada_meaning.specs.Frame.{Treatment, begins, ends, Frame, is_master, L
 use Rattle.ada_meaning.specs.Frame as frame
 use Rattle.ada_meaning.specs.State.{Destination, Item, Master, Owned, declared, collection, record_object, storage_pool, home_of, pool_freed_to}
 use Rattle.ada_meaning.specs.Heap.{Cell, Found, on_null, on_gone, on_other, finds}
-use Rattle.ada_meaning.specs.Step.{moves, halts, all_tasks, treating, same_pool, freeing, at, newest, popped, held, reading, component_next, follow_next, path_next, selected, before_last, last_of, named_next, holder_next, expression_next, null_test_next, is_decided, link_next, links_next, outcome_next, items_next, answered, new_next, right_next, freeing_next, free_next, end_next, told_back, given_back, back_next, assign_next, target_next, stored_next, store_next, frees_next, freed_next, free_component_next, free_in_next, branches_next, decided_next, turn_next, repeats_next, turned_next, count_turn_next, ranges_next, gets_next, received_next, receive_next, exit_next, exited_next, stmt_next, stmts_next, line_next, declarations_next, taken_out, members_next, item_leave_next, master_leave_next, leave_next, frame_next, landed, pass_next}
+use Rattle.ada_meaning.specs.Step.{moves, halts, all_tasks, treating, same_pool, freeing, at, newest, popped, held, reading, component_next, follow_next, path_next, selected, before_last, last_of, named_next, holder_next, expression_next, null_test_next, is_decided, link_next, links_next, outcome_next, items_next, record_in, place_in, copied_next, copies_next, answered, new_next, right_next, freeing_next, free_next, end_next, told_back, given_back, back_next, assign_next, target_next, stored_next, store_next, frees_next, freed_next, free_component_next, free_in_next, branches_next, decided_next, turn_next, repeats_next, turned_next, count_turn_next, ranges_next, gets_next, received_next, receive_next, exit_next, exited_next, stmt_next, stmts_next, line_next, declarations_next, taken_out, members_next, item_leave_next, master_leave_next, leave_next, frame_next, landed, pass_next}
 use Rattle.ada_meaning.specs.Named.{State, named, whole, inside, look, lent, standing, returned, on_object, reads_integer, reads_boolean, reads_null, unary_given, binary_given, next}
 use Rattle.ada_tracked.specs.Simple.{IsVariable, IsFrom, ExpressionIsSimple, LinksAreSimple, ConditionIsSimple, ItemsAreSimple, RightIsSimple, DeclarationsAreSimple, StatementIsSimple, StatementsAreSimple, BranchesAreSimple, HandlersAreSimple, FrameIsSimple}
 use Rattle.ada_tracked.proofs.Jumps.{in_each_mode, jump_at}
@@ -100,7 +100,20 @@ module _ (types : List TypeDefinition) (bodies : List BodyForm) (first : ℕ) wh
   items_stay (null_item ∷ is) s simple h = at_once (simple.1, h)
   items_stay (item_of_path path ∷ is) s simple h = named_stays path.selectors path.root (at (frame.Fills is ∷ s.control) s) (simple.1, h)
   items_stay (item_of_value e ∷ is) s simple h = at_once (simple.0, (simple.1, h))
-  items_stay (item_of_record q ∷ is) s simple h = absurd simple.0
+  items_stay (item_of_record q ∷ is) s simple h =
+      let v = held named s q.object.root in
+      path_stays (selected named v q.object.selectors) (whole v)
+      (at (frame.Copies (place_in named v q.object.selectors q).component q.record_type ∷ frame.Fills is ∷ s.control) s) (tt, (simple.1, h))
+
+  copied_stays : (v : Value) (found : Option (List Value)) (s : State) → BodyIsSimple first s.control → AllStaySimple first (copied_next named v found s)
+  copied_stays v None s h = tt
+  copied_stays v (Some vs) s h = at_once h
+
+  copies_stay : (v : Value) (c count : ℕ) (found : Found (Cell Value)) (s : State) → BodyIsSimple first s.control → AllStaySimple first (copies_next named v c count found s)
+  copies_stay v c count on_null s h = at_once h
+  copies_stay v c count on_gone s h = tt
+  copies_stay v c count on_other s h = tt
+  copies_stay v c count (finds cell) s h = copied_stays v (record_in cell.values c count) s h
 
   right_stays : (right : RightForm) (s : State) → RightIsSimple first right → BodyIsSimple first s.control → AllStaySimple first (right_next named types right s)
   right_stays nothing s simple h = at_once h
@@ -344,7 +357,8 @@ module _ (types : List TypeDefinition) (bodies : List BodyForm) (first : ℕ) wh
   frame_stays (frame.Applies operator) s simple h = outcome_stays (binary_given operator (newest named (popped s)) (newest named s)) (popped (popped s)) h
   frame_stays (frame.AppliesAlone operator) s simple h = outcome_stays (unary_given operator (newest named s)) (popped s) h
   frame_stays (frame.Fills items) s simple h = items_stay items s simple h
-  frame_stays (frame.Copies c record_type) s simple h = absurd simple
+  frame_stays (frame.Copies c record_type) s simple h =
+      copies_stay (newest named s) c (width_of types record_type) (look s.heap (newest named s)) (popped s) h
   frame_stays (frame.Creates access count) s simple h = new_stays access count (words_of types access) (home_of access s.masters) s h
   frame_stays (frame.Stores x) s simple h = at_once h
   frame_stays (frame.Targets c right) s simple h = target_stays (newest named s) c right (look s.heap (newest named s)) (popped s) simple h
@@ -425,7 +439,7 @@ module _ (types : List TypeDefinition) (bodies : List BodyForm) (first : ℕ) wh
   jump_stays m (frame.Applies operator) s simple h = passing_stays m (frame.Applies operator) s refl (in_each_mode (frame.Applies operator) (λ e. refl) refl refl m) h
   jump_stays m (frame.AppliesAlone operator) s simple h = passing_stays m (frame.AppliesAlone operator) s refl (in_each_mode (frame.AppliesAlone operator) (λ e. refl) refl refl m) h
   jump_stays m (frame.Fills items) s simple h = passing_stays m (frame.Fills items) s refl (in_each_mode (frame.Fills items) (λ e. refl) refl refl m) h
-  jump_stays m (frame.Copies c record_type) s simple h = absurd simple
+  jump_stays m (frame.Copies c record_type) s simple h = passing_stays m (frame.Copies c record_type) s refl (in_each_mode (frame.Copies c record_type) (λ e. refl) refl refl m) h
   jump_stays m (frame.Creates access count) s simple h = passing_stays m (frame.Creates access count) s refl (in_each_mode (frame.Creates access count) (λ e. refl) refl refl m) h
   jump_stays m (frame.Stores x) s simple h = passing_stays m (frame.Stores x) s refl (in_each_mode (frame.Stores x) (λ e. refl) refl refl m) h
   jump_stays m (frame.Targets c right) s simple h = passing_stays m (frame.Targets c right) s refl (in_each_mode (frame.Targets c right) (λ e. refl) refl refl m) h

@@ -3,7 +3,7 @@
 use Rattle.std.proofs.Common.{◌≡◌, ℕ, List, ◌∷◌, Option, Some, None, refl, sym, ap, subst}
 use Rattle.ada_program.specs.declared.program.TypeDefinition.{TypeDefinition}
 use Rattle.ada_program.specs.ProgramForm.{BodyForm}
-use Rattle.ada_program.specs.Typed.{words_of}
+use Rattle.ada_program.specs.Typed.{words_of, width_of}
 use Rattle.ada_meaning.specs.declared.state.Mode.TheVariants.{Running}
 use Rattle.ada_meaning.specs.declared.state.Value.{Value}
 use Rattle.ada_meaning.specs.declared.state.Value.TheVariants.{Null}
@@ -18,7 +18,7 @@ use Rattle.ada_tracked.specs.Simple.{FrameIsSimple}
 use Rattle.ada_tracked.specs.Seen.{AreOther, seen_state, IsWatched}
 use Rattle.ada_tracked.specs.Law.{TakesNone, same, Shown}
 use Rattle.ada_tracked.proofs.Lists.{other_first, other_older}
-use Rattle.ada_tracked.proofs.Found.{running, plain, path_shown}
+use Rattle.ada_tracked.proofs.Found.{running, plain, path_shown, copies_shown}
 use Rattle.ada_tracked.proofs.Evaluations.{expression_shown, null_test_shown, links_shown, unary_shown, binary_shown, items_shown, right_shown, new_shown}
 use Rattle.ada_tracked.proofs.Storing.{steps, put_seen, inside_places, seen_store, store_in_shown, target_shown}
 use Rattle.ada_tracked.proofs.Freeing.{receive_shown, free_in_shown, end_shown, back_shown, leave_shown}
@@ -89,7 +89,9 @@ module _ (types : List TypeDefinition) (bodies : List BodyForm) (w : View) where
   frame_shown (frame.Fills items) k a rest s simple none p others =
       items_shown types bodies w (seen_state w (at (frame.Fills items ∷ k) (running a rest s))) items a rest (at k s) simple p others
       (seen_control w (frame.Fills items ∷ k), a.operands, refl, refl)
-  frame_shown (frame.Copies c record_type) k a rest s simple none p others = absurd simple
+  frame_shown (frame.Copies c record_type) k a rest s simple none p others =
+      copies_shown types bodies w (seen_state w (at (frame.Copies c record_type ∷ k) (running a rest s))) (first_or Null a.operands) c
+      (width_of types record_type) (record a { operands = older a.operands }) rest (at k s) (other_first w.object a.operands others) p (other_older w.object a.operands others)
   frame_shown (frame.Creates access count) k a rest s simple none p others =
       new_shown types bodies w (seen_state w (at (frame.Creates access count ∷ k) (running a rest s))) access count (words_of types access) (home_of access s.masters) a rest (at k s) p others
   frame_shown (frame.Stores x) k a rest s simple none p others =

@@ -1,8 +1,8 @@
--- The forms of a body as they are judged: each path that begins with a tracked component begins with what that holds. Record paths, calls and their actual
--- parameters stay as they are.
+-- The forms of a body as they are judged: each path that begins with a tracked component begins with what that holds, and so does the way to a record that is an
+-- item. Records that are assigned to, calls and their actual parameters stay as they are.
 
 use Rattle.std.specs.Prelude.{List, [], ◌∷◌, Option, Some, None}
-use Rattle.ada_program.specs.Form.{ExpressionForm, integer, boolean, reads, is_null, applied_to, chained, LinksForm, no_more_links, a_link, ItemForm, null_item, item_of_path, item_of_value, item_of_record, RightForm, nothing, value_of, allocates, allocates_default, computes, DeclarationForm, creates_pool, collects, declares, declares_record, StmtForm, skips, assigns, assigns_record, frees, gets, writes, writes_text, chooses, repeats, counts, exits, calls, returns, raises, encloses, StmtsForm, no_stmts, a_stmt, BranchesForm, otherwise, a_branch, HandlersForm, no_handlers, a_handler}
+use Rattle.ada_program.specs.Form.{RecordPathForm, ExpressionForm, integer, boolean, reads, is_null, applied_to, chained, LinksForm, no_more_links, a_link, ItemForm, null_item, item_of_path, item_of_value, item_of_record, RightForm, nothing, value_of, allocates, allocates_default, computes, DeclarationForm, creates_pool, collects, declares, declares_record, StmtForm, skips, assigns, assigns_record, frees, gets, writes, writes_text, chooses, repeats, counts, exits, calls, returns, raises, encloses, StmtsForm, no_stmts, a_stmt, BranchesForm, otherwise, a_branch, HandlersForm, no_handlers, a_handler}
 use Rattle.ada_flow.specs.Tracking.{Tracks, seen}
 
 abbrev mutual
@@ -25,12 +25,16 @@ abbrev pub seen_condition : Tracks → Option ExpressionForm → Option Expressi
 seen_condition tracks None = None
 seen_condition tracks (Some e) = Some (seen_expression tracks e)
 
+-- The way to a record that is copied (4.1).
+abbrev pub seen_record : Tracks → RecordPathForm → RecordPathForm
+seen_record tracks p = record p { object = seen tracks p.object }
+
 -- An item of an aggregate (4.3.1).
 abbrev pub seen_item : Tracks → ItemForm → ItemForm
 seen_item tracks null_item = null_item
 seen_item tracks (item_of_path path) = item_of_path (seen tracks path)
 seen_item tracks (item_of_value e) = item_of_value (seen_expression tracks e)
-seen_item tracks (item_of_record p) = item_of_record p
+seen_item tracks (item_of_record p) = item_of_record (seen_record tracks p)
 
 -- All of them.
 abbrev pub seen_items : Tracks → List ItemForm → List ItemForm

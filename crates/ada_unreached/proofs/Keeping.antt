@@ -1,6 +1,6 @@
 -- An object is kept, and nothing leads to it, where operands, variables and other objects change, and where a new object comes to be.
 
-use Rattle.std.proofs.Common.{◌≡◌, ◌⊎◌, ℕ, zero, suc, Bool, true, false, List, [], ◌∷◌, ◌++◌, length, take, reverse, Option, Some, None, refl, sym, ap, ◌∙◌, inl, inr, subst, arith}
+use Rattle.std.proofs.Common.{◌≡◌, ◌⊎◌, ℕ, zero, suc, Bool, true, false, List, [], ◌∷◌, ◌++◌, length, reverse, Option, Some, None, refl, sym, ap, ◌∙◌, inl, inr, subst, arith}
 use Rattle.std.specs.Prelude.{◌==◌}
 use Rattle.std.specs.List.{slice_get, slice_set}
 use Rattle.std.proofs.lemmas.List.{reverse-append}
@@ -28,12 +28,6 @@ module _ (o : Id) where
   other_set [] i v other others = tt
   other_set (u ∷ vs) zero v other others = (other, others.1)
   other_set (u ∷ vs) (suc i) v other others = (others.0, other_set vs i v other others.1)
-
-  -- The first ones of some values that lead elsewhere do so.
-  pub other_take : (n : ℕ) (vs : List Value) → AreOther o vs → AreOther o (take n vs)
-  other_take zero vs others = tt
-  other_take (suc n) [] others = tt
-  other_take (suc n) (v ∷ vs) others = (others.0, other_take n vs others.1)
 
   -- Values that lead elsewhere do so behind others that do.
   other_append : (vs us : List Value) → AreOther o vs → AreOther o us → AreOther o (vs ++ us)

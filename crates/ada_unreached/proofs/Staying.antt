@@ -14,7 +14,7 @@ use Rattle.ada_program.specs.declared.program.TypeDefinition.{TypeDefinition}
 use Rattle.ada_program.specs.Form.{ExpressionForm, integer, boolean, reads, is_null, applied_to, chained, LinksForm, no_more_links, a_link, ItemForm, null_item, item_of_path, item_of_value, item_of_record, RightForm, nothing, value_of, allocates, allocates_default, computes, StmtForm, skips, assigns, assigns_record, frees, gets, writes, writes_text, chooses, repeats, counts, exits, calls, returns, raises, encloses, StmtsForm, no_stmts, a_stmt, BranchesForm, otherwise, a_branch, HandlersForm, DeclarationForm, creates_pool, collects, declares, declares_record}
 use Rattle.ada_program.specs.Handling.{handler_of}
 use Rattle.ada_program.specs.ProgramForm.{BodyForm}
-use Rattle.ada_program.specs.Typed.{reached_of, words_of, pool_named}
+use Rattle.ada_program.specs.Typed.{reached_of, words_of, width_of, pool_named}
 use Rattle.ada_parts.specs.declared.tasks.Direction.TheVariants.{PartsFirst, WholeFirst}
 use Rattle.ada_parts.specs.Task.{Task}
 use Rattle.ada_meaning.specs.declared.event.Birth.TheVariants.{Creation}
@@ -32,19 +32,19 @@ use Rattle.ada_meaning.specs.Frame.{Treatment, begins, ends, Frame, is_loop, is_
 use Rattle.ada_meaning.specs.Frame as frame
 use Rattle.ada_meaning.specs.State.{Destination, Item, Master, Owned, declared, collection, record_object, storage_pool, home_of, pools_in, pool_for, pool_freed_to, counted, type_housed}
 use Rattle.ada_meaning.specs.Heap.{Cell, Found, on_null, on_gone, on_other, finds}
-use Rattle.ada_meaning.specs.Step.{halts, moves, all_tasks, treating, same_pool, at, older, places, operands, set_operands, computed, popped, owned, entered, shorter, put, jumping, in_front, held, newest, reading, component_next, follow_next, path_next, selected, before_last, last_of, named_next, holder_next, expression_next, null_test_next, is_decided, link_next, links_next, outcome_next, items_next, initial_value, initial_values, initialized, new_cell, answered, new_next, right_next, freeing, freeing_next, free_next, end_next, told_back, given_back, back_next, assign_next, target_next, stored_next, store_next, frees_next, freed_next, free_component_next, free_in_next, branches_next, decided_next, turn_next, repeats_next, turned_next, count_turn_next, ranges_next, gets_next, received_next, receive_next, exit_next, exited_next, stmt_next, stmts_next, line_next, declarations_next, item_leave_next, master_leave_next, leave_next, frame_next, landed, unwound, pass_next}
+use Rattle.ada_meaning.specs.Step.{halts, moves, all_tasks, treating, same_pool, at, older, places, operands, set_operands, computed, popped, owned, entered, shorter, put, jumping, in_front, held, newest, reading, component_next, follow_next, path_next, selected, before_last, last_of, named_next, holder_next, place_in, expression_next, null_test_next, is_decided, link_next, links_next, outcome_next, items_next, copied_next, copies_next, record_in, initial_value, initial_values, initialized, new_cell, answered, new_next, right_next, freeing, freeing_next, free_next, end_next, told_back, given_back, back_next, assign_next, target_next, stored_next, store_next, frees_next, freed_next, free_component_next, free_in_next, branches_next, decided_next, turn_next, repeats_next, turned_next, count_turn_next, ranges_next, gets_next, received_next, receive_next, exit_next, exited_next, stmt_next, stmts_next, line_next, declarations_next, item_leave_next, master_leave_next, leave_next, frame_next, landed, unwound, pass_next}
 use Rattle.ada_meaning.specs.Named.{Object, State, Next, object_at, named, an_integer, a_boolean, whole, inside, look, lent, standing, on_object, parted, finished, returned, filled, store, created, create, reads_integer, reads_boolean, reads_null, unary_given, binary_given, next}
 use Rattle.ada_tracked.specs.Law.{NewestHousesNone, InnermostHousesNone, TakesNone}
 use Rattle.ada_tracked.specs.Seen.{IsOther, AreOther}
-use Rattle.ada_tracked.specs.Simple.{ItemsAreSimple, DeclarationsAreSimple, StatementIsSimple, StatementsAreSimple, FrameIsSimple}
+use Rattle.ada_tracked.specs.Simple.{DeclarationsAreSimple, StatementIsSimple, StatementsAreSimple, FrameIsSimple}
 use Rattle.ada_tracked.specs.Staying.{IsWithinBody}
 use Rattle.ada_tracked.proofs.Found.{found_other}
-use Rattle.ada_tracked.proofs.Lists.{other_first, other_older, other_drop, other_in_front, other_at, other_got}
+use Rattle.ada_tracked.proofs.Lists.{other_first, other_older, other_drop, other_take, other_in_front, other_record, other_at, other_got}
 use Rattle.ada_tracked.proofs.Paths.{whole_other}
 use Rattle.ada_beside.proofs.Operands.{unary_other, binary_other}
 use Rattle.ada_unreached.specs.Unreached.{FrameLeadsElsewhere, BodyLeadsElsewhere, IsUnreached}
 use Rattle.ada_unreached.specs.Law.{NoneIsTaken, GoesOn, AllGoOn}
-use Rattle.ada_unreached.proofs.Keeping.{IsKept, other_set, other_take, other_reverse, filled_elsewhere, operands_kept, places_kept, changed_kept, created_kept, created_other}
+use Rattle.ada_unreached.proofs.Keeping.{IsKept, other_set, other_reverse, filled_elsewhere, operands_kept, places_kept, changed_kept, created_kept, created_other}
 
 module _ (types : List TypeDefinition) (bodies : List BodyForm) (first : ℕ) (o : Id) (object : Object) where
   -- The object is as it was in a state, and no variable, operand or component leads to it.
@@ -169,12 +169,32 @@ module _ (types : List TypeDefinition) (bodies : List BodyForm) (first : ℕ) (o
   outcome_goes (Err WrongType) s each p h = tt
 
   -- The object goes on as an item is evaluated.
-  items_go : (items : List ItemForm) (s : State) → ItemsAreSimple first items → Goes s (items_next named items s)
-  items_go [] s simple p h = stays s p h
-  items_go (null_item ∷ is) s simple p h = gives Null (at (frame.Fills is ∷ s.control) s) refl p (tt, h)
-  items_go (item_of_path path ∷ is) s simple p h = named_goes path.selectors path.root (at (frame.Fills is ∷ s.control) s) p (tt, h)
-  items_go (item_of_value e ∷ is) s simple p h = stays (at (frame.Computes e ∷ frame.Fills is ∷ s.control) s) p (tt, (tt, h))
-  items_go (item_of_record q ∷ is) s simple p h = absurd simple.0
+  items_go : (items : List ItemForm) (s : State) → Goes s (items_next named items s)
+  items_go [] s p h = stays s p h
+  items_go (null_item ∷ is) s p h = gives Null (at (frame.Fills is ∷ s.control) s) refl p (tt, h)
+  items_go (item_of_path path ∷ is) s p h = named_goes path.selectors path.root (at (frame.Fills is ∷ s.control) s) p (tt, h)
+  items_go (item_of_value e ∷ is) s p h = stays (at (frame.Computes e ∷ frame.Fills is ∷ s.control) s) p (tt, (tt, h))
+  items_go (item_of_record q ∷ is) s p h =
+      let place = place_in named (held named s q.object.root) q.object.selectors q in
+      named_goes q.object.selectors q.object.root (at (frame.Copies place.component q.record_type ∷ frame.Fills is ∷ s.control) s) p (tt, (tt, h))
+
+  -- The object goes on as the components of a record are copied, if the record lies there.
+  copied_goes :
+      (v : Value) (found : Option (List Value)) (s : State) → ((vs : List Value) → found ≡ Some vs → AreOther o vs) → Goes s (copied_next named v found s)
+  copied_goes v None s each p h = tt
+  copied_goes v (Some vs) s each p h =
+      stays (set_operands (in_front vs (operands s)) s)
+      (operands_kept o object (in_front vs (operands s)) s.activations s.heap (other_in_front o vs (operands s) (each vs refl) p.operands) p) h
+
+  -- The object goes on as a record is copied out of one that has been looked for.
+  copies_goes :
+      (v : Value) (c count : ℕ) (found : Found (Cell Value)) (s : State) → ((cell : Cell Value) → found ≡ finds cell → AreOther o cell.values)
+      → Goes s (copies_next named v c count found s)
+  copies_goes v c count on_null s each p h = jumps (Raising ConstraintError) s p h
+  copies_goes v c count on_gone s each p h = tt
+  copies_goes v c count on_other s each p h = tt
+  copies_goes v c count (finds cell) s each p h =
+      copied_goes v (record_in cell.values c count) s (λ vs. other_record o cell.values c count vs (each cell refl)) p h
 
   -- What a component holds at first leads to no object.
   initial_other : (kind : ComponentKind) → IsOther o (initial_value named kind)
@@ -530,8 +550,10 @@ module _ (types : List TypeDefinition) (bodies : List BodyForm) (first : ℕ) (o
       (binary_other o operator (newest named (popped s)) (newest named s)) (popped_kept (popped s) (popped_kept s p)) h
   frame_goes (frame.AppliesAlone operator) s simple none other p h =
       outcome_goes (unary_given operator (newest named s)) (popped s) (unary_other o operator (newest named s)) (popped_kept s p) h
-  frame_goes (frame.Fills items) s simple none other p h = items_go items s simple p h
-  frame_goes (frame.Copies c record_type) s simple none other p h = absurd simple
+  frame_goes (frame.Fills items) s simple none other p h = items_go items s p h
+  frame_goes (frame.Copies c record_type) s simple none other p h =
+      copies_goes (newest named s) c (width_of types record_type) (look s.heap (newest named s)) (popped s)
+      (λ cell. found_other o s.heap (newest named s) cell p.components) (popped_kept s p) h
   frame_goes (frame.Creates access count) s simple none other p h = new_goes access count (words_of types access) (home_of access s.masters) s p h
   frame_goes (frame.Stores x) s simple none other p h = put_goes x (newest named s) (popped s) (newest_other s p) (popped_kept s p) h
   frame_goes (frame.Targets c right) s simple none other p h =

@@ -31,7 +31,7 @@ AllGoOn o x (tells request e s) = GoesOn o x s
 AllGoOn o x (asks request answers) = (granted : Bool) → GoesOn o x (answers granted)
 AllGoOn o x (picks count taking) = ⊥
 
--- A step of a body that calls nothing and copies no record leaves an object as it is to which nothing leads, whatever it frees.
+-- A step of a body that calls nothing and copies records only as items of new objects leaves an object as it is to which nothing leads, whatever it frees.
 abbrev pub UnreachedObjectsStay : Type 0
 UnreachedObjectsStay =
     (types : List TypeDefinition) (bodies : List BodyForm) (first : ℕ) (o : Id) (x : Object) (s : State) → object_at s.heap o ≡ Some x → IsUnreached o s

@@ -3,8 +3,8 @@
 ghost use Rattle.ada_unreached.specs.Example.{PremisesAreMetAndNeeded};
 ghost use Rattle.ada_unreached.specs.Law.{UnreachedObjectsStay};
 
-/// While the body of an operation runs that calls nothing and copies no record, an object stays as it is to which no variable of it, no
-/// operand and no component leads, nor what is left to do; and none does behind a step.
+/// While the body of an operation runs that calls nothing and copies records only as items of new objects, an object stays as it is to
+/// which no variable of it, no operand and no component leads, nor what is left to do; and none does behind a step.
 pub fn unreached_objects_stay()
     ensures { UnreachedObjectsStay }
 {}
