@@ -104,8 +104,8 @@ operations_apart tracks owns None = true
 operations_apart tracks owns (Some f) =
     overrides_apart tracks f.operations.initialize && (owns || overrides_apart tracks f.operations.adjust) && overrides_apart tracks f.operations.finalize
 
--- Operations stand apart in a program: no body calls what tracks, and that overrides nothing else; and no allocator with items makes an object with controlled parts, or
--- copies a record with some.
+-- Operations stand apart in a program: no body calls what tracks, and that overrides nothing else; and no allocator with items makes an object with controlled
+-- parts, or copies a record with some.
 abbrev pub operations_stand_apart : ProgramForm → Bool
 operations_stand_apart p =
     body_calls_apart p.types (is_tracker p) (main_body p) && list_all (body_calls_apart p.types (is_tracker p)) p.bodies

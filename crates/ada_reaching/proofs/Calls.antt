@@ -1,13 +1,13 @@
 -- Calls in bodies that shun some access types (6.4): their actual parameters, and how they begin and end.
 
-use Rattle.std.proofs.Common.{◌≡◌, ℕ, Bool, true, ◌++◌, List, [], ◌∷◌, Option, Some, None, refl, sym, ap, inr, subst, take}
+use Rattle.std.proofs.Common.{◌≡◌, ℕ, Bool, true, ◌++◌, List, [], ◌∷◌, Option, Some, None, refl, sym, ap, subst, take}
 use Rattle.std.specs.List.{list_all, slice_get}
 use Rattle.std.proofs.lemmas.Bool.{and_parts}
 use Rattle.ada_program.specs.declared.program.Exception.TheVariants.{ConstraintError}
 use Rattle.ada_program.specs.declared.program.TypeDefinition.{TypeDefinition}
 use Rattle.ada_program.specs.declared.program.VariableKind.{VariableKind}
 use Rattle.ada_program.specs.Form.{ActualForm, in_value, in_null, in_access, in_record, in_out_path, in_out_access, in_out_component, in_out_record}
-use Rattle.ada_program.specs.ProgramForm.{BodyForm, ProgramForm, seen_in}
+use Rattle.ada_program.specs.ProgramForm.{BodyForm}
 use Rattle.ada_program.specs.WellFormed.{variable_kind}
 use Rattle.ada_meaning.specs.declared.state.Id.{Id}
 use Rattle.ada_meaning.specs.declared.state.Mode.{Mode}
@@ -19,14 +19,14 @@ use Rattle.ada_meaning.specs.Frame.{Frame, evaluating}
 use Rattle.ada_meaning.specs.Frame as frame
 use Rattle.ada_meaning.specs.Heap.{Cell, Found, on_null, on_gone, on_other, finds}
 use Rattle.ada_meaning.specs.State.{Activation}
-use Rattle.ada_meaning.specs.Step.{procedure_of, places_of, operands_of, with_operands, with_places, operands, places, older, computed, at, newest_ones, operand_count, given_values, begun, referred_next, refers_next, open_next, opened_next, opens_next, storing, stored_back, copied_back, returned, computing, call_next}
+use Rattle.ada_meaning.specs.Step.{procedure_of, places_of, operands_of, with_operands, with_places, operands, places, older, computed, at, newest_ones, operand_count, given_values, references_in, begun, referred_next, refers_next, open_next, opened_next, opens_next, storing, stored_back, copied_back, returned, computing, call_next}
 use Rattle.ada_meaning.specs.Named.{Object, State, named, object_at, look, refer, whole}
-use Rattle.ada_typed.proofs.Bodies.{seen_as}
 use Rattle.ada_untouched.specs.Untouched.{IsInSight}
 use Rattle.ada_reaching.specs.Forms.{selectors_shun, actual_shuns, body_shuns}
-use Rattle.ada_reaching.specs.Reaching.{IsElsewhere, AreElsewhere, LeftShuns, IsInner, FrameShuns, begins_anew}
+use Rattle.ada_reaching.specs.Reaching.{IsElsewhere, AreElsewhere, LeftShuns, IsInner, begins_anew}
 use Rattle.ada_reaching.specs.Law.{AreApart}
-use Rattle.ada_reaching.proofs.Elsewhere.{elsewhere_append, elsewhere_reverse, elsewhere_take, given_values_elsewhere, given_places_elsewhere, references_elsewhere, stored_elsewhere, copied_elsewhere}
+use Rattle.ada_reaching.proofs.Begins.{beginning_goes}
+use Rattle.ada_reaching.proofs.Elsewhere.{elsewhere_append, elsewhere_reverse, elsewhere_take, given_values_elsewhere, references_elsewhere, stored_elsewhere, copied_elsewhere}
 use Rattle.ada_reaching.proofs.Going.{World, variables_in, IsRun, Runs, Left, On, Goes, operands_run, places_run, stays, gives, jumps}
 use Rattle.ada_reaching.proofs.Paths.{found_there, component_elsewhere, Sound, Fine, holder_goes}
 use Rattle.ada_reaching.proofs.Selections.{IsRooted, held_in}
@@ -159,34 +159,9 @@ module _ (w : World) where
       let given : AreElsewhere w.ghosts w.unnamed vs =
       elsewhere_reverse w.ghosts w.unnamed (take (operand_count actuals) (operands s))
       (elsewhere_take w.ghosts w.unnamed (operand_count actuals) (operands s) r.operands) in
-      let acts = with_operands [] s.activations in
-      let waits : IsRun w acts s.heap = operands_run w [] s.activations s.heap tt r in
-      let left : LeftShuns w.p w.shuns w.apart w.ghosts w.unnamed w.behind (procedure_of acts) s.control (older acts) =
-      subst (λ (suspended : List (Activation Value)). LeftShuns w.p w.shuns w.apart w.ghosts w.unnamed w.behind (procedure_of acts) s.control suspended)
-      (sym waits.waits)
-      (subst (λ (number : Option ℕ). LeftShuns w.p w.shuns w.apart w.ghosts w.unnamed w.behind number s.control w.suspended) (sym waits.runs) h) in
-      let inner : World = record w { procedure = Some procedure; suspended = acts } in
-      let own : ProgramForm = seen_in (Some procedure) w.p in
-      let after = begun named procedure b actuals vs s in
-      stays inner after (record {
-        runs = refl;
-        waits = refl;
-        places = given_places_elsewhere w.ghosts w.unnamed (given_values actuals vs) b.variables (given_values_elsewhere w.ghosts w.unnamed actuals vs given);
-        operands = tt;
-        same = r.same;
-      }) (
-        subst (λ (q : ProgramForm). FrameShuns w.p.types w.shuns w.apart w.p.bodies w.ghosts q.variables
-            (frame.Elaborates b.declarations b.statements b.handlers))
-            (sym (seen_as w.p procedure b is)) shun,
-        refl,
-        inr (record {
-          references = references_elsewhere w.ghosts w.unnamed actuals vs given;
-          places = waits.places;
-          operands = waits.operands;
-          anew = anew;
-          others = left;
-        }),
-      ) refl
+      beginning_goes w procedure b (given_values actuals vs) actuals (references_in actuals vs) s.control (with_operands [] s.activations) s is shun
+      (given_values_elsewhere w.ghosts w.unnamed actuals vs given) (references_elsewhere w.ghosts w.unnamed actuals vs given)
+      (operands_run w [] s.activations s.heap tt r) h anew
 
 module _ (w : World) where
   -- What goes back to components is stored there next, in front of what shuns the types.

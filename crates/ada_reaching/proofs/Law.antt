@@ -20,16 +20,17 @@ use Rattle.ada_meaning.specs.State.{Activation}
 use Rattle.ada_meaning.specs.Step.{held, operating, procedure_of, older, places}
 use Rattle.ada_meaning.specs.Named.{Object, State, named, next, object_at}
 use Rattle.ada_typed.specs.Holding.{Cells, HasKind, cells_of, seen_now}
-use Rattle.ada_typed.proofs.Bodies.{SeenFits, seen_as, seen_fits, types_seen}
+use Rattle.ada_typed.proofs.Bodies.{SeenFits, seen_fits, types_seen}
 use Rattle.ada_typed.proofs.Control as typed
 use Rattle.ada_typed.proofs.Operators.{and_left, and_right}
 use Rattle.ada_typed.proofs.Runs.{last_typed, typed_filled, typed_holds}
 use Rattle.ada_typed.proofs.Values.{OperandKind}
 use Rattle.ada_untouched.specs.Untouched.{Untouched}
-use Rattle.ada_reaching.specs.Reaching.{FrameShuns, IsElsewhere, IsGhost, IsReaching, OperandSeeks}
+use Rattle.ada_reaching.specs.Reaching.{IsElsewhere, IsGhost, IsReaching, OperandSeeks}
 use Rattle.ada_reaching.specs.Apart.{Apart}
 use Rattle.ada_reaching.specs.Law.{AreApart, is_treating, IsWithin, GoesOn, AllGoOn, none_hidden, ShunnedObjectsAreUntouched}
 use Rattle.ada_reaching.specs.Forms.{body_shuns}
+use Rattle.ada_reaching.proofs.Begins.{elaborates_shuns}
 use Rattle.ada_reaching.proofs.Calls.{AreParts}
 use Rattle.ada_reaching.proofs.Elsewhere.{given_places_elsewhere}
 use Rattle.ada_reaching.proofs.Going.{World, Runs}
@@ -156,7 +157,7 @@ operation_reaches p shuns apart ghosts unnamed procedure b reference behind s is
       places = given_places_elsewhere ghosts unnamed (reference ∷ []) b.variables (other, tt);
       operands = tt;
       control = (
-        subst (λ (own : ProgramForm). FrameShuns p.types shuns apart p.bodies ghosts own.variables begins) (sym (seen_as p procedure b is)) shun,
+        elaborates_shuns p shuns apart ghosts procedure b is shun,
         refl,
         inl refl,
       );

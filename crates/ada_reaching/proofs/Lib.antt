@@ -12,6 +12,8 @@ pub mod Paths
 pub mod Rooted
 -- forms
 pub mod Forms
+-- where bodies begin
+pub mod Begins
 -- finalizations
 pub mod Treats
 -- frees
@@ -34,5 +36,11 @@ pub mod Law
 pub mod Behind
 -- the law by what procedures do
 pub mod Deeds
+-- what the examples share
+pub mod ExampleParts
 -- the premise is met, and needed
 pub mod Example
+-- it is met where a record is copied
+pub mod ExampleCopies
+-- it is met where a freed object is finalized
+pub mod ExampleFinalizes

@@ -1,11 +1,11 @@
 -- What is finalized of what a body frees that shuns some access types (7.6.1, 13.11.2): the operations of such objects have bodies that shun them, too.
 
-use Rattle.std.proofs.Common.{◌≡◌, ℕ, Bool, true, false, if◌then◌else◌, List, [], ◌∷◌, length, Option, Some, None, refl, sym, inr, subst}
+use Rattle.std.proofs.Common.{◌≡◌, ℕ, Bool, true, false, if◌then◌else◌, List, [], ◌∷◌, length, Option, Some, None, refl, sym, subst}
 use Rattle.std.specs.Prelude.{◌==◌}
 use Rattle.std.specs.List.{slice_get}
 use Rattle.ada_program.specs.declared.program.TypeDefinition.{TypeDefinition}
 use Rattle.ada_program.specs.Controlled.{operations_of, procedure_number, shapes_of}
-use Rattle.ada_program.specs.ProgramForm.{BodyForm, ProgramForm}
+use Rattle.ada_program.specs.ProgramForm.{BodyForm}
 use Rattle.ada_parts.specs.declared.tasks.Direction.TheVariants.{WholeFirst}
 use Rattle.ada_parts.specs.Task.{Task, performs, treats, next as task_next}
 use Rattle.ada_meaning.specs.declared.event.Cause.{Cause}
@@ -19,16 +19,14 @@ use Rattle.ada_meaning.specs.Event.{Event, Finalized}
 use Rattle.ada_meaning.specs.Frame.{Frame, Treatment, begins, ends}
 use Rattle.ada_meaning.specs.Frame as frame
 use Rattle.ada_meaning.specs.Heap.{Cell, Found, PartState, on_null, on_gone, on_other, finds}
-use Rattle.ada_meaning.specs.State.{Activation}
-use Rattle.ada_meaning.specs.Step.{procedure_of, older, halts, picks, at, treating, treated_on, picked_task, operating, operation_next, part_reference, ended_next, finalized_next, performed_next, treats_next}
+use Rattle.ada_meaning.specs.Step.{halts, picks, at, treating, treated_on, picked_task, operation_next, part_reference, ended_next, finalized_next, performed_next, treats_next}
 use Rattle.ada_meaning.specs.Named.{Object, State, named, look, refer, treated, finalized_part, finalize}
-use Rattle.ada_typed.proofs.Bodies.{seen_as}
 use Rattle.ada_untouched.specs.Untouched.{IsInSight}
 use Rattle.ada_reaching.specs.Apart.{IsLeftOf, picked, called}
 use Rattle.ada_reaching.specs.Forms.{body_shuns}
-use Rattle.ada_reaching.specs.Reaching.{EndsApart, FrameShuns, IsElsewhere, LeftShuns, begins_anew}
+use Rattle.ada_reaching.specs.Reaching.{EndsApart, IsElsewhere, begins_anew}
 use Rattle.ada_reaching.specs.Law.{AreApart, AllGoOn}
-use Rattle.ada_reaching.proofs.Elsewhere.{given_places_elsewhere}
+use Rattle.ada_reaching.proofs.Begins.{beginning_goes}
 use Rattle.ada_reaching.proofs.Going.{World, Runs, Left, On, Goes, changed_run, stays}
 
 -- What refers to a part of an object that is found refers to no ghost, where the object is none.
@@ -41,38 +39,15 @@ part_elsewhere ghosts unnamed heap (Scalar v) place cell found sight = tt
 part_elsewhere ghosts unnamed heap (Part o base) place cell found sight = absurd (cc)
 
 module _ (w : World) where
-  -- The bodies go on as that of an operation begins, in front of what shuns the types (7.6).
-  operating_goes :
-      (procedure : ℕ) (b : BodyForm) (reference : Value) (k : List (Frame Value)) (s : State) → slice_get w.p.bodies procedure ≡ Some b
-      → body_shuns w.p.types w.shuns w.apart b ≡ true → IsElsewhere w.ghosts w.unnamed reference → Runs w s → Left w k → begins_anew k ≡ true
-      → On w (operating named procedure b reference (frame.Confines ∷ k) s)
-  operating_goes procedure b reference k s is shun other r h anew =
-      let inner : World = record w { procedure = Some procedure; suspended = s.activations } in
-      let left : LeftShuns w.p w.shuns w.apart w.ghosts w.unnamed w.behind (procedure_of s.activations) k (older s.activations) =
-      subst (λ (suspended : List (Activation Value)). LeftShuns w.p w.shuns w.apart w.ghosts w.unnamed w.behind (procedure_of s.activations) k suspended)
-      (sym r.waits) (subst (λ (number : Option ℕ). LeftShuns w.p w.shuns w.apart w.ghosts w.unnamed w.behind number k w.suspended) (sym r.runs) h) in
-      stays inner (operating named procedure b reference (frame.Confines ∷ k) s) (record {
-        runs = refl;
-        waits = refl;
-        places = given_places_elsewhere w.ghosts w.unnamed (reference ∷ []) b.variables (other, tt);
-        operands = tt;
-        same = r.same;
-      }) (
-        subst (λ (q : ProgramForm). FrameShuns w.p.types w.shuns w.apart w.p.bodies w.ghosts q.variables
-            (frame.Elaborates b.declarations b.statements b.handlers))
-            (sym (seen_as w.p procedure b is)) shun,
-        refl,
-        inr (record { references = tt; places = r.places; operands = r.operands; anew = refl; others = (tt, anew, left) }),
-      ) refl
-
-  -- So they do, if there is such a body.
+  -- The bodies go on as that of an operation begins, if there is one, in front of what shuns the types (7.6).
   operation_goes :
       (procedure : ℕ) (found : Option BodyForm) (reference : Value) (k : List (Frame Value)) (e : Event Value) (s : State)
       → slice_get w.p.bodies procedure ≡ found → ((b : BodyForm) → found ≡ Some b → body_shuns w.p.types w.shuns w.apart b ≡ true)
       → IsElsewhere w.ghosts w.unnamed reference → Runs w s → Left w k → begins_anew k ≡ true
       → AllGoOn (On w) (operation_next named procedure found reference (frame.Confines ∷ k) e s)
   operation_goes procedure None reference k e s is shun other r h anew = tt
-  operation_goes procedure (Some b) reference k e s is shun other r h anew = operating_goes procedure b reference k s is (shun b refl) other r h anew
+  operation_goes procedure (Some b) reference k e s is shun other r h anew =
+      beginning_goes w procedure b (reference ∷ []) [] [] (frame.Confines ∷ k) s.activations s is (shun b refl) (other, tt) tt r (tt, anew, h) refl
 
   module _ (tds : List TypeDefinition) (own : w.apart.definitions ≡ tds) where
     -- What is left of an object is that of the finalization of one that the bodies may free.

@@ -1,4 +1,4 @@
-use Rattle.ada_reaching.proofs.Example as example
+use Rattle.ada_reaching.proofs.ExampleFinalizes as example
 use Rattle.ada_reaching.proofs.laws.objects_are_finalized.Goals as goal
 
 pub returns : goal.returns

@@ -1,4 +1,4 @@
-use Rattle.ada_reaching.proofs.Example as example
+use Rattle.ada_reaching.proofs.ExampleCopies as example
 use Rattle.ada_reaching.proofs.laws.records_are_copied.Goals as goal
 
 pub returns : goal.returns
