@@ -1,6 +1,6 @@
 -- The first body in the text that overrides an operation of a controlled type and is not in use, in a program whose operations are not idle: Initialize is neither
--- plain nor frugal, where it may be, Adjust is not frugal, where none is called, and not quiet, or, of a type with a component of an access type, not simple and
--- silent, or may not track, or frees objects where a record has two controlled parts, or Finalize is neither quiet nor, where it may be, frugal and silent.
+-- plain nor frugal, where it may be; Adjust is not quiet, and not frugal where none is called; or, of a type with a component of an access type, it is not simple
+-- and silent, or may not track, or frees objects where a record has two controlled parts; or Finalize is neither quiet nor, where it may be, frugal and silent.
 
 use Rattle.std.specs.Prelude.{◌≡◌, ◌⊎◌, ℕ, Bool, true, false, ◌&&◌, ◌||◌, ◌==◌, nat_lt, if◌then◌else◌, Option, Some, None, is_some}
 use Rattle.std.specs.List.{slice_get}

@@ -1,6 +1,6 @@
 -- Bodies of Initialize and Finalize that touch storage, and of procedures that they call (7.6, 4.8, 5.2, 6.4, 13.11.2): they allocate, move and follow objects
 -- without controlled parts, assign records without them, and declare variables alone, which may be given what they allocate. They free objects without controlled
--- parts, and those of a Finalize others, too.
+-- parts, and those of a Finalize, and of an Adjust that is never called, others, too.
 
 use Rattle.std.specs.Prelude.{ℕ, Bool, true, false, not, ◌&&◌, ◌||◌, List, [], ◌∷◌, ◌++◌, Option, Some, None, is_some}
 use Rattle.std.specs.List.{list_all, slice_get, slice_index_or}

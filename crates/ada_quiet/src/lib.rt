@@ -2,10 +2,10 @@
 //! Integers and Booleans alone, and call nothing, are plain; and quiet, where they let no exception out. An Initialize or a Finalize
 //! is frugal that allocates and frees objects without controlled parts, moves and follows, and calls procedures with frugal bodies, but
 //! allocates no object with controlled parts, assigns no record with some as a whole, and declares variables alone, which may be given what
-//! it allocates. A Finalize, and what it calls, may free objects with controlled parts, too (13.11.2): the operations that end these run
-//! inside it. So may an Adjust that is never called. An exception may come out of a frugal Initialize; a Finalize is to be silent too: none comes out. What procedures may raise,
-//! and which are frugal, where none may free objects with controlled parts and where some may, is found once for all, in the order in which
-//! they call each other.
+//! it allocates. A Finalize, an Adjust that is never called, and what these call, may free objects with controlled parts, too (13.11.2):
+//! the operations that end these run inside. An exception may come out of a frugal Initialize; a Finalize is to be silent too: none comes
+//! out. What procedures may raise, and which are frugal, where none may free objects with controlled parts and where some may, is found
+//! once for all, in the order in which they call each other.
 //!
 //! Where nothing in the text of a program creates an object with controlled parts (3.3.1, 4.8), or assigns a record with some (5.2), no
 //! operation is called: operations are idle, and each is in use, whatever its body does. Where nothing in it copies such a record, no
@@ -28,8 +28,8 @@
 //! quiet. No operation follows a component while such an object is finalized. `may_be_frugal` tells whether a program is such a one.
 //!
 //! Variables and components free objects (13.11.2), whatever runs where these end. While an object is finalized that is freed, no component
-//! names it but the one that frees it, if one does; and nothing that runs there comes to the object in which that component lies
-//! (`SparesHolders`, which `ada_verdict` asks of a program besides).
+//! names it but the one that frees it, if one does; and nothing that runs there comes to the object in which that component lies:
+//! an allocated one by `SparesHolders`, which `ada_verdict` asks of a program besides, and a declared one is named by no access value.
 //!
 //! In all these programs operations are to stand apart. No procedure that overrides an Adjust of a type with a component of an access
 //! type, declared in it directly, is called or overrides another operation: so it runs nowhere else. And no allocator gives values to

@@ -23,7 +23,7 @@ use Rattle.ada_untouched.specs.Untouched.{Untouched}
 use Rattle.ada_reaching.specs.Apart.{Apart}
 use Rattle.ada_reaching.specs.Forms.{body_shuns}
 use Rattle.ada_reaching.specs.Reaching.{IsOfShunned, IsReaching}
-use Rattle.ada_reaching.specs.Law.{AreApart, IsWithin, none_hidden}
+use Rattle.ada_reaching.specs.Law.{AreApart, IsWithin, is_treating, none_hidden}
 use Rattle.ada_reaching.specs.Deeds.{AreShaped, UseNone}
 
 -- The body of a procedure runs, and a step leads on.
@@ -33,8 +33,8 @@ pub record RunsOn (program : Program) (b : BodyForm) (s after : State) : Type 0 
   pub body : slice_get (program_form program).bodies procedure ≡ Some b
   pub steps : (e : Event) × (next program.types.items (body_forms program) s ≡ moves e after)
 
--- It shuns some access types, while an object of one of these is there, a ghost. What it may call is of that shape, and follows and frees no value of these
--- types by what procedures do, too.
+-- A body that shuns some access types takes a step, while an object of one of these is there, a ghost. What it may call is of that shape, and follows and frees no
+-- value of these types by what procedures do, too.
 pub record RunsBeside (program : Program) (shuns : ℕ → Bool) (apart : Apart) (ghosts unnamed : Id → Bool) (behind : List (Frame Value)) (b : BodyForm)
     (s after : State) : Type 0 where
   pub are_apart : AreApart (program_form program) program.types.items shuns apart
@@ -51,6 +51,7 @@ pub record RunsBeside (program : Program) (shuns : ℕ → Bool) (apart : Apart)
 pub record StoresGhost (program : Program) (shuns : ℕ → Bool) (apart : Apart) (ghosts unnamed : Id → Bool) (behind : List (Frame Value)) (b : BodyForm)
     (s after : State) : Type 0 where
   pub runs_beside : RunsBeside program shuns apart ghosts unnamed behind b s after
+  pub treats_none : is_treating s.control ≡ false
   pub holder : Id
   pub component : ℕ
   pub holds_other : component_at s.heap holder component ≢ Some (Names runs_beside.ghost)

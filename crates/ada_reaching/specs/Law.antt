@@ -1,4 +1,4 @@
--- The law: bodies that shun some access types look at no object of them, and change none, and neither do the operations of what they free.
+-- The law: bodies that shun some access types change no object of them, and neither do the operations of what they free; they look at none, unless they treat one.
 
 use Rattle.std.specs.Prelude.{◌≡◌, ◌<◌, ℕ, ℤ, Bool, true, false, List, [], ◌∷◌, Some}
 use Rattle.std.specs.List.{slice_get}

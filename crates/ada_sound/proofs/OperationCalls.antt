@@ -23,7 +23,7 @@ use Rattle.ada_meaning.specs.Named.{Object, State, object_at, filled}
 use Rattle.ada_owners.proofs.Objects.{id_is}
 use Rattle.ada_sound.proofs.Alters.{Alters, alters_same, alters_set}
 use Rattle.ada_sound.proofs.Invariant.{Known, Control, EndsTo, IsLive, TreatsBy, ReadyIn}
-use Rattle.ada_sound.proofs.Callers.{Suspension, known_in}
+use Rattle.ada_sound.proofs.Callers.{known_in}
 use Rattle.ada_sound.proofs.FrugalControl.{IsFreed}
 use Rattle.ada_sound.proofs.Objects.{set_other}
 use Rattle.ada_sound.proofs.Ready.{stays}

@@ -1,6 +1,6 @@
--- The body of an operation runs that touches storage (7.6, 7.6.1, 13.11.2): an Initialize of an object that a declaration or an allocator creates, or a Finalize of
--- one at the leaving of its master, or where a variable is freed that names it, or another record is assigned to it. What holds there, and what is kept of all that
--- waits for it.
+-- The body of an operation runs that touches storage (7.6, 7.6.1, 13.11.2): an Initialize of an object that a declaration or an allocator creates, or a Finalize
+-- of one at the leaving of its master, or where a variable or a component is freed that names it, or another record is assigned to it. What holds there, and what
+-- is kept of all that waits for it.
 
 use Rattle.std.proofs.Common.{◌≡◌, ◌≢◌, ℕ, true, false, List, [], ◌∷◌, ◌++◌, ◌⊎◌, Option, drop, length, suc, take, not, ◌&&◌}
 use Rattle.std.specs.Prelude.{Bool, Some, None, ◌==◌}

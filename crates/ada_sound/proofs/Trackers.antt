@@ -83,7 +83,7 @@ module _ (p : ProgramForm) where
   pub order_too : may_track p ≡ true → list_all (is_copied_in_order p.types) p.types ≡ true
   order_too may = (frugal_and_order may).1
 
-  -- And no component names an object with controlled parts.
+  -- And no component names an object with a part whose Adjust tracks.
   pub names_none_too : may_track p ≡ true → names_no_trackers p ≡ true
   names_none_too may =
       (apart (may_be_frugal p) (names_no_trackers p) (apart (may_be_frugal p && names_no_trackers p) (list_all (is_copied_in_order p.types) p.types) may).0).1

@@ -2,7 +2,7 @@
 -- copy, and nothing but the treatment of an object calls that. Where an operation may touch storage, no allocator with items makes an object for which one is called
 -- (4.8).
 
-use Rattle.std.proofs.Common.{◌≡◌, ℕ, Bool, true, false, ◌&&◌, not, List, [], ◌∷◌, refl, sym, subst, inl, inr}
+use Rattle.std.proofs.Common.{◌≡◌, ℕ, Bool, true, false, ◌&&◌, not, List, ◌∷◌, refl, sym, subst, inl, inr}
 use Rattle.std.specs.Prelude.{Option}
 use Rattle.std.specs.List.{list_all}
 use Rattle.ada_program.specs.declared.program.Program.{Program}

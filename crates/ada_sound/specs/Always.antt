@@ -88,7 +88,8 @@ pub record IsChecked (program : Program) : Type 0 where
   -- (7.6); where all that has controlled parts lies in declared objects, or collections are created in order, Initialize and Finalize may also allocate, move,
   -- follow and free, and call what does so alone, and Adjust of a type that declares components of access types may allocate, move, follow and free, so that
   -- these own what they name, or are null, where no component names an object with a part that has such an Adjust; none of these bodies allocates an object
-  -- with controlled parts, and that of a Finalize alone frees some
+  -- with controlled parts, and only that of a Finalize frees some; where no Adjust is called, a frugal one is in use, which may free some, too; and where none is
+  -- called, each operation is
   pub in_use : operations_are_in_use (program_form program) ≡ true
   -- no object lies in a collection that lasts longer than one in which its components' objects lie (3.10.2, 7.6.1)
   pub nests : CollectionsNest (program_form program)
