@@ -73,7 +73,8 @@ abbrev pub EndsReachWhatPartsUse : Type 0
 EndsReachWhatPartsUse = (p : ProgramForm) (u t : ℕ) →
     ((implicit_of p).end_reaches u t ≡ true) ↔ (OperationDoes p Finalize (Frees (record { 0 = t })) u ⊎ OperationDoes p Finalize (Follows (record { 0 = t })) u)
 
--- Where no body breaks a rule, what is known to be freed where an object of an access type ends, or is adjusted, is none of that type (7.6.1).
+-- Where no body breaks a rule, what is known to be reached where an object of an access type ends is none of that type, and neither is what is known to be freed
+-- where one is adjusted (7.6.1).
 abbrev pub EndsSpareTheirOwn : Type 0
 EndsSpareTheirOwn = (p : ProgramForm) → IsFirstFault p None → (t : ℕ) → is_access p.types t ≡ true →
-    ((implicit_of p).end_frees t t ≡ false) × ((implicit_of p).adjust_frees t t ≡ false)
+    ((implicit_of p).end_reaches t t ≡ false) × ((implicit_of p).adjust_frees t t ≡ false)

@@ -37,8 +37,8 @@ pub fn implicit_calls_are_those_of_all_parts()
     ensures end_reaches { EndsReachWhatPartsUse }
 {}
 
-/// Where no body breaks a rule, the end and the adjustment of an object of an access type free no object of that type: what they use
-/// lies in a collection that is created before its own (S8).
+/// Where no body breaks a rule, the end of an object of an access type neither frees an object of that type nor follows a value of it, and
+/// its adjustment frees none: what they use lies in a collection that is created before its own (S8).
 pub fn ends_spare_their_own()
     ensures { EndsSpareTheirOwn }
 {}

@@ -6,7 +6,7 @@ use Rattle.std.specs.List.{list_all, list_any, slice_range}
 use Rattle.std.proofs.lemmas.List.{take_more, drop_more, get_or-drop, reverse-append, length-drop}
 use Rattle.std.proofs.lemmas.List.Folds.{list_any-append}
 use Rattle.ada_program.specs.ProgramForm.{TypeForm}
-use Rattle.ada_quiet.specs.Bare.{holds_component, hold_none, hold_none_from, is_apart_from, collect_in_order}
+use Rattle.ada_quiet.specs.Bare.{holds_component, hold_none, hold_none_from, collect_in_order}
 use Rattle.ada_quiet.specs.Calm.{has_calm_objects}
 use Rattle.ada_quiet.specs.Known.{is_marked}
 
@@ -21,13 +21,6 @@ pub record IsMarkedUpTo (types : List TypeForm) (calm : List Bool) (accesses : L
   pub within : marked ≤ index
   pub behind : IsMarkedBehind types calm (reverse (take index accesses)) (slice_range accesses marked index) marks
   pub left : collect_in_order types calm (reverse (take index accesses)) (drop index accesses) ≡ collect_in_order types calm [] accesses
-
--- So it is behind one more, the next one, whose type is to be asked for its mark: all are in order where it has none, and those that are left behind it are.
-pub record IsAsked (types : List TypeForm) (calm : List Bool) (accesses : List ℕ) (marks : List Bool) (marked index : ℕ) : Type 0 where
-  pub within : marked ≤ index + 1
-  pub behind : IsMarkedBehind types calm (reverse (take (index + 1) accesses)) (slice_range accesses marked (index + 1)) marks
-  pub left : (not (is_marked marks (get_or accesses index 0)) && collect_in_order types calm (reverse (take (index + 1) accesses)) (drop (index + 1) accesses))
-      ≡ collect_in_order types calm [] accesses
 
 -- What holds of none does not hold of one.
 none_or_one : {X : Type 0} (holds : X → Bool) (xs : List X) → list_all (λ x. not (holds x)) xs ≡ not (list_any holds xs)
@@ -74,18 +67,6 @@ module _ (types : List TypeForm) (calm : List Bool) (older recent : List ℕ) (m
     held = λ n. held_more n ∙ sym (grown n) ∙ or_nothing (is_marked more n);
   }
 
-  -- One whose objects are calm is in order where its type is not marked before.
-  apart_calm : has_calm_objects types calm t ≡ true → is_apart_from types calm t older ≡ not (is_marked marks t)
-  apart_calm is_calm = ap (λ (b : Bool). if b then hold_none_from types calm t older else hold_none types t (t ∷ older)) is_calm ∙ before.none t
-
-  -- One whose objects are not is in order where its type is not marked behind it.
-  apart_others : (more : List Bool) → has_calm_objects types calm t ≡ false →
-      ((n : ℕ) → is_marked more n ≡ (is_marked marks n || list_any (holds_component types n) (recent ++ t ∷ []))) →
-      is_apart_from types calm t older ≡ not (is_marked more t)
-  apart_others more not_calm grown =
-      ap (λ (b : Bool). if b then hold_none_from types calm t older else hold_none types t (t ∷ older)) not_calm
-      ∙ none_or_one (holds_component types t) (t ∷ older) ∙ ap not (held_more t ∙ sym (grown t))
-
 module _ (types : List TypeForm) (calm : List Bool) (accesses : List ℕ) (marks : List Bool) (marked index : ℕ) (inside : index < length accesses)
     (before : IsMarkedUpTo types calm accesses marks marked index) where
   -- The next collection is the newest one of those that are passed then.
@@ -104,33 +85,40 @@ module _ (types : List TypeForm) (calm : List Bool) (accesses : List ℕ) (marks
       ∙ ap (λ (t : ℕ). slice_range accesses marked index ++ t ∷ [])
       (get_or-drop marked accesses (index - marked) 0 ∙ ap (λ (n : ℕ). get_or accesses n 0) place)
 
-  -- All are in order where it is, and those that are left behind it.
-  one_less : (apart : Bool) → is_apart_from types calm (get_or accesses index 0) (reverse (take index accesses)) ≡ apart →
-      (apart && collect_in_order types calm (reverse (take (index + 1) accesses)) (drop (index + 1) accesses)) ≡ collect_in_order types calm [] accesses
-  one_less apart is =
-      ap (λ (ts : List ℕ). apart && collect_in_order types calm ts (drop (index + 1) accesses)) newest
-      ∙ ap (λ (b : Bool). b && collect_in_order types calm (get_or accesses index 0 ∷ reverse (take index accesses)) (drop (index + 1) accesses)) (sym is)
+  -- All are in order where its type is not marked, and those that are left behind it are in order.
+  one_less : (not (is_marked marks (get_or accesses index 0)) && collect_in_order types calm (reverse (take (index + 1) accesses)) (drop (index + 1) accesses))
+      ≡ collect_in_order types calm [] accesses
+  one_less =
+      ap (λ (ts : List ℕ). not (is_marked marks (get_or accesses index 0)) && collect_in_order types calm ts (drop (index + 1) accesses)) newest
+      ∙ ap (λ (b : Bool). b && collect_in_order types calm (get_or accesses index 0 ∷ reverse (take index accesses)) (drop (index + 1) accesses))
+      (sym (before.behind.none (get_or accesses index 0)))
       ∙ sym (ap (collect_in_order types calm (reverse (take index accesses))) (drop_more accesses index 0 inside))
       ∙ before.left
 
-  -- What is known of the next collection, whose objects are calm, before its type is asked for its mark.
-  pub before_calm : has_calm_objects types calm (get_or accesses index 0) ≡ true → IsAsked types calm accesses marks marked index
-  before_calm is_calm =
+  -- So, where it is not, all are in order where those are that are left behind it.
+  left_behind : is_marked marks (get_or accesses index 0) ≡ false →
+      collect_in_order types calm (reverse (take (index + 1) accesses)) (drop (index + 1) accesses) ≡ collect_in_order types calm [] accesses
+  left_behind unmarked =
+      ap (λ (b : Bool). not b && collect_in_order types calm (reverse (take (index + 1) accesses)) (drop (index + 1) accesses)) (sym unmarked) ∙ one_less
+
+  -- Behind it as many types are marked, where its objects are calm.
+  pub after_calm : is_marked marks (get_or accesses index 0) ≡ false → has_calm_objects types calm (get_or accesses index 0) ≡ true →
+      IsMarkedUpTo types calm accesses marks marked (index + 1)
+  after_calm unmarked is_calm =
       let older = reverse (take index accesses) in
       let more = behind_calm types calm older (slice_range accesses marked index) marks (get_or accesses index 0) before.behind is_calm in
       record {
         within = omega (arith, before.within);
         behind = subst (λ (ts : List ℕ). IsMarkedBehind types calm ts (slice_range accesses marked (index + 1)) marks) (sym newest)
             (subst (λ (ts : List ℕ). IsMarkedBehind types calm (get_or accesses index 0 ∷ older) ts marks) (sym one_more) more);
-        left = one_less (not (is_marked marks (get_or accesses index 0)))
-            (apart_calm types calm older (slice_range accesses marked index) marks (get_or accesses index 0) before.behind is_calm);
+        left = left_behind unmarked;
       }
 
-  -- So it is with one whose objects are not, where it and the recent ones are marked from.
-  pub before_others : (more : List Bool) → has_calm_objects types calm (get_or accesses index 0) ≡ false →
+  -- Where they are not, it and the recent ones are marked from, and none is still to be marked from.
+  pub after_others : (more : List Bool) → is_marked marks (get_or accesses index 0) ≡ false → has_calm_objects types calm (get_or accesses index 0) ≡ false →
       ((n : ℕ) → is_marked more n ≡ (is_marked marks n || list_any (holds_component types n) (slice_range accesses marked (index + 1)))) →
-      IsAsked types calm accesses more (index + 1) index
-  before_others more not_calm grown =
+      IsMarkedUpTo types calm accesses more (index + 1) (index + 1)
+  after_others more unmarked not_calm grown =
       let older = reverse (take index accesses) in
       let nothing : index + 1 - (index + 1) ≡ 0 = omega arith in
       let all : (n : ℕ) → is_marked more n ≡ (is_marked marks n || list_any (holds_component types n) (slice_range accesses marked index ++ get_or accesses index 0 ∷ [])) =
@@ -140,22 +128,10 @@ module _ (types : List TypeForm) (calm : List Bool) (accesses : List ℕ) (marks
         within = omega arith;
         behind = subst (λ (ts : List ℕ). IsMarkedBehind types calm ts (slice_range accesses (index + 1) (index + 1)) more) (sym newest)
             (subst (λ (k : ℕ). IsMarkedBehind types calm (get_or accesses index 0 ∷ older) (take k (drop (index + 1) accesses)) more) (sym nothing) behind);
-        left = one_less (not (is_marked more (get_or accesses index 0)))
-            (apart_others types calm older (slice_range accesses marked index) marks (get_or accesses index 0) before.behind more not_calm all);
+        left = left_behind unmarked;
       }
 
--- Behind a collection whose type is not marked, as many are marked as where it was asked.
-pub after_unmarked : (types : List TypeForm) (calm : List Bool) (accesses : List ℕ) (marks : List Bool) (marked index : ℕ) → IsAsked types calm accesses marks marked index →
-    is_marked marks (get_or accesses index 0) ≡ false → IsMarkedUpTo types calm accesses marks marked (index + 1)
-after_unmarked types calm accesses marks marked index asked unmarked = record {
-  within = asked.within;
-  behind = asked.behind;
-  left =
-      ap (λ (b : Bool). not b && collect_in_order types calm (reverse (take (index + 1) accesses)) (drop (index + 1) accesses)) (sym unmarked) ∙ asked.left;
-}
-
--- Where its type is marked, they are not all in order.
-pub not_in_order : (types : List TypeForm) (calm : List Bool) (accesses : List ℕ) (marks : List Bool) (marked index : ℕ) → IsAsked types calm accesses marks marked index →
-    is_marked marks (get_or accesses index 0) ≡ true → false ≡ collect_in_order types calm [] accesses
-not_in_order types calm accesses marks marked index asked marked_too =
-    ap (λ (b : Bool). not b && collect_in_order types calm (reverse (take (index + 1) accesses)) (drop (index + 1) accesses)) (sym marked_too) ∙ asked.left
+  -- Where its type is marked, they are not all in order.
+  pub not_in_order : is_marked marks (get_or accesses index 0) ≡ true → false ≡ collect_in_order types calm [] accesses
+  not_in_order marked_too =
+      ap (λ (b : Bool). not b && collect_in_order types calm (reverse (take (index + 1) accesses)) (drop (index + 1) accesses)) (sym marked_too) ∙ one_less

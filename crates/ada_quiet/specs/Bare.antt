@@ -55,21 +55,16 @@ holds_component types t v = record_has_component_of types t (designated_type typ
 abbrev pub hold_none : List TypeForm → (access : ℕ) → List ℕ → Bool
 hold_none types t vs = list_all (λ v. not (holds_component types t v)) vs
 
--- So it is with these, the newest one first, from the newest one on for whose objects an operation may be called that touches storage.
+-- So it is with these, the newest one first, from the newest one on for whose objects an operation may be called that touches storage. So where a collection of that
+-- access type goes, created (7.6.1) behind these, no object of which such an operation is called later, or which goes later, has a component that names what has gone.
 abbrev pub hold_none_from : List TypeForm → (calm : List Bool) → (access : ℕ) → (older : List ℕ) → Bool
 hold_none_from types calm t [] = true
 hold_none_from types calm t (v ∷ vs) = if has_calm_objects types calm v then hold_none_from types calm t vs else hold_none types t (v ∷ vs)
 
--- A collection is created (7.6.1) behind others, the newest one first. Where an operation that touches storage may be called for its own objects, neither they nor
--- older ones have a component of its access type; else older ones have none, from the newest collection on for whose objects one may be called. So, where their
--- master is left, these are finalized while each component still names what is there.
-abbrev pub is_apart_from : List TypeForm → (calm : List Bool) → (access : ℕ) → (older : List ℕ) → Bool
-is_apart_from types calm t older = if has_calm_objects types calm t then hold_none_from types calm t older else hold_none types t (t ∷ older)
-
--- So it is with collections that are created one after the other, behind others.
+-- So it is with each of some collections that are created one after the other, behind others.
 abbrev pub collect_in_order : List TypeForm → (calm : List Bool) → (older : List ℕ) → List ℕ → Bool
 collect_in_order types calm older [] = true
-collect_in_order types calm older (t ∷ ts) = is_apart_from types calm t older && collect_in_order types calm (t ∷ older) ts
+collect_in_order types calm older (t ∷ ts) = hold_none_from types calm t older && collect_in_order types calm (t ∷ older) ts
 
 abbrev mutual
   -- The access types whose collections a statement creates, by the blocks in it (5.6), in the order of the text.

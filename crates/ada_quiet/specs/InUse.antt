@@ -27,8 +27,8 @@ abbrev pub allocates_no_parts : ProgramForm → Bool
 allocates_no_parts p = list_all (designates_no_parts p.types) p.types
 
 -- An Initialize and a Finalize may be frugal in a program that allocates no object with controlled parts, or whose collections are created in order: where a
--- master is left, no object that is not calm, and none that goes later, has a component that names what goes with it or before it (7.6.1). And operations stand
--- apart: so an Initialize is called where an object is declared or allocated (7.6), and a Finalize where an object's master is left, an exception comes out of
+-- master is left, no object of an older collection that is not calm, and none that goes later, has a component that names what goes before it (7.6.1). And operations
+-- stand apart: so an Initialize is called where an object is declared or allocated (7.6), and a Finalize where an object's master is left, an exception comes out of
 -- the initialization of one (7.6.1), another record is assigned to it, or a variable or a component is freed that names it (13.11.2).
 abbrev pub may_be_frugal : ProgramForm → Bool
 may_be_frugal p = (allocates_no_parts p || collections_in_order p) && operations_stand_apart p

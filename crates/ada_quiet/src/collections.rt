@@ -1,5 +1,5 @@
-//! Collections for whose objects an operation may be called that touches storage, where they begin or end (7.6.1): neither these objects
-//! nor those of an older collection have a component of their access type, or of one whose collection is created later in the text.
+//! Collections that are created in order (7.6.1): behind one for whose objects an operation may be called that touches storage, where they
+//! begin or end, none is created of an access type of which they, or the objects of an older collection, have a component.
 
 ghost use Rattle.std.specs.Prelude.{◌≡◌, ◌++◌, [], map, IfOk, OnOk};
 ghost use Rattle.ada_program.specs.Form.{StmtsForm, branches_form, declaration_form, handlers_form, stmt_form, stmts_form};
@@ -154,8 +154,8 @@ fn text_collections(alloc: Global, program: &Program) -> Result<Vec<usize>, Allo
 }
 
 /// Whether collections of these access types are created in order, one after the other (7.6.1): where an operation that touches storage
-/// may be called for the objects of one, neither these objects nor those of an older collection have a component of its access type, or of
-/// one whose collection is created behind it. Linear in the types, their components, and the collections.
+/// may be called for the objects of one, neither these objects nor those of an older collection have a component of an access type whose
+/// collection is created behind it. They may have one of its own access type. Linear in the types, their components, and the collections.
 ///
 /// # Errors
 /// `AllocError` where memory was refused.
@@ -175,12 +175,12 @@ fn collect_in_order(
     // How many collections these are, that one and the older ones.
     let mut marked = 0;
     'collections: for (index, access) in accesses.iter().enumerate() {
+        if has_mark(&held.accesses, *access) {
+            return Ok(false);
+        }
         if !has_calm_objects(types, calm, TypeNo(*access)) {
             hold_all(&mut held, types, &accesses[marked..=index])?;
             marked = index + 1;
-        }
-        if has_mark(&held.accesses, *access) {
-            return Ok(false);
         }
     }
     Ok(true)

@@ -217,6 +217,14 @@ fn text_makes_parts(copies: bool, program: &Program) -> bool
         || bodies_make_parts(&program.types, copies, &program.procedures)
 }
 
+/// Whether something in the text of a program creates an object with controlled parts (3.3.1, 4.8), or assigns a record with some
+/// (5.2): where nothing does, no operation of a controlled type is called. Linear in all bodies.
+pub fn makes_parts(program: &Program) -> bool
+    ensures { result ≡ rules.makes_parts (program_form program.now) }
+{
+    text_makes_parts(false, program)
+}
+
 /// Whether operations stand in order in a program: they stand apart, and the components of each record stand in order. Linear in the
 /// types, their components, and all bodies.
 ///
@@ -247,5 +255,5 @@ pub(crate) fn adjusts_nothing(alloc: Global, program: &Program) -> Result<bool, 
 pub(crate) fn are_idle(alloc: Global, program: &Program) -> Result<bool, AllocError>
     ensures { IfOk result (λ answer. answer ≡ in_use.operations_are_idle (program_form program.now)) }
 {
-    Ok(!text_makes_parts(false, program) && stand_in_order(alloc, program)?)
+    Ok(!makes_parts(program) && stand_in_order(alloc, program)?)
 }

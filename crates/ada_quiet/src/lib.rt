@@ -21,11 +21,12 @@
 //!
 //! An Initialize and a Finalize may be frugal in a program in which no access type designates a record type with controlled parts, so that
 //! these lie in declared objects alone. They may be frugal, too, in one whose access types designate such record types, if its collections
-//! are created in order: where the objects of one are not calm, neither they nor the objects of an older collection have a component of
-//! their access type, or of one whose collection is created later in the text (7.6.1). Then, where a master is left and newer collections
-//! go before older ones, they are finalized while each component still names what is there. An object is calm, if no operation that
-//! touches storage may be called for it, or for a part of it, where it begins or ends: each Initialize is plain, and each Finalize is
-//! quiet. No operation follows a component while such an object is finalized. `may_be_frugal` tells whether a program is such a one.
+//! are created in order: where the objects of one are not calm, neither they nor the objects of an older collection have a component of an
+//! access type whose collection is created later in the text (7.6.1). Then, where a master is left and newer collections go before older
+//! ones, they are finalized while each component still names what is there, or what went with their own collection. An object is calm, if
+//! no operation that touches storage may be called for it, or for a part of it, where it begins or ends: each Initialize is plain, and
+//! each Finalize is quiet. No operation follows a component while such an object is finalized. `may_be_frugal` tells whether a program is
+//! such a one.
 //!
 //! Variables and components free objects (13.11.2), whatever runs where these end. While an object is finalized that is freed, no component
 //! names it but the one that frees it, if one does; and nothing that runs there comes to the object in which that component lies:
@@ -74,5 +75,6 @@ mod uses;
 mod values;
 
 pub use crate::first::first_unused;
+pub use crate::idle::makes_parts;
 pub use crate::operations::operations_are_quiet;
 pub use crate::uses::may_be_frugal;

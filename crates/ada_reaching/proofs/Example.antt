@@ -140,7 +140,6 @@ premise_is_met = (
           ghost = record { 0 = 1 };
           is_ghost = refl;
         };
-        treats_none = refl;
         holder = record { 0 = 0 };
         component = 1;
         holds_other = holds_null _;

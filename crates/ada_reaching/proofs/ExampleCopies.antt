@@ -242,7 +242,6 @@ copy_is_met = (
             ghost = record { 0 = 2 };
             is_ghost = refl;
           };
-          treats_none = refl;
           holder = of_x;
           component = 1;
           holds_other = holds_null _;

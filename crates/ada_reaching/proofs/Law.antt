@@ -28,7 +28,7 @@ use Rattle.ada_typed.proofs.Values.{OperandKind}
 use Rattle.ada_untouched.specs.Untouched.{Untouched}
 use Rattle.ada_reaching.specs.Reaching.{IsElsewhere, IsGhost, IsReaching, OperandSeeks}
 use Rattle.ada_reaching.specs.Apart.{Apart}
-use Rattle.ada_reaching.specs.Law.{AreApart, is_treating, IsWithin, GoesOn, AllGoOn, none_hidden, ShunnedObjectsAreUntouched}
+use Rattle.ada_reaching.specs.Law.{AreApart, IsWithin, GoesOn, AllGoOn, none_hidden, ShunnedObjectsAreUntouched}
 use Rattle.ada_reaching.specs.Forms.{body_shuns}
 use Rattle.ada_reaching.proofs.Begins.{elaborates_shuns}
 use Rattle.ada_reaching.proofs.Calls.{AreParts}
@@ -175,7 +175,7 @@ pub stays_reaching :
     → AreApart (program_form program) program.types.items shuns apart → (ghosts unnamed : Id → Bool)
     (behind : List (Frame Value)) (s : State) → typed.Typed (program_form program) s → IsReaching (program_form program) shuns apart ghosts unnamed behind s
     → IsWithin behind s.control s.masters
-    → (is_treating s.control ≡ false → Untouched none_hidden ghosts s)
+    → Untouched none_hidden ghosts s
     × AllGoOn (GoesOn (program_form program) shuns apart ghosts unnamed behind s.heap) (next program.types.items (body_forms program) s)
 stays_reaching program well shuns apart are_apart ghosts unnamed behind s typing reaching within =
     let p = program_form program in
@@ -215,7 +215,7 @@ stays_reaching program well shuns apart are_apart ghosts unnamed behind s typing
       operands = reaching.operands;
       same = λ o is. refl;
     } in (
-      λ untreated. first_open w s sound runs s.mode s.control untreated reaching.control root reaching.seeks within.takes,
+      first_open w s sound runs s.mode s.control reaching.control root reaching.seeks within.takes,
       step_goes w program.types.items refl are_apart s.mode s.control s sound (further w s.control within.on) within.takes root
           (first_refers p (cells_of s.heap) w procedure s.control (older s.activations) typing.waiting) runs reaching.control reaching.seeks,
     )

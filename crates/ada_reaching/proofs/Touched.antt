@@ -21,7 +21,7 @@ use Rattle.ada_meaning.specs.Named.{Object, State, named, object_at, look}
 use Rattle.ada_typed.specs.Holding.{HasKind, cells_of}
 use Rattle.ada_untouched.specs.Untouched.{IsOpen, FreedIsOpen, MayBeSought, MayBeFreed, RecordIsOpen, ExpressionIsOpen, ItemsAreOpen, RightIsOpen, StatementsAreOpen, FrameIsOpen, JumpIsOpen, FirstIsOpen}
 use Rattle.ada_reaching.specs.Forms.{may_follow, selectors_shun, path_shuns, record_path_shuns, expression_shuns, item_shuns, right_shuns, statement_shuns, statements_shun}
-use Rattle.ada_reaching.specs.Law.{TakesNone, FirstTakesNone, is_treating, none_hidden}
+use Rattle.ada_reaching.specs.Law.{TakesNone, FirstTakesNone, none_hidden}
 use Rattle.ada_reaching.proofs.Elsewhere.{elsewhere_at}
 use Rattle.ada_reaching.proofs.Frames.{newest_seeks}
 use Rattle.ada_reaching.proofs.Frees.{same_kind, component_sight, variable_sight}
@@ -146,52 +146,52 @@ module _ (w : World) (s : State) (sound : Sound w s) (r : Runs w s) where
   component_open v c on_other is each = tt
   component_open v c (finds cell) is each = sought_open v c cell (slice_get cell.values c) is refl each
 
-  -- A frame looks at no ghost that does not treat an object.
+  -- A frame looks at no ghost.
   frame_open :
-      (f : Frame Value) (k : List (Frame Value)) → is_treating (f ∷ k) ≡ false → Left w (f ∷ k) → FrameIsRooted w.p.types (variables_in w) f
+      (f : Frame Value) (k : List (Frame Value)) → Left w (f ∷ k) → FrameIsRooted w.p.types (variables_in w) f
       → ValueSeeks w s.heap (newest named s) (f ∷ k) → TakesNone f s.masters → FrameIsOpen none_hidden w.ghosts s f
-  frame_open (frame.Does fs) k other h root seeks none = statements_open fs (h.0) root
-  frame_open (frame.Leaves mode) k other h root seeks none = none
-  frame_open (frame.Evaluates right) k other h root seeks none = right_open right (h.0) root
-  frame_open (frame.Computes e) k other h root seeks none = expression_open e (h.0) root
-  frame_open (frame.Follows cs) k other h root seeks none = followed_open cs (newest named s) k seeks
-  frame_open (frame.Refers q) k other h root seeks none = record_open q (h.0) root
-  frame_open (frame.RefersIn place t) k other h root seeks none = in_sight w s.heap r.same (newest named s) seeks
-  frame_open (frame.Opens path) k other h root seeks none = holder_open w s path.root path.selectors root.0 sound r root.1 (h.0)
-  frame_open (frame.OpensIn c) k other h root seeks none = (in_sight w s.heap r.same (newest named s) seeks, nothing_hidden (newest named s) c)
-  frame_open (frame.Fills items) k other h root seeks none = items_open items (h.0) root
-  frame_open (frame.Copies c t) k other h root seeks none =
+  frame_open (frame.Does fs) k h root seeks none = statements_open fs (h.0) root
+  frame_open (frame.Leaves mode) k h root seeks none = none
+  frame_open (frame.Evaluates right) k h root seeks none = right_open right (h.0) root
+  frame_open (frame.Computes e) k h root seeks none = expression_open e (h.0) root
+  frame_open (frame.Follows cs) k h root seeks none = followed_open cs (newest named s) k seeks
+  frame_open (frame.Refers q) k h root seeks none = record_open q (h.0) root
+  frame_open (frame.RefersIn place t) k h root seeks none = in_sight w s.heap r.same (newest named s) seeks
+  frame_open (frame.Opens path) k h root seeks none = holder_open w s path.root path.selectors root.0 sound r root.1 (h.0)
+  frame_open (frame.OpensIn c) k h root seeks none = (in_sight w s.heap r.same (newest named s) seeks, nothing_hidden (newest named s) c)
+  frame_open (frame.Fills items) k h root seeks none = items_open items (h.0) root
+  frame_open (frame.Copies c t) k h root seeks none =
       (in_sight w s.heap r.same (newest named s) seeks, λ component. nothing_hidden (newest named s) component)
-  frame_open (frame.Targets c right) k other h root seeks none = in_sight w s.heap r.same (newest named s) seeks
-  frame_open (frame.StoresIn v c) k other h root seeks none = h.0
-  frame_open (frame.TargetsRecord c t items) k other h root seeks none = in_sight w s.heap r.same (newest named s) seeks
-  frame_open (frame.StoresRecord v c count) k other h root seeks none = h.0
-  frame_open (frame.Receives c) k other h root seeks none = in_sight w s.heap r.same (newest named s) seeks
-  frame_open (frame.FreesIn access c) k other h root seeks none = (
+  frame_open (frame.Targets c right) k h root seeks none = in_sight w s.heap r.same (newest named s) seeks
+  frame_open (frame.StoresIn v c) k h root seeks none = h.0
+  frame_open (frame.TargetsRecord c t items) k h root seeks none = in_sight w s.heap r.same (newest named s) seeks
+  frame_open (frame.StoresRecord v c count) k h root seeks none = h.0
+  frame_open (frame.Receives c) k h root seeks none = in_sight w s.heap r.same (newest named s) seeks
+  frame_open (frame.FreesIn access c) k h root seeks none = (
     (in_sight w s.heap r.same (newest named s) (λ o x e at. (seeks o x e at).0), nothing_hidden (newest named s) c),
     component_open (newest named s) c (look s.heap (newest named s)) refl (λ o x e at. (seeks o x e at).1),
   )
-  frame_open (frame.Treats v treatment tasks) k other h root seeks none = absurd (cc)
-  frame_open (frame.Awaits v by done of part tasks) k other h root seeks none = absurd (h.0)
-  frame_open (frame.Ends v) k other h root seeks none = h.0
-  frame_open (frame.GivesBack v cause pool) k other h root seeks none = h.0
-  frame_open (frame.ClearsIn v c) k other h root seeks none = h.0
-  frame_open f k other h root seeks none = tt
+  frame_open (frame.Treats v treatment tasks) k h root seeks none = h.0.0
+  frame_open (frame.Awaits v by done of part tasks) k h root seeks none = absurd (h.0)
+  frame_open (frame.Ends v) k h root seeks none = h.0
+  frame_open (frame.GivesBack v cause pool) k h root seeks none = h.0
+  frame_open (frame.ClearsIn v c) k h root seeks none = h.0
+  frame_open f k h root seeks none = tt
 
   -- A jump looks at no object.
   jump_open : (f : Frame Value) (k : List (Frame Value)) → Left w (f ∷ k) → JumpIsOpen none_hidden w.ghosts s f
   jump_open (frame.Awaits v by done of part tasks) k h = absurd (h.0)
   jump_open f k h = tt
 
-  -- The first of what is left to do looks at no ghost, in any mode, where no object is treated next.
+  -- The first of what is left to do looks at no ghost, in any mode.
   pub first_open :
-      (m : Mode) (k : List (Frame Value)) → is_treating k ≡ false → Left w k → FirstIsRooted w.p.types (variables_in w) m k
+      (m : Mode) (k : List (Frame Value)) → Left w k → FirstIsRooted w.p.types (variables_in w) m k
       → OperandsSeek w s.heap m k (operands s) → FirstTakesNone k s.masters → FirstIsOpen none_hidden w.ghosts s m k
-  first_open Running [] other h root seeks none = tt
-  first_open Running (f ∷ k) other h root seeks none = frame_open f k other h root (newest_seeks w s.heap (f ∷ k) (operands s) seeks) none
-  first_open (Raising e) [] other h root seeks none = tt
-  first_open (Raising e) (f ∷ k) other h root seeks none = jump_open f k h
-  first_open Exiting [] other h root seeks none = tt
-  first_open Exiting (f ∷ k) other h root seeks none = jump_open f k h
-  first_open Returning [] other h root seeks none = tt
-  first_open Returning (f ∷ k) other h root seeks none = jump_open f k h
+  first_open Running [] h root seeks none = tt
+  first_open Running (f ∷ k) h root seeks none = frame_open f k h root (newest_seeks w s.heap (f ∷ k) (operands s) seeks) none
+  first_open (Raising e) [] h root seeks none = tt
+  first_open (Raising e) (f ∷ k) h root seeks none = jump_open f k h
+  first_open Exiting [] h root seeks none = tt
+  first_open Exiting (f ∷ k) h root seeks none = jump_open f k h
+  first_open Returning [] h root seeks none = tt
+  first_open Returning (f ∷ k) h root seeks none = jump_open f k h

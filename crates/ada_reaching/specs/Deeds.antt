@@ -16,7 +16,7 @@ use Rattle.ada_meaning.specs.Named.{State, next}
 use Rattle.ada_meaning.specs.Run.{Event, Run, first_state}
 use Rattle.ada_untouched.specs.Untouched.{Untouched}
 use Rattle.ada_reaching.specs.Apart.{Apart}
-use Rattle.ada_reaching.specs.Law.{AreApart, IsWithin, GoesOn, AllGoOn, is_treating, none_hidden}
+use Rattle.ada_reaching.specs.Law.{AreApart, IsWithin, GoesOn, AllGoOn, none_hidden}
 use Rattle.ada_reaching.specs.Reaching.{IsReaching}
 
 -- The bodies of these procedures shun no type, but are of the shape of those that do, and call these procedures alone: they declare no record object, assign to no
@@ -34,8 +34,7 @@ pub record UseNone (p : ProgramForm) (shuns : ℕ → Bool) (apart : Apart) : Ty
   pub follow_none : (procedure access : ℕ) → apart.calls procedure ≡ true → shuns access ≡ true → ¬ DoesFollow p procedure access
   pub free_none : (procedure access : ℕ) → apart.calls procedure ≡ true → shuns access ≡ true → ¬ DoesFree p procedure access
 
--- In every run of a well-formed program a step of bodies that call such procedures alone looks at no ghost, unless an object is treated next, leaves each as it is,
--- and leaves the bodies so.
+-- In every run of a well-formed program a step of bodies that call such procedures alone looks at no ghost, leaves each as it is, and leaves the bodies so.
 abbrev pub UnusedObjectsAreUntouched : Type 0
 UnusedObjectsAreUntouched =
     (program : Program) → IsWellFormed (program_form program) → (input : List ℤ) (events : List Event) (s : State)
@@ -43,5 +42,5 @@ UnusedObjectsAreUntouched =
     → AreShaped (program_form program) program.types.items apart
     → UseNone (program_form program) shuns apart → (ghosts unnamed : Id → Bool) (behind : List (Frame Value))
     → IsReaching (program_form program) shuns apart ghosts unnamed behind s → IsWithin behind s.control s.masters
-    → (is_treating s.control ≡ false → Untouched none_hidden ghosts s)
+    → Untouched none_hidden ghosts s
     × AllGoOn (GoesOn (program_form program) shuns apart ghosts unnamed behind s.heap) (next program.types.items (body_forms program) s)

@@ -23,7 +23,7 @@ use Rattle.ada_untouched.specs.Untouched.{Untouched}
 use Rattle.ada_reaching.specs.Apart.{Apart}
 use Rattle.ada_reaching.specs.Forms.{body_shuns}
 use Rattle.ada_reaching.specs.Reaching.{IsOfShunned, IsReaching}
-use Rattle.ada_reaching.specs.Law.{AreApart, IsWithin, is_treating, none_hidden}
+use Rattle.ada_reaching.specs.Law.{AreApart, IsWithin, none_hidden}
 use Rattle.ada_reaching.specs.Deeds.{AreShaped, UseNone}
 
 -- The body of a procedure runs, and a step leads on.
@@ -51,7 +51,6 @@ pub record RunsBeside (program : Program) (shuns : ℕ → Bool) (apart : Apart)
 pub record StoresGhost (program : Program) (shuns : ℕ → Bool) (apart : Apart) (ghosts unnamed : Id → Bool) (behind : List (Frame Value)) (b : BodyForm)
     (s after : State) : Type 0 where
   pub runs_beside : RunsBeside program shuns apart ghosts unnamed behind b s after
-  pub treats_none : is_treating s.control ≡ false
   pub holder : Id
   pub component : ℕ
   pub holds_other : component_at s.heap holder component ≢ Some (Names runs_beside.ghost)

@@ -1,4 +1,4 @@
--- The law: bodies that shun some access types change no object of them, and neither do the operations of what they free; they look at none, unless they treat one.
+-- The law: bodies that shun some access types look at no object of them and change none, and neither do the operations of what they free.
 
 use Rattle.std.specs.Prelude.{◌≡◌, ◌<◌, ℕ, ℤ, Bool, true, false, List, [], ◌∷◌, Some}
 use Rattle.std.specs.List.{slice_get}
@@ -24,12 +24,6 @@ pub record AreApart (p : ProgramForm) (definitions : List TypeDefinition) (shuns
   pub own : apart.definitions ≡ definitions
   pub bodies : (procedure : ℕ) (b : BodyForm) → apart.calls procedure ≡ true → slice_get p.bodies procedure ≡ Some b → body_shuns p.types shuns apart b ≡ true
   pub operations : CallsApart definitions apart
-
--- The treatment of an object is next (7.6, 7.6.1).
-abbrev pub is_treating : List (Frame Value) → Bool
-is_treating [] = false
-is_treating (frame.Treats v treatment tasks ∷ k) = true
-is_treating (f ∷ k) = false
 
 -- A master that is left has no object to take out (7.6.1).
 abbrev pub TakesNone : Frame Value → List Master → Type 0
@@ -68,12 +62,12 @@ AllGoOn P (tells request e s) = P s
 AllGoOn P (asks request answers) = (granted : Bool) → P (answers granted)
 AllGoOn P (picks count taking) = (i : ℕ) → i < count → P (taking i)
 
--- In every run of a well-formed program a step of such bodies looks at no ghost, unless an object is treated next, leaves each as it is, and leaves the bodies so.
+-- In every run of a well-formed program a step of such bodies looks at no ghost, leaves each as it is, and leaves the bodies so.
 abbrev pub ShunnedObjectsAreUntouched : Type 0
 ShunnedObjectsAreUntouched =
     (program : Program) → IsWellFormed (program_form program) → (input : List ℤ) (events : List Event) (s : State)
     → Run program (first_state program input) events s → (shuns : ℕ → Bool) (apart : Apart) → AreApart (program_form program) program.types.items shuns apart
     → (ghosts unnamed : Id → Bool)
     (behind : List (Frame Value)) → IsReaching (program_form program) shuns apart ghosts unnamed behind s → IsWithin behind s.control s.masters
-    → (is_treating s.control ≡ false → Untouched none_hidden ghosts s)
+    → Untouched none_hidden ghosts s
     × AllGoOn (GoesOn (program_form program) shuns apart ghosts unnamed behind s.heap) (next program.types.items (body_forms program) s)

@@ -8,7 +8,7 @@ ghost use Rattle.ada_reaching.specs.Law.{ShunnedObjectsAreUntouched};
 /// While bodies run that follow and free no value of some access types, and the operations of what they free, each object of these types
 /// stays as it is into which no reference of theirs to a record or a component leads, and so does a declared record object (3.3.1) of
 /// which that is so, too, and that no variable or operand of theirs names; and what is left of the bodies is so still. No step looks at
-/// one of these objects, but perhaps one that treats an object (7.6.1).
+/// one of these objects, nor does one that treats another object (7.6.1).
 pub fn shunned_objects_are_untouched()
     ensures { ShunnedObjectsAreUntouched }
 {}

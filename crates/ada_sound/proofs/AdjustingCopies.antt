@@ -277,9 +277,9 @@ module _ (program : Program) (s : State) (d : AdjustingCopy program s) where
     next_on (halts halt) m n_is m_is alike on goes =
         let ends : EndsWell halt (aside s).heap s.masters = subst (GoesAdjusting program (aside s) f) alike goes in
         ends_unblanked (hiding d.owners d.object) halt s.heap s.masters ends
-    next_on (moves e after) m n_is m_is (t, is, alike) on goes =
+    next_on (moves e after) m n_is m_is (t, is, alike, spares) on goes =
         both_on settled e after t (rw n_is (refl, refl)) (rw (m_is, is) (refl, refl)) alike on (subst (GoesAdjusting program (aside s) f) is goes)
-    next_on (tells request e after) m n_is m_is (t, is, alike) on goes =
+    next_on (tells request e after) m n_is m_is (t, is, alike, spares) on goes =
         both_on settled e after t (rw n_is (refl, refl)) (rw (m_is, is) (refl, refl)) alike on (subst (GoesAdjusting program (aside s) f) is goes)
     next_on (asks request answered) m n_is m_is (answers, is, alike) on goes = λ granted.
         (let all : GoesAdjusting program (aside s) f (asks request answers) = subst (GoesAdjusting program (aside s) f) is goes in

@@ -18,8 +18,8 @@ use Rattle.ada_sound.proofs.Steps.{calls_next, fine_unless_called}
 -- The steps of a body that is judged keep the invariant.
 pub judged_keeps : (program : Program) (number : ℕ) (tracks : Tracks) (gs : List Suspension) → CopiesWell (known_judged program number tracks gs).program.types
     → OwnBody (known_judged program number tracks gs).program → StepsKeep (known_judged program number tracks gs) program.types.items (body_forms program)
-judged_keeps program number tracks gs copies own t alone none typing bare lone may finalizes aside freely low ready =
-    fine_unless_called (known_judged program number tracks gs) copies may program.types.items (reaches_judged program number tracks gs) (body_forms program) t (λ next. absurd (not_next t.control alone next)) bare none typing own lone finalizes aside freely low ready
+judged_keeps program number tracks gs copies own t alone none typing bare lone may finalizes aside freely low stays ready =
+    fine_unless_called (known_judged program number tracks gs) copies may program.types.items (reaches_judged program number tracks gs) (body_forms program) t (λ next. absurd (not_next t.control alone next)) bare none typing own lone finalizes aside freely low stays ready
   where
     not_next : (k : Control) → calls_or_copies k ≡ false → calls_next k ≡ true → ⊥
     not_next [] alone next = cc next

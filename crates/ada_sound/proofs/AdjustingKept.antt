@@ -35,7 +35,7 @@ use Rattle.ada_sound.proofs.Alters.{Alters}
 use Rattle.ada_sound.proofs.Calm.{ends_operation}
 use Rattle.ada_sound.proofs.Callers.{Suspension}
 use Rattle.ada_sound.proofs.Homes.{NoneIsUnder}
-use Rattle.ada_sound.proofs.Invariant.{Control, CoveredIn, Fine, IsCovered, IsFollowed, Known, Ready, Says, Standing, innermost, outers}
+use Rattle.ada_sound.proofs.Invariant.{Control, CoveredIn, Fine, IsCovered, IsFollowed, Known, Ready, Says, Standing, departs, departs_next, innermost, outers}
 use Rattle.ada_sound.proofs.Judged.{judged_in, known_judged}
 use Rattle.ada_sound.proofs.Leavings.{AreInOrder, HeldIn, NamedBelow}
 use Rattle.ada_sound.proofs.Standing.{FinalizesIn, FreesAmong}
@@ -53,6 +53,7 @@ StepsKeep known types bodies =
     → (t.mode ≡ Running → FreesAmong may t.control)
     → ((left : Mode) (k : Control) → t.mode ≡ Running → t.control ≡ Leaves left ∷ k
     → HeldIn t.heap t.masters × NamedBelow (outers known) t.heap t.masters × AreInOrder known.ahead known.program.types (innermost t.masters))
+    → (t.mode ≡ Running → departs_next (departs known.ahead (innermost t.masters)) t.control ≡ false)
     → Ready known t → Fine known t.heap t.masters (next types bodies t)
 
 -- A step leaves typed what is typed by the program as a body sees it, where no body begins and none ends, and nothing is called or treated.

@@ -1,7 +1,7 @@
 -- Each step of the body of an Adjust that tracks components of its formal parameter (7.6), but its end: the state that stands for the real one takes a step, too, or
 -- stays as it is, and keeps what is known of it.
 
-use Rattle.std.proofs.Common.{◌≡◌, ℕ, Bool, true, false, List, [], ◌∷◌, refl, sym, ◌∙◌, subst}
+use Rattle.std.proofs.Common.{◌≡◌, ℕ, Bool, true, false, List, [], ◌∷◌, ◌++◌, refl, sym, ◌∙◌, subst}
 use Rattle.std.specs.Prelude.{Option, Some}
 use Rattle.std.specs.List.{AllPairs}
 use Rattle.ada_deeds.specs.Implicit.{implicit_of}
@@ -17,7 +17,7 @@ use Rattle.ada_meaning.specs.Law.{items_of}
 use Rattle.ada_meaning.specs.Named.{Object, State, Next, next, object_at}
 use Rattle.ada_meaning.specs.Run.{Event}
 use Rattle.ada_meaning.specs.State.{Activation, Master}
-use Rattle.ada_meaning.specs.Step.{halts, moves, tells, asks, picks, older, places}
+use Rattle.ada_meaning.specs.Step.{halts, moves, tells, asks, picks, older, places, operands_of}
 use Rattle.ada_program.specs.declared.program.Program.{Program}
 use Rattle.ada_program.specs.declared.program.TypeDefinition.{TypeDefinition}
 use Rattle.ada_program.specs.ProgramForm.{BodyForm, ProgramForm, TypeForm, body_forms, program_form, seen_in}
@@ -49,10 +49,10 @@ use Rattle.ada_sound.proofs.Below.{named_below}
 use Rattle.ada_sound.proofs.Blanked.{alters_unblanked, ends_unblanked, says_unblanked, stored_unblanked, unblanked}
 use Rattle.ada_sound.proofs.Callers.{AreOf}
 use Rattle.ada_sound.proofs.FrugalControl.{Frugal, Frugally, GoesFrugally, is_return_first}
-use Rattle.ada_sound.proofs.FrugalLeaves.{held_in_none, innermost_houses_none, leaves_own}
+use Rattle.ada_sound.proofs.FrugalLeaves.{frugal_stays, held_in_none, innermost_houses_none, leaves_own}
 use Rattle.ada_sound.proofs.FrugalSteps.{is_call_first, frugal_crosses, frugal_steps, none_ends, treats_none}
 use Rattle.ada_sound.proofs.Homes.{NoneIsUnder}
-use Rattle.ada_sound.proofs.Invariant.{Control, EndsWell, Fine, IsFollowed, Known, Parting, Ready, RunsOn, Says, Standing, Stepped, innermost, outers}
+use Rattle.ada_sound.proofs.Invariant.{Control, EndsWell, Fine, IsFollowed, Known, Parting, Ready, ReadyIn, RunsOn, Says, Standing, Stepped, departs, departs_next, innermost, outers}
 use Rattle.ada_sound.proofs.Judged.{known_judged}
 use Rattle.ada_sound.proofs.Leavings.{AreInOrder, HeldIn, NamedBelow}
 use Rattle.ada_sound.proofs.Operating.{AreVariables, InBody, StepsTo}
@@ -181,6 +181,13 @@ module _
         rw of_t.masters (subst (λ (types : List TypeForm). AreInOrder (ahead_in p) types (innermost s.masters)) (sym types_are) orderly.ordered),
       )
 
+  -- So no collection is left there.
+  stays_next : f.t.mode ≡ Running → departs_next (departs known.ahead (innermost f.t.masters)) f.t.control ≡ false
+  stays_next runs =
+      let ready : ReadyIn known Running f.t.control f.t.heap (places f.t) (operands_of f.t.activations) (f.frugal.upper ++ f.lower) = rw (runs, f.frugal.masters) at f.ready.1 in
+      subst (λ (ms : List Master). departs_next (departs known.ahead (innermost ms)) f.t.control ≡ false) (sym f.frugal.masters)
+      (frugal_stays known (calling_none p.types) f.behind f.t.mode f.t.control f.t.heap (places f.t) (operands_of f.t.activations) f.frugal.upper f.lower f.frugal.frugal f.frugal.own ready)
+
   -- What is freed next is bare.
   freely : FreesAmong bare_types f.t.control
   freely = frees_bare (calling_none p.types) refl f.behind f.t.mode f.t.control f.frugal.upper f.frugal.frugal
@@ -203,7 +210,7 @@ module _
   fine_on : Fine known f.t.heap f.t.masters (next tds bodies f.t)
   fine_on =
       judged.keeps (waiting program s f ∷ f.suspensions) f.t alone_there none_crosses f.typed bare_there
-      (subst (λ (ms : List Master). AllPairs CollectTwoTypes (items_of ms)) (sym of_t.masters) orderly.two) bare_types finalizes none_is_under (λ runs. freely) low f.ready
+      (subst (λ (ms : List Master). AllPairs CollectTwoTypes (items_of ms)) (sym of_t.masters) orderly.two) bare_types finalizes none_is_under (λ runs. freely) low stays_next f.ready
 
   frugal_on : GoesFrugally (calling_none p.types) f.lower f.behind (next tds bodies f.t)
   frugal_on =

@@ -1,6 +1,6 @@
 -- Where a statement begins, variables and components are as they are relied on to be.
 
-use Rattle.std.proofs.Common.{◌≡◌, ◌≢◌, ℕ, zero, suc, true, List, [], ◌∷◌, refl, sym, ap, subst, ◌∙◌, ◌⊎◌, inl, inr, false}
+use Rattle.std.proofs.Common.{◌≡◌, ◌≢◌, ℕ, zero, suc, Bool, true, List, [], ◌∷◌, refl, sym, ap, subst, ◌∙◌, ◌⊎◌, inl, inr, false}
 use Rattle.std.specs.Prelude.{Option, Some, None}
 use Rattle.std.specs.List.{slice_get, slice_index_or}
 use Rattle.ada_parts.specs.Task.{Task}
@@ -10,7 +10,7 @@ use Rattle.ada_program.specs.declared.program.VariableKind.TheVariants as variab
 use Rattle.ada_program.specs.Form.{PathForm, nothing, assigns, StmtsForm, a_stmt}
 use Rattle.ada_program.specs.declared.program.ComponentKind.{ComponentKind}
 use Rattle.ada_program.specs.ProgramForm.{TypeForm, ProgramForm, program_form, seen_in}
-use Rattle.ada_program.specs.WellFormed.{access_of, variable_kind, held_kind, component_kind, kind_among}
+use Rattle.ada_program.specs.WellFormed.{IsWellFormed, access_of, variable_kind, held_kind, component_kind, kind_among}
 use Rattle.ada_flow.specs.declared.rule.Hold.{Hold}
 use Rattle.ada_flow.specs.declared.rule.Hold.TheVariants as hold
 use Rattle.ada_flow.specs.Flow.{Holds, hold_at, variable_access}
@@ -38,7 +38,7 @@ use Rattle.ada_owners.proofs.Kernel.{same_place, of_same}
 use Rattle.ada_owners.proofs.Objects.{present_at}
 use Rattle.ada_owners.proofs.Changes.{store_access, store_reads}
 use Rattle.ada_finalized.specs.Law.{NoOperationRuns}
-use Rattle.ada_sound.specs.Always.{AgreesThere}
+use Rattle.ada_sound.specs.Always.{AgreesThere, AgreesWhileLeft}
 use Rattle.ada_sound.specs.Agreement.{Exists, IsValid, IsAs, Turning, here, IsFlowAt, IsBehind, IsSpokenOf, running_procedure, component_access, IsKept, IsOwning, IsCleared, Agrees, value_in}
 use Rattle.ada_sound.specs.Agreement as agreement
 use Rattle.ada_sound.proofs.Items as items
@@ -55,6 +55,10 @@ use Rattle.ada_sound.proofs.Returns.{same_types}
 use Rattle.ada_sound.proofs.Touching.{Touching}
 use Rattle.ada_sound.proofs.Operating.{IsCalm, Sight, WaitsFor, Quietly, Comes, Body}
 use Rattle.ada_sound.proofs.Operates.{Operates}
+use Rattle.ada_sound.proofs.Departing.{Departing, IsLeft, Within}
+use Rattle.ada_sound.proofs.Departing as departing
+use Rattle.ada_sound.proofs.DepartingSights.{is_being_left, stands_for}
+use Rattle.ada_sound.proofs.SeenGrounds.{seen_typed}
 use Rattle.ada_sound.proofs.Starts.{Ordinary, Sound}
 use Rattle.ada_sound.proofs.Adjusting.{AdjustingCopy}
 use Rattle.ada_typed.proofs.Kept.{behind_call}
@@ -287,27 +291,42 @@ none_waits : (types : List TypeForm) (o : Id) (of : ℕ) (treatment : Treatment)
 none_waits types o of (frame.begins by done) tasks k behind (part, is) none = let there : NoOperationRuns (frame.Awaits (Names o) by done of part tasks ∷ k) = rw is at none in absurd (cc (there.0))
 none_waits types o of (frame.ends cause) tasks k behind (is, inside) none = let there : NoOperationRuns (frame.Confines ∷ treating (Names o) (frame.ends cause) tasks k) = rw is at none in absurd (cc (there.0))
 
--- Wherever a statement begins, but in the body of an operation that touches Integers and Booleans alone, or of an Adjust that tracks components.
-pub agrees_at : (program : Program) (s : State) → Sound program s → BeginsStatement s → IsSpokenOf program s → AgreesThere program s
+-- The body of an operation that touches Integers and Booleans alone is not spoken of.
+module _ (program : Program) (s : State) (b : BeginsStatement s) where
+  no_statement : (sight : Sight) (behind : Control) (ms : List Master) (operands : List Value) → Comes sight behind ms Running (Does (a_stmt b.stmt b.later) ∷ b.outer) operands → Quietly sight behind ms (Does (a_stmt b.stmt b.later) ∷ b.outer)
+  no_statement sight behind ms operands (inl (all, goes, leads)) = leads
+  no_statement sight behind ms [] (inr (running, next)) = absurd next
+  no_statement sight behind ms (v ∷ vs) (inr (running, next)) = absurd next
+
+  runs_apart : (o : Operates program s) → NoOperationRuns s.control → ⊥
+  runs_apart o none =
+      let sight : Sight = record { program = seen_in (Some o.procedure) (program_form program); object = o.object; access = o.access } in
+      let body : Body sight o.behind o.upper s.heap o.places o.operands Running (Does (a_stmt b.stmt b.later) ∷ b.outer) = rw (b.runs, b.first) at o.body in
+      let none_here : NoOperationRuns (Does (a_stmt b.stmt b.later) ∷ b.outer) = rw b.first at none in
+      none_waits (program_form program).types o.object o.suspended.of o.treatment o.suspended.tasks o.suspended.after o.behind o.suspended.waits
+      (waits_for_end sight o.behind (Does (a_stmt b.stmt b.later) ∷ b.outer) o.upper (no_statement sight o.behind o.upper o.operands body.comes) none_here)
+
+  unspoken : Operates program s → IsSpokenOf program s → ⊥
+  unspoken o (inl none) = runs_apart o none
+  unspoken o (inr neither) = neither (inl (o.procedure, o.is_body.0, ap procedure_of o.active, o.is_body.1, o.plain))
+
+  -- Where one runs that touches storage, flow agrees.
+  touching_agrees : IsWellFormed (program_form program) → typed.Typed (program_form program) s → Touching program s → AgreesThere program s
+  touching_agrees well types f =
+      resumes_agrees program s f.suspensions (seen_fits (program_form program) well (running_procedure s)) types.inside f.stands.behind b (rw (b.runs, b.first) at (f.ready.1))
+
+-- No statement begins where a member of a collection that goes is treated.
+none_begins : {access master item : ℕ} {pool : Option ℕ} {ghosts : Id → Bool} {heap : List Object} (k : Control) (fs : StmtsForm) (outer : Control) → IsLeft access master item pool ghosts heap k → k ≡ Does fs ∷ outer → ⊥
+none_begins k fs outer (departing.next_member mode j) is = cc is
+none_begins k fs outer (departing.treated o tasks mode j plain has) is = cc is
+none_begins k fs outer (departing.confined o tasks mode j plain has) is = cc is
+none_begins k fs outer (departing.ended o mode j plain has) is = cc is
+
+-- Wherever a statement begins, but in the body of an operation that touches Integers and Booleans alone, or of an Adjust that tracks components. While an operation
+-- runs for a member of a collection that goes, flow agrees with the state that stands for this one.
+pub agrees_at : (program : Program) (s : State) → Sound program s → BeginsStatement s → IsSpokenOf program s → AgreesThere program s ⊎ AgreesWhileLeft program s
 agrees_at program s sound b spoken = by sound.goes
   where
-    no_statement : (sight : Sight) (behind : Control) (ms : List Master) (operands : List Value) → Comes sight behind ms Running (Does (a_stmt b.stmt b.later) ∷ b.outer) operands → Quietly sight behind ms (Does (a_stmt b.stmt b.later) ∷ b.outer)
-    no_statement sight behind ms operands (inl (all, goes, leads)) = leads
-    no_statement sight behind ms [] (inr (running, next)) = absurd next
-    no_statement sight behind ms (v ∷ vs) (inr (running, next)) = absurd next
-
-    runs_apart : (o : Operates program s) → NoOperationRuns s.control → ⊥
-    runs_apart o none =
-        let sight : Sight = record { program = seen_in (Some o.procedure) (program_form program); object = o.object; access = o.access } in
-        let body : Body sight o.behind o.upper s.heap o.places o.operands Running (Does (a_stmt b.stmt b.later) ∷ b.outer) = rw (b.runs, b.first) at o.body in
-        let none_here : NoOperationRuns (Does (a_stmt b.stmt b.later) ∷ b.outer) = rw b.first at none in
-        none_waits (program_form program).types o.object o.suspended.of o.treatment o.suspended.tasks o.suspended.after o.behind o.suspended.waits
-        (waits_for_end sight o.behind (Does (a_stmt b.stmt b.later) ∷ b.outer) o.upper (no_statement sight o.behind o.upper o.operands body.comes) none_here)
-
-    unspoken : Operates program s → IsSpokenOf program s → ⊥
-    unspoken o (inl none) = runs_apart o none
-    unspoken o (inr neither) = neither (inl (o.procedure, o.is_body.0, ap procedure_of o.active, o.is_body.1, o.plain))
-
     untold : (d : AdjustingCopy program s) → IsSpokenOf program s → ⊥
     untold d (inl none) =
         let f = d.adjusting in
@@ -316,10 +335,23 @@ agrees_at program s sound b spoken = by sound.goes
         none_waits (program_form program).types f.object f.of (frame.begins f.by f.done) f.tasks f.after f.behind f.awaited left
     untold d (inr neither) = neither (inr (d.adjusting.number, d.adjusting.runs, d.adjusting.tracker))
 
-    by : Ordinary program s ⊎ (Operates program s ⊎ (Touching program s ⊎ AdjustingCopy program s)) → AgreesThere program s
+    within : Within program s → AgreesWhileLeft program s
+    within d =
+        let same = d.seen.alike.rest in
+        let begins : BeginsStatement d.v = subst BeginsStatement (sym same) (record { runs = b.runs; stmt = b.stmt; later = b.later; outer = b.outer; first = b.first }) in
+        let told : IsSpokenOf program d.v = subst (IsSpokenOf program) (sym same) spoken in
+        (d.access, d.item, d.v, is_being_left program s d, stands_for d.seen, agrees begins told d.goes)
+      where
+        agrees : BeginsStatement d.v → IsSpokenOf program d.v → Operates program d.v ⊎ Touching program d.v → AgreesThere program d.v
+        agrees begins told (inl o) = absurd (unspoken program d.v begins o told)
+        agrees begins told (inr f) = touching_agrees program d.v begins sound.well (seen_typed d.seen (program_form program) sound.typed) f
+
+    by : Ordinary program s ⊎ (Operates program s ⊎ (Touching program s ⊎ (AdjustingCopy program s ⊎ Departing program s))) → AgreesThere program s ⊎ AgreesWhileLeft program s
     by (inl o) =
-        resumes_agrees program s o.suspensions (seen_fits (program_form program) sound.well (running_procedure s)) sound.typed.inside o.stands.behind b (rw (b.runs, b.first) at (o.ready.1))
-    by (inr (inr (inr d))) = absurd (untold d spoken)
-    by (inr (inr (inl f))) =
-        resumes_agrees program s f.suspensions (seen_fits (program_form program) sound.well (running_procedure s)) sound.typed.inside f.stands.behind b (rw (b.runs, b.first) at (f.ready.1))
-    by (inr (inl o)) = absurd (unspoken o spoken)
+        inl (resumes_agrees program s o.suspensions (seen_fits (program_form program) sound.well (running_procedure s)) sound.typed.inside o.stands.behind b (rw (b.runs, b.first) at (o.ready.1)))
+    by (inr (inl o)) = absurd (unspoken program s b o spoken)
+    by (inr (inr (inl f))) = inl (touching_agrees program s b sound.well sound.typed f)
+    by (inr (inr (inr (inl d)))) = absurd (untold d spoken)
+    by (inr (inr (inr (inr (inl d))))) = absurd (none_begins s.control (a_stmt b.stmt b.later) b.outer d.left b.first)
+    by (inr (inr (inr (inr (inr (inl d)))))) = absurd (let other = d.control in let first = b.first in cc (other, first))
+    by (inr (inr (inr (inr (inr (inr d)))))) = inr (within d)

@@ -1,5 +1,5 @@
 -- What an operation that touches storage may be called for where a master is left (7.6.1): its objects, and, where objects with controlled parts may be allocated
--- beside such operations, the collections of those that are not calm. No component that is left names then what has gone before.
+-- beside such operations, the collections of those that are not calm. No component that is left when one of these begins to go names what has gone before.
 
 use Rattle.std.proofs.Common.{◌≡◌, ℕ, Bool, true, false, not, ◌&&◌, List, [], ◌∷◌}
 use Rattle.ada_program.specs.ProgramForm.{TypeForm, ProgramForm}
@@ -48,16 +48,11 @@ abbrev pub HoldNoneFrom : List TypeForm → (calm : ℕ → Bool) → (access : 
 HoldNoneFrom types calm t [] = Unit {0}
 HoldNoneFrom types calm t (i ∷ is) = AtOthers (houses_others calm i.owned) (HoldsNone types t i.owned × AllHoldNone types t is) (HoldNoneFrom types calm t is)
 
--- The collection of an access type is created behind these items, the newest one first. Where its objects are not calm, neither they nor those of any item have a
--- component of that type; else none have from the first one on that is a collection of objects that are not calm.
-abbrev pub IsApart : List TypeForm → (calm : ℕ → Bool) → (access : ℕ) → List Item → Type 0
-IsApart types calm t is = AtOthers (not (calm t)) ((holds_component types t t ≡ false) × AllHoldNone types t is) (HoldNoneFrom types calm t is)
-
 -- An item is no collection, or it is one that is created apart from older ones.
 abbrev pub GoesApart : List TypeForm → (calm : ℕ → Bool) → Owned → (older : List Item) → Type 0
 GoesApart types calm (declared x) is = Unit {0}
 GoesApart types calm (record_object u) is = Unit {0}
-GoesApart types calm (collection access pool) is = IsApart types calm access is
+GoesApart types calm (collection access pool) is = HoldNoneFrom types calm access is
 GoesApart types calm (storage_pool declaration number) is = Unit {0}
 
 -- So it is with each of these items, the newest one first.

@@ -23,7 +23,7 @@ use Rattle.ada_meaning.specs.Step.{halts, moves, tells, asks, picks}
 use Rattle.ada_meaning.specs.Named.{State, Next, next}
 use Rattle.ada_meaning.specs.Run.{Event, Choice, settled, grants, takes, Leads, Run, here, there, Halts, first_state}
 use Rattle.ada_quiet.specs.InUse.{may_be_frugal, operations_are_in_use}
-use Rattle.ada_sound.specs.Always.{IsChecked, spare_holders, spare_own_types, SparesHolders, SparesOwn, Breaks, IsIllFormed, IsIllNested, FreesOthers, NotInUse, InSomeRun, is_seen, IsFineAtEnds, HaltsAfter, HaltsSomewhere}
+use Rattle.ada_sound.specs.Always.{IsChecked, spare_holders, spare_own_types, SparesHolders, SparesOwn, Breaks, IsIllFormed, IsIllNested, FreesOthers, NotInUse, UsesOwn, InSomeRun, is_seen, IsFineAtEnds, HaltsAfter, HaltsSomewhere}
 
 -- Events, and the state that they lead to.
 abbrev pub Came : Type 0
@@ -246,12 +246,12 @@ module _ (program : Program) (bodies : List BodyForm) (fs : StmtsForm) (hs : Han
 
   -- And whether it spares those in which components may lie that name them.
   spares_holders_in : spares_types (form_with program bodies fs hs) ≡ true → SparesHolders program
-  spares_holders_in e may =
+  spares_holders_in e may made =
       subst (λ (p : ProgramForm). spare_holders (implicit_of p) p.types 0 p.types ≡ true) (sym form_is) (and_parts _ _ e).1
 
   -- Nothing is asked of these where no Finalize may touch storage.
   pub never_frugal : may_be_frugal (form_with program bodies fs hs) ≡ false → SparesHolders program
-  never_frugal never may = absurd (cc (never, subst (λ (p : ProgramForm). may_be_frugal p ≡ true) form_is may))
+  never_frugal never may made = absurd (cc (never, subst (λ (p : ProgramForm). may_be_frugal p ≡ true) form_is may))
 
   nested_in : is_nested (form_with program bodies fs hs) ≡ true → CollectionsNest (program_form program)
   nested_in e = subst CollectionsNest (sym form_is) (nested_is (form_with program bodies fs hs) e)
@@ -299,6 +299,21 @@ module _ (program : Program) (bodies : List BodyForm) (fs : StmtsForm) (hs : Han
         not_in_use = subst (λ (p : ProgramForm). operations_are_in_use p ≡ false) (sym form_is) unused;
         nests = nested_in both.0;
         frees_own = own_in both.1;
+        obeys = (normal, raising, flow_in (goes normal raising) e);
+      }
+
+  pub uses_own_in : (normal raising : Option Holds) → fits (form_with program bodies fs hs) ≡ true → operations_are_in_use (form_with program bodies fs hs) ≡ true
+      → spare_own_types (implicit_of (form_with program bodies fs hs)) 0 (form_with program bodies fs hs).types ≡ false → is_kept (form_with program bodies fs hs) ≡ true
+      → flow_with program bodies fs hs ≡ goes normal raising → UsesOwn program
+  uses_own_in normal raising formed used uses kept e =
+      let both = and_parts _ _ kept in
+      let none = spares_with false uses in
+      record {
+        well_formed = subst IsWellFormed (sym form_is) (fits_is (form_with program bodies fs hs) formed);
+        in_use = subst (λ (p : ProgramForm). operations_are_in_use p ≡ true) (sym form_is) used;
+        nests = nested_in both.0;
+        frees_own = own_in both.1;
+        uses_own = λ spares. cc (none, spares);
         obeys = (normal, raising, flow_in (goes normal raising) e);
       }
 

@@ -1,6 +1,5 @@
 -- In each state of a run the collections of each master are apart, where the collections of the text are created in order (7.6.1): those of a master are the first
--- ones of a declarative part. Where the objects of one are not calm, neither they nor those of an older one have a component of its access type; else those of an
--- older one have none, from the newest one on whose objects are not calm.
+-- ones of a declarative part. The objects of the older ones have no component of the access type of one, from the newest one of these on whose objects are not calm.
 
 use Rattle.std.proofs.Common.{◌≡◌, ℕ, ℤ, Bool, true, false, not, if◌then◌else◌, List, [], ◌∷◌}
 use Rattle.std.proofs.lemmas.Bool.{and_parts, not-true}
@@ -11,12 +10,12 @@ use Rattle.ada_meaning.specs.Step.{in_front}
 use Rattle.ada_meaning.specs.Named.{State}
 use Rattle.ada_meaning.specs.Run.{Event, Run, first_state}
 use Rattle.ada_quiet.specs.Calm.{are_calm_in, calm_types, has_calm_objects}
-use Rattle.ada_quiet.specs.Bare.{holds_component, hold_none, hold_none_from, is_apart_from, collect_in_order, collections_in_order}
+use Rattle.ada_quiet.specs.Bare.{holds_component, hold_none, hold_none_from, collect_in_order, collections_in_order}
 use Rattle.ada_scopes.proofs.Counts.{opened_by, opened}
 use Rattle.ada_created.proofs.Control.{AllBegun}
 use Rattle.ada_created.proofs.Created.{body_fits_in}
 use Rattle.ada_created.proofs.Runs.{begun_in_runs}
-use Rattle.ada_sound.proofs.Ahead.{HoldsNone, AllHoldNone, houses_others, AtOthers, HoldNoneFrom, IsApart, GoesApart, ItemsApart, MastersApart}
+use Rattle.ada_sound.proofs.Ahead.{HoldsNone, AllHoldNone, houses_others, AtOthers, HoldNoneFrom, GoesApart, ItemsApart, MastersApart}
 use Rattle.ada_sound.proofs.PartsInOrder.{InOrder, parts_in_order}
 use Rattle.ada_sound.proofs.Starts.{IsReached}
 
@@ -56,28 +55,17 @@ module _ (types : List TypeForm) (calm : List Bool) where
       by (record_object u) later none' = later none'
       by (storage_pool declaration number) later none' = later none'
 
-  -- So a collection is created apart from items where it is apart from the collections among these.
-  housed_apart : (t : ℕ) (is : List Item) → is_apart_from types calm t (opened is) ≡ true → IsApart types (has_calm_objects types calm) t is
-  housed_apart t is apart = by (has_calm_objects types calm t) apart
-    where
-      by : (bare : Bool) → (if bare then hold_none_from types calm t (opened is) else hold_none types t (t ∷ opened is)) ≡ true
-          → AtOthers (not bare) ((holds_component types t t ≡ false) × AllHoldNone types t is) (HoldNoneFrom types (has_calm_objects types calm) t is)
-      by true apart' = hold_none_behind t is apart'
-      by false apart' =
-          let both = and_parts (not (holds_component types t t)) (hold_none types t (opened is)) apart' in
-          (not-true (holds_component types t t) both.0, all_hold_none t is both.1)
-
   -- Each of these collections, the newest one first, is created apart from the older ones.
   abbrev AreApart : List ℕ → Type 0
   AreApart [] = Unit {0}
-  AreApart (t ∷ ts) = (is_apart_from types calm t ts ≡ true) × AreApart ts
+  AreApart (t ∷ ts) = (hold_none_from types calm t ts ≡ true) × AreApart ts
 
   -- So it is with the first ones of those that are created in order, and the others come in order behind them.
   first_apart : (ts coming : List ℕ) → collect_in_order types calm [] (in_front ts coming) ≡ true → AreApart ts × (collect_in_order types calm ts coming ≡ true)
   first_apart [] coming ordered = (tt, ordered)
   first_apart (t ∷ ts) coming ordered =
       let older = first_apart ts (t ∷ coming) ordered in
-      let both = and_parts (is_apart_from types calm t ts) (collect_in_order types calm (t ∷ ts) coming) older.1 in
+      let both = and_parts (hold_none_from types calm t ts) (collect_in_order types calm (t ∷ ts) coming) older.1 in
       ((both.0, older.0), both.1)
 
   -- So the items of a master are apart.
@@ -87,7 +75,7 @@ module _ (types : List TypeForm) (calm : List Bool) where
     where
       by : (owned : Owned) → (AreApart (opened is) → ItemsApart types (has_calm_objects types calm) is) → AreApart (opened_by owned (opened is)) → GoesApart types (has_calm_objects types calm) owned is × ItemsApart types (has_calm_objects types calm) is
       by (declared x) later apart' = (tt, later apart')
-      by (collection access pool) later apart' = (housed_apart access is apart'.0, later apart'.1)
+      by (collection access pool) later apart' = (hold_none_behind access is apart'.0, later apart'.1)
       by (record_object u) later apart' = (tt, later apart')
       by (storage_pool declaration number) later apart' = (tt, later apart')
 

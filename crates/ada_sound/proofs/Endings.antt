@@ -1,6 +1,6 @@
 -- Objects end, their words go back, and masters are left.
 
-use Rattle.std.proofs.Common.{◌≡◌, ◌≢◌, ℕ, zero, suc, Bool, true, List, [], ◌∷◌, ◌++◌, refl, sym, ap, ◌∙◌, ◌⊎◌, inl, inr}
+use Rattle.std.proofs.Common.{◌≡◌, ◌≢◌, ℕ, zero, suc, Bool, true, false, List, [], ◌∷◌, ◌++◌, refl, sym, ap, ◌∙◌, ◌⊎◌, inl, inr}
 use Rattle.std.specs.Prelude.{Option, Some, None}
 use Rattle.std.proofs.lemmas.Bool.{eq-eqb}
 use Rattle.std.specs.List.{slice_set, slice_index_or}
@@ -31,10 +31,10 @@ use Rattle.ada_sound.proofs.Homes.{same_one}
 use Rattle.ada_sound.proofs.Stored.{IsUnder, Stored, IsTaken, stored_part, stored_finish, stored_back, stored_shorter, stored_older, exists_out, none_is_left, taken_is}
 use Rattle.ada_sound.proofs.Fits.{sparing, Fit, none_spared, weaker_fit, part_fit, finish_fit, back_fit, sparing_set, sparing_shorter, sparing_left, sparing_unnamed, same_unnamed}
 use Rattle.ada_sound.proofs.Alters.{alters_set}
-use Rattle.ada_sound.proofs.Invariant.{outers, below, Known, Control, Rooms, Roomed, OwnedAmong, NamesNone, RunsOn, Working, Parting, IsAside, Freed, IsOther, gone_in, FreesWell, IsNamedIn, UnderIs, IsHolder, Clearing, ClearsTo, LeavesTo, ResumesTo, Behind, ThenBack, Ending, EndingBy, Backing, BackingBy, ReadyIn, Stepped, Fine, innermost}
+use Rattle.ada_sound.proofs.Invariant.{outers, below, Known, Control, Rooms, Roomed, OwnedAmong, NamesNone, RunsOn, Working, Parting, IsAside, Freed, IsOther, gone_in, FreesWell, IsNamedIn, UnderIs, IsHolder, Clearing, ClearsTo, LeavesTo, ResumesTo, Behind, ThenBack, Ending, EndingBy, Backing, BackingBy, ReadyIn, Stepped, Fine, innermost, departs, departs_next, UnderIsUnreferred}
 use Rattle.ada_sound.proofs.Ready.{running, at_work, stays, goes_ready, treats_ready}
 use Rattle.ada_sound.proofs.Taken.{stored_after}
-use Rattle.ada_sound.proofs.Leavings.{AreInOrder, GoesInOrder, NamedBelow, HeldIn, taken_unnamed, taken_unreferred}
+use Rattle.ada_sound.proofs.Leavings.{AreInOrder, NamedBelow, HeldIn, stays_ordered, taken_unnamed, taken_unreferred}
 
 -- What is stored in one object stays where another one changes.
 pub swapped : {X : Type 0} (xs : List X) (i j : ℕ) (x y : X) → i ≢ j → slice_set (slice_set xs i x) j y ≡ slice_set (slice_set xs j y) i x
@@ -63,6 +63,10 @@ KeepsAside known o y under after heap places =
     → IsAside known spared heap places holds under
     → Fit known.program.types known.program.variables (outers known) spared (slice_set heap o.0 y) places holds
     × IsAside known spared (slice_set heap o.0 y) places holds after
+
+-- One that does so whatever names the objects that are under way, to which no call refers.
+abbrev pub KeepsNamed : Known → Id → Object → (under after : Option Id) → List Object → List Value → Type 0
+KeepsNamed known o y under after heap places = KeepsFit known o y heap places × (UnderIsUnreferred known under → UnderIsUnreferred known after)
 
 -- Nothing relies on an object under way, where homes stay as they are.
 aside_going : (known : Known) (heap : List Object) (items : List Item) (o : Id) (x y : Object) → object_at heap o ≡ Some x → y.cell.home ≡ x.cell.home → (places : List Value) (holds : Holds) (under : Option Id) → IsAside known (sparing known.ahead heap items) (slice_set heap o.0 y) places holds under → IsAside known (sparing known.ahead (slice_set heap o.0 y) items) (slice_set heap o.0 y) places holds under
@@ -168,19 +172,36 @@ module _ (known : Known) where
     clears_set places ms (ClearsIn h c ∷ k) r = holder_set h c places ms k r
     clears_set places ms (f ∷ k) c = absurd c
 
-    leaves_set : (places : List Value) (ms : List Master) (k : Control) → LeavesTo known under heap places ms k → LeavesTo known after (slice_set heap o.0 y) places ms k
-    leaves_set places ms [] c = absurd c
-    leaves_set places ms (Leaves mode ∷ k) c =
+    leaves_set : (places : List Value) (ms : List Master) (k : Control) → (departs known.ahead (innermost ms) ≡ true → KeepsNamed known o y under after heap places) → LeavesTo known under heap places ms k → LeavesTo known after (slice_set heap o.0 y) places ms k
+    leaves_set places ms [] named c = absurd c
+    leaves_set places ms (Leaves mode ∷ k) named (inl (stays_so, c)) =
         let kept = keeps heap places found (sparing known.ahead heap (innermost ms)) c.holds c.fit c.aside in
-        record {
-          rooms = c.rooms;
-          holds = c.holds;
-          roomed = c.roomed;
-          fit = sparing_set known.ahead (outers known) heap (innermost ms) o x y found same kept.0;
-          aside = aside_going known heap (innermost ms) o x y found same places c.holds after kept.1;
-          rest = c.rest;
-        }
-    leaves_set places ms (f ∷ k) c = absurd c
+        inl (
+          stays_so,
+          record {
+            rooms = c.rooms;
+            holds = c.holds;
+            roomed = c.roomed;
+            fit = sparing_set known.ahead (outers known) heap (innermost ms) o x y found same kept.0;
+            aside = aside_going known heap (innermost ms) o x y found same places c.holds after kept.1;
+            rest = c.rest;
+          },
+        )
+    leaves_set places ms (Leaves mode ∷ k) named (inr (going, unreferred, c)) =
+        let kept = named going in
+        inr (
+          going,
+          kept.1 unreferred,
+          record {
+            rooms = c.rooms;
+            holds = c.holds;
+            roomed = c.roomed;
+            fit = sparing_set known.ahead (outers known) heap (innermost ms) o x y found same (kept.0 (sparing known.ahead heap (innermost ms)) c.holds c.fit);
+            aside = tt;
+            rest = c.rest;
+          },
+        )
+    leaves_set places ms (f ∷ k) named c = absurd c
 
     resumes_set : (places : List Value) (ms : List Master) (k : Control) → ResumesTo known under heap places ms k → ResumesTo known after (slice_set heap o.0 y) places ms k
     resumes_set places ms [] c = absurd c
@@ -191,17 +212,17 @@ module _ (known : Known) where
         (access, remains access is, came, inr (record { rooms = c.rooms; holds = c.holds; roomed = c.roomed; fit = kept.0; aside = kept.1; rest = c.rest }))
     resumes_set places ms (f ∷ k) c = absurd c
 
-    pub behind_set : (cause : Cause) (home : ℕ) (places : List Value) (ms : List Master) (k : Control) → Behind known cause under home heap places ms k → Behind known cause after home (slice_set heap o.0 y) places ms k
-    behind_set (Leaving m item) home places ms k b = (b.0, b.1, leaves_set places ms k b.2)
-    behind_set (Freeing number) home places ms k b = clears_set places ms k b
-    behind_set (Assigning number) home places ms k b = absurd b
-    behind_set (Undoing number) home places ms k b = resumes_set places ms k b
+    pub behind_set : (cause : Cause) (home : ℕ) (places : List Value) (ms : List Master) (k : Control) → ((m item : ℕ) → cause ≡ Leaving m item → departs known.ahead (innermost ms) ≡ true → KeepsNamed known o y under after heap places) → Behind known cause under home heap places ms k → Behind known cause after home (slice_set heap o.0 y) places ms k
+    behind_set (Leaving m item) home places ms k named b = (b.0, b.1, leaves_set places ms k (named m item refl) b.2)
+    behind_set (Freeing number) home places ms k named b = clears_set places ms k b
+    behind_set (Assigning number) home places ms k named b = absurd b
+    behind_set (Undoing number) home places ms k named b = resumes_set places ms k b
 
   module _ (a : Activation Value) (rest : List (Activation Value)) (s : State) where
     -- An object ceases to exist.
-    end_object : (o : Id) (k : Control) (e : Ending known o k s.heap a.places s.masters) → ThenBack known o e.object.cell.home s.heap a.places s.masters k → Stepped known s.heap Quiet (record (running k a rest s) { heap = slice_set s.heap o.0 (finished e.object) })
-    end_object o [] e b = absurd b
-    end_object o (GivesBack (Names p) cause pool ∷ k) e b = record {
+    end_object : (o : Id) (k : Control) → departs_next (departs known.ahead (innermost s.masters)) (Ends (Names o) ∷ k) ≡ false → (e : Ending known o k s.heap a.places s.masters) → ThenBack known o e.object.cell.home s.heap a.places s.masters k → Stepped known s.heap Quiet (record (running k a rest s) { heap = slice_set s.heap o.0 (finished e.object) })
+    end_object o [] stays_so e b = absurd b
+    end_object o (GivesBack (Names p) cause pool ∷ k) stays_so e b = record {
       ready = (
         tt,
         rw (b.0) (record {
@@ -214,19 +235,20 @@ module _ (known : Known) where
           covered = e.covered;
           rest = behind_set o e.object (finished e.object) s.heap e.found refl (Some o) None (λ v holder other. (other, tt))
               (λ objects places at spared holds f aside. (finish_fit o e.object at aside.0 aside.1 f, tt))
-              (λ spared places holds f. rw e.found at f) (λ access is. tt) (λ holds well. tt) (λ v c holder other named. tt) cause e.object.cell.home.item a.places s.masters k b.2;
+              (λ spared places holds f. rw e.found at f) (λ access is. tt) (λ holds well. tt) (λ v c holder other named. tt) cause e.object.cell.home.item a.places s.masters k
+              (λ m item leaves going. (let never : departs known.ahead (innermost s.masters) ≡ false = rw leaves at stays_so in absurd (cc (never, going)))) b.2;
         }),
       );
       alters = alters_set s.heap Quiet o e.object (finished e.object) e.found (refl, refl, refl) (λ h. h) (λ h. inl h);
       says = tt;
     }
-    end_object o (f ∷ k) e b = absurd b
+    end_object o (f ∷ k) stays_so e b = absurd b
 
-    pub ends_fine : (v : Value) (k : Control) → EndingBy known v k s.heap a.places s.masters → Fine known s.heap s.masters (end_next named v (look s.heap v) (running k a rest s))
-    ends_fine Null k e = absurd e
-    ends_fine (Names o) k e = rw (e.found, e.exists) (rw e.found (end_object o k e e.rest))
-    ends_fine (Scalar n) k e = absurd e
-    ends_fine (Part object_id base) k e = absurd e
+    pub ends_fine : (v : Value) (k : Control) → departs_next (departs known.ahead (innermost s.masters)) (Ends v ∷ k) ≡ false → EndingBy known v k s.heap a.places s.masters → Fine known s.heap s.masters (end_next named v (look s.heap v) (running k a rest s))
+    ends_fine Null k stays_so e = absurd e
+    ends_fine (Names o) k stays_so e = rw (e.found, e.exists) (rw e.found (end_object o k stays_so e e.rest))
+    ends_fine (Scalar n) k stays_so e = absurd e
+    ends_fine (Part object_id base) k stays_so e = absurd e
 
     -- Its words go back.
     module _ (heap : List Object) (stored : Stored (outers known).under heap s.masters) where
@@ -244,7 +266,8 @@ module _ (known : Known) where
 
       left_ready : (k : Control) → LeavesTo known None heap a.places s.masters k → ReadyIn known Running k heap a.places a.operands s.masters
       left_ready [] c = absurd c
-      left_ready (Leaves mode ∷ k) c = freed_parts stored c
+      left_ready (Leaves mode ∷ k) (inl (stays_so, c)) = freed_parts stored c
+      left_ready (Leaves mode ∷ k) (inr (going, unreferred, c)) = freed_parts stored c
       left_ready (f ∷ k) c = absurd c
 
       resumed_ready : (k : Control) → ResumesTo known None heap a.places s.masters k → ReadyIn known Running k heap a.places a.operands s.masters
@@ -272,7 +295,8 @@ module _ (known : Known) where
             tt,
             behind_ready (slice_set s.heap o.0 (returned b.object)) (stored_back o b.object b.found b.gone b.stored) cause b.object.cell.home.item k
                 (behind_set o b.object (returned b.object) s.heap b.found refl None None (λ v holder other. (λ is. gone_holder s.heap v o b.object is b.found b.gone holder, tt))
-                (λ objects places at spared holds f aside. (back_fit o b.object at f, tt)) (λ spared places holds f. back_fit o b.object b.found f) (λ access is. tt) (λ holds well. tt) (λ v c holder other named. tt) cause b.object.cell.home.item a.places s.masters k b.rest),
+                (λ objects places at spared holds f aside. (back_fit o b.object at f, tt)) (λ spared places holds f. back_fit o b.object b.found f) (λ access is. tt) (λ holds well. tt) (λ v c holder other named. tt) cause b.object.cell.home.item a.places s.masters k
+                (λ m item leaves going. ((λ spared holds f. back_fit o b.object b.found f), λ none. tt)) b.rest),
           );
           alters = alters_set s.heap _ o b.object (returned b.object) b.found (refl, refl, refl) (λ h. refl) (λ h. inr refl);
           says = record {
@@ -316,17 +340,18 @@ module _ (known : Known) where
     none_owned item items access pool (gone ∷ rooms) holds owns roomed r = (gone.types, r.0, among_by item.owned access pool gone.types owns roomed.0.0)
 
     -- A member is taken: its parts are finalized first.
-    taken_fine : (item : Item) (items : List Item) (pool : Option ℕ) (v : Value) → HousesFrom item.owned pool → Left_with (item ∷ items) → HeldIn s.heap (record { number = number; items = item ∷ items } ∷ ms) → NamedBelow (outers known) s.heap (record { number = number; items = item ∷ items } ∷ ms) → GoesInOrder known.ahead known.program.types item items → IsTaken item.number s.heap v → Stepped known s.heap Quiet (taken_out named types (Leaving number item.number) pool v (look s.heap v) (left_with (item ∷ items)))
+    taken_fine : (item : Item) (items : List Item) (pool : Option ℕ) (v : Value) → HousesFrom item.owned pool → Left_with (item ∷ items) → HeldIn s.heap (record { number = number; items = item ∷ items } ∷ ms) → NamedBelow (outers known) s.heap (record { number = number; items = item ∷ items } ∷ ms) → departs known.ahead (item ∷ items) ≡ false → AreInOrder known.ahead known.program.types (item ∷ items) → IsTaken item.number s.heap v → Stepped known s.heap Quiet (taken_out named types (Leaving number item.number) pool v (look s.heap v) (left_with (item ∷ items)))
     unfolding left_with Left_with
-    taken_fine item items pool v from w held low order (o, is, member) =
+    taken_fine item items pool v from w held low stays_so order (o, is, member) =
         let x = member.object in
         let sane = w.stored.sane o x member.found in
         let exists = sane.listed_exists member.listed in
         let there : is_there x.stage ≡ true = rw exists refl in
         let type = newest_is x.cell.home.item x.cell.access x.cell.home.pool item (items ++ items_of ms) member.home w.stored.counted (sane.housed (exists_out o x member.found exists w.stored)) in
         let none = none_owned item items x.cell.access x.cell.home.pool w.rooms w.holds type w.roomed w.rest in
-        let unnamed = taken_unnamed known.ahead known.program.types known.program.variables (outers known) s.heap a.places w.holds number item items ms none.0 w.fit (outers known).under w.stored none.1 held low o x member.found there member.home none.2 x.cell.home.pool type order in
-        let unreferred = taken_unreferred known.ahead known.program.types known.program.variables (outers known) s.heap a.places w.holds number item items ms none.0 w.fit (outers known).under w.stored none.1 held low o x member.found there member.home none.2 x.cell.home.pool type order in
+        let ordered = stays_ordered known.ahead known.program.types item items stays_so order x.cell.access x.cell.home.pool type in
+        let unnamed = taken_unnamed known.ahead known.program.types known.program.variables (outers known) s.heap a.places w.holds number item items ms none.0 w.fit (outers known).under w.stored none.1 held low o x member.found there member.home none.2 ordered in
+        let unreferred = taken_unreferred known.ahead known.program.types known.program.variables (outers known) s.heap a.places w.holds number item items ms none.0 w.fit (outers known).under w.stored none.1 held low o x member.found there member.home none.2 ordered in
         let under : Ending known o (GivesBack (Names o) (Leaving number item.number) pool ∷ Leaves mode ∷ k) (slice_set s.heap o.0 (parted x)) a.places (record { number = number; items = item ∷ items } ∷ ms) = record {
           object = parted x;
           found = set_here s.heap o.0 x (parted x) member.found;
@@ -340,15 +365,18 @@ module _ (known : Known) where
             (
               sym member.home,
               sym member.home,
-              record {
-                rooms = w.rooms;
-                holds = w.holds;
-                roomed = w.roomed;
-                fit = sparing_set known.ahead (outers known) s.heap (item ∷ items) o x (parted x) member.found refl (part_fit o x member.found w.fit);
-                aside = aside_going known s.heap (item ∷ items) o x (parted x) member.found refl a.places w.holds (Some o)
-                    (same_unnamed s.heap o x member.found o unnamed (parted x) refl (λ c. refl), unreferred);
-                rest = w.rest;
-              },
+              inl (
+                stays_so,
+                record {
+                  rooms = w.rooms;
+                  holds = w.holds;
+                  roomed = w.roomed;
+                  fit = sparing_set known.ahead (outers known) s.heap (item ∷ items) o x (parted x) member.found refl (part_fit o x member.found w.fit);
+                  aside = aside_going known s.heap (item ∷ items) o x (parted x) member.found refl a.places w.holds (Some o)
+                      (same_unnamed s.heap o x member.found o unnamed (parted x) refl (λ c. refl), unreferred);
+                  rest = w.rest;
+                },
+              ),
             ),
           );
         } in
@@ -398,17 +426,17 @@ module _ (known : Known) where
         let type = newest_is x.cell.home.item x.cell.access x.cell.home.pool item (items ++ items_of ms) home w.stored.counted (sane.housed (exists_out o x found exists w.stored)) in
         none x.cell.access x.cell.home.pool type
 
-    members_fine : (item : Item) (items : List Item) (pool : Option ℕ) (vs : List Value) → HousesFrom item.owned pool → members s.heap item.number ≡ vs → Left_with (item ∷ items) → HeldIn s.heap (record { number = number; items = item ∷ items } ∷ ms) → NamedBelow (outers known) s.heap (record { number = number; items = item ∷ items } ∷ ms) → GoesInOrder known.ahead known.program.types item items → Fine known s.heap (record { number = number; items = item ∷ items } ∷ ms) (members_next named types (Leaving number item.number) pool vs (left_with (item ∷ items)))
+    members_fine : (item : Item) (items : List Item) (pool : Option ℕ) (vs : List Value) → HousesFrom item.owned pool → members s.heap item.number ≡ vs → Left_with (item ∷ items) → HeldIn s.heap (record { number = number; items = item ∷ items } ∷ ms) → NamedBelow (outers known) s.heap (record { number = number; items = item ∷ items } ∷ ms) → departs known.ahead (item ∷ items) ≡ false → AreInOrder known.ahead known.program.types (item ∷ items) → Fine known s.heap (record { number = number; items = item ∷ items } ∷ ms) (members_next named types (Leaving number item.number) pool vs (left_with (item ∷ items)))
     unfolding left_with Left_with
-    members_fine item items pool [] owns e w held low order = shorter_fine item items low (λ o x found listed home. none_is_left item.number s.heap o x e found listed home) w
-    members_fine item items pool (v ∷ vs) owns e w held low order = λ i lt. taken_fine item items pool (slice_index_or (v ∷ vs) i Null) owns w held low order (rw e at (taken_is item.number s.heap i (rw e lt)))
+    members_fine item items pool [] owns e w held low stays_so order = shorter_fine item items low (λ o x found listed home. none_is_left item.number s.heap o x e found listed home) w
+    members_fine item items pool (v ∷ vs) owns e w held low stays_so order = λ i lt. taken_fine item items pool (slice_index_or (v ∷ vs) i Null) owns w held low stays_so order (rw e at (taken_is item.number s.heap i (rw e lt)))
 
-    item_fine : (item : Item) (items : List Item) (what : Owned) → item.owned ≡ what → Left_with (item ∷ items) → HeldIn s.heap (record { number = number; items = item ∷ items } ∷ ms) → NamedBelow (outers known) s.heap (record { number = number; items = item ∷ items } ∷ ms) → GoesInOrder known.ahead known.program.types item items → Fine known s.heap (record { number = number; items = item ∷ items } ∷ ms) (item_leave_next named types number item what (left_with (item ∷ items)))
+    item_fine : (item : Item) (items : List Item) (what : Owned) → item.owned ≡ what → Left_with (item ∷ items) → HeldIn s.heap (record { number = number; items = item ∷ items } ∷ ms) → NamedBelow (outers known) s.heap (record { number = number; items = item ∷ items } ∷ ms) → departs known.ahead (item ∷ items) ≡ false → AreInOrder known.ahead known.program.types (item ∷ items) → Fine known s.heap (record { number = number; items = item ∷ items } ∷ ms) (item_leave_next named types number item what (left_with (item ∷ items)))
     unfolding left_with Left_with
-    item_fine item items (declared y) is w held low order = shorter_fine item items low (has_none item items (λ t own h. rw is at h) w) w
-    item_fine item items (storage_pool declaration pool) is w held low order = shorter_fine item items low (has_none item items (λ t own h. rw is at h) w) w
-    item_fine item items (collection access pool) is w held low order = members_fine item items pool (members s.heap item.number) (λ t own h. (let houses : Houses (collection access pool) t own = rw is at h in houses.1)) refl w held low order
-    item_fine item items (record_object t) is w held low order = members_fine item items None (members s.heap item.number) (λ u own h. (let houses : Houses (record_object t) u own = rw is at h in houses.1)) refl w held low order
+    item_fine item items (declared y) is w held low stays_so order = shorter_fine item items low (has_none item items (λ t own h. rw is at h) w) w
+    item_fine item items (storage_pool declaration pool) is w held low stays_so order = shorter_fine item items low (has_none item items (λ t own h. rw is at h) w) w
+    item_fine item items (collection access pool) is w held low stays_so order = members_fine item items pool (members s.heap item.number) (λ t own h. (let houses : Houses (collection access pool) t own = rw is at h in houses.1)) refl w held low stays_so order
+    item_fine item items (record_object t) is w held low stays_so order = members_fine item items None (members s.heap item.number) (λ u own h. (let houses : Houses (record_object t) u own = rw is at h in houses.1)) refl w held low stays_so order
 
     -- The master is left.
     gone_ready : (rooms : Rooms) (holds : Holds) → Stored (outers known).under s.heap (record { number = number; items = [] } ∷ ms) → Fit known.program.types known.program.variables (outers known) none_spared s.heap a.places holds → Roomed (below known) (record { number = number; items = [] } ∷ ms) rooms → RunsOn known (Leaves mode ∷ k) rooms holds → ReadyIn known mode k s.heap a.places a.operands ms
@@ -417,15 +445,15 @@ module _ (known : Known) where
         goes_ready known mode k s.heap a.places a.operands ms
         (record { rooms = rooms; holds = r.2.0; stored = stored_older (record { number = number; items = [] }) ms stored; roomed = roomed.1; fit = weaker_fit r.2.0 r.2.1 fit; rest = r.2.2 })
 
-    master_fine : (items : List Item) → Left_with items → HeldIn s.heap (record { number = number; items = items } ∷ ms) → NamedBelow (outers known) s.heap (record { number = number; items = items } ∷ ms) → AreInOrder known.ahead known.program.types items → Fine known s.heap (record { number = number; items = items } ∷ ms) (master_leave_next named types mode number items (record (running k a rest s) { masters = record { number = number; items = items } ∷ ms }))
+    master_fine : (items : List Item) → Left_with items → HeldIn s.heap (record { number = number; items = items } ∷ ms) → NamedBelow (outers known) s.heap (record { number = number; items = items } ∷ ms) → departs known.ahead items ≡ false → AreInOrder known.ahead known.program.types items → Fine known s.heap (record { number = number; items = items } ∷ ms) (master_leave_next named types mode number items (record (running k a rest s) { masters = record { number = number; items = items } ∷ ms }))
     unfolding left_with Left_with
-    master_fine [] w held low order = stays known (Left number) _ (tt, gone_ready w.rooms w.holds w.stored (sparing_left known.ahead w.fit) w.roomed w.rest) tt
-    master_fine (item ∷ items) w held low order = item_fine item items item.owned refl w held low order
+    master_fine [] w held low stays_so order = stays known (Left number) _ (tt, gone_ready w.rooms w.holds w.stored (sparing_left known.ahead w.fit) w.roomed w.rest) tt
+    master_fine (item ∷ items) w held low stays_so order = item_fine item items item.owned refl w held low stays_so order
 
-    pub left_fine : (items : List Item) → Parting known s.heap a.places (record { number = number; items = items } ∷ ms) (RunsOn known (Leaves mode ∷ k)) → HeldIn s.heap (record { number = number; items = items } ∷ ms) → NamedBelow (outers known) s.heap (record { number = number; items = items } ∷ ms) → AreInOrder known.ahead known.program.types items → Fine known s.heap (record { number = number; items = items } ∷ ms) (master_leave_next named types mode number items (record (running k a rest s) { masters = record { number = number; items = items } ∷ ms }))
+    pub left_fine : (items : List Item) → Parting known s.heap a.places (record { number = number; items = items } ∷ ms) (RunsOn known (Leaves mode ∷ k)) → HeldIn s.heap (record { number = number; items = items } ∷ ms) → NamedBelow (outers known) s.heap (record { number = number; items = items } ∷ ms) → departs known.ahead items ≡ false → AreInOrder known.ahead known.program.types items → Fine known s.heap (record { number = number; items = items } ∷ ms) (master_leave_next named types mode number items (record (running k a rest s) { masters = record { number = number; items = items } ∷ ms }))
     unfolding left_with Left_with
-    left_fine items w held low order = master_fine items w held low order
+    left_fine items w held low stays_so order = master_fine items w held low stays_so order
 
-  pub leave_fine : (types : List TypeDefinition) (mode : Mode) (k : Control) (a : Activation Value) (rest : List (Activation Value)) (s : State) (ms : List Master) → Parting known s.heap a.places ms (RunsOn known (Leaves mode ∷ k)) → HeldIn s.heap ms → NamedBelow (outers known) s.heap ms → AreInOrder known.ahead known.program.types (innermost ms) → Fine known s.heap ms (leave_next named types mode ms (record (running k a rest s) { masters = ms }))
-  leave_fine types mode k a rest s [] w held low order = tt
-  leave_fine types mode k a rest s (m ∷ ms) w held low order = left_fine types mode k a rest s m.number ms m.items w held low order
+  pub leave_fine : (types : List TypeDefinition) (mode : Mode) (k : Control) (a : Activation Value) (rest : List (Activation Value)) (s : State) (ms : List Master) → Parting known s.heap a.places ms (RunsOn known (Leaves mode ∷ k)) → HeldIn s.heap ms → NamedBelow (outers known) s.heap ms → departs known.ahead (innermost ms) ≡ false → AreInOrder known.ahead known.program.types (innermost ms) → Fine known s.heap ms (leave_next named types mode ms (record (running k a rest s) { masters = ms }))
+  leave_fine types mode k a rest s [] w held low stays_so order = tt
+  leave_fine types mode k a rest s (m ∷ ms) w held low stays_so order = left_fine types mode k a rest s m.number ms m.items w held low stays_so order

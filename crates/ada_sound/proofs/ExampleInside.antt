@@ -75,7 +75,7 @@ module _ (program : Program) (s : State) (o p : Id) (c : ℕ) where
   holder None at holds = absurd (cc holds)
   holder (Some x) at holds = let h = there_holds x (is_there x.stage) refl holds in (x, at, h.0, h.1)
 
-  names_gone : holds_there (object_at s.heap o) c ≡ Some (Names p) → is_gone (object_at s.heap p) ≡ true → AgreesThere program s → ⊥
+  pub names_gone : holds_there (object_at s.heap o) c ≡ Some (Names p) → is_gone (object_at s.heap p) ≡ true → AgreesThere program s → ⊥
   names_gone holds gone there =
       let h = holder (object_at s.heap o) refl holds in
       let exists = (there.5).components o h.0 c (Names p) h.1 h.2 h.3 in

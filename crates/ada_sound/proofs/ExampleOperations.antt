@@ -26,6 +26,7 @@ use Rattle.ada_program.specs.declared.program.Stmt as stmt
 use Rattle.ada_program.specs.declared.program.TypeDefinition.{TypeDefinition}
 use Rattle.ada_program.specs.declared.program.TypeDefinition.TheVariants as definition
 use Rattle.ada_program.specs.declared.program.Program.{Program}
+use Rattle.ada_program.specs.declared.program.VariableKind.TheVariants as variable
 use Rattle.ada_program.specs.Controlled.{operations_of}
 use Rattle.ada_program.specs.Form.{declaration_forms, stmt_forms, handler_forms, no_handlers, statement_rules, expression_rules}
 use Rattle.ada_program.specs.ProgramForm.{body_forms}
@@ -34,11 +35,11 @@ use Rattle.ada_meaning.specs.declared.event.Halt.TheVariants.{Finished, Erroneou
 use Rattle.ada_meaning.specs.declared.event.Why.TheVariants.{FollowsGone, FinalizesTwice}
 use Rattle.ada_meaning.specs.Named.{next}
 use Rattle.ada_meaning.specs.Run.{Choice, grants, takes}
-use Rattle.ada_sound.specs.Always.{IsChecked, FinishesAfter, NotInUse, SparesHolders, SparesOwn, HaltsAfter}
-use Rattle.ada_sound.specs.OperationExamples.{count_operations, count_bodies, operating_declarations, operating_stmts, operating_handlers, operating_events, node_operations, two_nodes, freeing_finalize, freed_events, following_finalize, following_events}
-use Rattle.ada_sound.proofs.Choices.{accepted_in, never_frugal, not_in_use_in, spares_with, halts_after_in}
+use Rattle.ada_sound.specs.Always.{IsChecked, FinishesAfter, NotInUse, UsesOwn, SparesHolders, SparesOwn, HaltsAfter}
+use Rattle.ada_sound.specs.OperationExamples.{count_operations, count_bodies, operating_declarations, operating_stmts, operating_handlers, operating_events, node_operations, two_nodes, freeing_finalize, freed_events, following_finalize, node_and_cell, following_events}
+use Rattle.ada_sound.proofs.Choices.{accepted_in, never_frugal, not_in_use_in, uses_own_in, spares_with, halts_after_in}
 use Rattle.ada_sound.proofs.Example.{steps, vec, no_name, spot, link, with_number}
-use Rattle.ada_sound.proofs.ExampleOwners.{access_to, an_integer, an_access, path, whole, part as component}
+use Rattle.ada_sound.proofs.ExampleOwners.{record_of, access_to, an_integer, an_access, path, whole, part as component}
 use Rattle.ada_sound.proofs.ExampleRecords.{object, of_object, record_at, of_object_type}
 
 -- A component of a controlled type, the parent part among them.
@@ -208,9 +209,9 @@ freeing_bodies = simp statement_rules
 pub freeing_form : stmt_forms freeing ≡ two_nodes
 freeing_form = simp statement_rules
 
-pub freeing_not_in_use : NotInUse freeing
+pub freeing_uses_own : UsesOwn freeing
 unfolding uses_in
-freeing_not_in_use = not_in_use_in freeing (freeing_finalize ∷ []) two_nodes no_handlers freeing_bodies freeing_form refl _ _ refl refl refl refl
+freeing_uses_own = uses_own_in freeing (freeing_finalize ∷ []) two_nodes no_handlers freeing_bodies freeing_form refl _ _ refl refl refl refl refl
 
 -- Finalize of the first node frees the second one, which is gone.
 pub frees_gone : HaltsAfter freed_events (Erroneous FinalizesTwice) freeing
@@ -223,14 +224,38 @@ frees_gone =
 abbrev value_behind : Path
 value_behind = record (path 0 (record { 0 = 1 } ∷ record { 0 = 0 } ∷ []) (omega arith)) { of_record = true }
 
+-- type Node is new Controlled with record Value : Integer; Next : Cell_Link; end record; type Link is access Node; what the formal parameter is known by;
+-- type Cell is record Value : Integer; end record; and type Cell_Link is access Cell.
+abbrev node_and_cell_types : List TypeDefinition
+node_and_cell_types =
+    controlled_type (of_kind part.Parent 0 0 ∷ of_kind (part.Elementary an_integer) 0 1 ∷ of_kind (part.Elementary (an_access 4)) 1 1 ∷ []) (omega arith)
+    (an_integer ∷ an_access 4 ∷ []) (omega arith) node_operations
+    ∷ access_to 0
+    ∷ definition.Object (record { 0 = 0 })
+    ∷ record_of (an_integer ∷ []) (omega arith)
+    ∷ access_to 3
+    ∷ []
+
 -- if N.Next /= null then Put_Line (Integer'Image (N.Next.Value)); end if;
-abbrev pub following : Program
-following =
-    node_program
-    (stmt.If
+abbrev following_statement : Stmt
+following_statement =
+    stmt.If
     (vec
     (record { condition = NullTest (of_object 0 1) false; statements = vec (stmt.PutImage (Reads value_behind) ∷ []) (omega arith) } ∷ []) (omega arith))
-    (vec [] (omega arith)))
+    (vec [] (omega arith))
+
+-- Head := new Node; Second := new Cell; Head.Next := Second; where Finalize does that
+abbrev pub following : Program
+following = record (node_program following_statement) {
+  types = vec node_and_cell_types (omega arith);
+  variables = vec (link ∷ record link { kind = variable.Access (record { 0 = 4 }) } ∷ []) (omega arith);
+  declarations = vec
+      (declaration.Collection (record { 0 = 1 }) ∷ declaration.Collection (record { 0 = 4 }) ∷ declaration.Variable (record { 0 = 0 }) None
+      ∷ declaration.Variable (record { 0 = 1 }) None ∷ []) (omega arith);
+  statements = vec
+      (stmt.Assign (whole 0) (right.Default (record { 0 = 1 })) ∷ stmt.Assign (whole 1) (right.Default (record { 0 = 4 }))
+      ∷ stmt.Assign (component 0 1) (right.Path (whole 1)) ∷ []) (omega arith);
+}
 
 pub following_operations : operations_of following.types.items 0 ≡ node_operations
 following_operations = refl
@@ -238,24 +263,24 @@ following_operations = refl
 pub following_bodies : body_forms following ≡ following_finalize ∷ []
 following_bodies = simp (statement_rules, expression_rules)
 
-pub following_form : stmt_forms following ≡ two_nodes
+pub following_form : stmt_forms following ≡ node_and_cell
 following_form = simp statement_rules
 
 pub following_not_in_use : NotInUse following
 unfolding uses_in
-following_not_in_use = not_in_use_in following (following_finalize ∷ []) two_nodes no_handlers following_bodies following_form refl _ _ refl refl refl refl
+following_not_in_use = not_in_use_in following (following_finalize ∷ []) node_and_cell no_handlers following_bodies following_form refl _ _ refl refl refl refl
 
 -- It frees nothing.
 pub following_spares : SparesOwn following
-following_spares = spares_with following (following_finalize ∷ []) two_nodes no_handlers following_bodies following_form refl true refl
+following_spares = spares_with following (following_finalize ∷ []) node_and_cell no_handlers following_bodies following_form refl true refl
 
 -- And no Finalize may touch storage there, as far as that is asked.
 pub following_spares_holders : SparesHolders following
-following_spares_holders = never_frugal following (following_finalize ∷ []) two_nodes no_handlers following_bodies following_form refl refl
+following_spares_holders = never_frugal following (following_finalize ∷ []) node_and_cell no_handlers following_bodies following_form refl refl
 
--- Finalize of the first node follows its component to the second one, which is gone.
+-- Both objects are granted. The cell goes with its collection, and then the node is picked: its Finalize follows its component to the cell.
 pub follows_gone : HaltsAfter following_events (Erroneous FollowsGone) following
 unfolding next
 follows_gone =
-    halts_after_in following (following_finalize ∷ []) two_nodes no_handlers following_bodies following_form refl []
-    (to_second ++ steps 15 ++ takes 0 ∷ steps 8) following_events (Erroneous FollowsGone) refl refl refl
+    halts_after_in following (following_finalize ∷ []) node_and_cell no_handlers following_bodies following_form refl []
+    (steps 11 ++ grants true ∷ steps 4 ++ grants true ∷ steps 10 ++ takes 0 ∷ steps 3 ++ takes 0 ∷ steps 8) following_events (Erroneous FollowsGone) refl refl refl

@@ -1,13 +1,17 @@
 -- A frugal body leaves a master of its own, which owns variables alone (7.6.1): no object has its home there.
 
-use Rattle.std.proofs.Common.{◌≡◌, ℕ, Bool, true, false, List, [], ◌∷◌, ◌++◌, refl, inl, inr, arith}
+use Rattle.std.proofs.Common.{◌≡◌, ℕ, Bool, true, false, ◌&&◌, List, [], ◌∷◌, ◌++◌, refl, inl, inr, arith}
 use Rattle.std.proofs.lemmas.Bool.{eqb-true}
 use Rattle.std.specs.Prelude.{Option, Some, None, ◌==◌}
 use Rattle.ada_flow.specs.Flow.{Holds}
 use Rattle.ada_meaning.specs.declared.state.Id.{Id}
 use Rattle.ada_meaning.specs.declared.state.Mode.{Mode}
+use Rattle.ada_meaning.specs.declared.state.Mode.TheVariants.{Running}
 use Rattle.ada_meaning.specs.declared.state.Value.{Value}
-use Rattle.ada_meaning.specs.Frame.{Leaves}
+use Rattle.ada_meaning.specs.declared.state.Value.TheVariants.{Null, Names, Scalar, Part}
+use Rattle.ada_meaning.specs.declared.event.Cause.TheVariants.{Leaving}
+use Rattle.ada_meaning.specs.Frame.{Ends, GivesBack, Leaves}
+use Rattle.ada_meaning.specs.Heap.{Home}
 use Rattle.ada_meaning.specs.Law.{items_of}
 use Rattle.ada_meaning.specs.State.{Owned, declared, collection, record_object, storage_pool, type_housed, Item, Master}
 use Rattle.ada_meaning.specs.Named.{Object, object_at}
@@ -15,8 +19,8 @@ use Rattle.ada_owners.specs.Places.{is_there}
 use Rattle.ada_quiet.specs.Frugal.{Thrift}
 use Rattle.ada_scopes.specs.Scopes.{is_number_of, is_innermost}
 use Rattle.ada_tracked.specs.Law.{InnermostHousesNone, NewestHousesNone}
-use Rattle.ada_sound.proofs.FrugalControl.{Frugal}
-use Rattle.ada_sound.proofs.Invariant.{Control, Known, Parting, Rooms, innermost}
+use Rattle.ada_sound.proofs.FrugalControl.{Frugal, FrugalLeads}
+use Rattle.ada_sound.proofs.Invariant.{Control, EndingBy, Known, LeavesTo, Parting, ReadyIn, Rooms, ThenBack, departs, departs_next, innermost, is_collection}
 use Rattle.ada_sound.proofs.Items.{Counted, HasItem, Houses, item_below}
 use Rattle.ada_sound.proofs.Leavings.{HeldIn}
 use Rattle.ada_sound.proofs.Operating.{AreVariables, IsVariable, OwnVariables}
@@ -75,3 +79,44 @@ pub leaves_own : (marks : Thrift) (back : Control) (mode left : Mode) (k : Contr
 leaves_own marks back mode left k upper lower (inl leads) own = absurd leads.0
 leaves_own marks back mode left k [] lower (inr leaving) own = absurd leaving.1
 leaves_own marks back mode left k (m ∷ upper) lower (inr leaving) own = own.0
+
+-- Such a master owns no collection.
+pub variables_stay : (ahead : Owned → Bool) (is : List Item) → AreVariables is → departs ahead is ≡ false
+variables_stay ahead [] own = refl
+variables_stay ahead (i ∷ is) own = by i.owned own.0
+  where
+    by : (owned : Owned) → IsVariable owned → (is_collection owned && ahead owned) ≡ false
+    by (declared x) variable = refl
+    by (collection access pool) variable = absurd variable
+    by (record_object t) variable = absurd variable
+    by (storage_pool declaration number) variable = absurd variable
+
+-- What is freed ends in front of no master that is left.
+module _ (known : Known) (marks : Thrift) (back : Control) (heap : List Object) (places : List Value) (masters : List Master) (upper : List Master) where
+  none_left : (under : Option Id) (k : Control) → LeavesTo known under heap places masters k → FrugalLeads marks back k upper → ⊥
+  none_left under [] left leads = left
+  none_left under (Leaves mode ∷ k) left leads = leads.0
+  none_left under (f ∷ k) left leads = left
+
+  none_leaving : (o : Id) (home : Home) (w : Value) (m item : ℕ) (pool : Option ℕ) (k : Control) → ThenBack known o home heap places masters (GivesBack w (Leaving m item) pool ∷ k) → FrugalLeads marks back k upper → ⊥
+  none_leaving o home Null m item pool k behind leads = behind
+  none_leaving o home (Names p) m item pool k (same, from, behind) leads = none_left (Some o) k behind.2 leads
+  none_leaving o home (Scalar n) m item pool k behind leads = behind
+  none_leaving o home (Part p place) m item pool k behind leads = behind
+
+  none_ending : (v w : Value) (m item : ℕ) (pool : Option ℕ) (k : Control) → EndingBy known v (GivesBack w (Leaving m item) pool ∷ k) heap places masters → FrugalLeads marks back k upper → ⊥
+  none_ending Null w m item pool k ending leads = ending
+  none_ending (Names o) w m item pool k ending leads = none_leaving o ending.object.cell.home w m item pool k ending.rest leads
+  none_ending (Scalar n) w m item pool k ending leads = ending
+  none_ending (Part o place) w m item pool k ending leads = ending
+
+-- So no collection is left while a frugal body runs for whose objects operations may be called that touch storage.
+pub frugal_stays : (known : Known) (marks : Thrift) (back : Control) (mode : Mode) (k : Control) (heap : List Object) (places operands : List Value) (upper lower : List Master) → Frugal marks back mode k upper → OwnVariables upper
+    → ReadyIn known Running k heap places operands (upper ++ lower) → departs_next (departs known.ahead (innermost (upper ++ lower))) k ≡ false
+frugal_stays known marks back mode [] heap places operands upper lower frugal own ready = refl
+frugal_stays known marks back mode (Leaves left ∷ k) heap places operands upper lower frugal own ready =
+    variables_stay known.ahead (innermost (upper ++ lower)) (leaves_own marks back mode left k upper lower frugal own)
+frugal_stays known marks back mode (Ends v ∷ GivesBack w (Leaving m item) pool ∷ k) heap places operands upper lower (inl leads) own ready =
+    absurd (none_ending known marks back heap places (upper ++ lower) upper v w m item pool k ready leads.1.1)
+frugal_stays known marks back mode (Ends v ∷ GivesBack w (Leaving m item) pool ∷ k) heap places operands upper lower (inr (runs, leaving)) own ready = absurd leaving
+frugal_stays known marks back mode k heap places operands upper lower frugal own ready = refl

@@ -1,6 +1,6 @@
 -- A master that is left loses its objects first, of whose types no component is, and then its collections (7.6.1, 13.11): where objects with controlled parts
--- may be allocated beside operations that touch storage, each goes where no objects from the newest collection of such ones that is left and not calm on, itself
--- included, have a component of its type.
+-- may be allocated beside operations that touch storage, each goes where no objects have a component of its type from the newest older collection on of objects
+-- that are not calm.
 
 use Rattle.ada_program.specs.declared.program.TypeNo.{TypeNo}
 use Rattle.ada_program.specs.declared.program.ComponentKind.{ComponentKind}
@@ -21,14 +21,14 @@ use Rattle.ada_scopes.specs.Scopes.{is_declared_object}
 use Rattle.ada_scopes.proofs.Homes.{OwnedFits, ItemsFit, fit_before}
 use Rattle.ada_scopes.proofs.Components.{items_fit, objects_gone}
 use Rattle.ada_scopes.proofs.Runs.{Scoped}
-use Rattle.ada_sound.proofs.Ahead.{goes_first, ahead_in, HoldsNone, AllHoldNone, houses_others, AtOthers, HoldNoneFrom, IsApart, ItemsApart, MastersApart}
+use Rattle.ada_sound.proofs.Ahead.{goes_first, ahead_in, HoldsNone, AllHoldNone, houses_others, AtOthers, HoldNoneFrom, ItemsApart, MastersApart}
 use Rattle.ada_quiet.specs.Calm.{are_calm_in}
 use Rattle.ada_quiet.specs.Bare.{collections_in_order, is_component_of, has_component_of, record_has_component_of, holds_component}
 use Rattle.ada_sound.proofs.Fits.{from_ahead}
 use Rattle.ada_sound.proofs.FrugalFrees.{component_access}
-use Rattle.ada_sound.proofs.Invariant.{innermost}
+use Rattle.ada_sound.proofs.Invariant.{innermost, is_collection}
 use Rattle.ada_sound.proofs.Items.{Houses}
-use Rattle.ada_sound.proofs.Leavings.{HoldNone, GoesInOrder, AreInOrder}
+use Rattle.ada_sound.proofs.Leavings.{HoldNone, GoesInOrder, NamesNoObject, AreInOrder}
 
 -- No component is a record.
 no_record : (components : Option (List ComponentKind)) (c : ℕ) (t : TypeNo) → kind_among components c ≡ Some (variable.Record t) → ⊥
@@ -99,8 +99,8 @@ module _ (types : List TypeForm) (calm : ℕ → Bool) (t : ℕ) where
   all_none_held (i ∷ is) all fit hold =
       (none_held i.owned (all zero i (omega arith)) fit.0 hold.0, all_none_held is (λ k j lt. all (suc k) j (omega (arith, lt))) fit.1 hold.1)
 
-  -- Where a collection is created apart from others, no objects have a component of its type from the first one on for whose objects an operation may be called
-  -- that touches storage: of those others, ...
+  -- Where a collection is created apart from others, no objects of these have a component of its type from the first one on for whose objects an operation may be
+  -- called that touches storage.
   first_none_held : (is : List Item) → All (λ j. is_declared_object j.owned ≡ false) is → ItemsFit types is → HoldNoneFrom types calm t is
       → HoldNone types t (from_ahead (goes_first true calm) is)
   first_none_held [] all fit apart = tt
@@ -121,19 +121,6 @@ module _ (types : List TypeForm) (calm : ℕ → Bool) (t : ℕ) where
       by (record_object u) at later apart' = (let none : is_declared_object i.owned ≡ false = all zero i (omega arith) in absurd (cc (rw at at none)))
       by (storage_pool declaration number) at later apart' = later apart'
 
-  -- ... and of its own ones and those.
-  own_none_held : (i : Item) (is : List Item) → All (λ j. is_declared_object j.owned ≡ false) (i ∷ is) → ItemsFit types (i ∷ is)
-      → (pool : Option ℕ) → i.owned ≡ collection t pool → IsApart types calm t is → HoldNone types t (from_ahead (goes_first true calm) (i ∷ is))
-  own_none_held i is all fit pool own apart = of i.owned own
-    where
-      by : (first : Bool) → AtOthers first ((holds_component types t t ≡ false) × AllHoldNone types t is) (HoldNoneFrom types calm t is)
-          → HoldNone types t (if first then i ∷ is else from_ahead (goes_first true calm) is)
-      by true apart' = all_none_held (i ∷ is) all fit (rw own apart')
-      by false apart' = first_none_held is (λ k j lt. all (suc k) j (omega (arith, lt))) fit.1 apart'
-
-      of : (owned : Owned) → owned ≡ collection t pool → HoldNone types t (if goes_first true calm owned then i ∷ is else from_ahead (goes_first true calm) is)
-      of owned same = rw same (by (not (calm t)) apart)
-
   -- No objects have a component of a type that is no access type.
   none_of_record : list_all (type_fits types) types ≡ true → is_access types t ≡ false → (is : List Item) → HoldNone types t is
   none_of_record fit none [] = tt
@@ -152,8 +139,8 @@ none_ahead calm (i ∷ is) all =
     not_alone (record_object t) none = absurd (cc none)
     not_alone (storage_pool declaration number) none = refl
 
--- No component is of the type of a declared object. A collection goes where no objects from the first one on that is left of those for which such an operation may
--- be called have a component of its type.
+-- No component is of the type of a declared object. A collection goes where no objects have a component of its type from the first older one on of those for which
+-- such an operation may be called.
 order_of : (program : Program) → IsWellFormed (program_form program) → (s : State) → Scoped (program_form program) s → (collections_in_order (program_form program) ≡ true → MastersApart (program_form program).types (are_calm_in (program_form program)) s.masters) → (m : ℕ) (i : Item) (is : List Item) (ms : List Master) → s.masters ≡ record { number = m; items = i ∷ is } ∷ ms → (owned : Owned) → i.owned ≡ owned → GoesInOrder (ahead_in (program_form program)) (program_form program).types i is
 order_of program well s nested apart m i is ms masters (declared x) own = λ access pool houses. (let none : Houses (declared x) access pool = rw own at houses in absurd none)
 order_of program well s nested apart m i is ms masters (storage_pool declaration number) own = λ access pool houses. (let none : Houses (storage_pool declaration number) access pool = rw own at houses in absurd none)
@@ -162,8 +149,8 @@ order_of program well s nested apart m i is ms masters (collection t pool) own =
     p : ProgramForm
     p = program_form program
 
-    none : All (λ (j : Item). is_declared_object j.owned ≡ false) (i ∷ is)
-    none = objects_gone p s m i is ms nested masters (ap is_declared_object own)
+    none : All (λ (j : Item). is_declared_object j.owned ≡ false) is
+    none k j lt = objects_gone p s m i is ms nested masters (ap is_declared_object own) (suc k) j (omega (arith, lt))
 
     housed : (access : ℕ) (pool' : Option ℕ) → Houses i.owned access pool' → t ≡ access
     housed access pool' houses = let h : Houses (collection t pool) access pool' = rw own at houses in h.0
@@ -174,14 +161,26 @@ order_of program well s nested apart m i is ms masters (collection t pool) own =
     by : (may : Bool) → collections_in_order p ≡ may → GoesInOrder (goes_first may (are_calm_in p)) p.types i is
     by true may access pool' houses =
         let items : ItemsApart p.types (are_calm_in p) (i ∷ is) = (subst (MastersApart p.types (are_calm_in p)) masters (apart may)).0 in
-        let created : IsApart p.types (are_calm_in p) t is = rw own at (items.0) in
-        rw (← housed access pool' houses) (own_none_held p.types (are_calm_in p) t i is none fit pool own created)
-    by false never access pool' houses = rw (none_ahead (are_calm_in p) (i ∷ is) none) tt
+        let created : HoldNoneFrom p.types (are_calm_in p) t is = rw own at (items.0) in
+        rw (← housed access pool' houses) (first_none_held p.types (are_calm_in p) t is none fit.1 created)
+    by false never access pool' houses = rw (none_ahead (are_calm_in p) is none) tt
 order_of program well s nested apart m i is ms masters (record_object t) own = λ access pool houses.
     let own_type : t ≡ access = (let h : Houses (record_object t) access pool = rw own at houses in h.0) in
     let fits : OwnedFits (program_form program).types i.owned = (let all = items_fit (program_form program) s nested in (subst (λ (ms' : List Master). ItemsFit (program_form program).types (items_of ms')) masters all).0) in
     let none : is_access (program_form program).types t ≡ false = rw own at fits in
-    none_of_record (program_form program).types (are_calm_in (program_form program)) access well.types_fit (rw own_type at none) (from_ahead (ahead_in (program_form program)) (i ∷ is))
+    none_of_record (program_form program).types (are_calm_in (program_form program)) access well.types_fit (rw own_type at none) (from_ahead (ahead_in (program_form program)) is)
+
+-- No component is of the type of an object whose home is no collection.
+names_no_object : (program : Program) → IsWellFormed (program_form program) → (s : State) → Scoped (program_form program) s → (m : ℕ) (i : Item) (is : List Item) (ms : List Master) → s.masters ≡ record { number = m; items = i ∷ is } ∷ ms → (owned : Owned) → i.owned ≡ owned → NamesNoObject (program_form program).types i
+names_no_object program well s nested m i is ms masters (declared x) own alone access pool houses v c named = let none : Houses (declared x) access pool = rw own at houses in none
+names_no_object program well s nested m i is ms masters (collection t own_pool) own alone access pool houses v c named = let never : is_collection (collection t own_pool) ≡ false = rw own at alone in cc never
+names_no_object program well s nested m i is ms masters (record_object t) own alone access pool houses v c named =
+    let own_type : t ≡ access = (let h : Houses (record_object t) access pool = rw own at houses in h.0) in
+    let fits : OwnedFits (program_form program).types i.owned = (let all = items_fit (program_form program) s nested in (subst (λ (ms' : List Master). ItemsFit (program_form program).types (items_of ms')) masters all).0) in
+    let none : is_access (program_form program).types t ≡ false = rw own at fits in
+    let one = component_is_access (program_form program).types well.types_fit v c access named in
+    cc (one, none, own_type)
+names_no_object program well s nested m i is ms masters (storage_pool declaration number) own alone access pool houses v c named = let none : Houses (storage_pool declaration number) access pool = rw own at houses in none
 
 pub in_order : (program : Program) → IsWellFormed (program_form program) → (s : State) → Scoped (program_form program) s → (collections_in_order (program_form program) ≡ true → MastersApart (program_form program).types (are_calm_in (program_form program)) s.masters) → (types : List TypeForm) → types ≡ (program_form program).types → (ms : List Master) → s.masters ≡ ms → AreInOrder (ahead_in (program_form program)) types (innermost ms)
 in_order program well s nested apart types same [] masters = tt
@@ -189,4 +188,4 @@ in_order program well s nested apart types same (m ∷ ms) masters = by m.items 
   where
     by : (items : List Item) → s.masters ≡ record { number = m.number; items = items } ∷ ms → AreInOrder (ahead_in (program_form program)) types items
     by [] at = tt
-    by (i ∷ is) at = rw same (order_of program well s nested apart m.number i is ms at i.owned refl)
+    by (i ∷ is) at = rw same (order_of program well s nested apart m.number i is ms at i.owned refl, names_no_object program well s nested m.number i is ms at i.owned refl)

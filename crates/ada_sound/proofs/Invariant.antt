@@ -1167,10 +1167,36 @@ abbrev pub IsNewest : (number : ℕ) → List Item → Type 0
 IsNewest number [] = ⊥
 IsNewest number (i ∷ is) = i.number ≡ number
 
+-- An item is a collection.
+abbrev pub is_collection : Owned → Bool
+is_collection (declared x) = false
+is_collection (collection access pool) = true
+is_collection (record_object t) = false
+is_collection (storage_pool declaration number) = false
+
+-- The newest of these items is a collection for whose objects an operation may be called that touches storage: while that goes, components may name what has gone.
+abbrev pub departs : (ahead : Owned → Bool) → List Item → Bool
+departs ahead [] = false
+departs ahead (i ∷ is) = is_collection i.owned && ahead i.owned
+
+-- In the midst of that, a member is taken next, or one ends that has been finalized.
+abbrev pub departs_next : (departs : Bool) → Control → Bool
+departs_next b (Leaves mode ∷ k) = b
+departs_next b (Ends v ∷ GivesBack w (Leaving m item) pool ∷ k) = b
+departs_next b k = false
+
+-- No call refers to an object that is under way, if there is one.
+abbrev pub UnderIsUnreferred : Known → (under : Option Id) → Type 0
+UnderIsUnreferred known None = Unit {0}
+UnderIsUnreferred known (Some o) = IsUnreferred (outers known) o
+
+-- What is left of a master behind an object under way. While a collection goes for whose objects such operations may be called, components may name the object.
 abbrev pub LeavesTo : Known → (under : Option Id) → List Object → List Value → List Master → Control → Type 0
 LeavesTo known under heap places masters [] = ⊥
 LeavesTo known under heap places masters (Leaves mode ∷ k) =
-    Freed known under (sparing known.ahead heap (innermost masters)) heap places masters (RunsOn known (Leaves mode ∷ k))
+    ((departs known.ahead (innermost masters) ≡ false) × Freed known under (sparing known.ahead heap (innermost masters)) heap places masters (RunsOn known (Leaves mode ∷ k)))
+    ⊎ ((departs known.ahead (innermost masters) ≡ true) × UnderIsUnreferred known under
+    × Freed known None (sparing known.ahead heap (innermost masters)) heap places masters (RunsOn known (Leaves mode ∷ k)))
 LeavesTo known under heap places masters (f ∷ k) = ⊥
 
 -- What goes on came out of the initialization of an object of this type (7.6).

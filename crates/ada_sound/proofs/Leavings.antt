@@ -1,6 +1,6 @@
 -- Behind a block its collections are gone: what is known of variables, and that a member that is taken has no owner.
 
-use Rattle.std.proofs.Common.{◌≡◌, ◌≢◌, ℕ, zero, suc, Bool, true, false, ◌||◌, not, List, [], ◌∷◌, ◌++◌, refl, sym, ap, ◌∙◌, ◌⊎◌, inl, inr, arith}
+use Rattle.std.proofs.Common.{◌≡◌, ◌≢◌, ℕ, zero, suc, Bool, true, false, ◌||◌, ◌&&◌, not, List, [], ◌∷◌, ◌++◌, refl, sym, ap, ◌∙◌, ◌⊎◌, inl, inr, arith}
 use Rattle.std.proofs.lemmas.Bool.{eq-eqb, eqb-true}
 use Rattle.std.specs.Prelude.{Option, Some, None, ◌==◌, if◌then◌else◌}
 use Rattle.std.specs.List.{slice_get, slice_set, slice_index_or}
@@ -25,7 +25,7 @@ use Rattle.ada_sound.proofs.Stored.{IsUnder, Stored, exists_out}
 use Rattle.ada_sound.proofs.Orderings.{AsGood, as_good, good_here, good_lost, good_losing, good_to_lost}
 use Rattle.ada_sound.proofs.Raising.{both}
 use Rattle.ada_sound.proofs.Values.{read_other, same_or_not, lost_here}
-use Rattle.ada_sound.proofs.Invariant.{AllAmong, NamesNone}
+use Rattle.ada_sound.proofs.Invariant.{AllAmong, NamesNone, departs, is_collection}
 
 -- What a variable holds behind a block: what it did, if it is of another access type; else it is lost.
 abbrev LeftBy : Bool → (before after : Hold) → Type 0
@@ -203,12 +203,12 @@ abbrev pub HeldIn : List Object → List Master → Type 0
 HeldIn heap ms = (holder held : Object) → HoldsThere heap holder held → is_innermost ms held.cell.home.item ≡ true → is_innermost ms holder.cell.home.item ≡ true
 
 -- What a list holds that is a name.
-get_named : (vs : List Value) (c : ℕ) (o : Id) → slice_index_or vs c Null ≡ Names o → slice_get vs c ≡ Some (Names o)
+pub get_named : (vs : List Value) (c : ℕ) (o : Id) → slice_index_or vs c Null ≡ Names o → slice_get vs c ≡ Some (Names o)
 get_named [] c o e = absurd (cc e)
 get_named (v ∷ vs) zero o e = ap Some e
 get_named (v ∷ vs) (suc c) o e = get_named vs c o e
 
-there_names : (b : Bool) (v : Value) (o : Id) → (if b then v else Null) ≡ Names o → (b ≡ true) × (v ≡ Names o)
+pub there_names : (b : Bool) (v : Value) (o : Id) → (if b then v else Null) ≡ Names o → (b ≡ true) × (v ≡ Names o)
 there_names true v o e = (refl, e)
 there_names false v o e = absurd (cc e)
 
@@ -244,15 +244,37 @@ HoldNone types t [] = Unit {0}
 HoldNone types t (i ∷ is) =
     ((v : ℕ) (pool : Option ℕ) → Houses i.owned v pool → (c : ℕ) → access_of (kind_among (reached_components types v) c) ≡ Some t → ⊥) × HoldNone types t is
 
--- The newest item goes: no objects have a component of the type of its own ones, from the first item on for whose objects an operation may be called that touches
--- storage, be it this one or an older one.
+-- The newest item goes: no objects have a component of the type of its own ones, from the first older item on for whose objects an operation may be called that
+-- touches storage.
 abbrev pub GoesInOrder : (ahead : Owned → Bool) → List TypeForm → Item → List Item → Type 0
 GoesInOrder ahead types item items =
-    (access : ℕ) (pool : Option ℕ) → Houses item.owned access pool → HoldNone types access (from_ahead ahead (item ∷ items))
+    (access : ℕ) (pool : Option ℕ) → Houses item.owned access pool → HoldNone types access (from_ahead ahead items)
 
+-- The newest item, which is no collection, goes: no objects have a component of the type of its own ones.
+abbrev pub NamesNoObject : List TypeForm → Item → Type 0
+NamesNoObject types item =
+    is_collection item.owned ≡ false → (access : ℕ) (pool : Option ℕ) → Houses item.owned access pool
+    → (v c : ℕ) → access_of (kind_among (reached_components types v) c) ≡ Some access → ⊥
+
+-- So it is with the newest one of these items, if there is one.
 abbrev pub AreInOrder : (ahead : Owned → Bool) → List TypeForm → List Item → Type 0
 AreInOrder ahead types [] = Unit {0}
-AreInOrder ahead types (i ∷ is) = GoesInOrder ahead types i is
+AreInOrder ahead types (i ∷ is) = GoesInOrder ahead types i is × NamesNoObject types i
+
+-- No objects have a component of a type that no component is of.
+none_hold : (types : List TypeForm) (t : ℕ) → ((v c : ℕ) → access_of (kind_among (reached_components types v) c) ≡ Some t → ⊥) → (is : List Item) → HoldNone types t is
+none_hold types t none [] = tt
+none_hold types t none (i ∷ is) = (λ v pool houses c. none v c, none_hold types t none is)
+
+-- Where the newest item is no collection for whose objects such an operation may be called, no objects have a component of the type of its own ones, from the first
+-- item on for whose objects one may be called.
+pub stays_ordered : (ahead : Owned → Bool) (types : List TypeForm) (item : Item) (items : List Item) → departs ahead (item ∷ items) ≡ false → AreInOrder ahead types (item ∷ items)
+    → (access : ℕ) (pool : Option ℕ) → Houses item.owned access pool → HoldNone types access (from_ahead ahead (item ∷ items))
+stays_ordered ahead types item items stays order access pool houses = by (is_collection item.owned) refl stays
+  where
+    by : (b : Bool) → is_collection item.owned ≡ b → (b && ahead item.owned) ≡ false → HoldNone types access (from_ahead ahead (item ∷ items))
+    by true is none = rw none (order.0 access pool houses)
+    by false is none = none_hold types access (order.1 is access pool houses) (from_ahead ahead (item ∷ items))
 
 -- What a variable of a suspended activation is relied on to name, what a call refers to, and what is under way has no home in the innermost master.
 abbrev pub NamedBelow : Outsiders → List Object → List Master → Type 0
@@ -280,7 +302,7 @@ has_among n access pool (i ∷ is) js counted (inr has) here = by (i.number == n
     by false other later here' = inr (later here')
 
 -- So it is among those from the first one on that is ahead, if it is not in front of that one.
-has_behind : (ahead : Owned → Bool) (n access : ℕ) (pool : Option ℕ) (is js : List Item) → Counted (is ++ js) → HasItem n access pool (is ++ js)
+pub has_behind : (ahead : Owned → Bool) (n access : ℕ) (pool : Option ℕ) (is js : List Item) → Counted (is ++ js) → HasItem n access pool (is ++ js)
     → is_number_of is n ≡ true → is_number_of (in_front ahead is) n ≡ false → HasItem n access pool (from_ahead ahead is)
 has_behind ahead n access pool [] js counted has here behind = absurd (cc here)
 has_behind ahead n access pool (i ∷ is) js counted has here behind = by (ahead i.owned) refl (has_behind ahead n access pool is js counted.1)
@@ -299,7 +321,7 @@ has_behind ahead n access pool (i ∷ is) js counted has here behind = by (ahead
     by false none later = rw none (on later has (i.number == n) refl here (rw none at behind))
 
 -- What has its home there has no component of that access type.
-none_held : (types : List TypeForm) (t n v : ℕ) (pool : Option ℕ) (is : List Item) → HoldNone types t is → HasItem n v pool is
+pub none_held : (types : List TypeForm) (t n v : ℕ) (pool : Option ℕ) (is : List Item) → HoldNone types t is → HasItem n v pool is
     → (c : ℕ) → access_of (kind_among (reached_components types v) c) ≡ Some t → ⊥
 none_held types t n v pool [] none has c is' = has
 none_held types t n v pool (i ∷ is) none (inl e) c is' = none.0 v pool e.1 c is'
@@ -307,7 +329,7 @@ none_held types t n v pool (i ∷ is) none (inr has) c is' = none_held types t n
 
 -- A member of the newest collection of the innermost master, of a type of which no variable is relied on to name an object, is in hand where nothing relies on the
 -- components of that master's objects in front of those that an operation may be called for which touches storage.
-module _ (ahead : Owned → Bool) (types : List TypeForm) (variables : List VariableForm) (outer : Outsiders) (heap : List Object) (places : List Value) (holds : Holds) (number : ℕ) (item : Item) (items : List Item) (ms : List Master) (gone : List ℕ) (fit : Fit types variables outer (sparing ahead heap (item ∷ items)) heap places holds) (under : List Id) (stored : Stored under heap (record { number = number; items = item ∷ items } ∷ ms)) (none : NamesNone variables gone holds) (held : HeldIn heap (record { number = number; items = item ∷ items } ∷ ms)) (below : NamedBelow outer heap (record { number = number; items = item ∷ items } ∷ ms)) (o : Id) (x : Object) (found : object_at heap o ≡ Some x) (there : is_there x.stage ≡ true) (home : x.cell.home.item ≡ item.number) (among : is_among gone (Some x.cell.access) ≡ true) (pool : Option ℕ) (houses : Houses item.owned x.cell.access pool) (order : GoesInOrder ahead types item items) where
+module _ (ahead : Owned → Bool) (types : List TypeForm) (variables : List VariableForm) (outer : Outsiders) (heap : List Object) (places : List Value) (holds : Holds) (number : ℕ) (item : Item) (items : List Item) (ms : List Master) (gone : List ℕ) (fit : Fit types variables outer (sparing ahead heap (item ∷ items)) heap places holds) (under : List Id) (stored : Stored under heap (record { number = number; items = item ∷ items } ∷ ms)) (none : NamesNone variables gone holds) (held : HeldIn heap (record { number = number; items = item ∷ items } ∷ ms)) (below : NamedBelow outer heap (record { number = number; items = item ∷ items } ∷ ms)) (o : Id) (x : Object) (found : object_at heap o ≡ Some x) (there : is_there x.stage ≡ true) (home : x.cell.home.item ≡ item.number) (among : is_among gone (Some x.cell.access) ≡ true) (order : HoldNone types x.cell.access (from_ahead ahead (item ∷ items))) where
   access_here : access_at heap o ≡ Some x.cell.access
   access_here = rw (found, there) refl
 
@@ -367,7 +389,7 @@ module _ (ahead : Owned → Bool) (types : List TypeForm) (variables : List Vari
       by false away own' =
           no_kind c (access_at heap p) (component_kind (kinds_of types variables outer) (access_at heap p) c)
           (λ u is named. none_held types x.cell.access holder.cell.home.item holder.cell.access holder.cell.home.pool (from_ahead ahead (item ∷ items))
-          (order x.cell.access pool houses) (behind away) c (rw (access_is u is) named))
+          order (behind away) c (rw (access_is u is) named))
           refl of
 
   no_name : (y : ℕ) → IsRelied (hold_at holds y) → place_at places y ≡ Names o → ⊥

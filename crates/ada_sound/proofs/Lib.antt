@@ -268,6 +268,32 @@ pub mod AdjustingGoes
 mod PutAside
 -- each step of such a body, where other parts of the copy are adjusted later
 pub mod AdjustingCopies
+-- what each step rests on
+pub mod Grounds
+-- a collection goes for whose objects operations may be called that touch storage, and a state that stands for the real one
+pub mod Departing
+-- what is there in such a state
+pub mod SeenStates
+-- what steps rest on there
+pub mod SeenGrounds
+-- what the steps of the collection lead to
+pub mod DepartingGoes
+-- where it begins to go
+pub mod DepartingBegins
+-- no place is relied on to name what it has lost
+pub mod DepartingGhosts
+-- a member ends, and gives back its words
+pub mod DepartingEnds
+-- the next member is taken, or the collection has gone
+pub mod DepartingLeaves
+-- a member is treated
+pub mod DepartingTreats
+-- what is behind the bodies that run for a member
+pub mod DepartingBehind
+-- their steps
+pub mod DepartingBodies
+-- what flow speaks of meanwhile
+pub mod DepartingSights
 -- the first state
 pub mod Starts
 -- one step
@@ -311,6 +337,10 @@ pub mod TouchingTreats
 pub mod TouchingReturns
 -- its steps, the end included
 pub mod TouchingSteps
+-- states that runs come to have what steps rest on
+pub mod Grounded
+-- steps where no operation runs, and those of the bodies of operations
+pub mod OrdinarySteps
 -- whole runs
 pub mod Runs
 -- the laws of order
@@ -381,6 +411,8 @@ pub mod ExampleEmptying
 pub mod ExampleReleasing
 -- the same by a component of a formal parameter
 pub mod ExampleUnshelving
+-- a list is left whose nodes free what they own
+pub mod ExampleLeaving
 -- one whose Finalize frees an object whose Finalize frees, too
 pub mod ExampleNesting
 pub mod ExampleAllocating
@@ -396,6 +428,7 @@ pub mod ExampleInside
 -- where a statement begins
 pub mod Agreeing
 -- what effects cover
+pub mod CoveredBy
 pub mod Covered
 -- the laws
 pub mod Headline

@@ -10,7 +10,7 @@ use Rattle.ada_program.specs.ProgramForm.{TypeForm, BodyForm, ProgramForm, main_
 use Rattle.ada_operations.specs.Created as parts
 use Rattle.ada_created.proofs.Control.{Each, join}
 use Rattle.ada_quiet.specs.Calm.{calm_types, has_calm_objects}
-use Rattle.ada_quiet.specs.Bare.{holds_component, hold_none, hold_none_from, is_apart_from, collect_in_order, stmt_collections, stmts_collections, branches_collections, handlers_collections, body_collections, bodies_collections, collections_in_order}
+use Rattle.ada_quiet.specs.Bare.{holds_component, hold_none, hold_none_from, collect_in_order, stmt_collections, stmts_collections, branches_collections, handlers_collections, body_collections, bodies_collections, collections_in_order}
 
 module _ (types : List TypeForm) (calm : List Bool) where
   -- The collections of a declarative part are created in order: no others are in front of them.
@@ -32,6 +32,7 @@ module _ (types : List TypeForm) (calm : List Bool) where
   fewer_hold : (t : ℕ) (vs older : List ℕ) → hold_none types t (vs ++ older) ≡ true → hold_none types t vs ≡ true
   fewer_hold t vs older none = all_in_front (λ w. not (holds_component types t w)) vs older none
 
+  -- So it is where only those from some collection on have none: a collection that is created behind others in order is so behind the newest ones of these.
   fewer_from : (t : ℕ) (vs older : List ℕ) → hold_none_from types calm t (vs ++ older) ≡ true → hold_none_from types calm t vs ≡ true
   fewer_from t [] older none = refl
   fewer_from t (v ∷ vs) older none = by (has_calm_objects types calm v) (fewer_from t vs older) none
@@ -42,21 +43,12 @@ module _ (types : List TypeForm) (calm : List Bool) where
       by true later none' = later none'
       by false later none' = fewer_hold t (v ∷ vs) older none'
 
-  -- A collection that is created apart from others is apart from the newest ones of these.
-  fewer_older : (t : ℕ) (vs older : List ℕ) → is_apart_from types calm t (vs ++ older) ≡ true → is_apart_from types calm t vs ≡ true
-  fewer_older t vs older apart = by (has_calm_objects types calm t) apart
-    where
-      by : (quiet : Bool) → (if quiet then hold_none_from types calm t (vs ++ older) else hold_none types t (t ∷ vs ++ older)) ≡ true
-          → (if quiet then hold_none_from types calm t vs else hold_none types t (t ∷ vs)) ≡ true
-      by true apart' = fewer_from t vs older apart'
-      by false apart' = fewer_hold t (t ∷ vs) older apart'
-
   -- So it is with collections that are created one after the other.
   fewer_in_order : (ts vs older : List ℕ) → collect_in_order types calm (vs ++ older) ts ≡ true → collect_in_order types calm vs ts ≡ true
   fewer_in_order [] vs older ordered = refl
   fewer_in_order (t ∷ ts) vs older ordered =
-      let both = and_parts (is_apart_from types calm t (vs ++ older)) (collect_in_order types calm (t ∷ vs ++ older) ts) ordered in
-      rw (fewer_older t vs older both.0) (fewer_in_order ts (t ∷ vs) older both.1)
+      let both = and_parts (hold_none_from types calm t (vs ++ older)) (collect_in_order types calm (t ∷ vs ++ older) ts) ordered in
+      rw (fewer_from t vs older both.0) (fewer_in_order ts (t ∷ vs) older both.1)
 
   -- What is created in order behind others is so alone.
   pub alone_in_order : (ts older : List ℕ) → collect_in_order types calm older ts ≡ true → collect_in_order types calm [] ts ≡ true
@@ -67,7 +59,7 @@ module _ (types : List TypeForm) (calm : List Bool) where
       → (collect_in_order types calm older ts ≡ true) × (collect_in_order types calm [] more ≡ true)
   split_in_order [] more older ordered = (refl, alone_in_order more older ordered)
   split_in_order (t ∷ ts) more older ordered =
-      let both = and_parts (is_apart_from types calm t older) (collect_in_order types calm (t ∷ older) (ts ++ more)) ordered in
+      let both = and_parts (hold_none_from types calm t older) (collect_in_order types calm (t ∷ older) (ts ++ more)) ordered in
       let rest = split_in_order ts more (t ∷ older) both.1 in
       (rw both.0 rest.0, rest.1)
 

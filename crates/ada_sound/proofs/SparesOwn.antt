@@ -1,12 +1,14 @@
--- The end of an object of an access type frees no object of that type (7.6.1, 13.11.2), and neither does its adjustment; nor does an assignment to a record in it (5.2).
+-- The end of an object of an access type frees no object of that type and follows no value of it (7.6.1, 13.11.2, 4.1), and its adjustment frees none; nor does an
+-- assignment to a record in it (5.2).
 
-use Rattle.std.proofs.Common.{◌≡◌, ℕ, zero, suc, ◌+◌, true, false, not, List, [], ◌∷◌, refl, arith, ◌⊎◌, inl, inr}
+use Rattle.std.proofs.Common.{◌≡◌, ℕ, zero, suc, ◌+◌, Bool, true, false, not, ◌||◌, List, [], ◌∷◌, refl, arith, ◌⊎◌, inl, inr}
 use Rattle.std.specs.Prelude.{Option, Some, None, is_some}
 use Rattle.std.specs.List.{slice_get}
 use Rattle.std.proofs.lemmas.Bool.{and_parts, not-true, or_cases}
 use Rattle.ada_deeds.proofs.Freed.{deed}
 use Rattle.ada_deeds.proofs.Within.{counts_are_enough}
 use Rattle.ada_deeds.specs.declared.deed.Callee.TheVariants as callee
+use Rattle.ada_deeds.specs.declared.deed.Deed.TheVariants.{Follows}
 use Rattle.ada_deeds.specs.declared.deed.Operation.{Operation}
 use Rattle.ada_deeds.specs.declared.deed.Operation.TheVariants.{Adjust, Finalize}
 use Rattle.ada_deeds.specs.Forms.{parts_do}
@@ -34,20 +36,38 @@ spares_at implicit from (u ∷ types) spares zero n is t at =
 spares_at implicit from (u ∷ types) spares (suc i) n is t at =
     spares_at implicit (suc from) types (and_parts (spares_own_type implicit from u) (spare_own_types implicit (suc from) types) spares).1 i n (omega (arith, is)) t at
 
--- The end of an object of an access type frees none of that type, and neither does its adjustment.
-pub spares_end : (p : ProgramForm) → spare_own_types (implicit_of p) 0 p.types ≡ true → (t : ℕ) → is_access p.types t ≡ true
-    → ((implicit_of p).end_frees t t ≡ false) × ((implicit_of p).adjust_frees t t ≡ false)
-spares_end p own t is = by (slice_get p.types t) refl is
+-- The end of an object of an access type uses none of that type, and its adjustment frees none.
+spares_both : (p : ProgramForm) → spare_own_types (implicit_of p) 0 p.types ≡ true → (t : ℕ) → is_access p.types t ≡ true
+    → ((implicit_of p).end_reaches t t ≡ false) × ((implicit_of p).adjust_frees t t ≡ false)
+spares_both p own t is = by (slice_get p.types t) refl is
   where
-    by : (o : Option TypeForm) → slice_get p.types t ≡ o → is_some (designated_in o) ≡ true → ((implicit_of p).end_frees t t ≡ false) × ((implicit_of p).adjust_frees t t ≡ false)
+    by : (o : Option TypeForm) → slice_get p.types t ≡ o → is_some (designated_in o) ≡ true → ((implicit_of p).end_reaches t t ≡ false) × ((implicit_of p).adjust_frees t t ≡ false)
     by None at is' = absurd (cc is')
     by (Some (record_of name parts components finalization)) at is' = absurd (cc is')
     by (Some (access_to name designated pool)) at is' =
-        let ends = (implicit_of p).end_frees t t in
+        let ends = (implicit_of p).end_reaches t t in
         let adjusts = (implicit_of p).adjust_frees t t in
         let both = and_parts (not ends) (not adjusts) (spares_at (implicit_of p) 0 p.types own t t (omega arith) (access_to name designated pool) at) in
         (not-true ends both.0, not-true adjusts both.1)
     by (Some (object_of record_type)) at is' = absurd (cc is')
+
+-- So that end neither frees one nor follows a value of the type.
+pub reaches_own_none : (p : ProgramForm) → spare_own_types (implicit_of p) 0 p.types ≡ true → (t : ℕ) → is_access p.types t ≡ true
+    → (implicit_of p).end_reaches t t ≡ false
+reaches_own_none p own t is = (spares_both p own t is).0
+
+-- Where neither of two things is so, the first one is not.
+first_not : (a b : Bool) → (a || b) ≡ false → a ≡ false
+first_not true b none = absurd (cc none)
+first_not false b none = refl
+
+-- It frees none, and neither does the adjustment.
+pub spares_end : (p : ProgramForm) → spare_own_types (implicit_of p) 0 p.types ≡ true → (t : ℕ) → is_access p.types t ≡ true
+    → ((implicit_of p).end_frees t t ≡ false) × ((implicit_of p).adjust_frees t t ≡ false)
+spares_end p own t is =
+    let both = spares_both p own t is in
+    let follows = parts_do (does_by p (Follows (record { 0 = t }))) Finalize (record_at p.types t) in
+    (first_not ((implicit_of p).end_frees t t) follows both.0, both.1)
 
 -- A record type with controlled parts is its own record type.
 own_record : (types : List TypeForm) (t : ℕ) (f : Finalization) (o : Option TypeForm) → finalization_in o ≡ Some f → record_in t o ≡ Some t

@@ -16,10 +16,8 @@ use Rattle.ada_flow.specs.Flow.{hold_at, keeping_of, body_flow, tracks_of, first
 use Rattle.ada_flow.specs.Tracking.{Tracks, no_tracks}
 use Rattle.ada_meaning.specs.Step.{blanks}
 use Rattle.ada_meaning.specs.Named.{State, named}
-use Rattle.ada_meaning.specs.Run.{Event, Run, here, first_state}
-use Rattle.ada_typed.proofs.Kept.{behind_call}
+use Rattle.ada_meaning.specs.Run.{here, first_state}
 use Rattle.ada_sound.specs.Always.{SparesHolders, SparesOwn}
-use Rattle.ada_sound.specs.Agreement.{running_procedure}
 use Rattle.ada_idle.proofs.Idle.{IsIdle}
 use Rattle.ada_idle.proofs.Runs.{first_idle}
 use Rattle.ada_idle.proofs.Unadjusted.{AdjustsNone}
@@ -34,37 +32,22 @@ use Rattle.ada_sound.proofs.Fits.{first_fit}
 use Rattle.ada_quiet.specs.Apart.{is_tracker, operations_stand_apart}
 use Rattle.ada_sound.proofs.CallsApart.{CallApart}
 use Rattle.ada_sound.proofs.CallsApartRuns.{first_apart}
-use Rattle.ada_sound.proofs.Trackers.{TracksSafely, tracks_safely, calls_stand_apart}
+use Rattle.ada_sound.proofs.Trackers.{tracks_safely, calls_stand_apart}
 use Rattle.ada_sound.proofs.Bodies.{IsBody, IsFine, seen_is, tracks_in, obeys_in}
 use Rattle.ada_sound.proofs.BodyRuns.{body_runs, none_suspended}
 use Rattle.ada_sound.proofs.Exits.{no_exits, no_exit_handlers}
-use Rattle.ada_sound.proofs.Invariant.{Ready, under_in}
-use Rattle.ada_sound.proofs.Callers.{Suspension, known_in, Stands, callers_of}
+use Rattle.ada_sound.proofs.Invariant.{Ready}
+use Rattle.ada_sound.proofs.Callers.{known_in}
 use Rattle.ada_sound.proofs.Touching.{Touching}
+use Rattle.ada_sound.proofs.Departing.{Departing}
+use Rattle.ada_sound.proofs.Grounds.{IsReached, Obeys, Ordinary}
+pub use Rattle.ada_sound.proofs.Grounds.{IsReached, Obeys, Ordinary}
 use Rattle.ada_sound.proofs.Adjusting.{AdjustingCopy}
-use Rattle.ada_sound.proofs.Operating.{IsCalm}
 use Rattle.ada_sound.proofs.Operates.{Operates}
 use Rattle.ada_sound.proofs.Returns.{same_types}
 
--- A run of the program comes to this state.
-abbrev pub IsReached : Program → State → Type 0
-IsReached program s = (input : List ℤ) × (events : List Event) × Run program (first_state program input) events s
-
--- No operation runs, or its body has just come to its end: the invariant holds, for the body that runs and those that have called it, in which
--- no object is under way.
-pub record Ordinary (program : Program) (s : State) : Type 0 where
-  pub suspensions : List Suspension
-  pub ready : Ready (known_in program (running_procedure s) suspensions) s
-  pub stands : Stands program suspensions s
-  pub calm : IsCalm (behind_call s.control)
-  pub settled : under_in (callers_of program suspensions) ≡ []
-
--- A program obeys the rules, and nothing tracks components, or they may be tracked.
-abbrev pub Obeys : Program → Type 0
-Obeys program = TracksSafely (program_form program) × ObeysRules program
-
--- What every state of a run keeps: that invariant, or the body of an operation runs, one that touches no storage, an Initialize or a Finalize that does, or an
--- Adjust that tracks components; values are of their kinds, and collections nest. Where the text makes no object with controlled parts, none is treated, and
+-- What every state of a run keeps: the invariant, where no operation runs, or the body of one runs that touches no storage, an Initialize or a Finalize that does, or
+-- an Adjust that tracks components; or a collection goes for whose objects operations may be called that touch storage. Values are of their kinds, and collections nest. Where the text makes no object with controlled parts, none is treated, and
 -- where it copies no record with some, nothing is adjusted.
 pub record Sound (program : Program) (s : State) : Type 0 where
   pub reached : IsReached program s
@@ -74,7 +57,7 @@ pub record Sound (program : Program) (s : State) : Type 0 where
   pub spares_own : SparesOwn program
   pub spares_holders : SparesHolders program
   pub obeys : Obeys program
-  pub goes : Ordinary program s ⊎ (Operates program s ⊎ (Touching program s ⊎ AdjustingCopy program s))
+  pub goes : Ordinary program s ⊎ (Operates program s ⊎ (Touching program s ⊎ (AdjustingCopy program s ⊎ Departing program s)))
   pub idle : makes_parts (program_form program) ≡ false → IsIdle (program_form program).types s
   pub copies : copies_parts (program_form program) ≡ false → AdjustsNone (program_form program).types s.control
   pub apart : operations_stand_apart (program_form program) ≡ true → CallApart (program_form program).types (is_tracker (program_form program)) s.control

@@ -38,7 +38,7 @@ use Rattle.ada_sound.proofs.Calm.{ends_operation, operation_ends_there}
 use Rattle.ada_meaning.specs.declared.state.Id.{Id}
 use Rattle.ada_sound.proofs.Homes.{Pooled, NoneIsUnder, HaveHomes}
 use Rattle.ada_sound.proofs.Standing.{AllStand, FinalizesBy, FinalizesIn, FreesAmong}
-use Rattle.ada_sound.proofs.Invariant.{innermost, Known, outers, Control, ReadyBy, ReadyIn, IsActive, Ready, Fine}
+use Rattle.ada_sound.proofs.Invariant.{innermost, Known, outers, Control, ReadyBy, ReadyIn, IsActive, Ready, Fine, departs, departs_next}
 use Rattle.ada_sound.proofs.Ready.{running, at_work, at_less, runs_on, goes_in_mode}
 use Rattle.ada_sound.proofs.Raising.{unary_only, binary_only}
 use Rattle.ada_sound.proofs.Expressions.{outcome_fine, null_test_fine, expression_fine, links_fine}
@@ -176,83 +176,83 @@ module _ (known : Known) (copies : CopiesWell known.program.types) (may : ℕ �
         let computed : AreComputed known.program.types (cells_of s.heap) (lies_in u ∷ lies_in u ∷ fits.0) (v ∷ below) = rw (fits.2) at (t.2) in
         assigns_fine known a rest s types reaches k u (v ∷ below) computed.0 (second_refers u fits.0 below computed.1) r
 
-    frame_fine : (f : Frame Value) → (calls_next (f ∷ k) ≡ true → MayCall known bodies) → AllocatesBare known.program known.touches (f ∷ k) → crosses Running (f ∷ k) ≡ false → RunsTyped known s.heap (f ∷ k) a.places a.operands → StateTyped known.program may (outers known).under s.heap s.masters → FinalizesBy may known.program.types types bodies f (running k a rest s) → FreesAmong may (f ∷ k) → ((mode : Mode) (behind : Control) → f ∷ k ≡ Leaves mode ∷ behind → HeldIn s.heap s.masters × NamedBelow (outers known) s.heap s.masters × AreInOrder known.ahead known.program.types (innermost s.masters)) → ReadyBy known f k s.heap a.places a.operands s.masters → Fine known s.heap s.masters (frame_next named types bodies f (running k a rest s))
-    frame_fine (Elaborates ds fs hs) calling bare inner t kept well freely low r = declarations_fine known a rest s copies fs hs k types ds t.3 t.1.2 r
-    frame_fine (Does fs) calling bare inner t kept well freely low r = stmts_fine known a rest s may types reaches bodies copies t.1.1 fs calling k (homes_in kept well) freely t.1.2.0 (t.1.2.1 kept.own) r
-    frame_fine (Decides fs branches) calling bare inner t kept well freely low r = decided_fine known (record a { operands = older a.operands }) rest s fs branches (named.reads_boolean (first_or Null a.operands)) k r
-    frame_fine (Repeats condition body) calling bare inner t kept well freely low r = repeats_fine known a rest s condition body k r
-    frame_fine (Turns e body) calling bare inner t kept well freely low r = turned_fine known (record a { operands = older a.operands }) rest s e body (named.reads_boolean (first_or Null a.operands)) k r
-    frame_fine (Ranges x body) calling bare inner t kept well freely low r = ranges_fine known (record a { operands = older (older a.operands) }) rest s x body (named.reads_integer (first_or Null (older a.operands))) (named.reads_integer (first_or Null a.operands)) k r
-    frame_fine (Counts x next last body) calling bare inner t kept well freely low r = counts_fine known a rest s x next last body k r
-    frame_fine Exits calling bare inner t kept well freely low r = exited_fine known (record a { operands = older a.operands }) rest s (named.reads_boolean (first_or Null a.operands)) k r
-    frame_fine (Handles hs) calling bare inner t kept well freely low r = runs_on known k a rest s (at_less r r.rest) Quiet tt
-    frame_fine Closes calling bare inner t kept well freely low r = closes_fine known k a rest s Running r
-    frame_fine (Leaves mode) calling bare inner t kept well freely low r = leave_fine known types mode k a rest s s.masters r (low mode k refl).0 (low mode k refl).1 (low mode k refl).2
-    frame_fine (Calls procedure b actuals) calling bare inner t kept well freely low r = absurd (cc inner)
-    frame_fine (Returns actuals references) calling bare inner t kept well freely low r = absurd (cc inner)
-    frame_fine (Evaluates right) calling bare inner t kept well freely low r = evaluates_fine known k a rest s kept.plain types reaches right (λ access items is. bare access items k (ap (λ (r : RightForm). Evaluates r ∷ k) is)) t.0 t.1 r
-    frame_fine (Computes e) calling bare inner t kept well freely low r = expression_fine known k a rest s e t.1.0 t.1.1 r
-    frame_fine (Follows cs) calling bare inner t kept well freely low r = path_fine kept.plain cs a.operands t r
-    frame_fine (TestsNull equal) calling bare inner t kept well freely low r = null_test_fine known k a rest s (older a.operands) r equal (named.reads_null (first_or Null a.operands))
-    frame_fine (Refers p) calling bare inner t kept well freely low r = refers_fine known k a rest s p t.1.1 r
-    frame_fine (RefersIn place u) calling bare inner t kept well freely low r = referred_fine known k a rest s place u (width_of types u) (first_or Null a.operands) (older a.operands) r
-    frame_fine (Opens path) calling bare inner t kept well freely low r = opens_fine known k a rest s path t.1.0 t.1.1 r
-    frame_fine (OpensIn c) calling bare inner t kept well freely low r = opened_fine known k a rest s c (first_or Null a.operands) (older a.operands) r
-    frame_fine (Continues links) calling bare inner t kept well freely low r = chain_fine links a.operands t r
-    frame_fine (Applies operator) calling bare inner t kept well freely low r =
+    frame_fine : (f : Frame Value) → (calls_next (f ∷ k) ≡ true → MayCall known bodies) → AllocatesBare known.program known.touches (f ∷ k) → crosses Running (f ∷ k) ≡ false → RunsTyped known s.heap (f ∷ k) a.places a.operands → StateTyped known.program may (outers known).under s.heap s.masters → FinalizesBy may known.program.types types bodies f (running k a rest s) → FreesAmong may (f ∷ k) → ((mode : Mode) (behind : Control) → f ∷ k ≡ Leaves mode ∷ behind → HeldIn s.heap s.masters × NamedBelow (outers known) s.heap s.masters × AreInOrder known.ahead known.program.types (innermost s.masters)) → departs_next (departs known.ahead (innermost s.masters)) (f ∷ k) ≡ false → ReadyBy known f k s.heap a.places a.operands s.masters → Fine known s.heap s.masters (frame_next named types bodies f (running k a rest s))
+    frame_fine (Elaborates ds fs hs) calling bare inner t kept well freely low stays r = declarations_fine known a rest s copies fs hs k types ds t.3 t.1.2 r
+    frame_fine (Does fs) calling bare inner t kept well freely low stays r = stmts_fine known a rest s may types reaches bodies copies t.1.1 fs calling k (homes_in kept well) freely t.1.2.0 (t.1.2.1 kept.own) r
+    frame_fine (Decides fs branches) calling bare inner t kept well freely low stays r = decided_fine known (record a { operands = older a.operands }) rest s fs branches (named.reads_boolean (first_or Null a.operands)) k r
+    frame_fine (Repeats condition body) calling bare inner t kept well freely low stays r = repeats_fine known a rest s condition body k r
+    frame_fine (Turns e body) calling bare inner t kept well freely low stays r = turned_fine known (record a { operands = older a.operands }) rest s e body (named.reads_boolean (first_or Null a.operands)) k r
+    frame_fine (Ranges x body) calling bare inner t kept well freely low stays r = ranges_fine known (record a { operands = older (older a.operands) }) rest s x body (named.reads_integer (first_or Null (older a.operands))) (named.reads_integer (first_or Null a.operands)) k r
+    frame_fine (Counts x next last body) calling bare inner t kept well freely low stays r = counts_fine known a rest s x next last body k r
+    frame_fine Exits calling bare inner t kept well freely low stays r = exited_fine known (record a { operands = older a.operands }) rest s (named.reads_boolean (first_or Null a.operands)) k r
+    frame_fine (Handles hs) calling bare inner t kept well freely low stays r = runs_on known k a rest s (at_less r r.rest) Quiet tt
+    frame_fine Closes calling bare inner t kept well freely low stays r = closes_fine known k a rest s Running r
+    frame_fine (Leaves mode) calling bare inner t kept well freely low stays r = leave_fine known types mode k a rest s s.masters r (low mode k refl).0 (low mode k refl).1 stays (low mode k refl).2
+    frame_fine (Calls procedure b actuals) calling bare inner t kept well freely low stays r = absurd (cc inner)
+    frame_fine (Returns actuals references) calling bare inner t kept well freely low stays r = absurd (cc inner)
+    frame_fine (Evaluates right) calling bare inner t kept well freely low stays r = evaluates_fine known k a rest s kept.plain types reaches right (λ access items is. bare access items k (ap (λ (r : RightForm). Evaluates r ∷ k) is)) t.0 t.1 r
+    frame_fine (Computes e) calling bare inner t kept well freely low stays r = expression_fine known k a rest s e t.1.0 t.1.1 r
+    frame_fine (Follows cs) calling bare inner t kept well freely low stays r = path_fine kept.plain cs a.operands t r
+    frame_fine (TestsNull equal) calling bare inner t kept well freely low stays r = null_test_fine known k a rest s (older a.operands) r equal (named.reads_null (first_or Null a.operands))
+    frame_fine (Refers p) calling bare inner t kept well freely low stays r = refers_fine known k a rest s p t.1.1 r
+    frame_fine (RefersIn place u) calling bare inner t kept well freely low stays r = referred_fine known k a rest s place u (width_of types u) (first_or Null a.operands) (older a.operands) r
+    frame_fine (Opens path) calling bare inner t kept well freely low stays r = opens_fine known k a rest s path t.1.0 t.1.1 r
+    frame_fine (OpensIn c) calling bare inner t kept well freely low stays r = opened_fine known k a rest s c (first_or Null a.operands) (older a.operands) r
+    frame_fine (Continues links) calling bare inner t kept well freely low stays r = chain_fine links a.operands t r
+    frame_fine (Applies operator) calling bare inner t kept well freely low stays r =
         let left = first_or Null (older a.operands) in
         let right = first_or Null a.operands in
         outcome_fine known k a rest s (older (older a.operands)) (at_work r r.rest.1) (binary_raises operator) (named.binary operator left right) (binary_only operator left right) r.rest.0
-    frame_fine (AppliesAlone operator) calling bare inner t kept well freely low r =
+    frame_fine (AppliesAlone operator) calling bare inner t kept well freely low stays r =
         let operand = first_or Null a.operands in
         outcome_fine known k a rest s (older a.operands) (at_work r r.rest.1) (unary_raises operator) (named.unary operator operand) (unary_only operator operand) r.rest.0
-    frame_fine (Fills items) calling bare inner t kept well freely low r = items_fine known k a rest s items t.1.0 t.1.1 r
-    frame_fine (Copies first u) calling bare inner t kept well freely low r = copies_fine known types reaches k a rest s first u (first_or Null a.operands) (older a.operands) r
-    frame_fine (Creates access count) calling bare inner t kept well freely low r = creates_fine known k a rest s types access count (words_of types access) t.0 t.1 t.2 r
-    frame_fine (Stores x) calling bare inner t kept well freely low r = stores_fine known k a rest s kept.plain x (first_or Null a.operands) (older a.operands) r
-    frame_fine (Targets c right) calling bare inner t kept well freely low r = found_fine c right a.operands t r
-    frame_fine (StoresIn o c) calling bare inner t kept well freely low r = put_fine o c a.operands t r
-    frame_fine (TargetsRecord first u items) calling bare inner t kept well freely low r = record_found first u items a.operands t r
-    frame_fine (StoresRecord o first count) calling bare inner t kept well freely low r = store_record_fine known types reaches k a rest s o first count t.0 t.1 t.2 r
-    frame_fine (Assigns u) calling bare inner t kept well freely low r = assigned_by u a.operands t r
-    frame_fine (Receives c) calling bare inner t kept well freely low r = receive_fine known k a rest s (first_or Null a.operands) (older a.operands) c r
-    frame_fine (FreesIn access c) calling bare inner t kept well freely low r = free_in_fine known a rest s types access c k (older a.operands) may (homes_in kept well) freely (first_or Null a.operands) r
-    frame_fine (Declares x) calling bare inner t kept well freely low r = declares_fine known k a rest s kept.plain x (first_or Null a.operands) (older a.operands) r
-    frame_fine (DeclaresRecord x u) calling bare inner t kept well freely low r = recorded_fine known k a rest s types reaches x u t.0 t.1 t.2 t.3 r
-    frame_fine (Treats v treatment tasks) calling bare inner t kept well freely low r = absurd (cc inner)
-    frame_fine (frame.Awaits v by done of part tasks) calling bare inner t kept well freely low r = absurd (t.1)
-    frame_fine frame.Confines calling bare inner t kept well freely low r = absurd (t.1)
-    frame_fine (frame.Resumes mode) calling bare inner t kept well freely low r = goes_in_mode known k a rest s mode (at_less r r.rest)
-    frame_fine Writes calling bare inner t kept well freely low r = writes_fine known k a rest s kept.plain (named.reads_integer (first_or Null a.operands)) (older a.operands) r
-    frame_fine (Ends v) calling bare inner t kept well freely low r = ends_fine known a rest s v k r
-    frame_fine (GivesBack v cause pool) calling bare inner t kept well freely low r = backs_fine known a rest s v cause pool k r
-    frame_fine (Clears x) calling bare inner t kept well freely low r = stores_fine known k a rest s kept.plain x Null a.operands (inl r)
-    frame_fine (ClearsIn o c) calling bare inner t kept well freely low r = clear_fine known k a rest s o c r
+    frame_fine (Fills items) calling bare inner t kept well freely low stays r = items_fine known k a rest s items t.1.0 t.1.1 r
+    frame_fine (Copies first u) calling bare inner t kept well freely low stays r = copies_fine known types reaches k a rest s first u (first_or Null a.operands) (older a.operands) r
+    frame_fine (Creates access count) calling bare inner t kept well freely low stays r = creates_fine known k a rest s types access count (words_of types access) t.0 t.1 t.2 r
+    frame_fine (Stores x) calling bare inner t kept well freely low stays r = stores_fine known k a rest s kept.plain x (first_or Null a.operands) (older a.operands) r
+    frame_fine (Targets c right) calling bare inner t kept well freely low stays r = found_fine c right a.operands t r
+    frame_fine (StoresIn o c) calling bare inner t kept well freely low stays r = put_fine o c a.operands t r
+    frame_fine (TargetsRecord first u items) calling bare inner t kept well freely low stays r = record_found first u items a.operands t r
+    frame_fine (StoresRecord o first count) calling bare inner t kept well freely low stays r = store_record_fine known types reaches k a rest s o first count t.0 t.1 t.2 r
+    frame_fine (Assigns u) calling bare inner t kept well freely low stays r = assigned_by u a.operands t r
+    frame_fine (Receives c) calling bare inner t kept well freely low stays r = receive_fine known k a rest s (first_or Null a.operands) (older a.operands) c r
+    frame_fine (FreesIn access c) calling bare inner t kept well freely low stays r = free_in_fine known a rest s types access c k (older a.operands) may (homes_in kept well) freely (first_or Null a.operands) r
+    frame_fine (Declares x) calling bare inner t kept well freely low stays r = declares_fine known k a rest s kept.plain x (first_or Null a.operands) (older a.operands) r
+    frame_fine (DeclaresRecord x u) calling bare inner t kept well freely low stays r = recorded_fine known k a rest s types reaches x u t.0 t.1 t.2 t.3 r
+    frame_fine (Treats v treatment tasks) calling bare inner t kept well freely low stays r = absurd (cc inner)
+    frame_fine (frame.Awaits v by done of part tasks) calling bare inner t kept well freely low stays r = absurd (t.1)
+    frame_fine frame.Confines calling bare inner t kept well freely low stays r = absurd (t.1)
+    frame_fine (frame.Resumes mode) calling bare inner t kept well freely low stays r = goes_in_mode known k a rest s mode (at_less r r.rest)
+    frame_fine Writes calling bare inner t kept well freely low stays r = writes_fine known k a rest s kept.plain (named.reads_integer (first_or Null a.operands)) (older a.operands) r
+    frame_fine (Ends v) calling bare inner t kept well freely low stays r = ends_fine known a rest s v k stays r
+    frame_fine (GivesBack v cause pool) calling bare inner t kept well freely low stays r = backs_fine known a rest s v cause pool k r
+    frame_fine (Clears x) calling bare inner t kept well freely low stays r = stores_fine known k a rest s kept.plain x Null a.operands (inl r)
+    frame_fine (ClearsIn o c) calling bare inner t kept well freely low stays r = clear_fine known k a rest s o c r
 
-  mode_fine : (types : List TypeDefinition) → Reaches known types → (bodies : List BodyForm) (mode : Mode) (k : Control) → (calls_next k ≡ true → MayCall known bodies) → AllocatesBare known.program known.touches k → (a : Activation Value) (rest : List (Activation Value)) (s : State) → crosses mode k ≡ false → (mode ≡ Running → ends_operation k ≡ false → RunsTyped known s.heap k a.places a.operands) → StateTyped known.program may (outers known).under s.heap s.masters → FinalizesIn may known.program.types types bodies mode k (record s { activations = a ∷ rest }) → (mode ≡ Running → FreesAmong may k) → ((left : Mode) (behind : Control) → mode ≡ Running → k ≡ Leaves left ∷ behind → HeldIn s.heap s.masters × NamedBelow (outers known) s.heap s.masters × AreInOrder known.ahead known.program.types (innermost s.masters)) → ReadyIn known mode k s.heap a.places a.operands s.masters → Fine known s.heap s.masters (mode_next named types bodies mode (record s { mode = mode; control = k; activations = a ∷ rest }))
-  mode_fine types reaches bodies Running [] calling bare a rest s inner t kept well freely low r = r
-  mode_fine types reaches bodies Running (frame.Awaits v by done of part tasks ∷ k) calling bare a rest s inner t kept well freely low r = awaits_fine known a rest s types bodies k (λ treatment o of. Unit {0}) v by done of part tasks r.0 r.1
-  mode_fine types reaches bodies Running (frame.Confines ∷ k) calling bare a rest s inner t kept well freely low r = confines_fine known a rest s k r
-  mode_fine types reaches bodies Running (f ∷ k) calling bare a rest s inner t kept well freely low r = frame_fine types reaches bodies k a rest s f calling bare inner (t refl refl) kept well (freely refl) (λ left behind is. low left behind refl is) r
-  mode_fine types reaches bodies (Raising e) [] calling bare a rest s inner t kept well freely low r = r
-  mode_fine types reaches bodies (Raising e) (f ∷ k) calling bare a rest s inner t kept well freely low r = raising_fine known k a rest s e f inner r
-  mode_fine types reaches bodies Exiting [] calling bare a rest s inner t kept well freely low r = tt
-  mode_fine types reaches bodies Exiting (f ∷ k) calling bare a rest s inner t kept well freely low r = exiting_fine known k a rest s f inner r
-  mode_fine types reaches bodies Returning [] calling bare a rest s inner t kept well freely low r = r
-  mode_fine types reaches bodies Returning (f ∷ k) calling bare a rest s inner t kept well freely low r = returning_fine known k a rest s f inner r
+  mode_fine : (types : List TypeDefinition) → Reaches known types → (bodies : List BodyForm) (mode : Mode) (k : Control) → (calls_next k ≡ true → MayCall known bodies) → AllocatesBare known.program known.touches k → (a : Activation Value) (rest : List (Activation Value)) (s : State) → crosses mode k ≡ false → (mode ≡ Running → ends_operation k ≡ false → RunsTyped known s.heap k a.places a.operands) → StateTyped known.program may (outers known).under s.heap s.masters → FinalizesIn may known.program.types types bodies mode k (record s { activations = a ∷ rest }) → (mode ≡ Running → FreesAmong may k) → ((left : Mode) (behind : Control) → mode ≡ Running → k ≡ Leaves left ∷ behind → HeldIn s.heap s.masters × NamedBelow (outers known) s.heap s.masters × AreInOrder known.ahead known.program.types (innermost s.masters)) → (mode ≡ Running → departs_next (departs known.ahead (innermost s.masters)) k ≡ false) → ReadyIn known mode k s.heap a.places a.operands s.masters → Fine known s.heap s.masters (mode_next named types bodies mode (record s { mode = mode; control = k; activations = a ∷ rest }))
+  mode_fine types reaches bodies Running [] calling bare a rest s inner t kept well freely low stays r = r
+  mode_fine types reaches bodies Running (frame.Awaits v by done of part tasks ∷ k) calling bare a rest s inner t kept well freely low stays r = awaits_fine known a rest s types bodies k (λ treatment o of. Unit {0}) v by done of part tasks r.0 r.1
+  mode_fine types reaches bodies Running (frame.Confines ∷ k) calling bare a rest s inner t kept well freely low stays r = confines_fine known a rest s k r
+  mode_fine types reaches bodies Running (f ∷ k) calling bare a rest s inner t kept well freely low stays r = frame_fine types reaches bodies k a rest s f calling bare inner (t refl refl) kept well (freely refl) (λ left behind is. low left behind refl is) (stays refl) r
+  mode_fine types reaches bodies (Raising e) [] calling bare a rest s inner t kept well freely low stays r = r
+  mode_fine types reaches bodies (Raising e) (f ∷ k) calling bare a rest s inner t kept well freely low stays r = raising_fine known k a rest s e f inner r
+  mode_fine types reaches bodies Exiting [] calling bare a rest s inner t kept well freely low stays r = tt
+  mode_fine types reaches bodies Exiting (f ∷ k) calling bare a rest s inner t kept well freely low stays r = exiting_fine known k a rest s f inner r
+  mode_fine types reaches bodies Returning [] calling bare a rest s inner t kept well freely low stays r = r
+  mode_fine types reaches bodies Returning (f ∷ k) calling bare a rest s inner t kept well freely low stays r = returning_fine known k a rest s f inner r
 
-  active_fine : (types : List TypeDefinition) → Reaches known types → (bodies : List BodyForm) (all : List (Activation Value)) (s : State) → (calls_next s.control ≡ true → MayCall known bodies) → AllocatesBare known.program known.touches s.control → IsActive all → crosses s.mode s.control ≡ false → (s.mode ≡ Running → ends_operation s.control ≡ false → RunsTyped known s.heap s.control (places_of all) (operands_of all)) → StateTyped known.program may (outers known).under s.heap s.masters → FinalizesIn may known.program.types types bodies s.mode s.control (record s { activations = all }) → (s.mode ≡ Running → FreesAmong may s.control) → ((left : Mode) (behind : Control) → s.mode ≡ Running → s.control ≡ Leaves left ∷ behind → HeldIn s.heap s.masters × NamedBelow (outers known) s.heap s.masters × AreInOrder known.ahead known.program.types (innermost s.masters)) → Ready known (record s { activations = all }) → Fine known s.heap s.masters (mode_next named types bodies s.mode (record s { activations = all }))
-  active_fine types reaches bodies [] s calling bare i inner t kept well freely low r = absurd i
-  active_fine types reaches bodies (a ∷ rest) s calling bare i inner t kept well freely low r = mode_fine types reaches bodies s.mode s.control calling bare a rest s inner t kept well freely low r.1
+  active_fine : (types : List TypeDefinition) → Reaches known types → (bodies : List BodyForm) (all : List (Activation Value)) (s : State) → (calls_next s.control ≡ true → MayCall known bodies) → AllocatesBare known.program known.touches s.control → IsActive all → crosses s.mode s.control ≡ false → (s.mode ≡ Running → ends_operation s.control ≡ false → RunsTyped known s.heap s.control (places_of all) (operands_of all)) → StateTyped known.program may (outers known).under s.heap s.masters → FinalizesIn may known.program.types types bodies s.mode s.control (record s { activations = all }) → (s.mode ≡ Running → FreesAmong may s.control) → ((left : Mode) (behind : Control) → s.mode ≡ Running → s.control ≡ Leaves left ∷ behind → HeldIn s.heap s.masters × NamedBelow (outers known) s.heap s.masters × AreInOrder known.ahead known.program.types (innermost s.masters)) → (s.mode ≡ Running → departs_next (departs known.ahead (innermost s.masters)) s.control ≡ false) → Ready known (record s { activations = all }) → Fine known s.heap s.masters (mode_next named types bodies s.mode (record s { activations = all }))
+  active_fine types reaches bodies [] s calling bare i inner t kept well freely low stays r = absurd i
+  active_fine types reaches bodies (a ∷ rest) s calling bare i inner t kept well freely low stays r = mode_fine types reaches bodies s.mode s.control calling bare a rest s inner t kept well freely low stays r.1
 
   -- One step keeps the invariant, where no body begins and none ends; what calls rely on need hold only where one is next.
-  pub fine_unless_called : (types : List TypeDefinition) → Reaches known types → (bodies : List BodyForm) (s : State) → (calls_next s.control ≡ true → MayCall known bodies) → AllocatesBare known.program known.touches s.control → crosses s.mode s.control ≡ false → typed.TypedIn known.program s → OwnBody known.program → AllPairs CollectTwoTypes (items_of s.masters) → FinalizesIn may known.program.types types bodies s.mode s.control s → NoneIsUnder may (outers known).under s.heap → (s.mode ≡ Running → FreesAmong may s.control) → ((left : Mode) (behind : Control) → s.mode ≡ Running → s.control ≡ Leaves left ∷ behind → HeldIn s.heap s.masters × NamedBelow (outers known) s.heap s.masters × AreInOrder known.ahead known.program.types (innermost s.masters)) → Ready known s → Fine known s.heap s.masters (next types bodies s)
+  pub fine_unless_called : (types : List TypeDefinition) → Reaches known types → (bodies : List BodyForm) (s : State) → (calls_next s.control ≡ true → MayCall known bodies) → AllocatesBare known.program known.touches s.control → crosses s.mode s.control ≡ false → typed.TypedIn known.program s → OwnBody known.program → AllPairs CollectTwoTypes (items_of s.masters) → FinalizesIn may known.program.types types bodies s.mode s.control s → NoneIsUnder may (outers known).under s.heap → (s.mode ≡ Running → FreesAmong may s.control) → ((left : Mode) (behind : Control) → s.mode ≡ Running → s.control ≡ Leaves left ∷ behind → HeldIn s.heap s.masters × NamedBelow (outers known) s.heap s.masters × AreInOrder known.ahead known.program.types (innermost s.masters)) → (s.mode ≡ Running → departs_next (departs known.ahead (innermost s.masters)) s.control ≡ false) → Ready known s → Fine known s.heap s.masters (next types bodies s)
   unfolding next
-  fine_unless_called types reaches bodies s calling bare inner typing own lone well aside freely low r =
+  fine_unless_called types reaches bodies s calling bare inner typing own lone well aside freely low stays r =
       let heap = heap_typed known.program s typing in
-      active_fine types reaches bodies s.activations s calling bare r.0 inner (runs_typed known s typing) (record { pooled = heap.0; lone = lone; plain = heap.1; own = own; aside = aside }) well freely low r
+      active_fine types reaches bodies s.activations s calling bare r.0 inner (runs_typed known s typing) (record { pooled = heap.0; lone = lone; plain = heap.1; own = own; aside = aside }) well freely low stays r
 
   -- So it does where what calls rely on holds.
-  pub fine : (types : List TypeDefinition) → Reaches known types → (bodies : List BodyForm) → MayCall known bodies → (s : State) → AllocatesBare known.program known.touches s.control → crosses s.mode s.control ≡ false → typed.TypedIn known.program s → OwnBody known.program → AllPairs CollectTwoTypes (items_of s.masters) → FinalizesIn may known.program.types types bodies s.mode s.control s → NoneIsUnder may (outers known).under s.heap → (s.mode ≡ Running → FreesAmong may s.control) → ((left : Mode) (behind : Control) → s.mode ≡ Running → s.control ≡ Leaves left ∷ behind → HeldIn s.heap s.masters × NamedBelow (outers known) s.heap s.masters × AreInOrder known.ahead known.program.types (innermost s.masters)) → Ready known s → Fine known s.heap s.masters (next types bodies s)
-  fine types reaches bodies calling s bare inner typing own lone well aside freely low r =
-      fine_unless_called types reaches bodies s (λ next. calling) bare inner typing own lone well aside freely low r
+  pub fine : (types : List TypeDefinition) → Reaches known types → (bodies : List BodyForm) → MayCall known bodies → (s : State) → AllocatesBare known.program known.touches s.control → crosses s.mode s.control ≡ false → typed.TypedIn known.program s → OwnBody known.program → AllPairs CollectTwoTypes (items_of s.masters) → FinalizesIn may known.program.types types bodies s.mode s.control s → NoneIsUnder may (outers known).under s.heap → (s.mode ≡ Running → FreesAmong may s.control) → ((left : Mode) (behind : Control) → s.mode ≡ Running → s.control ≡ Leaves left ∷ behind → HeldIn s.heap s.masters × NamedBelow (outers known) s.heap s.masters × AreInOrder known.ahead known.program.types (innermost s.masters)) → (s.mode ≡ Running → departs_next (departs known.ahead (innermost s.masters)) s.control ≡ false) → Ready known s → Fine known s.heap s.masters (next types bodies s)
+  fine types reaches bodies calling s bare inner typing own lone well aside freely low stays r =
+      fine_unless_called types reaches bodies s (λ next. calling) bare inner typing own lone well aside freely low stays r

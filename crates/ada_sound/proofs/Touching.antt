@@ -33,7 +33,7 @@ use Rattle.ada_sound.proofs.Callers.{Suspension, known_in, Stands, callers_of}
 use Rattle.ada_sound.proofs.Fits.{Fit, Outsiders, IsPlace, IsRelied, IsSaid, IsUnreferred, component_access, none_spared, outer_hold, outer_value, place_at, Reference, IsReferred}
 use Rattle.ada_sound.proofs.FrugalControl.{Frugally, FrugalLeads, IsFreed}
 use Rattle.ada_sound.proofs.Held.{FreeIf, holder_if}
-use Rattle.ada_sound.proofs.Invariant.{body_among, CoveredIn, Control, Rooms, Roomed, GoesTo, MayAwait, RoomFor, RunsOn, Known, IsNewest, Ready, Spares, StartsTo, Unaliased, below, innermost, outers, BeginsWell, CameOut, To, By, ways, IsAwaited, under_in, AssignsWell, IsCopied, LiesAmong, AdjustedBehind, IsCovered, EndsWellBy}
+use Rattle.ada_sound.proofs.Invariant.{body_among, CoveredIn, Control, Rooms, Roomed, GoesTo, MayAwait, RoomFor, RunsOn, Known, IsNewest, Ready, Spares, StartsTo, Unaliased, departs, below, innermost, outers, BeginsWell, CameOut, To, By, ways, IsAwaited, under_in, AssignsWell, IsCopied, LiesAmong, AdjustedBehind, IsCovered, EndsWellBy}
 use Rattle.ada_sound.proofs.Operating.{WaitsFor, IsCalm, lets_out, OwnVariables}
 use Rattle.ada_sound.proofs.Stored.{Stored}
 use Rattle.ada_sound.specs.Agreement.{running_procedure}
@@ -63,6 +63,7 @@ pub record Resting (known : Known) (object : Id) (home : Home) (places : List Va
   pub is : after ≡ Ends (Names object) ∷ GivesBack (Names object) (Leaving master item) home.pool ∷ Leaves mode ∷ rest
   pub own_item : item ≡ home.item
   pub newest : IsNewest home.item (innermost lower)
+  pub stays_so : departs known.ahead (innermost lower) ≡ false
   pub runs : RunsOn known (Leaves mode ∷ rest) rooms holds
   pub nowhere : IsNamedNowhere (outers known) places holds object
   pub unreferred : IsUnreferred (outers known) object
@@ -201,10 +202,27 @@ pub record Overwrites (known : Known) (object : Id) (access : ℕ) (operands : L
   pub into : StoresInto known object access record_type stores rooms holds
   pub well : AssignsWell known record_type holds
 
--- What is behind the finalization of an object that ceases to exist then, by who owns it: it is held, or a component owns it, which is freed.
+-- What is behind the finalization of an object whose collection goes, for whose objects such operations may be called: its end, and then what is left of the master.
+-- Components may name it.
+pub record Departs (known : Known) (object : Id) (home : Home) (after : Control) (lower : List Master) (rooms : Rooms) (holds : Holds) : Type 0 where
+  pub master : ℕ
+  pub item : ℕ
+  pub mode : Mode
+  pub rest : Control
+  pub is : after ≡ Ends (Names object) ∷ GivesBack (Names object) (Leaving master item) home.pool ∷ Leaves mode ∷ rest
+  pub own_item : item ≡ home.item
+  pub newest : IsNewest home.item (innermost lower)
+  pub departs_so : departs known.ahead (innermost lower) ≡ true
+  pub runs : RunsOn known (Leaves mode ∷ rest) rooms holds
+  pub unreferred : IsUnreferred (outers known) object
+  pub untreated : NothingBegins (Names object) rest
+
+-- What is behind the finalization of an object that ceases to exist then, by who owns it: it is held; or a component owns it, which is freed; or it goes with its
+-- collection, whoever owns it.
 abbrev pub RestsAsOwned : Known → (held : Bool) → (watch : Option Watch) → (object : Id) → (access : ℕ) → Home → (places : List Value) → (after : Control) → (lower : List Master) → Rooms → Holds → Type 0
 RestsAsOwned known held watch object access home places after lower rooms holds =
-    ((held ≡ true) × RestsAtEnd known object access home places after lower rooms holds) ⊎ Releases known watch object access home places after rooms holds
+    ((held ≡ true) × RestsAtEnd known object access home places after lower rooms holds)
+    ⊎ (Releases known watch object access home places after rooms holds ⊎ ((held ≡ false) × Departs known object home after lower rooms holds))
 
 -- What is behind a finalization, by its cause.
 abbrev pub RestsBy : Known → Cause → (held : Bool) → (watch : Option Watch) → (object : Id) → (access : ℕ) → Home → (places operands : List Value) → (also : List Reference) → (after : Control) → (lower : List Master) → Rooms → Holds → Type 0

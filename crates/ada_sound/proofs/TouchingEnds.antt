@@ -42,7 +42,7 @@ use Rattle.ada_sound.proofs.Awaiting.{goes_along}
 use Rattle.ada_sound.proofs.Callers.{rest_of, Suspension, caller_of, known_in, Stands, AreOf, callers_of}
 use Rattle.ada_sound.proofs.Emptying.{null_again}
 use Rattle.ada_sound.proofs.Held.{fit_unheld, held_alone, holder_if, unnamed_hand, with_held}
-use Rattle.ada_sound.proofs.Touching.{AwaitsAmong, IsEnding, IsNamedNowhere, Pause, Empties, Resting, Rests, RestsAsOwned, RestsAtEnd, Starting, Naming, under_way, Undoes, origin, Overwrites, Releases, RestsBy, StoresInto, Watch, Watched}
+use Rattle.ada_sound.proofs.Touching.{AwaitsAmong, Departs, IsEnding, IsNamedNowhere, Pause, Empties, Resting, Rests, RestsAsOwned, RestsAtEnd, Starting, Naming, under_way, Undoes, origin, Overwrites, Releases, RestsBy, StoresInto, Watch, Watched}
 use Rattle.ada_sound.proofs.Fits.{Fit, Hand, hold_in, place_at, is_object, stacked, none_spared, plain_place, put_owner, sparing, outer_hold, outer_value_at, spare_fit, weaker_fit, IsReferred, Reference, component_access, component_value, referred_first, store_blank, store_owner}
 use Rattle.ada_sound.proofs.Invariant.{AllWait, Control, Known, Rooms, GoesOn, Working, Ending, EndsTo, ReadyIn, TreatsBy, innermost, outer_of, outers, IsLive, Beginning, StartsTo, BeginsWell, Ready, IsActive, AreSuspended, CopiesBehind, EndsBy, LiesIn, StoresBehind, FreesWell, IsCovered, EndsWellBy, AwaitsIn, GoesTo, HasRoom, IsHolder, IsMade, Making, NamesTo, RoomFor, To, RunsOn}
 use Rattle.ada_sound.proofs.Operating.{behind_operation, lets_out, WaitsFor}
@@ -230,14 +230,50 @@ module _ (program : Program) (well : IsWellFormed (program_form program)) (s : S
           (
             rw f.at_home r.own_item,
             rw f.at_home r.newest,
-            record {
-              rooms = f.rooms;
-              holds = f.holds;
-              roomed = f.waits.roomed;
-              fit = fit;
-              aside = (unnamed_by f.places f.holds (sparing own.ahead s.heap (innermost f.lower)) (held_is_alone held) r.nowhere, r.unreferred);
-              rest = r.runs;
-            },
+            inl (
+              r.stays_so,
+              record {
+                rooms = f.rooms;
+                holds = f.holds;
+                roomed = f.waits.roomed;
+                fit = fit;
+                aside = (unnamed_by f.places f.holds (sparing own.ahead s.heap (innermost f.lower)) (held_is_alone held) r.nowhere, r.unreferred);
+                rest = r.runs;
+              },
+            ),
+          ),
+        );
+      }
+
+  -- So it is where the object goes with its collection, whatever names it.
+  departing_ends : (cause : Cause) → IsEnd cause → f.treatment ≡ ends cause → (r : Departs own f.object f.home f.after f.lower f.rooms f.holds) → Ending own f.object (frame.GivesBack (Names f.object) (Leaving r.master r.item) f.home.pool ∷ frame.Leaves r.mode ∷ r.rest) s.heap f.places f.lower
+  departing_ends cause end is r =
+      let fit = spare_fit (sparing own.ahead s.heap (innermost f.lower)) own_fit in
+      record {
+        object = f.x;
+        found = f.found;
+        exists = exists_still;
+        parted = parted cause end is;
+        stored = end_stored cause end is;
+        covered = tt;
+        rest = (
+          refl,
+          ap (λ (home : Home). home.pool) (sym f.at_home),
+          (
+            rw f.at_home r.own_item,
+            rw f.at_home r.newest,
+            inr (
+              r.departs_so,
+              r.unreferred,
+              record {
+                rooms = f.rooms;
+                holds = f.holds;
+                roomed = f.waits.roomed;
+                fit = fit;
+                aside = tt;
+                rest = r.runs;
+              },
+            ),
           ),
         );
       }
@@ -364,11 +400,12 @@ module _ (program : Program) (well : IsWellFormed (program_form program)) (s : S
   ends_next cause end is held (inr (inl r)) = ends_first own f.object f.after _ s.heap f.places f.lower r.is (undoing_ends cause end is held r)
   ends_next cause end is held (inr (inr r)) = ends_first own f.object f.after _ s.heap f.places f.lower r.is (emptying_ends cause end is held r)
 
-  -- So it is, whether it is held or a component owns it that is freed.
+  -- So it is, whether it is held, or a component owns it that is freed, or it goes with its collection.
   owned_ends : (cause : Cause) → IsEnd cause → f.treatment ≡ ends cause → RestsAsOwned own f.held f.watch f.object f.access f.home f.places f.after f.lower f.rooms f.holds
       → EndsTo own (Names f.object) f.after s.heap f.places f.lower
   owned_ends cause end is (inl (held, r)) = ends_next cause end is held r
-  owned_ends cause end is (inr r) = ends_first own f.object f.after _ s.heap f.places f.lower r.is (releasing_ends cause end is r)
+  owned_ends cause end is (inr (inl r)) = ends_first own f.object f.after _ s.heap f.places f.lower r.is (releasing_ends cause end is r)
+  owned_ends cause end is (inr (inr (unheld, r))) = ends_first own f.object f.after _ s.heap f.places f.lower r.is (departing_ends cause end is r)
 
   -- The copy is next, where a record in the object is assigned to.
   operands_are : f.operands ≡ b.operands

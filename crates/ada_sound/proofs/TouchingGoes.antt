@@ -23,7 +23,7 @@ use Rattle.ada_sound.proofs.Operating.{InBody, IsCalm}
 use Rattle.ada_sound.proofs.OperationStarts.{is_awaited}
 use Rattle.ada_sound.proofs.Pauses.{AllWatched, inner_on, pause_on}
 use Rattle.ada_sound.proofs.Returns.{Crosses, CrossesTo}
-use Rattle.ada_sound.proofs.Starts.{Sound}
+use Rattle.ada_sound.proofs.Grounds.{Grounds}
 use Rattle.ada_sound.proofs.Touching.{AreInner, Pause, Touching, Watched, Within, origin}
 use Rattle.ada_sound.proofs.TouchingWatched.{AllGoOnInside, all_watched, each_and, watched_stays}
 use Rattle.ada_sound.proofs.Waiting.{SameBody, stands_kept}
@@ -148,9 +148,9 @@ module _ (program : Program) (s : State) (f : Touching program s) where
   stays_next (picks n taken) same fine goes still = λ i lt. inl (stays_on Quiet (taken i) (same i lt) (fine i lt) (goes i lt) (still i lt))
 
   -- The body of no operation ends next.
-  module _ (sound : Sound program s) (on : (k : Control) → IsAwaited k → s.control ≡ Returns [] [] ∷ k → ⊥) where
+  module _ (grounds : Grounds program s) (on : (k : Control) → IsAwaited k → s.control ≡ Returns [] [] ∷ k → ⊥) where
     pub none_end : (running : Option ℕ) (depth : ℕ) (last : Option ℕ) (others inner : List Suspension) (are : AreInner program s w.thrift outermost.behind outermost.lower running depth last others inner)
-        → AllGoOnInside program f.suspensions s w sound w.thrift outermost.behind outermost.lower running depth last others inner are
+        → AllGoOnInside program f.suspensions s w grounds w.thrift outermost.behind outermost.lower running depth last others inner are
     none_end running depth last others [] are = tt
     none_end running depth last others (g ∷ inner) (inl call, more) = none_end g.procedure (suc depth) last others inner more
     none_end running depth last others (g ∷ inner) (inr operation, more) =
@@ -163,7 +163,7 @@ module _ (program : Program) (s : State) (f : Touching program s) where
         each_and (Watched program outermost.watch outermost.behind)
         (λ after. AllWatched program s w.thrift outermost.behind outermost.lower after (running_procedure s) 0 (Some outermost.number) behind_it w.inner w.within)
         (next program.types.items (body_forms program) s)
-        (watched_stays program f.suspensions s w sound outermost.watch outermost.behind outermost.still
+        (watched_stays program f.suspensions s w grounds outermost.watch outermost.behind outermost.still
         (on outermost.behind (is_awaited p.types outermost.object outermost.of outermost.treatment outermost.tasks outermost.after outermost.behind outermost.awaited)))
-        (all_watched program f.suspensions s w sound w.thrift outermost.behind outermost.lower (running_procedure s) 0 (Some outermost.number) behind_it w.inner w.within
+        (all_watched program f.suspensions s w grounds w.thrift outermost.behind outermost.lower (running_procedure s) 0 (Some outermost.number) behind_it w.inner w.within
         (none_end (running_procedure s) 0 (Some outermost.number) behind_it w.inner w.within))

@@ -29,12 +29,12 @@ use Rattle.ada_owners.proofs.Objects.{at_other, set_here}
 use Rattle.ada_scopes.proofs.Homes.{OwnedFits, ItemsFit}
 use Rattle.ada_sound.proofs.Endings.{among_by}
 use Rattle.ada_sound.proofs.Emptying.{lost_fit, lost_unaliased, null_there}
-use Rattle.ada_sound.proofs.Touching.{AwaitsAmong, IsNamedNowhere, Enters, Naming, Paused, Releases, Resting, RestsAsOwned, RestsAtEnd, Starting, Watch, ended_object, RestsBy, StoresInto, ended_frees}
+use Rattle.ada_sound.proofs.Touching.{AwaitsAmong, Departs, IsNamedNowhere, Enters, Naming, Paused, Releases, Resting, RestsAsOwned, RestsAtEnd, Starting, Watch, ended_object, RestsBy, StoresInto, ended_frees}
 use Rattle.ada_sound.proofs.FrugalUseEnds.{any_end}
 use Rattle.ada_sound.proofs.Held.{FreeIf, emptied_hand, lost_hand, owner_or_not, unnamed_hand}
 use Rattle.ada_effects.specs.Effects.{endings_free, Implicit, assignment_frees}
-use Rattle.ada_sound.proofs.Fits.{Fit, IsRelied, Outsiders, component_access, hold_in, none_spared, in_front, lies_nowhere, outer_hold, outer_value_at, respare, place_at, sparing, stacked, store_owner, IsReferred, Reference}
-use Rattle.ada_sound.proofs.Invariant.{Behind, CopiesBehind, Control, Ending, EndingBy, EndsTo, Freed, IsCopied, IsNewest, Known, LeavesTo, Roomed, Rooms, RunsOn, ThenBack, TreatsBy, WillBeCovered, below, innermost, outers, Beginning, CameOut, ResumesTo, BeginsWell, To, By, ways, gone_in, LiesAmong, LiesIn, StoresBehind, ClearsTo, FreesWell, IsCovered, EndsWellBy, AwaitsIn, GoesTo, Making}
+use Rattle.ada_sound.proofs.Fits.{Fit, IsRelied, IsUnreferred, Outsiders, component_access, hold_in, none_spared, in_front, lies_nowhere, outer_hold, outer_value_at, respare, place_at, sparing, stacked, store_owner, IsReferred, Reference}
+use Rattle.ada_sound.proofs.Invariant.{Behind, CopiesBehind, Control, Ending, EndingBy, EndsTo, Freed, IsCopied, IsNewest, Known, LeavesTo, departs, Roomed, Rooms, RunsOn, ThenBack, TreatsBy, WillBeCovered, below, innermost, outers, Beginning, CameOut, ResumesTo, BeginsWell, To, By, ways, gone_in, LiesAmong, LiesIn, StoresBehind, ClearsTo, FreesWell, IsCovered, EndsWellBy, AwaitsIn, GoesTo, Making}
 use Rattle.ada_sound.proofs.NoneHidden.{set_itself}
 use Rattle.ada_sound.proofs.Objects.{set_twice}
 use Rattle.ada_sound.proofs.Items.{Counted, HasItem, Houses, newest_is}
@@ -141,7 +141,7 @@ module _ (known : Known) (o : Id) (x : Object) (heap : List Object) (found : obj
   one_other source there p t (inr none) = absurd none
 
   -- The master is left: the home of the object is the newest item, and one for whose objects such an operation may be called.
-  module _ (ahead : (owned : Owned) → Houses owned x.cell.access x.cell.home.pool → OwnedFits known.program.types owned → known.ahead owned ≡ true) (mode : Mode) (rest : Control) (master : ℕ) (newest : IsNewest x.cell.home.item (innermost masters)) (untreated : NothingBegins (Names o) rest) (stored : Stored (o ∷ (outers known).under) heap masters) (out : x.out ≡ true) (r : Freed known (Some o) (sparing known.ahead heap (innermost masters)) heap places masters (RunsOn known (Leaves mode ∷ rest))) where
+  module _ (ahead : (owned : Owned) → Houses owned x.cell.access x.cell.home.pool → OwnedFits known.program.types owned → known.ahead owned ≡ true) (mode : Mode) (rest : Control) (master : ℕ) (newest : IsNewest x.cell.home.item (innermost masters)) (untreated : NothingBegins (Names o) rest) (stored : Stored (o ∷ (outers known).under) heap masters) (out : x.out ≡ true) where
     left_over : (ms : List Master) → masters ≡ ms → in_front known.ahead (innermost ms) ≡ []
     left_over [] at = absurd (rw at at newest)
     left_over (m ∷ ms) at = left_by known (o ∷ (outers known).under) heap o x found out ahead m ms (rw at at stored) (rw at at fits) m.items refl (rw at at newest)
@@ -157,53 +157,103 @@ module _ (known : Known) (o : Id) (x : Object) (heap : List Object) (found : obj
     abbrev behind_it : Control
     behind_it = Ends (Names o) ∷ GivesBack (Names o) (Leaving master x.cell.home.item) x.cell.home.pool ∷ Leaves mode ∷ rest
 
-    resting_here : Resting known o x.cell.home places behind_it masters r.rooms r.holds
-    resting_here = record {
-      master = master;
-      item = x.cell.home.item;
-      mode = mode;
-      rest = rest;
-      is = refl;
-      own_item = refl;
-      newest = newest;
-      runs = r.rest;
-      nowhere = named_nowhere (outers known) (sparing known.ahead heap (innermost masters)) heap places r.holds o r.aside.0;
-      unreferred = r.aside.1;
-      untreated = untreated;
-    }
+    -- Nothing is relied on to name the object.
+    module _ (stays_so : departs known.ahead (innermost masters) ≡ false) (r : Freed known (Some o) (sparing known.ahead heap (innermost masters)) heap places masters (RunsOn known (Leaves mode ∷ rest))) where
+      resting_here : Resting known o x.cell.home places behind_it masters r.rooms r.holds
+      resting_here = record {
+        master = master;
+        item = x.cell.home.item;
+        mode = mode;
+        rest = rest;
+        is = refl;
+        own_item = refl;
+        newest = newest;
+        stays_so = stays_so;
+        runs = r.rest;
+        nowhere = named_nowhere (outers known) (sparing known.ahead heap (innermost masters)) heap places r.holds o r.aside.0;
+        unreferred = r.aside.1;
+        untreated = untreated;
+      }
 
-    paused_here : Paused known o x.cell.access places behind_it masters r.rooms r.holds
-    paused_here = record {
-      parted = not_bare;
-      roomed = r.roomed;
-      said = r.fit.said;
-      objects = r.fit.objects;
-    }
+      paused_here : Paused known o x.cell.access places behind_it masters r.rooms r.holds
+      paused_here = record {
+        parted = not_bare;
+        roomed = r.roomed;
+        said = r.fit.said;
+        objects = r.fit.objects;
+      }
 
-    by_rooms : (cause : Cause) → IsEnd cause → (rooms : Rooms) → r.rooms ≡ rooms → Roomed (below known) masters rooms → RunsOn known (Leaves mode ∷ rest) rooms r.holds → Enters known (ends cause) o x behind_it heap places operands masters
-    by_rooms cause end [] is roomed runs = absurd runs
-    by_rooms cause end (gone ∷ inner) is roomed runs = record {
-      rooms = r.rooms;
-      holds = r.holds;
-      also = [];
-      there = none_others;
-      waits = paused_here;
-      held = true;
-      hand = unnamed_hand (outers known) heap o x.cell.access is_of (sparing known.ahead heap (innermost masters)) places r.holds (λ k. rw left (sym (lies_nowhere (object_at heap k)))) r.aside.0;
-      watch = None;
-      spared = tt;
-      rests = rests_at_end known cause end o x.cell.access x.cell.home places operands behind_it masters r.rooms r.holds (inl resting_here);
-      fit = respare (sparing known.ahead heap (innermost masters)) none_spared (λ k c p e. rw left (lies_nowhere (object_at heap k))) r.fit;
-      stored = stored_at_end cause end o (outers known).under heap masters stored;
-      may = endings_free known.implicit gone.types;
-      includes = λ t is. any_end (λ u. known.implicit.end_frees u t) x.cell.access gone.types (among_by_rooms gone inner masters refl roomed) (frees_at_end known.implicit cause end x.cell.access behind_it t is);
-      spares = runs.1.0;
-      unaliased = runs.1.1;
-      kept = none_kept (endings_free known.implicit gone.types);
-    }
+      by_rooms : (cause : Cause) → IsEnd cause → (rooms : Rooms) → r.rooms ≡ rooms → Roomed (below known) masters rooms → RunsOn known (Leaves mode ∷ rest) rooms r.holds → Enters known (ends cause) o x behind_it heap places operands masters
+      by_rooms cause end [] is roomed runs = absurd runs
+      by_rooms cause end (gone ∷ inner) is roomed runs = record {
+        rooms = r.rooms;
+        holds = r.holds;
+        also = [];
+        there = none_others;
+        waits = paused_here;
+        held = true;
+        hand = unnamed_hand (outers known) heap o x.cell.access is_of (sparing known.ahead heap (innermost masters)) places r.holds (λ k. rw left (sym (lies_nowhere (object_at heap k)))) r.aside.0;
+        watch = None;
+        spared = tt;
+        rests = rests_at_end known cause end o x.cell.access x.cell.home places operands behind_it masters r.rooms r.holds (inl resting_here);
+        fit = respare (sparing known.ahead heap (innermost masters)) none_spared (λ k c p e. rw left (lies_nowhere (object_at heap k))) r.fit;
+        stored = stored_at_end cause end o (outers known).under heap masters stored;
+        may = endings_free known.implicit gone.types;
+        includes = λ t is. any_end (λ u. known.implicit.end_frees u t) x.cell.access gone.types (among_by_rooms gone inner masters refl roomed) (frees_at_end known.implicit cause end x.cell.access behind_it t is);
+        spares = runs.1.0;
+        unaliased = runs.1.1;
+        kept = none_kept (endings_free known.implicit gone.types);
+      }
 
-    at_rest_here : (cause : Cause) → IsEnd cause → Enters known (ends cause) o x behind_it heap places operands masters
-    at_rest_here cause end = by_rooms cause end r.rooms refl r.roomed r.rest
+      at_rest_here : (cause : Cause) → IsEnd cause → Enters known (ends cause) o x behind_it heap places operands masters
+      at_rest_here cause end = by_rooms cause end r.rooms refl r.roomed r.rest
+
+    -- The object goes with its collection, for whose objects such an operation may be called: components may name it.
+    module _ (going : departs known.ahead (innermost masters) ≡ true) (unreferred : IsUnreferred (outers known) o) (r : Freed known None (sparing known.ahead heap (innermost masters)) heap places masters (RunsOn known (Leaves mode ∷ rest))) where
+      departs_here : Departs known o x.cell.home behind_it masters r.rooms r.holds
+      departs_here = record {
+        master = master;
+        item = x.cell.home.item;
+        mode = mode;
+        rest = rest;
+        is = refl;
+        own_item = refl;
+        newest = newest;
+        departs_so = going;
+        runs = r.rest;
+        unreferred = unreferred;
+        untreated = untreated;
+      }
+
+      departing_by_rooms : (cause : Cause) → IsEnd cause → (rooms : Rooms) → r.rooms ≡ rooms → Roomed (below known) masters rooms → RunsOn known (Leaves mode ∷ rest) rooms r.holds → Enters known (ends cause) o x behind_it heap places operands masters
+      departing_by_rooms cause end [] is roomed runs = absurd runs
+      departing_by_rooms cause end (gone ∷ inner) is roomed runs = record {
+        rooms = r.rooms;
+        holds = r.holds;
+        also = [];
+        there = none_others;
+        waits = record {
+          parted = not_bare;
+          roomed = r.roomed;
+          said = r.fit.said;
+          objects = r.fit.objects;
+        };
+        held = false;
+        hand = tt;
+        watch = None;
+        spared = tt;
+        rests = rests_as_owned known cause end false None o x.cell.access x.cell.home places operands behind_it masters r.rooms r.holds (inr (inr (refl, departs_here)));
+        fit = respare (sparing known.ahead heap (innermost masters)) none_spared (λ k c p e. rw left (lies_nowhere (object_at heap k))) r.fit;
+        stored = stored_at_end cause end o (outers known).under heap masters stored;
+        may = endings_free known.implicit gone.types;
+        includes = λ t is. any_end (λ u. known.implicit.end_frees u t) x.cell.access gone.types (among_by_rooms gone inner masters refl roomed) (frees_at_end known.implicit cause end x.cell.access behind_it t is);
+        spares = runs.1.0;
+        unaliased = runs.1.1;
+        kept = none_kept (endings_free known.implicit gone.types);
+      }
+
+      departing_here : (cause : Cause) → IsEnd cause → Enters known (ends cause) o x behind_it heap places operands masters
+      departing_here cause end = departing_by_rooms cause end r.rooms refl r.roomed r.rest
 
   -- In a program in which operations may touch storage, an object with controlled parts ends where its master is left, where a variable or a component is freed that
   -- names it, and where an exception comes out of its initialization: it does not count as gone already.
@@ -212,7 +262,8 @@ module _ (known : Known) (o : Id) (x : Object) (heap : List Object) (found : obj
       (starts : (access t : ℕ) → known.implicit.end_frees access t ≡ true → known.implicit.start_frees access t ≡ true) (way : Cause) (end : IsEnd way) where
     leaving : (m item : ℕ) (pool : Option ℕ) (k : Control) → item ≡ x.cell.home.item → pool ≡ x.cell.home.pool → IsNewest x.cell.home.item (innermost masters) → Stored (o ∷ (outers known).under) heap masters → x.out ≡ true → NothingBegins (Names o) k → LeavesTo known (Some o) heap places masters k → Enters known (ends way) o x (Ends (Names o) ∷ GivesBack (Names o) (Leaving m item) pool ∷ k) heap places operands masters
     leaving m item pool [] own from newest stored out untreated r = absurd r
-    leaving m item pool (Leaves mode ∷ rest) own from newest stored out untreated r = rw (own, from) (at_rest_here ahead mode rest m newest untreated stored out r way end)
+    leaving m item pool (Leaves mode ∷ rest) own from newest stored out untreated (inl (stays_so, r)) = rw (own, from) (at_rest_here ahead mode rest m newest untreated stored out stays_so r way end)
+    leaving m item pool (Leaves mode ∷ rest) own from newest stored out untreated (inr (going, unreferred, r)) = rw (own, from) (departing_here ahead mode rest m newest untreated stored out going unreferred r way end)
     leaving m item pool (f ∷ k) own from newest stored out untreated r = absurd r
 
     undone : (number : ℕ) (mode : Mode) (rest : Control) → NothingBegins (Names o) rest → Stored (o ∷ (outers known).under) heap masters → CameOut known x.cell.access mode
@@ -385,7 +436,7 @@ module _ (known : Known) (o : Id) (x : Object) (heap : List Object) (found : obj
         hand = tt;
         watch = Some watched_here;
         spared = (at, other, (c, of_type));
-        rests = rests_as_owned known way end false (Some watched_here) o x.cell.access x.cell.home places operands behind_release masters r.rooms r.holds (inr releases_here);
+        rests = rests_as_owned known way end false (Some watched_here) o x.cell.access x.cell.home places operands behind_release masters r.rooms r.holds (inr (inl releases_here));
         fit = fit_before;
         stored = stored_at_end way end o (outers known).under heap masters stored;
         may = known.implicit.end_frees x.cell.access;

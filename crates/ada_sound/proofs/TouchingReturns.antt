@@ -37,7 +37,7 @@ use Rattle.ada_sound.proofs.Operating.{IsCalm, WaitsFor, behind_operation}
 use Rattle.ada_sound.proofs.OperationStarts.{is_awaited}
 use Rattle.ada_sound.proofs.Pauses.{AllWatched, inner_on, pause_on}
 use Rattle.ada_sound.proofs.Returns.{CrossesTo, crosses_to, same_types, same_control, left_to, resumed_in, behind_call as behind_mode, behind_frames, behind_body}
-use Rattle.ada_sound.proofs.Starts.{Sound}
+use Rattle.ada_sound.proofs.Grounds.{Grounds}
 use Rattle.ada_sound.proofs.Stored.{IsUnder}
 use Rattle.ada_sound.proofs.Touching.{AreInner, IsCall, IsEnding, IsOperation, Pause, Rests, RestsAsOwned, RestsAtEnd, Touching, Watched, origin, under_way}
 use Rattle.ada_sound.proofs.TouchingEnds.{touching_ends}
@@ -139,7 +139,8 @@ module _ (program : Program) (s : State) (depth : ℕ) (f : Pause program depth 
 
     owned_covered : RestsAsOwned (known_in program f.procedure f.suspensions) f.held f.watch f.object f.access f.home f.places f.after f.lower f.rooms f.holds → FrugalLeads thrift back f.after ms → Frees
     owned_covered (inl (held, rests)) leads = ends_covered rests leads
-    owned_covered (inr releases) leads = releases.covered
+    owned_covered (inr (inl releases)) leads = releases.covered
+    owned_covered (inr (inr (unheld, departing))) leads = let never = rw (departing.is) at leads in absurd never.1.1.0
 
     pub freed_covered : IsFreed f.treatment → FrugalLeads thrift back f.behind ms → Frees
     freed_covered freed leads = by f.treatment freed f.awaited f.rests
@@ -184,7 +185,7 @@ module _ (program : Program) (a : Activation Value) (k : Control) (s : State) (m
     abbrev LeavesBody : List Suspension → Type 0
     LeavesBody gs = Working (known_in program a.procedure gs) s.heap a.places s.masters (GoesOn (known_in program a.procedure gs) mode (Returns actuals references ∷ k))
 
-    module _ (sound : Sound program ending) (f : Touching program ending) (is : next tds bodies ending ≡ moves Quiet back) where
+    module _ (grounds : Grounds program ending) (f : Touching program ending) (is : next tds bodies ending ≡ moves Quiet back) where
       abbrev waiting : List Suspension
       waiting = behind_it program ending f
 
@@ -196,14 +197,14 @@ module _ (program : Program) (a : Activation Value) (k : Control) (s : State) (m
 
       -- What is watched behind the end.
       outermost_watched : (ending.control ≡ Returns [] [] ∷ operation.behind → ⊥) → Watched program operation.watch operation.behind back
-      outermost_watched on = subst (Each (Watched program operation.watch operation.behind)) is (watched_stays program f.suspensions ending f.within sound operation.watch operation.behind operation.still on)
+      outermost_watched on = subst (Each (Watched program operation.watch operation.behind)) is (watched_stays program f.suspensions ending f.within grounds operation.watch operation.behind operation.still on)
 
       inner_watched : (running : Option ℕ) (depth : ℕ) (inner : List Suspension) (are : Inner running depth inner)
-          → AllGoOnInside program f.suspensions ending f.within sound f.within.thrift operation.behind operation.lower running depth (Some operation.number) waiting inner are
+          → AllGoOnInside program f.suspensions ending f.within grounds f.within.thrift operation.behind operation.lower running depth (Some operation.number) waiting inner are
           → AllWatched program ending f.within.thrift operation.behind operation.lower back running depth (Some operation.number) waiting inner are
       inner_watched running depth inner are on =
           subst (Each (λ (after : State). AllWatched program ending f.within.thrift operation.behind operation.lower after running depth (Some operation.number) waiting inner are)) is
-          (all_watched program f.suspensions ending f.within sound f.within.thrift operation.behind operation.lower running depth (Some operation.number) waiting inner are on)
+          (all_watched program f.suspensions ending f.within grounds f.within.thrift operation.behind operation.lower running depth (Some operation.number) waiting inner are on)
 
       -- The masters of the body have been left.
       left_masters : (g : Suspension) (gs : List Suspension) (rooms : Rooms) (holds : Holds) → Roomed (below (known_in program a.procedure (g ∷ gs))) s.masters rooms → GoesOn (known_in program a.procedure (g ∷ gs)) mode (Returns actuals references ∷ k) rooms holds → s.masters ≡ g.masters
@@ -220,7 +221,7 @@ module _ (program : Program) (a : Activation Value) (k : Control) (s : State) (m
       module _ (g : Suspension) (gs : List Suspension) (o : IsOperation program ending f.within.thrift operation.behind operation.lower a.procedure 0 (gs ++ waiting) g) where
         -- The operations further out are those of other objects, so that their ends are not next.
         ends_other : (running : Option ℕ) (depth : ℕ) (inner : List Suspension) (are : Inner running depth inner) → k ≡ o.pause.behind → (IsUnder (under_in (callers_of program (inner ++ waiting))) o.pause.object → ⊥)
-            → AllGoOnInside program f.suspensions ending f.within sound f.within.thrift operation.behind operation.lower running depth (Some operation.number) waiting inner are
+            → AllGoOnInside program f.suspensions ending f.within grounds f.within.thrift operation.behind operation.lower running depth (Some operation.number) waiting inner are
         ends_other running depth [] are at other = tt
         ends_other running depth (h ∷ inner) (inl call, more) at other = ends_other h.procedure (suc depth) inner more at (λ under. other (later_under h.under (under_in (callers_of program (inner ++ waiting))) o.pause.object under))
         ends_other running depth (h ∷ inner) (inr outer, more) at other =
@@ -250,8 +251,8 @@ module _ (program : Program) (a : Activation Value) (k : Control) (s : State) (m
             let runs : pause.procedure ≡ g.procedure = sym (ap (λ (waits : Suspension). waits.procedure) o.is) in
             let covered : CoveredIn (implicit_of form) (seen_in g.procedure form) pause.x.cell.access =
             rw of_type (subst (λ (procedure : Option ℕ). CoveredIn (implicit_of form) (seen_in procedure form) pause.access) runs frees.0) in
-            none_in program sound.spares_own ending w.thrift operation.behind operation.lower g.procedure (suc 0) operation.number waiting gs more stands.standing.waiting.1 pause.object pause.x pause.found accessed covered
-            (λ outer there. frees_not program sound.spares_own ending (length w.inner) operation pause.object pause.x pause.found (under_outermost program ending sound f.suspensions w f.stands pause.object there) outer accessed)
+            none_in program grounds.spares_own ending w.thrift operation.behind operation.lower g.procedure (suc 0) operation.number waiting gs more stands.standing.waiting.1 pause.object pause.x pause.found accessed covered
+            (λ outer there. frees_not program grounds.spares_own ending (length w.inner) operation pause.object pause.x pause.found (under_outermost program ending grounds f.suspensions w f.stands pause.object there) outer accessed)
             under
 
         -- What is left to do behind it.
@@ -284,11 +285,11 @@ module _ (program : Program) (a : Activation Value) (k : Control) (s : State) (m
             let pause = o.pause in
             let control : k ≡ pause.behind = same_control program a.procedure g (gs ++ waiting) mode actuals references k w.rooms w.holds w.rest ∙ ap (λ (waits : Suspension). waits.control) o.is in
             let awaits : IsAwaited pause.behind = is_awaited form.types pause.object pause.of pause.treatment pause.tasks pause.after pause.behind pause.awaited in
-            let gave = gave_nothing (seen_in b.procedure form) (cells_of s.heap) (typed.kinds_in form a.procedure) actuals references k b (subst IsAwaited (sym control) awaits) sound.typed.waiting.0 in
+            let gave = gave_nothing (seen_in b.procedure form) (cells_of s.heap) (typed.kinds_in form a.procedure) actuals references k b (subst IsAwaited (sym control) awaits) grounds.typed.waiting.0 in
             let next_is : ending.control ≡ Returns [] [] ∷ pause.behind = last_end actuals references k pause.behind gave.0 gave.1 control in
             let masters_are : ending.masters ≡ pause.lower = left_masters g (gs ++ waiting) w.rooms w.holds w.roomed w.rest ∙ ap (λ (waits : Suspension). waits.masters) o.is in
             let all_are : g ∷ gs ++ waiting ≡ origin program 0 ending pause ∷ pause.suspensions = ap (λ (waits : Suspension). waits ∷ gs ++ waiting) o.is ∙ ap (λ (others : List Suspension). origin program 0 ending pause ∷ others) o.behind_it in
-            let ended = touching_ends program sound.well ending pause (touching_unlisted program ending sound.reached pause next_is)
+            let ended = touching_ends program grounds.well ending pause (touching_unlisted program ending grounds pause next_is)
             (subst (λ (all : List Suspension). Ready (known_in program a.procedure all) ending) all_are ready) (subst (λ (all : List Suspension). Stands program all ending) all_are stands)
             o.runs a b rest refl next_is masters_are in
             goes_behind more inner_is stands control ended.0 ended.1 ended.2 (ended.4 (is_ending pause.treatment o.freed))
@@ -304,8 +305,8 @@ module _ (program : Program) (a : Activation Value) (k : Control) (s : State) (m
           let none : IsAwaited k → ⊥ = λ awaited. call.0 (subst IsAwaited control awaited) in
           let on : (j : Control) → IsAwaited j → ending.control ≡ Returns [] [] ∷ j → ⊥ = λ j awaited last. (let same : j ≡ k = cc last in none (subst IsAwaited same awaited)) in
           let awaits = is_awaited form.types operation.object operation.of operation.treatment operation.tasks operation.after operation.behind operation.awaited in
-          let placed = placed_in (seen_in a.procedure form) a (b ∷ rest) ending refl sound.typed.inside in
-          let watched = inner_watched g.procedure (suc 0) gs more (none_end program ending f sound on g.procedure (suc 0) (Some operation.number) waiting gs more) in
+          let placed = placed_in (seen_in a.procedure form) a (b ∷ rest) ending refl grounds.typed.inside in
+          let watched = inner_watched g.procedure (suc 0) gs more (none_end program ending f grounds on g.procedure (suc 0) (Some operation.number) waiting gs more) in
           let leads = frugal_returns f.within.thrift operation.behind mode actuals references k f.within.frugal.upper awaits none f.within.frugal.frugal in
           let c = left_to program a actuals references k s mode b rest g (gs ++ waiting) (restand (b ∷ rest) (g ∷ gs ++ waiting) stands) none placed w in
           let are = inner_on program ending f.within.thrift operation.behind operation.lower back Quiet g.procedure (suc 0) 0 (Some operation.number) waiting gs more c.stepped.alters
@@ -340,7 +341,7 @@ module _ (program : Program) (a : Activation Value) (k : Control) (s : State) (m
           let next_is : ending.control ≡ Returns [] [] ∷ operation.behind = last_end actuals references k operation.behind end.0 end.1 control in
           let masters_are : ending.masters ≡ operation.lower = f.within.frugal.masters ∙ ap (λ (upper : List Master). upper ++ operation.lower) end.2 in
           let all_are : f.suspensions ≡ waiting = f.within.are ∙ ap (λ (inner : List Suspension). inner ++ waiting) none in
-          let ended = touching_ends program sound.well ending pause (touching_unlisted program ending sound.reached pause next_is)
+          let ended = touching_ends program grounds.well ending pause (touching_unlisted program ending grounds pause next_is)
           (subst (λ (all : List Suspension). Ready (known_in program a.procedure all) ending) all_are f.ready) (subst (λ (all : List Suspension). Stands program all ending) all_are f.stands)
           (subst (λ (inner : List Suspension). Inner a.procedure 0 inner) none f.within.within) a b rest refl next_is masters_are in
           waits_on ended.0 ended.1 ended.2 ended.3
@@ -351,11 +352,11 @@ module _ (program : Program) (a : Activation Value) (k : Control) (s : State) (m
       ends_by (g ∷ gs) inner_is (inr o, more) ready stands w = inl (operation_ends g gs o more inner_is ready stands w)
 
   pub body_ends :
-      (rest : List (Activation Value)) → Sound program (with_parts mode (Returns actuals references ∷ k) (a ∷ rest) s) → (f : Touching program (with_parts mode (Returns actuals references ∷ k) (a ∷ rest) s))
+      (rest : List (Activation Value)) → Grounds program (with_parts mode (Returns actuals references ∷ k) (a ∷ rest) s) → (f : Touching program (with_parts mode (Returns actuals references ∷ k) (a ∷ rest) s))
       → Working (known_in program a.procedure f.suspensions) s.heap a.places s.masters (GoesOn (known_in program a.procedure f.suspensions) mode (Returns actuals references ∷ k))
       → next tds bodies (with_parts mode (Returns actuals references ∷ k) (a ∷ rest) s) ≡ moves Quiet (resumed_in (behind_mode mode) (behind_frames mode references k) (behind_body mode actuals a.places rest) s)
       → Went program s.heap Quiet (resumed_in (behind_mode mode) (behind_frames mode references k) (behind_body mode actuals a.places rest) s)
-  body_ends [] sound f w is = absurd (no_rest program f.within.inner _ f.within.outermost.suspensions (subst (AreOf program []) f.within.are f.stands.bodies))
-  body_ends (b ∷ rest) sound f w is =
-      ends_by b rest sound f is f.within.inner refl f.within.within (subst (λ (all : List Suspension). Ready (known_in program a.procedure all) (ending b rest)) f.within.are f.ready) (subst (λ (all : List Suspension). Stands program all (ending b rest)) f.within.are f.stands)
+  body_ends [] grounds f w is = absurd (no_rest program f.within.inner _ f.within.outermost.suspensions (subst (AreOf program []) f.within.are f.stands.bodies))
+  body_ends (b ∷ rest) grounds f w is =
+      ends_by b rest grounds f is f.within.inner refl f.within.within (subst (λ (all : List Suspension). Ready (known_in program a.procedure all) (ending b rest)) f.within.are f.ready) (subst (λ (all : List Suspension). Stands program all (ending b rest)) f.within.are f.stands)
       (subst (λ (all : List Suspension). LeavesBody b rest all) f.within.are w)

@@ -1,21 +1,18 @@
 -- What the laws of finalization say while the body of an operation runs that touches storage (7.6, 7.6.1), or one in front of it: of the objects that stand, and of those
 -- that are treated. None of those is freed meanwhile (13.11.2).
 
-use Rattle.std.proofs.Common.{◌≡◌, ℕ, suc, Bool, true, false, ◌&&◌, List, [], ◌∷◌, ◌++◌, length, refl, sym, ap, ◌∙◌, subst, ◌⊎◌, inl, inr, ◌≢◌, Option, Some}
+use Rattle.std.proofs.Common.{◌≡◌, ℕ, suc, Bool, true, false, List, [], ◌∷◌, ◌++◌, length, refl, sym, ap, ◌∙◌, subst, ◌⊎◌, inl, inr, ◌≢◌, Option, Some}
 use Rattle.std.proofs.lemmas.Bool.{and_parts, false_from_ne_true}
 use Rattle.ada_deeds.specs.Implicit.{implicit_of}
-use Rattle.ada_effects.specs.Effects.{body_frees, effects_of}
 use Rattle.ada_program.specs.declared.program.Program.{Program}
 use Rattle.ada_program.specs.declared.program.TypeDefinition.{TypeDefinition}
-use Rattle.ada_program.specs.ProgramForm.{TypeForm, BodyForm, ProgramForm, program_form, body_forms, main_body, seen_in}
+use Rattle.ada_program.specs.ProgramForm.{TypeForm, BodyForm, ProgramForm, program_form, body_forms, seen_in}
 use Rattle.ada_program.specs.WellFormed.{is_access}
 use Rattle.ada_flow.specs.Flow.{Holds}
 use Rattle.ada_quiet.specs.Bare.{has_bare_objects}
 use Rattle.ada_quiet.specs.Frugal.{Thrift}
 use Rattle.ada_parts.specs.Task.{Task}
-use Rattle.ada_finalized.proofs.Standing.{listed_stand, none_runs_on_listed}
-use Rattle.ada_finalized.proofs.Twice.{values_exist}
-use Rattle.ada_finalized.specs.Law.{NothingBegins, NoOperationRunsOn, finalized_before}
+use Rattle.ada_finalized.specs.Law.{NothingBegins, NoOperationRuns, NoOperationRunsOn, finalized_before}
 use Rattle.ada_meaning.specs.declared.event.Cause.TheVariants.{Leaving, Freeing, Assigning, Undoing}
 use Rattle.ada_meaning.specs.declared.event.Cause.{Cause}
 use Rattle.ada_meaning.specs.declared.event.Halt.TheVariants.{Erroneous}
@@ -33,21 +30,21 @@ use Rattle.ada_meaning.specs.Step.{treating}
 use Rattle.ada_meaning.specs.Named.{State, Object, object_at, next}
 use Rattle.ada_meaning.specs.Run.{Halts}
 use Rattle.ada_typed.proofs.Bodies.{own_bodies}
+use Rattle.ada_typed.proofs.Kept.{behind_call}
 use Rattle.ada_sound.specs.Agreement.{running_procedure}
 use Rattle.ada_sound.specs.Always.{SparesOwn}
 use Rattle.ada_sound.proofs.Below.{either_one}
 use Rattle.ada_sound.proofs.Callers.{Suspension, callers_of, known_in, Stands}
-use Rattle.ada_sound.proofs.Finalization.{parts_alive}
 use Rattle.ada_sound.proofs.Fits.{Reference}
 use Rattle.ada_sound.proofs.FreesCovered.{frees_among}
 use Rattle.ada_sound.proofs.FrugalControl.{EndsFreed, Frugal, FrugalLeads, IsFreed}
+use Rattle.ada_sound.proofs.Grounds.{Grounds, may_free}
 use Rattle.ada_sound.proofs.Homes.{NoneIsUnder}
 use Rattle.ada_sound.proofs.Invariant.{AllWait, Control, CoveredIn, Known, Ready, Rooms, under_in, waits_covers}
-use Rattle.ada_sound.proofs.Operating.{WaitsFor}
+use Rattle.ada_sound.proofs.Operating.{IsCalm, WaitsFor}
 use Rattle.ada_sound.proofs.Returns.{same_types}
 use Rattle.ada_sound.proofs.SparesOwn.{spares_end}
 use Rattle.ada_sound.proofs.Standing.{AllStand, FinalizesBy, FinalizesIn, FreesAmong}
-use Rattle.ada_sound.proofs.Starts.{IsReached, Sound}
 use Rattle.ada_sound.proofs.Stored.{IsUnder}
 use Rattle.ada_sound.proofs.Touching.{AreInner, CoversBy, IsCall, IsOperation, Pause, Rests, RestsAsOwned, RestsAtEnd, RestsBy, StoresInto, Watch, Within, origin, under_way}
 use Rattle.ada_sound.proofs.TouchingRests.{IsEnd}
@@ -92,6 +89,38 @@ module _ (frugal : Thrift) where
   leads_alone v behind (frame.Confines ∷ k) ms none q = leads_alone v behind k ms none.1 q.1
   leads_alone v behind (f ∷ k) ms none q = leads_alone v behind k ms none q.1
 
+  -- Where no operation runs behind the call of the running body, none does behind that end.
+  leads_calm : (behind k : Control) (ms : List Master) → NoOperationRuns k → FrugalLeads frugal behind k ms → NoOperationRuns behind
+  leads_calm behind [] ms none q = absurd q
+  leads_calm behind (frame.Returns actuals references ∷ k) ms none (inl q) = subst NoOperationRuns q.2 none.1
+  leads_calm behind (frame.Returns actuals references ∷ k) ms none (inr q) = leads_calm behind k ms none.1 q
+  leads_calm behind (frame.Elaborates ds fs hs ∷ k) [] none q = absurd q
+  leads_calm behind (frame.Elaborates ds fs hs ∷ k) (m ∷ ms) none q = leads_calm behind k ms none.1 q.1
+  leads_calm behind (frame.Closes ∷ k) [] none q = absurd q
+  leads_calm behind (frame.Closes ∷ k) (m ∷ ms) none q = leads_calm behind k ms none.1 q.1
+  leads_calm behind (frame.Declares x ∷ k) [] none q = absurd q
+  leads_calm behind (frame.Declares x ∷ k) (m ∷ ms) none q = leads_calm behind k (m ∷ ms) none.1 q.1
+  leads_calm behind (f ∷ k) ms none q = leads_calm behind k ms none.1 q.1
+
+  calm_behind : (behind k : Control) (ms : List Master) → IsCalm (behind_call k) → FrugalLeads frugal behind k ms → NoOperationRuns behind
+  calm_behind behind [] ms calm q = absurd q
+  calm_behind behind (frame.Returns actuals references ∷ k) ms calm (inl q) = subst NoOperationRuns q.2 calm
+  calm_behind behind (frame.Returns actuals references ∷ k) ms calm (inr q) = leads_calm behind k ms calm q
+  calm_behind behind (frame.Elaborates ds fs hs ∷ k) [] calm q = absurd q
+  calm_behind behind (frame.Elaborates ds fs hs ∷ k) (m ∷ ms) calm q = calm_behind behind k ms calm q.1
+  calm_behind behind (frame.Closes ∷ k) [] calm q = absurd q
+  calm_behind behind (frame.Closes ∷ k) (m ∷ ms) calm q = calm_behind behind k ms calm q.1
+  calm_behind behind (frame.Declares x ∷ k) [] calm q = absurd q
+  calm_behind behind (frame.Declares x ∷ k) (m ∷ ms) calm q = calm_behind behind k (m ∷ ms) calm q.1
+  calm_behind behind (f ∷ k) ms calm q = calm_behind behind k ms calm q.1
+
+  pub frugal_calm : (behind : Control) (mode : Mode) (k : Control) (ms : List Master) → IsCalm (behind_call k) → Frugal frugal behind mode k ms → NoOperationRuns behind
+  frugal_calm behind mode k ms calm (inl q) = calm_behind behind k ms calm q
+  frugal_calm behind mode [] ms calm (inr (runs, leaving)) = absurd leaving
+  frugal_calm behind mode (frame.Leaves left ∷ k) [] calm (inr (runs, leaving)) = absurd leaving
+  frugal_calm behind mode (frame.Leaves left ∷ k) (m ∷ ms) calm (inr (runs, leaving)) = calm_behind behind k ms calm leaving
+  frugal_calm behind mode (f ∷ k) ms calm (inr (runs, leaving)) = absurd leaving
+
 -- Nor does anything begin where an object is finalized.
 treating_begin : (v w : Value) (cause : Cause) (tasks : List Task) (k : Control) → NothingBegins v k → NothingBegins v (treating w (ends cause) tasks k)
 treating_begin v w cause [] k none = none
@@ -113,7 +142,8 @@ finalized_at_end known object access home places after lower rooms holds (inr (i
 finalized_owned : (known : Known) (held : Bool) (watch : Option Watch) (object : Id) (access : ℕ) (home : Home) (places : List Value) (after : Control) (lower : List Master) (rooms : Rooms) (holds : Holds)
     → RestsAsOwned known held watch object access home places after lower rooms holds → finalized_before after ≡ Names object
 finalized_owned known held watch object access home places after lower rooms holds (inl (is_held, r)) = finalized_at_end known object access home places after lower rooms holds r
-finalized_owned known held watch object access home places after lower rooms holds (inr releases) = rw (releases.is) refl
+finalized_owned known held watch object access home places after lower rooms holds (inr (inl releases)) = rw (releases.is) refl
+finalized_owned known held watch object access home places after lower rooms holds (inr (inr (unheld, departing))) = rw (departing.is) refl
 
 finalized_stored : (known : Known) (object : Id) (access record_type : ℕ) (k : Control) (rooms : Rooms) (holds : Holds) → StoresInto known object access record_type k rooms holds → finalized_before k ≡ Names object
 finalized_stored known object access record_type [] rooms holds into = absurd into
@@ -140,21 +170,15 @@ module _ (program : Program) (depth : ℕ) (s : State) (f : Pause program depth 
           let before = finalized_by (known_in program f.procedure f.suspensions) cause f.held f.watch f.object f.access f.home f.places f.operands f.also f.after f.lower f.rooms f.holds rests in
           one.0 (treating_before (Names f.object) cause f.tasks f.after before ∙ sym same)
 
--- What the running body may free, of access types (13.11.2).
-abbrev pub may_free : Program → State → ℕ → Bool
-may_free program s t =
-    let seen = seen_in (running_procedure s) (program_form program) in
-    is_access (program_form program).types t && body_frees seen.types (effects_of (implicit_of (program_form program)) seen) (main_body seen) t
-
 -- It is known of each such type that the body may free it.
 may_cover : (program : Program) (s : State) (t : ℕ) → may_free program s t ≡ true → (is_access (program_form program).types t ≡ true) × CoveredIn (implicit_of (program_form program)) (seen_in (running_procedure s) (program_form program)) t
 may_cover program s t may = and_parts (is_access (program_form program).types t) _ may
 
 -- Where something is freed next, it is of such a type.
 pub touching_frees :
-    (program : Program) (s : State) → Sound program s → (gs : List Suspension) → Ready (known_in program (running_procedure s) gs) s → s.mode ≡ Running → FreesAmong (may_free program s) s.control
-touching_frees program s sound gs ready runs =
-    frees_among (known_in program (running_procedure s) gs) (own_bodies (program_form program) sound.frees_own (running_procedure s)) (may_free program s) may s ready sound.typed.inside runs
+    (program : Program) (s : State) → Grounds program s → (gs : List Suspension) → Ready (known_in program (running_procedure s) gs) s → s.mode ≡ Running → FreesAmong (may_free program s) s.control
+touching_frees program s grounds gs ready runs =
+    frees_among (known_in program (running_procedure s) gs) (own_bodies (program_form program) grounds.frees_own (running_procedure s)) (may_free program s) may s ready grounds.typed.inside runs
   where
     may : (t : ℕ) → CoveredIn (implicit_of (program_form program)) (seen_in (running_procedure s) (program_form program)) t → is_access (seen_in (running_procedure s) (program_form program)).types t ≡ true → may_free program s t ≡ true
     may t covered of =
@@ -227,7 +251,7 @@ module _ (program : Program) (spares : SparesOwn program) (s : State) where
             frees_not depth f o x found (treated_is f.treatment f.object o way) (subst (λ (own : Option ℕ). Covers own x.cell.access) operation.runs covered) of
 
 -- What is known while the body of an operation runs that touches storage.
-module _ (program : Program) (s : State) (sound : Sound program s) (gs : List Suspension) (w : Within program gs s) (stands : Stands program gs s) where
+module _ (program : Program) (s : State) (grounds : Grounds program s) (gs : List Suspension) (w : Within program gs s) (stands : Stands program gs s) where
   abbrev form : ProgramForm
   form = program_form program
 
@@ -250,15 +274,15 @@ module _ (program : Program) (s : State) (sound : Sound program s) (gs : List Su
   pub under_outermost : (o : Id) → IsUnder (under_in (callers_of program behind_it)) o → outermost.object ≡ o
   under_outermost o under =
       elim (either_one (under_way outermost.treatment outermost.object) (under_in (callers_of program outermost.suspensions)) o under) [
-        | inl here ↦ treated_is program sound.spares_own s outermost.treatment outermost.object o here
+        | inl here ↦ treated_is program grounds.spares_own s outermost.treatment outermost.object o here
         | inr later ↦ absurd (subst (λ (none : List Id). IsUnder none o) w.settled later)
       ]
 
   not_freed : (o : Id) (x : Object) → IsUnder (under_in (callers_of program gs)) o → object_at s.heap o ≡ Some x → may_free program s x.cell.access ≡ true → ⊥
   not_freed o x under found may =
       let so = may_cover program s x.cell.access may in
-      none_in program sound.spares_own s w.thrift outermost.behind outermost.lower (running_procedure s) 0 outermost.number behind_it w.inner w.within waiting o x found so.0 so.1
-      (λ covered there. frees_not program sound.spares_own s (length w.inner) outermost o x found (under_outermost o there) covered so.0)
+      none_in program grounds.spares_own s w.thrift outermost.behind outermost.lower (running_procedure s) 0 outermost.number behind_it w.inner w.within waiting o x found so.0 so.1
+      (λ covered there. frees_not program grounds.spares_own s (length w.inner) outermost o x found (under_outermost o there) covered so.0)
       (subst (λ (all : List Suspension). IsUnder (under_in (callers_of program all)) o) w.are under)
 
   pub none_is_under : NoneIsUnder (may_free program s) (under_in (callers_of program gs)) s.heap
@@ -292,8 +316,8 @@ module _ (program : Program) (s : State) (sound : Sound program s) (gs : List Su
   other_object : (o : Id) (x : Object) → object_at s.heap o ≡ Some x → may_free program s x.cell.access ≡ true → Names o ≡ Names outermost.object → ⊥
   other_object o x found may same =
       let so = may_cover program s x.cell.access may in
-      let covered = covers_outermost program sound.spares_own s w.thrift outermost.behind outermost.lower (running_procedure s) 0 outermost.number behind_it w.inner w.within waiting x.cell.access so.1 in
-      frees_not program sound.spares_own s (length w.inner) outermost o x found (cc same) covered so.0
+      let covered = covers_outermost program grounds.spares_own s w.thrift outermost.behind outermost.lower (running_procedure s) 0 outermost.number behind_it w.inner w.within waiting x.cell.access so.1 in
+      frees_not program grounds.spares_own s (length w.inner) outermost o x found (cc same) covered so.0
 
   -- Nothing begins of an object that the running body may free.
   pub freed_begin : (o : Id) (x : Object) → object_at s.heap o ≡ Some x → may_free program s x.cell.access ≡ true → NothingBegins (Names o) s.control
@@ -301,13 +325,19 @@ module _ (program : Program) (s : State) (sound : Sound program s) (gs : List Su
 
   -- So no operation of it runs, where it is in its collection.
   pub listed_alone : (o : Id) (x : Object) → object_at s.heap o ≡ Some x → x.listed ≡ true → may_free program s x.cell.access ≡ true → NoOperationRunsOn (Names o) s.control
-  listed_alone o x found listed may = none_runs_on_listed program sound.reached.0 sound.reached.1 s sound.reached.2 o x found listed (freed_begin o x found may)
+  listed_alone o x found listed may = grounds.unrun o x found listed (freed_begin o x found may)
+
+  -- An operation runs behind the call of the running body: the outermost one.
+  waits_operated : (treatment : Treatment) → WaitsFor form.types outermost.object outermost.of treatment outermost.tasks outermost.after outermost.behind → NoOperationRuns outermost.behind → ⊥
+  waits_operated (begins by done) (part, is) none = let waits = (subst NoOperationRuns is none).0 in cc waits
+  waits_operated (ends cause) (is, inside) none = let waits = (subst NoOperationRuns is none).0 in cc waits
+
+  pub touching_runs : IsCalm (behind_call s.control) → ⊥
+  touching_runs calm = waits_operated outermost.treatment outermost.awaited (frugal_calm w.thrift outermost.behind s.mode s.control w.frugal.upper calm w.frugal.frugal)
 
   -- Each object that may be freed stands.
   stand : (forms : List TypeForm) → AllStand (may_free program s) forms s.heap
-  stand forms o x found listed of may =
-      parts_alive program sound.well s sound.reached o x found
-      (listed_stand program sound.reached.0 sound.reached.1 s sound.reached.2 o x found listed (freed_begin o x found may))
+  stand forms o x found listed of may = grounds.stands touching_runs o x found listed (freed_begin o x found may) may
 
   -- A state with these parts.
   state_is : (mode : Mode) (k : Control) → s.mode ≡ mode → s.control ≡ k → s ≡ record s { mode = mode; control = k }
@@ -320,7 +350,7 @@ module _ (program : Program) (s : State) (sound : Sound program s) (gs : List Su
       → FinalizesBy (may_free program s) forms types bodies (frame.Treats v treatment tasks) (record s { mode = Running; control = k })
   unfolding next
   treated v treatment tasks k runs is alone forms = λ twice.
-      values_exist program sound.reached.0 sound.reached.1 s sound.reached.2 v treatment tasks k is alone
+      grounds.exist v treatment tasks k is alone
       (subst (λ (t : State). Halts program t (Erroneous FinalizesTwice)) (sym (state_is Running (frame.Treats v treatment tasks ∷ k) runs is)) twice)
 
   by_frame :
@@ -345,9 +375,9 @@ module _ (program : Program) (s : State) (sound : Sound program s) (gs : List Su
 
 -- An object that is finalized has left its collection by the end of the body.
 pub touching_unlisted :
-    (program : Program) (s : State) → IsReached program s → (f : Pause program 0 s) → s.control ≡ frame.Returns [] [] ∷ f.behind → (cause : Cause) → IsEnd cause → f.treatment ≡ ends cause
+    (program : Program) (s : State) → Grounds program s → (f : Pause program 0 s) → s.control ≡ frame.Returns [] [] ∷ f.behind → (cause : Cause) → IsEnd cause → f.treatment ≡ ends cause
     → f.x.listed ≡ false
-touching_unlisted program s reached f ends_next cause end is = go f.x.listed refl
+touching_unlisted program s grounds f ends_next cause end is = go f.x.listed refl
   where
     waits : WaitsFor (program_form program).types f.object f.of (ends cause) f.tasks f.after f.behind
     waits = rw is at f.awaited
@@ -363,7 +393,8 @@ touching_unlisted program s reached f ends_next cause end is = go f.x.listed ref
 
     behind_owned : RestsAsOwned (known_in program f.procedure f.suspensions) f.held f.watch f.object f.access f.home f.places f.after f.lower f.rooms f.holds → NothingBegins (Names f.object) f.after
     behind_owned (inl (held, resting)) = behind_by resting
-    behind_owned (inr releases) = rw (releases.is) (releases.untreated)
+    behind_owned (inr (inl releases)) = rw (releases.is) (releases.untreated)
+    behind_owned (inr (inr (unheld, departing))) = rw (departing.is) (departing.untreated)
 
     behind_end : (by : Cause) → IsEnd by → RestsBy (known_in program f.procedure f.suspensions) by f.held f.watch f.object f.access f.home f.places f.operands f.also f.after f.lower f.rooms f.holds → NothingBegins (Names f.object) f.after
     behind_end (Leaving m item) e r = behind_owned r.1
@@ -380,7 +411,7 @@ touching_unlisted program s reached f ends_next cause end is = go f.x.listed ref
     never : f.x.listed ≡ true → ⊥
     never listed =
         let o = Names f.object in
-        let none = none_runs_on_listed program reached.0 reached.1 s reached.2 f.object f.x f.found listed none_begins in
+        let none = grounds.unrun f.object f.x f.found listed none_begins in
         let behind : NoOperationRunsOn o f.behind = subst (NoOperationRunsOn o) ends_next none in
         let confined : NoOperationRunsOn o (frame.Confines ∷ treating o (ends cause) f.tasks f.after) =
         subst (NoOperationRunsOn o) waits.0 behind in

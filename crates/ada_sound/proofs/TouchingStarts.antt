@@ -9,7 +9,7 @@ use Rattle.std.proofs.lemmas.Option.{slice_get-map}
 use Rattle.ada_deeds.specs.Implicit.{implicit_of}
 use Rattle.ada_effects.specs.Effects.{assignment_frees}
 use Rattle.ada_finalized.specs.Law.{NoOperationRuns, NothingBegins}
-use Rattle.ada_finalized.proofs.Standing.{AdjustsAlone, adjusts_alone, nothing_begins, untreated_start, untreated_end}
+use Rattle.ada_finalized.proofs.Standing.{AdjustsAlone, nothing_begins}
 use Rattle.ada_parts.specs.Task.{Task}
 use Rattle.ada_program.specs.declared.program.Program.{Program}
 use Rattle.ada_program.specs.Controlled.{operations_of}
@@ -17,6 +17,7 @@ use Rattle.ada_program.specs.ProgramForm.{TypeForm, BodyForm, ProgramForm, progr
 use Rattle.ada_program.specs.WellFormed.{finalization_of, is_access, variable_kind, object_named, IsWellFormed}
 use Rattle.ada_quiet.specs.Bare.{collections_in_order, has_bare_objects}
 use Rattle.ada_quiet.specs.Frugal.{is_frugal_body, thrift_of}
+use Rattle.ada_quiet.specs.Idle.{makes_parts}
 use Rattle.ada_quiet.specs.InUse.{may_be_frugal, operations_may_be_called}
 use Rattle.ada_meaning.specs.declared.event.Birth.{Birth}
 use Rattle.ada_meaning.specs.declared.event.Birth.TheVariants.{Creation, Copy, Adjustment}
@@ -64,7 +65,7 @@ use Rattle.ada_sound.proofs.OperationBegins.{formal_holds, formal_within}
 use Rattle.ada_sound.proofs.OperationStarts.{calm_behind, is_awaited, live_there}
 use Rattle.ada_sound.proofs.Returns.{same_types}
 use Rattle.ada_sound.proofs.SparesOwn.{assigned_spares}
-use Rattle.ada_sound.proofs.Starts.{Sound}
+use Rattle.ada_sound.proofs.Grounds.{Grounds, treats_made}
 use Rattle.ada_sound.proofs.Treating.{treats_in_use}
 use Rattle.ada_sound.proofs.Treatments.{Begins}
 use Rattle.ada_sound.proofs.WatchedBegins.{watched_begins}
@@ -129,14 +130,14 @@ module _ (program : Program) (a : Activation Value) (rest : List (Activation Val
   IsOperated by object of = OperatedAs p.types v treatment (cells_of s.heap) k by object of
 
   -- The body of an operation begins.
-  module _ (whole : State) (same : whole.masters ≡ s.masters) (sound : Sound program whole) (lone : IsLoneBehind v treatment k) (stands : Stands program gs (record s { activations = a ∷ rest })) where
+  module _ (whole : State) (same : whole.masters ≡ s.masters) (grounds : Grounds program whole) (lone : IsLoneBehind v treatment k) (stands : Stands program gs (record s { activations = a ∷ rest })) where
     -- Where a record with controlled parts is assigned to, no object ends in which such a record lies.
     spares_copied : (access t : ℕ) → IsCopied known t → LiesAmong known access t → is_access known.program.types access ≡ true → assignment_frees known.implicit access t ≡ true → ⊥
     spares_copied access t (f, is, limited) (first, part, lies) accessed freed =
         let same = same_types a.procedure p in
         let found : finalization_of p.types t ≡ Some f = subst (λ (types : List TypeForm). finalization_of types t ≡ Some f) same is in
         let lie : PartsLie p.types (object_named p.types (Some access)) (Some t) first part = subst (λ (types : List TypeForm). PartsLie types (object_named types (Some access)) (Some t) first part) same lies in
-        assigned_spares program sound.well sound.spares_own access t first part f lie found (subst (λ (types : List TypeForm). is_access types access ≡ true) same accessed) freed
+        assigned_spares program grounds.well grounds.spares_own access t first part f lie found (subst (λ (types : List TypeForm). is_access types access ≡ true) same accessed) freed
 
     -- The record that is copied behind an assignment has controlled parts.
     copied_behind : (u : Value) (by : Treatment) (left : List Task) (j : Control) (heap : List Object) → TreatsBy known u by left j heap a.places a.operands s.masters → IsAssignedBehind p.types by j
@@ -151,7 +152,7 @@ module _ (program : Program) (a : Activation Value) (rest : List (Activation Val
 
     fits_here : ItemsFit known.program.types (items_of s.masters)
     fits_here =
-        let fits : ItemsFit p.types (items_of whole.masters) = items_fit p whole sound.nested in
+        let fits : ItemsFit p.types (items_of whole.masters) = items_fit p whole grounds.nested in
         subst (λ (types : List TypeForm). ItemsFit types (items_of s.masters)) (sym (same_types a.procedure p)) (rw same at fits)
 
     -- What waits for it, by what is treated.
@@ -176,7 +177,7 @@ module _ (program : Program) (a : Activation Value) (rest : List (Activation Val
 
           by : (b : Bool) → collections_in_order p ≡ b → (collections_in_order p && not (are_calm_in p t)) ≡ true
           by true allocates = rw (allocates, other) refl
-          by false none = let bare = allocated_is_bare program sound.well may none t of_access in absurd (cc (bare, parted))
+          by false none = let bare = allocated_is_bare program grounds.well may none t of_access in absurd (cc (bare, parted))
 
       -- An operation may be called for it that touches storage.
       touches : known.touches x.cell.access ≡ true
@@ -207,30 +208,30 @@ module _ (program : Program) (a : Activation Value) (rest : List (Activation Val
             → TouchesStorage p treated b → are_calm_in p access ≡ false
         go false none treated may' called' touches' = none
         go true is_calm (begins Creation done) may' called' touches' =
-            let plain = calm_initialize program sound.well access of part number b operable is_calm called' there in absurd (cc (plain, touches'))
+            let plain = calm_initialize program grounds.well access of part number b operable is_calm called' there in absurd (cc (plain, touches'))
         go true is_calm (begins Copy done) may' called' touches' = absurd may'
         go true is_calm (begins (Adjustment n) done) may' called' touches' = absurd may'
         go true is_calm (ends cause) may' called' touches' =
-            let quiet = calm_finalize program sound.well access of part number b operable is_calm called' there in absurd (cc (quiet, touches'))
+            let quiet = calm_finalize program grounds.well access of part number b operable is_calm called' there in absurd (cc (quiet, touches'))
 
     -- What the body may free has no controlled parts, or the end of the object may free it.
     covers_by : (access of part number : ℕ) (b : BodyForm) (by : Treatment) → IsOperable p.types access of part → IsCalled (operations_of program.types.items of) by number → slice_get (body_forms program) number ≡ Some b
         → is_frugal_body (thrift_of p (ends_here by)) b ≡ true → (t : ℕ) → CoveredIn (implicit_of p) (seen_in (Some number) p) t → CoversBy p by access t
-    covers_by access of part number b (begins by done) operable called there frugal t covered = frugal_frees_bare program sound.well number b there frugal t covered
-    covers_by access of part number b (ends cause) operable called there frugal t covered = ends_free program sound.well access of part number b operable called there t covered
+    covers_by access of part number b (begins by done) operable called there frugal t covered = frugal_frees_bare program grounds.well number b there frugal t covered
+    covers_by access of part number b (ends cause) operable called there frugal t covered = ends_free program grounds.well access of part number b operable called there t covered
 
     -- So the body begins, for this object, in front of what is behind its treatment.
-    begins_so : operations_may_be_called p ≡ true → (e : Event) (after : State) (c : Begins known a rest s program.types.items (body_forms program) k IsOperated e after) → MayTouch c.treatment → may_be_frugal p ≡ true → LetsNone p c.treatment c.b → is_frugal_body (thrift_of p (ends_here c.treatment)) c.b ≡ true → TouchesStorage p c.treatment c.b
+    begins_so : operations_may_be_called p ≡ true → makes_parts p ≡ true → (e : Event) (after : State) (c : Begins known a rest s program.types.items (body_forms program) k IsOperated e after) → MayTouch c.treatment → may_be_frugal p ≡ true → LetsNone p c.treatment c.b → is_frugal_body (thrift_of p (ends_here c.treatment)) c.b ≡ true → TouchesStorage p c.treatment c.b
         → typed.Typed p after → (begun : Begun program gs c.treatment c.behind s.masters after) × (begun.pause.object ≡ c.o) × (begun.pause.after ≡ k)
-    begins_so uses e after c touches may silent frugal stores typing =
+    begins_so uses made e after c touches may silent frugal stores typing =
         let operated = c.operated.1 in
         let of_type : c.x.cell.access ≡ operated.0 = kept_type s.heap c.heap e c.o c.x operated.0 c.alters c.found operated.2 in
         let operable : IsOperable p.types c.x.cell.access c.of operated.1 = rw of_type (operated.3) in
-        let parted : has_bare_objects p.types c.x.cell.access ≡ false = rw of_type (operable_is_not_bare program sound.well operated.0 c.of operated.1 operated.3) in
+        let parted : has_bare_objects p.types c.x.cell.access ≡ false = rw of_type (operable_is_not_bare program grounds.well operated.0 c.of operated.1 operated.3) in
         let not_calm : are_calm_in p c.x.cell.access ≡ false = rw of_type (other_object operated.0 c.of operated.1 c.number c.b c.treatment operated.3 touches c.called c.there stores) in
         let at : Enters known c.treatment c.o c.x k c.heap a.places a.operands s.masters =
         enters may c.o c.x c.heap c.operated.3 c.found (access_is c.heap c.o c.x c.found (live_there c.x.stage c.live)) (subst (λ (types : List TypeForm). has_bare_objects types c.x.cell.access ≡ false) (sym (same_types a.procedure p)) parted) not_calm c.treatment c.tasks (rw c.operated.0 lone) touches c.treats in
-        let operation = operation_for program sound.well c.of c.number c.treatment touches c.called in
+        let operation = operation_for program grounds.well c.of c.number c.treatment touches c.called in
         let body : operation.body ≡ c.b = let found = operation.there in let there = c.there in cc (found, there) in
         let single : IsAlone c.b = alone c.b operation.object (rw body at operation.formals) in
         let waits : WaitsFor p.types c.o c.of c.treatment c.tasks k c.behind = subst (λ (types : List TypeForm). WaitsFor types c.o c.of c.treatment c.tasks k c.behind) (same_types a.procedure p) c.waits in
@@ -241,20 +242,20 @@ module _ (program : Program) (a : Activation Value) (rest : List (Activation Val
         let holds = formal_holds program c.number c.b c.o c.place begun (_, refl) c.x c.found own in
         let within : IsWithin p.types (variable_kind c.b.variables 0) c.x.cell.access c.place.component = formal_within p.types (variable_kind c.b.variables 0) c.o c.x.cell.access c.place single.object single.is (rw single.is at holds) in
         let frees : (t : ℕ) → CoveredIn (implicit_of p) (seen_in (Some c.number) p) t → at.may t ≡ true =
-        λ t covered. at.includes t (treated_frees_of program sound.well c.x.cell.access c.of operated.1 c.number c.b operable c.treatment k (rw (c.operated.0) (c.operated.2)) (copied_behind (Names c.o) c.treatment c.tasks k c.heap c.treats) touches c.called c.there t covered) in
+        λ t covered. at.includes t (treated_frees_of program grounds.well c.x.cell.access c.of operated.1 c.number c.b operable c.treatment k (rw (c.operated.0) (c.operated.2)) (copied_behind (Names c.o) c.treatment c.tasks k c.heap c.treats) touches c.called c.there t covered) in
         let lets : (raised : Exception) → body_among (implicit_of p) (seen_in (Some c.number) p) raised ≡ true → lets_out (implicit_of p) c.x.cell.access c.treatment raised ≡ true =
-        touches_let program sound.well c.x.cell.access c.of operated.1 c.number c.b operable c.treatment touches silent c.called c.there frugal in
-        rw c.is (touching_begins program sound.well sound.obeys c.number (touches_apart program sound.obeys.0 c.of c.number c.treatment touches c.called) c.b c.there single a rest gs s k c.o c.x c.heap c.found (live_there c.x.stage c.live) c.place within c.treatment frugal sound.spares_own at c.behind frees
+        touches_let program grounds.well c.x.cell.access c.of operated.1 c.number c.b operable c.treatment touches silent c.called c.there frugal in
+        rw c.is (touching_begins program grounds.well grounds.obeys c.number (touches_apart program grounds.obeys.0 c.of c.number c.treatment touches c.called) c.b c.there single a rest gs s k c.o c.x c.heap c.found (live_there c.x.stage c.live) c.place within c.treatment frugal grounds.spares_own at c.behind frees
         (covers_by c.x.cell.access c.of operated.1 c.number c.b c.treatment operable c.called c.there frugal) lets e c.of c.tasks c.alters waits (is_awaited p.types c.o c.of c.treatment c.tasks k c.behind waits) stands
-        (watched_begins program sound.well uses a rest gs s c.treatment at.watch c.o c.x.cell.access c.of operated.1 c.number c.b c.place c.behind c.heap operable c.called c.there frugal (sound.spares_holders may) at.spared))
+        (watched_begins program grounds.well uses a rest gs s c.treatment at.watch c.o c.x.cell.access c.of operated.1 c.number c.b c.place c.behind c.heap operable c.called c.there frugal (grounds.spares_holders may made) at.spared))
 
     -- That is known of it, whatever runs behind it.
-    pub touching_starts : operations_may_be_called p ≡ true → (e : Event) (after : State) (c : Begins known a rest s program.types.items (body_forms program) k IsOperated e after) → MayTouch c.treatment → may_be_frugal p ≡ true → LetsNone p c.treatment c.b → is_frugal_body (thrift_of p (ends_here c.treatment)) c.b ≡ true → TouchesStorage p c.treatment c.b
+    pub touching_starts : operations_may_be_called p ≡ true → makes_parts p ≡ true → (e : Event) (after : State) (c : Begins known a rest s program.types.items (body_forms program) k IsOperated e after) → MayTouch c.treatment → may_be_frugal p ≡ true → LetsNone p c.treatment c.b → is_frugal_body (thrift_of p (ends_here c.treatment)) c.b ≡ true → TouchesStorage p c.treatment c.b
         → typed.Typed p after → Begun program gs c.treatment c.behind s.masters after
-    touching_starts uses e after c touches may silent frugal stores typing = (begins_so uses e after c touches may silent frugal stores typing).0
+    touching_starts uses made e after c touches may silent frugal stores typing = (begins_so uses made e after c touches may silent frugal stores typing).0
 
   -- Where no operation runs, nothing is treated behind what is treated, but a record that is assigned to.
-  module _ (whole : State) (is : whole.control ≡ Treats v treatment tasks ∷ k) (sound : Sound program whole) (still : NoOperationRuns whole.control) where
+  module _ (whole : State) (is : whole.control ≡ Treats v treatment tasks ∷ k) (grounds : Grounds program whole) (still : NoOperationRuns whole.control) where
     -- The control, by what is treated.
     control_by : (by : Treatment) → by ≡ treatment → whole.control ≡ Treats v by tasks ∷ k
     control_by by one = is ∙ ap (λ (t : Treatment). Treats v t tasks ∷ k) (sym one)
@@ -262,12 +263,12 @@ module _ (program : Program) (a : Activation Value) (rest : List (Activation Val
     -- Nothing is treated behind the end of an object.
     ended_alone : (cause : Cause) → ends cause ≡ treatment → (w : Value) (behind : Control) → k ≡ Ends w ∷ behind → NothingTreated behind
     ended_alone cause one w behind at =
-        untreated_end program sound.reached.0 sound.reached.1 whole still sound.reached.2 v w cause tasks behind (control_by (ends cause) one ∙ ap (λ (j : Control). Treats v (ends cause) tasks ∷ j) at)
+        grounds.untreated_end still v w cause tasks behind (control_by (ends cause) one ∙ ap (λ (j : Control). Treats v (ends cause) tasks ∷ j) at)
 
     -- Behind a record that is assigned to, that record alone is adjusted.
     assigned_alone : (number : ℕ) → ends (Assigning number) ≡ treatment → (first t : ℕ) (behind : Control) → k ≡ Copies first t ∷ behind → AdjustsAlone v behind
     assigned_alone number one first t behind at =
-        adjusts_alone program sound.reached.0 sound.reached.1 whole still sound.reached.2 v (Assigning number) tasks first t behind
+        grounds.adjusts_alone still v (Assigning number) tasks first t behind
         (control_by (ends (Assigning number)) one ∙ ap (λ (j : Control). Treats v (ends (Assigning number)) tasks ∷ j) at)
 
     lone_by : (by : Treatment) → by ≡ treatment → IsLoneBehind v by k
@@ -298,7 +299,7 @@ module _ (program : Program) (a : Activation Value) (rest : List (Activation Val
 
       others_by : (by : Treatment) (left : List Task) → by ≡ treatment → MayTouch by → TreatsBy known v by left k heap places operands masters → NothingBegins u k
       others_by (begins Creation done) left one may treats =
-          nothing_begins u k (untreated_start program sound.reached.0 sound.reached.1 whole still sound.reached.2 v Creation done tasks k (control_by (begins Creation done) one))
+          nothing_begins u k (grounds.untreated_start still v Creation done tasks k (control_by (begins Creation done) one))
       others_by (begins Copy done) left one may treats = absurd may
       others_by (begins (Adjustment n) done) left one may treats = absurd may
       others_by (ends (Leaving m item)) left one may treats = ended_others (Leaving m item) one k refl treats
@@ -323,7 +324,7 @@ module _ (program : Program) (a : Activation Value) (rest : List (Activation Val
       -- Its body runs, as the outermost one.
       pub touching_outermost : may_be_frugal p ≡ true → LetsNone p c.treatment c.b → is_frugal_body (thrift_of p (ends_here c.treatment)) c.b ≡ true → TouchesStorage p c.treatment c.b → typed.Typed p after → Touching program after
       touching_outermost may silent frugal stores typing =
-          let started = begins_so whole same sound lone_outermost stands (treats_in_use program whole sound (Treats v treatment tasks ∷ k) is tt) e after c touches may silent frugal stores typing in
+          let started = begins_so whole same grounds lone_outermost stands (treats_in_use program whole grounds (Treats v treatment tasks ∷ k) is tt) (treats_made program whole grounds v treatment tasks k is) e after c touches may silent frugal stores typing in
           let begun = started.0 in
           let waits : WaitsFor p.types c.o c.of c.treatment c.tasks k c.behind = subst (λ (types : List TypeForm). WaitsFor types c.o c.of c.treatment c.tasks k c.behind) (same_types a.procedure p) c.waits in
           let runs : Frugally (thrift_of p (ends_here c.treatment)) s.masters c.behind after = rw c.is (frugal_starts (thrift_of p (ends_here c.treatment)) c.number c.b frugal (Part c.o c.place) c.behind (record s { activations = a ∷ rest; heap = c.heap; mode = Running; control = k })) in

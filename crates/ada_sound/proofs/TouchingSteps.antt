@@ -26,23 +26,21 @@ use Rattle.ada_sound.specs.Agreement.{running_procedure}
 use Rattle.ada_sound.proofs.CallBegins.{runs_called}
 use Rattle.ada_sound.proofs.Callers.{Suspension, known_in, Stands}
 use Rattle.ada_sound.proofs.Calls.{calls_to, waiting}
-use Rattle.ada_sound.proofs.CollectsApart.{apart_where_reached}
 use Rattle.ada_sound.proofs.FrugalControl.{Frugal, Frugally, GoesFrugally, is_return_first}
 use Rattle.ada_sound.proofs.FrugalSteps.{TreatsNothing, frugal_goes}
-use Rattle.ada_sound.proofs.InOrder.{in_order}
 use Rattle.ada_sound.proofs.Invariant.{CallsOn, Control, IsAwaited, Known, Rooms, RunsOn, Working}
 use Rattle.ada_sound.proofs.Pauses.{inner_on}
 use Rattle.ada_sound.proofs.Ready.{at_work}
-use Rattle.ada_sound.proofs.Returns.{CrossesTo, same_types}
+use Rattle.ada_sound.proofs.Returns.{CrossesTo}
 use Rattle.ada_sound.proofs.Sees.{reaches_in, may_call}
-use Rattle.ada_sound.proofs.Starts.{Sound}
+use Rattle.ada_sound.proofs.Grounds.{Grounds, may_free}
 use Rattle.ada_sound.proofs.Steps as inside
 use Rattle.ada_sound.proofs.Touching.{GoesBy, Touching}
 use Rattle.ada_sound.proofs.TouchingGoes.{GoesTouching, behind_it, operands_deeper, stays_next, still_on, touching_on, with_parts}
 pub use Rattle.ada_sound.proofs.TouchingGoes.{InTouching, Went, GoesTouching}
-use Rattle.ada_sound.proofs.TouchingLeaves.{touching_leaves}
+use Rattle.ada_sound.proofs.TouchingLeaves.{leaves_in_order, touching_leaves, touching_stays}
 use Rattle.ada_sound.proofs.TouchingReturns.{body_ends}
-use Rattle.ada_sound.proofs.TouchingStands.{listed_alone, may_free, none_is_under, touching_frees, touching_stands}
+use Rattle.ada_sound.proofs.TouchingStands.{listed_alone, none_is_under, touching_frees, touching_stands}
 use Rattle.ada_sound.proofs.TouchingTreats.{treats_step}
 use Rattle.ada_sound.proofs.TracksWell.{copies_at, allocates_at, called_apart}
 use Rattle.ada_sound.proofs.Waiting.{SameBody}
@@ -59,7 +57,7 @@ runs_unawaited known (frame.Awaits v by done of part tasks ∷ k) rooms holds ru
 runs_unawaited known (frame.Confines ∷ k) rooms holds runs awaited = runs
 runs_unawaited known (f ∷ k) rooms holds runs awaited = awaited
 
-module _ (program : Program) (s : State) (f : Touching program s) (sound : Sound program s) (not_end : is_return_first s.control ≡ false) where
+module _ (program : Program) (s : State) (f : Touching program s) (grounds : Grounds program s) (not_end : is_return_first s.control ≡ false) where
   abbrev p : ProgramForm
   p = program_form program
 
@@ -72,11 +70,11 @@ module _ (program : Program) (s : State) (f : Touching program s) (sound : Sound
       let w = f.within in
       let by = goes_by_one p w.outermost.treatment w.thrift w.goes_by in
       subst (λ (thrift : Thrift). GoesFrugally thrift w.outermost.lower w.outermost.behind coming) (sym by.1)
-      (frugal_goes program sound.frees_own by.0 w.outermost.lower w.outermost.behind s
+      (frugal_goes program grounds.frees_own by.0 w.outermost.lower w.outermost.behind s
       (subst (λ (thrift : Thrift). Frugally thrift w.outermost.lower w.outermost.behind s) by.1 w.frugal)
-      (λ actuals references k is. absurd (let end = not_end in cc (rw is at end))) plain sound.typed.inside
-      (may_free program s) (touching_frees program s sound f.suspensions f.ready)
-      (λ o x found listed may ends. listed_alone program s sound f.suspensions w f.stands o x found listed may))
+      (λ actuals references k is. absurd (let end = not_end in cc (rw is at end))) plain grounds.typed.inside
+      (may_free program s) (touching_frees program s grounds f.suspensions f.ready)
+      (λ o x found listed may ends. listed_alone program s grounds f.suspensions w f.stands o x found listed may))
 
   -- The end of no body is next.
   no_end : (k : Control) → IsAwaited k → s.control ≡ Returns [] [] ∷ k → ⊥
@@ -88,17 +86,18 @@ module _ (program : Program) (s : State) (f : Touching program s) (sound : Sound
       let procedure = running_procedure s in
       let known = known_in program procedure f.suspensions in
       stays_next program s f coming same
-      (inside.fine known (copies_at program procedure f.suspensions sound.well sound.obeys.0) (may_free program s) program.types.items (reaches_in program procedure f.suspensions) (body_forms program) (may_call program procedure f.suspensions sound.well) s
-      (allocates_at program procedure f.suspensions s sound.well sound.obeys.0 sound.apart) none sound.typed.inside (own_bodies p sound.frees_own procedure) (collect_two p s sound.nested)
-      (touching_stands program s sound f.suspensions f.within f.stands known.program.types) (none_is_under program s sound f.suspensions f.within f.stands)
-      (touching_frees program s sound f.suspensions f.ready)
+      (inside.fine known (copies_at program procedure f.suspensions grounds.well grounds.obeys.0) (may_free program s) program.types.items (reaches_in program procedure f.suspensions) (body_forms program) (may_call program procedure f.suspensions grounds.well) s
+      (allocates_at program procedure f.suspensions s grounds.well grounds.obeys.0 grounds.apart) none grounds.typed.inside (own_bodies p grounds.frees_own procedure) (collect_two p s grounds.nested)
+      (touching_stands program s grounds f.suspensions f.within f.stands known.program.types) (none_is_under program s grounds f.suspensions f.within f.stands)
+      (touching_frees program s grounds f.suspensions f.ready)
       (λ left behind runs at. (
       let leaves = touching_leaves program s f runs left behind at in
-      (leaves.0, leaves.1, in_order program sound.well s sound.nested (apart_where_reached program s sound.reached) known.program.types (same_types procedure p) s.masters refl)
+      (leaves.0, leaves.1, leaves_in_order program s f left behind at)
       ))
+      (touching_stays program s f)
       f.ready)
       (goes_on plain)
-      (still_on program s f sound no_end)
+      (still_on program s f grounds no_end)
 
 -- Whatever keeps activations keeps what runs and what waits.
 same_by : (s mid after : State) → mid.activations ≡ s.activations → Keeps mid after → SameBody s after
@@ -141,9 +140,9 @@ module _ (program : Program) (a : Activation Value) (k : Control) (s : State) (r
   }
 
   -- A call: its body begins.
-  call_begins : (number : ℕ) (b : BodyForm) (given : List ActualForm) → Sound program (whole Running (Calls number b given)) → Touching program (whole Running (Calls number b given)) → GoesTouching program (whole Running (Calls number b given)) (mode_next named tds bodies Running (whole Running (Calls number b given)))
+  call_begins : (number : ℕ) (b : BodyForm) (given : List ActualForm) → Grounds program (whole Running (Calls number b given)) → Touching program (whole Running (Calls number b given)) → GoesTouching program (whole Running (Calls number b given)) (mode_next named tds bodies Running (whole Running (Calls number b given)))
   unfolding next
-  call_begins number b given sound f =
+  call_begins number b given grounds f =
       let before = whole Running (Calls number b given) in
       let w = f.within in
       let ready = f.ready.1 in
@@ -151,56 +150,56 @@ module _ (program : Program) (a : Activation Value) (k : Control) (s : State) (r
       let caller = known_in program a.procedure gs in
       let works : Working caller s.heap a.places s.masters (CallsOn caller number b given k) = at_work ready ready.rest.0 in
       let stands = restand Running (Calls number b given) gs f.stands in
-      let still = still_on program before f sound (λ j awaited last. cc last) in
+      let still = still_on program before f grounds (λ j awaited last. cc last) in
       let waits = waiting program number b given k a rest gs s works in
-      let c = calls_to program number b given k a rest gs s works ready.rest.1 (inside.heap_typed (seen_in a.procedure (program_form program)) before sound.typed.inside).1 stands
-      (runs_called program number b given k a gs s sound.well sound.obeys (called_apart program before number b given k refl sound.obeys.0 sound.apart) works stands.body ready.rest.1 rest stands) in
+      let c = calls_to program number b given k a rest gs s works ready.rest.1 (inside.heap_typed (seen_in a.procedure (program_form program)) before grounds.typed.inside).1 stands
+      (runs_called program number b given k a gs s grounds.well grounds.obeys (called_apart program before number b given k refl grounds.obeys.0 grounds.apart) works stands.body ready.rest.1 rest stands) in
       inl (touching_on program before f (waits ∷ w.inner) Quiet _ (
         inl (runs_unawaited caller k works.rooms _ works.rest.1, refl),
         inner_on program before w.thrift w.outermost.behind w.outermost.lower _ Quiet a.procedure 0 (suc 0) (Some w.outermost.number) (behind_it program before f) w.inner w.within c.stepped.alters
             (λ n. sym (operands_deeper n rest a _)) still.1,
       )
       refl
-      (goes_on program before f sound refl (λ runs v treatment tasks j is. cc is))
+      (goes_on program before f grounds refl (λ runs v treatment tasks j is. cc is))
       still.0
       (subst (λ (all : List Suspension). CrossesTo program (waits ∷ all) s.heap Quiet _) w.are c))
 
   -- A frame at which no body begins and none ends.
-  frame_on : (g : Frame Value) → crosses g ≡ false → is_treatment g ≡ false → is_return g ≡ false → (sound : Sound program (whole Running g)) (f : Touching program (whole Running g)) → GoesTouching program (whole Running g) (frame_next named tds bodies g (with_parts Running k (a ∷ rest) s))
+  frame_on : (g : Frame Value) → crosses g ≡ false → is_treatment g ≡ false → is_return g ≡ false → (grounds : Grounds program (whole Running g)) (f : Touching program (whole Running g)) → GoesTouching program (whole Running g) (frame_next named tds bodies g (with_parts Running k (a ∷ rest) s))
   unfolding next
-  frame_on g none plain not_end sound f =
-      inner_step program (whole Running g) f sound not_end (rw (none, plain) refl) (λ runs. treats_none g k plain)
+  frame_on g none plain not_end grounds f =
+      inner_step program (whole Running g) f grounds not_end (rw (none, plain) refl) (λ runs. treats_none g k plain)
       (each_same (whole Running g) (with_parts Running k (a ∷ rest) s) _ refl (step_keeps tds bodies g (with_parts Running k (a ∷ rest) s) (λ treats. absurd (cc (plain, treats))) none))
 
   -- So is one that a jump passes.
-  passed_on : (mode : Mode) → (mode ≡ Running → ⊥) → (g : Frame Value) → inside.crosses mode (g ∷ k) ≡ false → is_return g ≡ false → (n : Next) → mode_next named tds bodies mode (whole mode g) ≡ n → n ≡ pass_next named (is_master g) (landing mode g) mode (with_parts mode k (a ∷ rest) s) → (sound : Sound program (whole mode g)) (f : Touching program (whole mode g)) → GoesTouching program (whole mode g) n
+  passed_on : (mode : Mode) → (mode ≡ Running → ⊥) → (g : Frame Value) → inside.crosses mode (g ∷ k) ≡ false → is_return g ≡ false → (n : Next) → mode_next named tds bodies mode (whole mode g) ≡ n → n ≡ pass_next named (is_master g) (landing mode g) mode (with_parts mode k (a ∷ rest) s) → (grounds : Grounds program (whole mode g)) (f : Touching program (whole mode g)) → GoesTouching program (whole mode g) n
   unfolding next
-  passed_on mode jumps g none not_end n is passes sound f =
+  passed_on mode jumps g none not_end n is passes grounds f =
       subst (GoesTouching program (whole mode g)) is
-      (inner_step program (whole mode g) f sound not_end none (λ runs. absurd (jumps runs))
+      (inner_step program (whole mode g) f grounds not_end none (λ runs. absurd (jumps runs))
       (subst (Each (SameBody (whole mode g))) (sym is) (each_same (whole mode g) (with_parts mode k (a ∷ rest) s) n refl (subst (λ (coming : Next). Each (Keeps (with_parts mode k (a ∷ rest) s)) coming) (sym passes) (pass_keeps (is_master g) (landing mode g) mode (with_parts mode k (a ∷ rest) s))))))
 
-  running_step : (g : Frame Value) → (sound : Sound program (whole Running g)) (f : Touching program (whole Running g)) → GoesTouching program (whole Running g) (mode_next named tds bodies Running (whole Running g))
+  running_step : (g : Frame Value) → (grounds : Grounds program (whole Running g)) (f : Touching program (whole Running g)) → GoesTouching program (whole Running g) (mode_next named tds bodies Running (whole Running g))
   unfolding next
-  running_step (Calls number b given) sound f = call_begins number b given sound f
-  running_step (Returns actuals references) sound f = body_ends program a k s Running actuals references rest sound f f.ready.1 refl
-  running_step (Treats v treatment tasks) sound f = treats_step program a rest k s v treatment tasks sound f
-  running_step g sound f = frame_on g refl refl refl sound f
+  running_step (Calls number b given) grounds f = call_begins number b given grounds f
+  running_step (Returns actuals references) grounds f = body_ends program a k s Running actuals references rest grounds f f.ready.1 refl
+  running_step (Treats v treatment tasks) grounds f = treats_step program a rest k s v treatment tasks grounds f
+  running_step g grounds f = frame_on g refl refl refl grounds f
 
-  raising_step : (e : Exception) (g : Frame Value) → (sound : Sound program (whole (Raising e) g)) (f : Touching program (whole (Raising e) g)) → GoesTouching program (whole (Raising e) g) (jump_next named (Raising e) (g ∷ k) (whole (Raising e) g))
+  raising_step : (e : Exception) (g : Frame Value) → (grounds : Grounds program (whole (Raising e) g)) (f : Touching program (whole (Raising e) g)) → GoesTouching program (whole (Raising e) g) (jump_next named (Raising e) (g ∷ k) (whole (Raising e) g))
   unfolding next
-  raising_step e (Returns actuals references) sound f = body_ends program a k s (Raising e) actuals references rest sound f f.ready.1 refl
-  raising_step e g sound f = passed_on (Raising e) (λ runs. cc runs) g refl refl _ refl refl sound f
+  raising_step e (Returns actuals references) grounds f = body_ends program a k s (Raising e) actuals references rest grounds f f.ready.1 refl
+  raising_step e g grounds f = passed_on (Raising e) (λ runs. cc runs) g refl refl _ refl refl grounds f
 
-  exiting_step : (g : Frame Value) → (sound : Sound program (whole Exiting g)) (f : Touching program (whole Exiting g)) → GoesTouching program (whole Exiting g) (jump_next named Exiting (g ∷ k) (whole Exiting g))
+  exiting_step : (g : Frame Value) → (grounds : Grounds program (whole Exiting g)) (f : Touching program (whole Exiting g)) → GoesTouching program (whole Exiting g) (jump_next named Exiting (g ∷ k) (whole Exiting g))
   unfolding next
-  exiting_step (Returns actuals references) sound f = body_ends program a k s Exiting actuals references rest sound f f.ready.1 refl
-  exiting_step g sound f = passed_on Exiting (λ runs. cc runs) g refl refl _ refl refl sound f
+  exiting_step (Returns actuals references) grounds f = body_ends program a k s Exiting actuals references rest grounds f f.ready.1 refl
+  exiting_step g grounds f = passed_on Exiting (λ runs. cc runs) g refl refl _ refl refl grounds f
 
-  returning_step : (g : Frame Value) → (sound : Sound program (whole Returning g)) (f : Touching program (whole Returning g)) → GoesTouching program (whole Returning g) (jump_next named Returning (g ∷ k) (whole Returning g))
+  returning_step : (g : Frame Value) → (grounds : Grounds program (whole Returning g)) (f : Touching program (whole Returning g)) → GoesTouching program (whole Returning g) (jump_next named Returning (g ∷ k) (whole Returning g))
   unfolding next
-  returning_step (Returns actuals references) sound f = body_ends program a k s Returning actuals references rest sound f f.ready.1 refl
-  returning_step g sound f = passed_on Returning (λ runs. cc runs) g refl refl _ refl refl sound f
+  returning_step (Returns actuals references) grounds f = body_ends program a k s Returning actuals references rest grounds f f.ready.1 refl
+  returning_step g grounds f = passed_on Returning (λ runs. cc runs) g refl refl _ refl refl grounds f
 
 -- Nothing is left to do of no body.
 nothing_left : (frugal : Thrift) (behind : Control) (mode : Mode) (ms : List Master) → Frugal frugal behind mode [] ms → ⊥
@@ -208,14 +207,14 @@ nothing_left frugal behind mode ms (inl q) = q
 nothing_left frugal behind mode ms (inr (runs, leaving)) = leaving
 
 -- Any step while such an operation is under way.
-step_by : (program : Program) (mode : Mode) (k : Control) (all : List (Activation Value)) (s : State) → (sound : Sound program (with_parts mode k all s)) (f : Touching program (with_parts mode k all s)) → GoesTouching program (with_parts mode k all s) (mode_next named program.types.items (body_forms program) mode (with_parts mode k all s))
-step_by program mode k [] s sound f = absurd f.ready.0
-step_by program mode [] (a ∷ rest) s sound f = absurd (nothing_left f.within.thrift f.within.outermost.behind mode f.within.frugal.upper f.within.frugal.frugal)
-step_by program Running (g ∷ k) (a ∷ rest) s sound f = running_step program a k s rest g sound f
-step_by program (Raising e) (g ∷ k) (a ∷ rest) s sound f = raising_step program a k s rest e g sound f
-step_by program Exiting (g ∷ k) (a ∷ rest) s sound f = exiting_step program a k s rest g sound f
-step_by program Returning (g ∷ k) (a ∷ rest) s sound f = returning_step program a k s rest g sound f
+step_by : (program : Program) (mode : Mode) (k : Control) (all : List (Activation Value)) (s : State) → (grounds : Grounds program (with_parts mode k all s)) (f : Touching program (with_parts mode k all s)) → GoesTouching program (with_parts mode k all s) (mode_next named program.types.items (body_forms program) mode (with_parts mode k all s))
+step_by program mode k [] s grounds f = absurd f.ready.0
+step_by program mode [] (a ∷ rest) s grounds f = absurd (nothing_left f.within.thrift f.within.outermost.behind mode f.within.frugal.upper f.within.frugal.frugal)
+step_by program Running (g ∷ k) (a ∷ rest) s grounds f = running_step program a k s rest g grounds f
+step_by program (Raising e) (g ∷ k) (a ∷ rest) s grounds f = raising_step program a k s rest e g grounds f
+step_by program Exiting (g ∷ k) (a ∷ rest) s grounds f = exiting_step program a k s rest g grounds f
+step_by program Returning (g ∷ k) (a ∷ rest) s grounds f = returning_step program a k s rest g grounds f
 
-pub touching_step : (program : Program) (s : State) → Sound program s → Touching program s → GoesTouching program s (next program.types.items (body_forms program) s)
+pub touching_step : (program : Program) (s : State) → Grounds program s → Touching program s → GoesTouching program s (next program.types.items (body_forms program) s)
 unfolding next
-touching_step program s sound f = step_by program s.mode s.control s.activations s sound f
+touching_step program s grounds f = step_by program s.mode s.control s.activations s grounds f

@@ -36,7 +36,7 @@ use Rattle.ada_sound.proofs.Pauses.{AllWatched, inner_on}
 use Rattle.ada_sound.proofs.QuietOperations.{AdjustsCopy, IsUsedAs, LetsNone, LetsNothingOut, MayTouch, TouchesStorage, ends_here, used_as}
 use Rattle.ada_sound.proofs.Ready.{running}
 use Rattle.ada_sound.proofs.Returns.{CrossesTo, same_types}
-use Rattle.ada_sound.proofs.Starts.{Sound}
+use Rattle.ada_sound.proofs.Grounds.{Grounds, treats_made}
 use Rattle.ada_sound.proofs.Touching.{AreInner, GoesBy, Pause, Touching, Watch, Watched, Within, is_unnamed, is_watched, origin, watches}
 use Rattle.ada_sound.proofs.TouchingBegins.{Begun}
 use Rattle.ada_sound.proofs.TouchingGoes.{GoesTouching, InTouching, Still, Went, behind_it, inner_stays, outermost, stays_on, still_on, touching_on, with_parts, within_on}
@@ -73,7 +73,7 @@ module _ (program : Program) (a : Activation Value) (rest : List (Activation Val
   abbrev whole : State
   whole = with_parts Running (Treats v treatment tasks ∷ k) (a ∷ rest) s
 
-  module _ (sound : Sound program whole) (f : Touching program whole) where
+  module _ (grounds : Grounds program whole) (f : Touching program whole) where
     abbrev p : ProgramForm
     p = program_form program
 
@@ -90,7 +90,7 @@ module _ (program : Program) (a : Activation Value) (rest : List (Activation Val
     treater = known_in program a.procedure f.suspensions
 
     abbrev Operated : Treatment → Id → ℕ → Type 0
-    Operated = IsOperated program a rest k s v treatment tasks sound f.suspensions
+    Operated = IsOperated program a rest k s v treatment tasks grounds f.suspensions
 
     abbrev BeginsHere : Event → State → Type 0
     BeginsHere e after = Begins treater a rest s program.types.items (body_forms program) k Operated e after
@@ -221,13 +221,13 @@ module _ (program : Program) (a : Activation Value) (rest : List (Activation Val
 
       module _ (is : next program.types.items (body_forms program) whole ≡ moves e after) where
         typed_after : typed.Typed p after
-        typed_after = step_typed program sound.well whole after settled e sound.typed (rw is (refl, refl))
+        typed_after = step_typed program grounds.well whole after settled e grounds.typed (rw is (refl, refl))
 
         -- One begins that touches no storage.
         begins_quiet : PlainBody p.types c.b × LetsNothingOut c.treatment c.b → Went program s.heap e after
         begins_quiet plain = inr (inl (record {
           operates =
-              begins_operation program sound.well a rest f.suspensions s k Operated e after stands_here typed_after c (inr (ends_it, within_behind)) plain;
+              begins_operation program grounds.well a rest f.suspensions s k Operated e after stands_here typed_after c (inr (ends_it, within_behind)) plain;
           alters = alters_here;
           says = told_says e s.heap after c.tells;
           covered = told_covered program e c.tells;
@@ -293,9 +293,9 @@ module _ (program : Program) (a : Activation Value) (rest : List (Activation Val
 
         begins_frugal : MayTouch c.treatment → may_be_frugal p ≡ true → LetsNone p c.treatment c.b → is_frugal_body (thrift_of p (ends_here c.treatment)) c.b ≡ true → TouchesStorage p c.treatment c.b → Went program s.heap e after
         begins_frugal touches may silent frugal stores =
-            let uses = treats_in_use program whole sound whole.control refl tt in
-            let lone = lone_freed v treatment k freed.0.0 (treated_begin program whole sound f.suspensions f.within f.stands v treatment tasks k refl) in
-            inl (begins_inside (touching_starts program a rest s k v treatment tasks f.suspensions whole refl sound lone stands_here uses e after c touches may silent frugal stores typed_after) frugal)
+            let uses = treats_in_use program whole grounds whole.control refl tt in
+            let lone = lone_freed v treatment k freed.0.0 (treated_begin program whole grounds f.suspensions f.within f.stands v treatment tasks k refl) in
+            inl (begins_inside (touching_starts program a rest s k v treatment tasks f.suspensions whole refl grounds lone stands_here uses (treats_made program whole grounds v treatment tasks k refl) e after c touches may silent frugal stores typed_after) frugal)
 
         begins_as : IsUsedAs p c.of c.number c.treatment c.b → Went program s.heap e after
         begins_as (inl plain) = begins_quiet plain
@@ -304,7 +304,7 @@ module _ (program : Program) (a : Activation Value) (rest : List (Activation Val
 
         begins_there : Went program s.heap e after
         begins_there =
-            begins_as (used_as program (treats_in_use program whole sound whole.control refl tt) sound.well c.of c.number c.b c.there c.treatment (λ copies. absurd (freed_adjusts c.treatment ends_it copies)) c.called)
+            begins_as (used_as program (treats_in_use program whole grounds whole.control refl tt) grounds.well c.of c.number c.b c.there c.treatment (λ copies. absurd (freed_adjusts c.treatment ends_it copies)) c.called)
 
     -- Whatever comes next.
     treated_went : (n : Next) → next program.types.items (body_forms program) whole ≡ n → TreatedIn treater a rest s program.types.items (body_forms program) k Operated v n
@@ -320,6 +320,6 @@ module _ (program : Program) (a : Activation Value) (rest : List (Activation Val
     pub treats_step : GoesTouching program whole (frame_next named program.types.items (body_forms program) (Treats v treatment tasks) (with_parts Running k (a ∷ rest) s))
     unfolding next
     treats_step =
-        treated_went _ refl (treated_next program a rest k s v treatment tasks sound f.suspensions (touching_stands program whole sound f.suspensions f.within f.stands treater.program.types) f.ready.1)
+        treated_went _ refl (treated_next program a rest k s v treatment tasks grounds f.suspensions (touching_stands program whole grounds f.suspensions f.within f.stands treater.program.types) f.ready.1)
         (treats_frugally thrift operation.lower operation.behind program.types.items (body_forms program) whole f.within.frugal refl v treatment tasks k refl)
-        (still_on program whole f sound (λ j awaited last. cc last))
+        (still_on program whole f grounds (λ j awaited last. cc last))

@@ -21,7 +21,7 @@ use Rattle.ada_sound.proofs.Callers.{Suspension}
 use Rattle.ada_sound.proofs.FrugalLeaves.{innermost_houses_none, leaves_own}
 use Rattle.ada_sound.proofs.Invariant.{Control}
 use Rattle.ada_sound.proofs.Pauses.{AllWatched}
-use Rattle.ada_sound.proofs.Starts.{Sound}
+use Rattle.ada_sound.proofs.Grounds.{Grounds}
 use Rattle.ada_sound.proofs.Touching.{AreInner, Watch, Watched, Within, is_unnamed, is_watched, watches}
 
 -- Two notions of masters that are the home of no objects are one.
@@ -71,20 +71,20 @@ module _
 
 module _ (program : Program) (gs : List Suspension) (s : State) (w : Within program gs s) where
   -- A master that is left is one of the bodies' own, which own variables alone.
-  takes_none : (k : Control) → s.control ≡ k → FirstTakesNone k s.masters
+  pub takes_none : (k : Control) → s.control ≡ k → FirstTakesNone k s.masters
   takes_none [] is = tt
   takes_none (Leaves left ∷ k) is =
       let inner = leaves_own w.thrift w.outermost.behind s.mode left k w.frugal.upper w.outermost.lower (rw is at w.frugal.frugal) w.frugal.own in
       rw w.frugal.masters (innermost_so (w.frugal.upper ++ w.outermost.lower) (innermost_houses_none (w.frugal.upper ++ w.outermost.lower) inner))
   takes_none (g ∷ k) is = tt
 
-  module _ (sound : Sound program s) where
+  module _ (grounds : Grounds program s) where
     -- What is watched while an operation runs is so still whatever comes next, unless its body ends.
     pub watched_stays : (watch : Option Watch) (behind : Control) → Watched program watch behind s → (s.control ≡ Returns [] [] ∷ behind → ⊥) → Each (Watched program watch behind) (next program.types.items (body_forms program) s)
     watched_stays None behind still on = each_so (Watched program None behind) (λ after. tt) (next program.types.items (body_forms program) s)
     watched_stays (Some x) behind (found, (apart, are, reaching)) on =
         each_watched program x apart are behind s.heap found (next program.types.items (body_forms program) s)
-        (stays_reaching program sound.well (watches (program_form program).types (Some x)) apart are (is_watched (Some x)) (is_unnamed (program_form program).types (Some x)) behind s sound.typed reaching (record { on = on; takes = takes_none s.control refl })).1
+        (stays_reaching program grounds.well (watches (program_form program).types (Some x)) apart are (is_watched (Some x)) (is_unnamed (program_form program).types (Some x)) behind s grounds.typed reaching (record { on = on; takes = takes_none s.control refl })).1
 
     module _ (thrift : Thrift) (back : Control) (lower : List Master) where
       -- The end of the body of none of the operations for which these activations wait is next.

@@ -33,7 +33,7 @@ use Rattle.ada_sound.proofs.Invariant.{Control, IsOfAssigned, Known, ReadyBy, Sa
 use Rattle.ada_sound.proofs.Operated.{OperatedAs, OperatedOn, operated_by}
 use Rattle.ada_sound.proofs.Ready.{running}
 use Rattle.ada_sound.proofs.Returns.{same_types}
-use Rattle.ada_sound.proofs.Starts.{Sound}
+use Rattle.ada_sound.proofs.Grounds.{Grounds}
 use Rattle.ada_sound.proofs.Treatments.{TellsNothing, TreatedIn, inside_left, treats_fine}
 use Rattle.ada_sound.specs.Callees.{IsCovered}
 use Rattle.ada_typed.proofs.Parts.{shapes_shown, shown_shapes}
@@ -59,9 +59,9 @@ told_covered program (Line line) told n = tt
 told_covered program Quiet told n = tt
 
 -- Where operations are idle, nothing is treated: so where something is, they are in use as operations that may be called.
-pub treats_in_use : (program : Program) (s : State) → Sound program s → (k : Control) → s.control ≡ k → TreatsFirst k → operations_may_be_called (program_form program) ≡ true
-treats_in_use program s sound [] is first = absurd first
-treats_in_use program s sound (Treats v treatment tasks ∷ k) is first = by (or_cases (operations_are_idle p) (operations_may_be_called p) sound.in_use)
+pub treats_in_use : (program : Program) (s : State) → Grounds program s → (k : Control) → s.control ≡ k → TreatsFirst k → operations_may_be_called (program_form program) ≡ true
+treats_in_use program s grounds [] is first = absurd first
+treats_in_use program s grounds (Treats v treatment tasks ∷ k) is first = by (or_cases (operations_are_idle p) (operations_may_be_called p) grounds.in_use)
   where
     p : ProgramForm
     p = program_form program
@@ -73,11 +73,11 @@ treats_in_use program s sound (Treats v treatment tasks ∷ k) is first = by (or
     by : (operations_are_idle p ≡ true) ⊎ (operations_may_be_called p ≡ true) → operations_may_be_called p ≡ true
     by (inr called) = called
     by (inl idle) =
-        let is_idle = sound.idle (none (makes_parts p) (operations_stand_in_order p) idle) in
+        let is_idle = grounds.idle (none (makes_parts p) (operations_stand_in_order p) idle) in
         absurd ((subst (λ (all : Control). ControlIsIdle p.types all) is is_idle.control).0)
-treats_in_use program s sound (f ∷ k) is first = absurd first
+treats_in_use program s grounds (f ∷ k) is first = absurd first
 
-module _ (program : Program) (a : Activation Value) (rest : List (Activation Value)) (k : Control) (s : State) (v : Value) (treatment : Treatment) (tasks : List Task) (sound : Sound program (record s { mode = Running; control = Treats v treatment tasks ∷ k; activations = a ∷ rest })) (gs : List Suspension) where
+module _ (program : Program) (a : Activation Value) (rest : List (Activation Value)) (k : Control) (s : State) (v : Value) (treatment : Treatment) (tasks : List Task) (grounds : Grounds program (record s { mode = Running; control = Treats v treatment tasks ∷ k; activations = a ∷ rest })) (gs : List Suspension) where
   abbrev whole : State
   whole = record s { mode = Running; control = Treats v treatment tasks ∷ k; activations = a ∷ rest }
 
@@ -92,7 +92,7 @@ module _ (program : Program) (a : Activation Value) (rest : List (Activation Val
   operated assigned of part next object named = (
     refl,
     subst (λ (types : List TypeForm). OperatedOn types (cells_of s.heap) object of) (same_types a.procedure (program_form program))
-        (operated_by (seen_in a.procedure (program_form program)) whole v treatment tasks k refl refl sound.typed.inside of part next object named),
+        (operated_by (seen_in a.procedure (program_form program)) whole v treatment tasks k refl refl grounds.typed.inside of part next object named),
     subst (λ (types : List TypeForm). IsOfAssigned types treatment (performs of 0 ∷ []) k) (same_types a.procedure (program_form program))
         (inside_left treater.program.types treatment tasks (performs of 0 ∷ []) k assigned (λ t inside. (next_inside treater.program.types t of part tasks inside next, tt))),
     named,
@@ -104,8 +104,8 @@ module _ (program : Program) (a : Activation Value) (rest : List (Activation Val
   treated_next once ready =
       treats_fine treater a rest s program.types.items (body_forms program) k IsOperated v
       (subst (λ (types : List TypeForm). shown_shapes types ≡ shapes_of program.types.items) (sym (same_types a.procedure (program_form program))) (shapes_shown program.types.items (program_form program).types refl))
-      (λ left i at to. adjusts_picked program sound.well treater (same_types a.procedure (program_form program)) v left i k s.heap a.places s.masters at to)
-      (λ of part left to owns. next_overrides program sound.well a.procedure gs v k s.heap a.places s.masters of part left to owns)
+      (λ left i at to. adjusts_picked program grounds.well treater (same_types a.procedure (program_form program)) v left i k s.heap a.places s.masters at to)
+      (λ of part left to owns. next_overrides program grounds.well a.procedure gs v k s.heap a.places s.masters of part left to owns)
       (λ t direction left i inside. subst (λ (types : List TypeForm). TasksInside types t (picked_task (shapes_of program.types.items) direction left i)) (sym (same_types a.procedure (program_form program)))
       (picked_inside program t direction left i (subst (λ (types : List TypeForm). TasksInside types t left) (same_types a.procedure (program_form program)) inside)))
       (task_next tasks) treatment tasks refl (operated ready.1) once ready.0 ready.1

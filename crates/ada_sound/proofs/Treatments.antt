@@ -134,7 +134,8 @@ module _ (change : PartState → PartState) (part : ℕ) where
         behind_set known o x (treated change part x) heap found refl (Some o) (Some o) (λ w holder other. (other, other))
             (λ objects held at spared holds f aside. (treated_fit change part o x at f, (same_unnamed objects o x at o aside.0 (treated change part x) refl (λ c. refl), aside.1)))
             (λ spared held holds f. gone_still heap o x (treated change part x) found (λ objects. Fit known.program.types known.program.variables (outers known) spared objects held holds) (gone_fit heap o x (treated change part x) found) f)
-            (under_set heap o x (treated change part x) found refl) (frees_set known heap o x (treated change part x) found refl) (λ w d holder other. named_set known heap o x (treated change part x) found refl w d other) cause x.cell.home.item places ms k r.2,
+            (under_set heap o x (treated change part x) found refl) (frees_set known heap o x (treated change part x) found refl) (λ w d holder other. named_set known heap o x (treated change part x) found refl w d other) cause x.cell.home.item places ms k
+            (λ m item leaves going. ((λ spared holds f. treated_fit change part o x found f), λ unreferred. unreferred)) r.2,
       )
       then_set places (f ∷ k) r = absurd r
 

@@ -114,7 +114,8 @@ module _ (c : ℕ) (v : Value) (nameless : (p : Id) → v ≡ Names p → ⊥) w
         behind_set known o x (wrote x) heap found refl (Some o) (Some o) (λ w holder other. (other, other))
             (λ objects held at spared holds f aside. (wrote_fit known objects held o x at spared holds f, (wrote_unnamed objects o x at o aside.0 c v nameless, aside.1)))
             (λ spared held holds f. gone_still heap o x (wrote x) found (λ objects. Fit known.program.types known.program.variables (outers known) spared objects held holds) (gone_fit heap o x (wrote x) found) f)
-            (under_set heap o x (wrote x) found refl) (frees_set known heap o x (wrote x) found refl) (λ w d holder other. named_set known heap o x (wrote x) found refl w d other) cause x.cell.home.item places ms k r.2,
+            (under_set heap o x (wrote x) found refl) (frees_set known heap o x (wrote x) found refl) (λ w d holder other. named_set known heap o x (wrote x) found refl w d other) cause x.cell.home.item places ms k
+            (λ m item leaves going. ((λ spared holds f. wrote_fit known heap places o x found spared holds f), λ unreferred. unreferred)) r.2,
       )
       then_set places (f ∷ k) r = absurd r
 

@@ -1,6 +1,6 @@
 -- What holds in every run of a program, whatever its input and whatever is granted and picked.
 
-use Rattle.std.specs.Prelude.{◌≡◌, ◌↔◌, ℕ, suc, ℤ, Bool, true, false, not, ◌&&◌, List, [], ◌∷◌, Option, Some, None, All, AllPairs}
+use Rattle.std.specs.Prelude.{◌≡◌, ◌↔◌, ◌⊎◌, ℕ, suc, ℤ, Bool, true, false, not, ◌&&◌, List, [], ◌∷◌, Option, Some, None, All, AllPairs}
 use Rattle.std.specs.List.{filter, list_all}
 use Rattle.ada_program.specs.declared.program.ComponentKind.{ComponentKind}
 use Rattle.ada_program.specs.declared.program.ComponentKind.TheVariants as component
@@ -28,16 +28,18 @@ use Rattle.ada_meaning.specs.Run.{Event, Run, Halts, first_state}
 use Rattle.ada_meaning.specs.Law.{IsBackHome, items_of, Falls, MastersFall, GivesBackOf, Happened, IsHoused, HasPool, OwnTwoPools, IsDeclaredPool, IsBack, HasEnded}
 use Rattle.ada_scopes.specs.Scopes.{HoldsNames}
 use Rattle.ada_sound.specs.Agreement.{Agrees, Place, Turning, IsFlowAt, IsBehind, IsSpokenOf, running_procedure}
+use Rattle.ada_sound.specs.StandsFor.{IsBeingLeft, StandsFor}
+use Rattle.ada_quiet.specs.Idle.{makes_parts}
 use Rattle.ada_quiet.specs.InUse.{may_be_frugal, operations_are_in_use}
 
 -- Of the events of each run, and the state that it comes to.
 abbrev pub InEveryRun : Program → (List Event → State → Type 0) → Type 0
 InEveryRun program P = (input : List ℤ) (events : List Event) (last : State) → Run program (first_state program input) events last → P events last
 
--- The end of an object, and its adjustment, free no object of its own access type (7.6.1, 13.11.2), where it is of one.
+-- The end of an object neither frees objects of its own access type nor follows values of it (7.6.1, 13.11.2, 4.1), and its adjustment frees none, where it is of one.
 abbrev pub spares_own_type : Implicit → (type_number : ℕ) → TypeForm → Bool
 spares_own_type implicit t (record_of name parts components finalization) = true
-spares_own_type implicit t (access_to name designated pool) = not (implicit.end_frees t t) && not (implicit.adjust_frees t t)
+spares_own_type implicit t (access_to name designated pool) = not (implicit.end_reaches t t) && not (implicit.adjust_frees t t)
 spares_own_type implicit t (object_of record_type) = true
 
 -- So it is with each of these types, from a number on.
@@ -45,7 +47,8 @@ abbrev pub spare_own_types : Implicit → (from : ℕ) → List TypeForm → Boo
 spare_own_types implicit n [] = true
 spare_own_types implicit n (t ∷ ts) = spares_own_type implicit n t && spare_own_types implicit (suc n) ts
 
--- In a program, the end of an object, and its adjustment, free no object of its own access type: what is used then lies in a collection that was created earlier (7.6.1).
+-- In a program, the end of an object uses no object of its own access type, and its adjustment frees none: what is used then lies in a collection that was created
+-- earlier (7.6.1).
 abbrev pub SparesOwn : Program → Type 0
 SparesOwn program = spare_own_types (implicit_of (program_form program)) 0 (program_form program).types ≡ true
 
@@ -66,11 +69,12 @@ spare_holders implicit types n [] = true
 spare_holders implicit types n (t ∷ ts) =
     spare_holder implicit n (components_reached types (named_in (Some t))) && spare_holders implicit types (suc n) ts
 
--- In a program in which a Finalize may touch storage, the end of what a component names reaches no access type whose objects have such a component: so the object in
--- which it lies stays as it is.
+-- In a program in which a Finalize may touch storage, and something creates an object with controlled parts, the end of what a component names reaches no access type
+-- whose objects have such a component: so the object in which it lies stays as it is.
 abbrev pub SparesHolders : Program → Type 0
 SparesHolders program =
     may_be_frugal (program_form program) ≡ true
+    → makes_parts (program_form program) ≡ true
     → spare_holders (implicit_of (program_form program)) (program_form program).types 0 (program_form program).types ≡ true
 
 -- That is told exactly: of each component of the objects of each type.
@@ -95,9 +99,10 @@ pub record IsChecked (program : Program) : Type 0 where
   pub nests : CollectionsNest (program_form program)
   -- what is freed is freed by the instance for its own access type (13.11.2)
   pub frees_own : FreesItsOwn (program_form program)
-  -- where an object ends, or is adjusted, none of its own access type is freed (7.6.1)
+  -- where an object ends, none of its own access type is freed or followed, and where one is adjusted, none is freed (7.6.1)
   pub spares_own : SparesOwn program
-  -- where a Finalize may touch storage, the end of what a component names reaches no access type whose objects have such a component (7.6.1)
+  -- where a Finalize may touch storage, and something creates an object with controlled parts, the end of what a component names reaches no access type whose objects
+  -- have such a component (7.6.1)
   pub spares_holders : SparesHolders program
   -- the flow of values breaks no rule
   pub obeys : ObeysRules program
@@ -121,10 +126,15 @@ AgreesThere program s =
     × IsFlowAt program (running_procedure s) rest way s.control holds
     × Agrees (program_form program).types (seen_in (running_procedure s) (program_form program)).variables s holds
 
+-- So it is with a state that stands for this one, while an operation runs for a member of a collection that is being left (7.6.1).
+abbrev pub AgreesWhileLeft : Program → State → Type 0
+AgreesWhileLeft program s = (access item : ℕ) × (v : State) × IsBeingLeft s access item × StandsFor s v access item × AgreesThere program v
+
 -- So it is wherever a statement begins, in the main body or in that of a procedure; but, while an operation runs, not in that of a procedure that touches
 -- Integers and Booleans alone, nor in that of an Adjust which tracks components.
 abbrev pub AgreesWithFlow : Program → Type 0
-AgreesWithFlow program = InEveryRun program (λ events last. BeginsStatement last → IsSpokenOf program last → AgreesThere program last)
+AgreesWithFlow program =
+    InEveryRun program (λ events last. BeginsStatement last → IsSpokenOf program last → AgreesThere program last ⊎ AgreesWhileLeft program last)
 
 -- Any two events, the first before the second.
 abbrev pub InPairs : (Event → Event → Type 0) → List Event → State → Type 0
@@ -235,6 +245,16 @@ pub record NotInUse (program : Program) : Type 0 where
   pub not_in_use : operations_are_in_use (program_form program) ≡ false
   pub nests : CollectionsNest (program_form program)
   pub frees_own : FreesItsOwn (program_form program)
+  pub obeys : ObeysRules program
+
+-- The program is well formed, whatever overrides an operation of a controlled type is in use, its collections nest, it frees by the instances for what it frees,
+-- and it obeys the rules, but where an object ends, or is adjusted, others of its own access type may be used.
+pub record UsesOwn (program : Program) : Type 0 where
+  pub well_formed : IsWellFormed (program_form program)
+  pub in_use : operations_are_in_use (program_form program) ≡ true
+  pub nests : CollectionsNest (program_form program)
+  pub frees_own : FreesItsOwn (program_form program)
+  pub uses_own : SparesOwn program → ⊥
   pub obeys : ObeysRules program
 
 -- What is known of the operations of a program that are called implicitly (7.6).

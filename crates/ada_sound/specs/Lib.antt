@@ -4,6 +4,8 @@
 pub mod Untracked
 -- what flow says of a variable, what the variable then holds, and what components hold
 pub mod Agreement
+-- a state that stands for another one, while a collection is left
+pub mod StandsFor
 -- what holds in every run
 pub mod Always
 -- programs that meet the premises, and that need the rules
@@ -24,6 +26,7 @@ pub mod PoolExamples
 pub mod OperationExamples
 pub mod ReleasingExample
 pub mod UnshelvingExample
+pub mod LeavingExample
 pub mod NestingExample
 -- what the rules let through
 pub mod Owners

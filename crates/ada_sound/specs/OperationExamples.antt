@@ -952,20 +952,7 @@ abbrev pub second_node : Value
 second_node = Names (record { 0 = 1 })
 
 -- Both nodes go with their collection. The second one is taken first: its Finalize finds null in its component, and it goes. Then the first one is
--- finalized, of which the component names the node that is gone.
-abbrev pub node_events : List Event
-node_events =
-    Born first_node 0 0 0 1 Creation
-    ∷ Born second_node 0 0 0 2 Creation
-    ∷ replicate 2 (Followed first_node)
-    ++ Finalized second_node 0 0 0 2 (Leaving 0 0)
-    ∷ Followed second_node
-    ∷ Left 1
-    ∷ Back second_node 1 2 (Some 0) None (Leaving 0 0)
-    ∷ Finalized first_node 0 0 0 1 (Leaving 0 0)
-    ∷ []
-
--- The Finalize that frees what the component names takes that out of it before.
+-- finalized, of which the component names the node that is gone. The Finalize that frees what the component names takes that out of it before.
 abbrev pub freed_events : List Event
 freed_events =
     Born first_node 0 0 0 1 Creation
@@ -978,9 +965,24 @@ freed_events =
     ∷ Finalized first_node 0 0 0 1 (Leaving 0 0)
     ∷ replicate 3 (Followed first_node)
 
--- The Finalize that follows the component finds that it is not null, and comes to the node.
+-- The same, but that Next is of another type: type Cell is record Value : Integer; end record; has number 3; type Cell_Link is access Cell; has number 4, and its
+-- collection is created behind that of Link. Second : Cell_Link.
+
+-- Head := new Node; Second := new Cell; Head.Next := Second;
+abbrev pub node_and_cell : StmtsForm
+node_and_cell =
+    a_stmt (assigns (example_path 0 []) (allocates_default 1))
+    (a_stmt (assigns (example_path 1 []) (allocates_default 4))
+    (a_stmt (assigns (example_path 0 (1 ∷ [])) (value_of (example_path 1 []))) no_stmts))
+
+-- The cell goes with its collection, and then the node is finalized. The Finalize that follows the component finds that it is not null, and comes to the cell.
 abbrev pub following_events : List Event
-following_events = node_events ++ replicate 2 (Followed first_node)
+following_events =
+    Born first_node 0 0 0 1 Creation
+    ∷ replicate 2 (Followed first_node)
+    ++ Back new_cell 4 2 (Some 0) None (Leaving 0 1)
+    ∷ Finalized first_node 0 0 0 1 (Leaving 0 0)
+    ∷ replicate 2 (Followed first_node)
 
 -- Head := new Node; Head.Next := new Node; Head.Next.Next := new Node;
 abbrev pub three_nodes : StmtsForm

@@ -23,6 +23,7 @@ ghost use Rattle.ada_sound.specs.PoolExamples as pool_examples;
 ghost use Rattle.ada_sound.specs.OperationExamples as operation_examples;
 ghost use Rattle.ada_sound.specs.ReleasingExample as releasing_example;
 ghost use Rattle.ada_sound.specs.UnshelvingExample as unshelving_example;
+ghost use Rattle.ada_sound.specs.LeavingExample as leaving_example;
 ghost use Rattle.ada_sound.specs.NestingExample as nesting_example;
 
 /// The laws are not empty: a program is accepted and comes to a statement; it finishes after it has followed an access
@@ -177,6 +178,11 @@ pub fn premises_are_met()
 /// in a master of its own, the words of the freed object go back, and the component of the record object is null, which is there
 /// until the main procedure is left.
 ///
+/// And one is accepted in which a list is left whose nodes have such a Finalize (7.6.1): the newer node is taken first, and its
+/// Finalize frees its cell. So the older one names a node that has gone, where its own Finalize runs, which comes to null alone.
+/// Where three nodes are left, the newest one goes first, and then the oldest one, the one between them names what has gone
+/// while a Finalize frees: `flow_invariant` speaks of that, of a state that stands for the one that is there.
+///
 /// And one is accepted whose Finalize frees an object with such a Finalize (7.6.1, 13.11.2): a record object owns an allocated one,
 /// which owns a cell. Where the main procedure is left, Finalize of the record object moves what it owns to a variable and
 /// frees that: the Finalize of the allocated object runs inside, frees the cell, and is left; then the words of that object go
@@ -257,6 +263,19 @@ pub fn operations_are_accepted()
         × (declaration_forms program ≡ unshelving_example.unshelving_declarations)
         × (stmt_forms program ≡ unshelving_example.unshelving_stmts)
         × IsChecked program × FinishesAfter unshelving_example.unshelving_events program }
+    ensures leaves { (program : Program)
+        × (operations_of program.types.items 0 ≡ operation_examples.tidying_operations)
+        × (body_forms program ≡ leaving_example.leaving_finalize ∷ [])
+        × (declaration_forms program ≡ leaving_example.leaving_declarations)
+        × (stmt_forms program ≡ leaving_example.leaving_stmts)
+        × IsChecked program × FinishesAfter leaving_example.leaving_events program }
+    ensures names_gone { (program : Program)
+        × (operations_of program.types.items 0 ≡ operation_examples.tidying_operations)
+        × (body_forms program ≡ leaving_example.leaving_finalize ∷ [])
+        × (declaration_forms program ≡ leaving_example.leaving_declarations)
+        × (stmt_forms program ≡ leaving_example.three_stmts)
+        × IsChecked program
+        × always.InSomeRun program (λ events last. leaving_example.IsSpokenOfElsewhere program last) }
     ensures nests { (program : Program)
         × (operations_of program.types.items 0 ≡ operation_examples.tidying_operations)
         × (operations_of program.types.items 1 ≡ nesting_example.keeping_operations)
@@ -382,15 +401,16 @@ pub fn adjusted_records_are_copied()
 /// body changes a record that is gone, or a component that is gone is to get its value back. And no component that owns
 /// what it names is handed over: else it names what a procedure frees that an exception leaves, and the handler follows it.
 ///
-/// So are the other premises, but for `SparesOwn` and `SparesHolders`, of which no program here shows it. A variable relies on values of
+/// So are the other premises, but for `SparesHolders`, of which no program here shows it by itself. A variable relies on values of
 /// its own access type alone: of a program that is not well formed, one of another type names what goes with a block.
 /// And components name what lasts as long as their objects: of a program whose collections do not nest, an object
 /// outlasts what its component names. And a Free is by the instance for the access type of what it frees (13.11.2): of
 /// a program with two declared pools where it is by that for another access type, the words of an object are to go
-/// back to the pool of the other one. And operations are in use: the objects of a collection are finalized in any
-/// order (7.6.1), so a Finalize that frees what a component of its object names may find it gone, and finalizes it
-/// twice; and one that only follows the component comes to an object that is gone. The first of the two breaks S8
-/// besides, and the second one keeps `SparesOwn` and `SparesHolders`.
+/// back to the pool of the other one. And where an object ends, none of its own access type is used (`SparesOwn`): the
+/// objects of a collection are finalized in any order (7.6.1), so a Finalize that frees what a component of its object
+/// names may find it gone, and finalizes it twice; that breaks S8, and not `SparesOwn` alone, but `SparesHolders`, too.
+/// And operations are in use: a newer collection goes before an older one, so a Finalize that only follows what a
+/// component of its object names there comes to an object that is gone; it keeps `SparesOwn` and `SparesHolders`.
 pub fn rules_are_needed()
     ensures follows { (program : Program) × always.Breaks LostValue program × HaltsSomewhere (Erroneous FollowsGone) program }
     ensures ends { (program : Program) × always.Breaks LostValue program × HaltsSomewhere (Erroneous EndsTwice) program }
@@ -478,10 +498,10 @@ pub fn rules_are_needed()
     ensures frees_gone { (program : Program)
         × (operations_of program.types.items 0 ≡ operation_examples.node_operations)
         × (body_forms program ≡ operation_examples.freeing_finalize ∷ []) × (stmt_forms program ≡ operation_examples.two_nodes)
-        × always.NotInUse program × always.HaltsAfter operation_examples.freed_events (Erroneous FinalizesTwice) program }
+        × always.UsesOwn program × always.HaltsAfter operation_examples.freed_events (Erroneous FinalizesTwice) program }
     ensures follows_gone { (program : Program)
         × (operations_of program.types.items 0 ≡ operation_examples.node_operations)
-        × (body_forms program ≡ operation_examples.following_finalize ∷ []) × (stmt_forms program ≡ operation_examples.two_nodes)
+        × (body_forms program ≡ operation_examples.following_finalize ∷ []) × (stmt_forms program ≡ operation_examples.node_and_cell)
         × always.NotInUse program × always.SparesOwn program × always.SparesHolders program
         × always.HaltsAfter operation_examples.following_events (Erroneous FollowsGone) program }
 {}

@@ -9,9 +9,9 @@ use Rattle.ada_meaning.specs.declared.state.Stage.{Stage}
 use Rattle.ada_meaning.specs.declared.state.Stage.TheVariants.{Building, Existing, Gone}
 use Rattle.ada_meaning.specs.declared.state.Value.{Value}
 use Rattle.ada_meaning.specs.declared.state.Value.TheVariants.{Null, Names, Scalar, Part}
-use Rattle.ada_meaning.specs.Heap.{Cell, Found, on_null, on_gone, on_other, finds}
+use Rattle.ada_meaning.specs.Heap.{PartState, Cell, Found, on_null, on_gone, on_other, finds}
 use Rattle.ada_meaning.specs.Step.{if_whole, record_in, stored_from}
-use Rattle.ada_meaning.specs.Named.{Object, named, object_at, changed, existing, seen, look, lent_by, lent, all_alive, standing_by, standing, new_object, create, created, parted, finished, returned, filled, on_object, store}
+use Rattle.ada_meaning.specs.Named.{Object, named, object_at, changed, existing, seen, look, lent_by, lent, all_alive, standing_by, standing, new_object, create, created, parted, finished, returned, filled, with_part, treated, on_object, store}
 use Rattle.ada_untouched.specs.Alike.{ValuesAlike, UnlessGhost, ObjectsAlike, FoundAlike, HeapsAlike}
 use Rattle.ada_untouched.specs.Untouched.{hides, IsInSight}
 
@@ -146,6 +146,13 @@ filled_alike c v hiding ghost x y a = record {
   values = set_values hiding x.cell.values y.cell.values c v a.values;
   cell = ap (λ (cell : Cell Value). record cell { values = slice_set y.cell.values c v }) a.cell;
   life = unless ghost (λ e. ap (λ (z : Object). record z { cell = (filled c v y).cell }) e) a.life;
+}
+
+pub treated_alike : (change : PartState → PartState) (part : ℕ) → KeepsAlike (treated change part)
+treated_alike change part hiding ghost x y a = record {
+  values = a.values;
+  cell = ap (λ (cell : Cell Value). record cell { parts = with_part change part (slice_get cell.parts part) cell.parts }) a.cell;
+  life = unless ghost (λ e. ap (λ (z : Object). record z { cell = (treated change part y).cell }) e) a.life;
 }
 
 -- What is found.

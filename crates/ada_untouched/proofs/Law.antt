@@ -60,7 +60,7 @@ module _ (types : List TypeDefinition) (bodies : List BodyForm) (hidden : Id →
   undo_same e v done s k a clear =
       by_look hidden ghosts v (λ f g. NextAlike hidden ghosts (undo_next named e v done f s) (undo_next named e v done g (over k s)))
       refl refl refl
-      (λ cell us both. goes hidden ghosts Quiet (undone named e v done cell s) (on_object parted k v) (on_alike hidden ghosts s.heap k a parted parted_alike v))
+      (λ cell us both. goes hidden ghosts Quiet tt (undone named e v done cell s) (on_object parted k v) (on_alike hidden ghosts s.heap k a parted parted_alike v))
       s.heap k a clear
 
   broken_same : (m : Mode) (v : Value) (by : Birth) (done : List Part) (s : State) (k : List Object) → HeapsAlike hidden ghosts s.heap k → IsInSight ghosts v → NextAlike hidden ghosts (broken_off named m v by done s) (broken_off named m v by done (over k s))
@@ -72,23 +72,23 @@ module _ (types : List TypeDefinition) (bodies : List BodyForm) (hidden : Id →
   broken_same Returning v by done s k a clear = refl
 
   landed_same : (l : Landing Value) (m : Mode) → LandsClear l → Same hidden ghosts (landed named l m)
-  landed_same passes_on m clear s k a = goes hidden ghosts Quiet s k a
-  landed_same goes_behind m clear s k a = goes hidden ghosts Quiet (record s { mode = Running }) k a
+  landed_same passes_on m clear s k a = goes hidden ghosts Quiet tt s k a
+  landed_same goes_behind m clear s k a = goes hidden ghosts Quiet tt (record s { mode = Running }) k a
   landed_same (goes_in no_stmts) m clear s k a = refl
-  landed_same (goes_in (a_stmt f fs)) m clear s k a = goes hidden ghosts Quiet (record s { control = frame.Does (a_stmt f fs) ∷ s.control; mode = Running }) k a
+  landed_same (goes_in (a_stmt f fs)) m clear s k a = goes hidden ghosts Quiet tt (record s { control = frame.Does (a_stmt f fs) ∷ s.control; mode = Running }) k a
   landed_same (breaks_off v by done) m clear s k a = broken_same m v by done s k a clear
   landed_same escapes m clear s k a = refl
 
   passed_same : (master : Bool) (l : Landing Value) (m : Mode) → LandsClear l → Same hidden ghosts (pass_next named master l m)
-  passed_same true l m clear s k a = goes hidden ghosts Quiet (record s { control = frame.Leaves m ∷ s.control; mode = Running }) k a
+  passed_same true l m clear s k a = goes hidden ghosts Quiet tt (record s { control = frame.Leaves m ∷ s.control; mode = Running }) k a
   passed_same false l m clear s k a = landed_same l m clear s k a
 
   -- It comes to the end of a call's body (6.4.1, 6.5).
   ended_same : (m : Mode) (actuals : List ActualForm) (references : List Value) → Same hidden ghosts (λ s. landed named (landing m (frame.Returns actuals references)) m (unwound named m (frame.Returns actuals references) s))
-  ended_same Running actuals references s k a = goes hidden ghosts Quiet (resumed s) k a
-  ended_same (Raising e) actuals references s k a = goes hidden ghosts Quiet (resumed s) k a
-  ended_same Exiting actuals references s k a = goes hidden ghosts Quiet (resumed s) k a
-  ended_same Returning actuals references s k a = goes hidden ghosts Quiet (record (returned named actuals references s) { mode = Running }) k a
+  ended_same Running actuals references s k a = goes hidden ghosts Quiet tt (resumed s) k a
+  ended_same (Raising e) actuals references s k a = goes hidden ghosts Quiet tt (resumed s) k a
+  ended_same Exiting actuals references s k a = goes hidden ghosts Quiet tt (resumed s) k a
+  ended_same Returning actuals references s k a = goes hidden ghosts Quiet tt (record (returned named actuals references s) { mode = Running }) k a
 
   -- It comes to a frame.
   frame_passed : (m : Mode) (f : Frame Value) (s : State) (k : List Object) → HeapsAlike hidden ghosts s.heap k → LandsClear (landing m f) → NextAlike hidden ghosts (pass_next named (is_master f) (landing m f) m (unwound named m f s)) (pass_next named (is_master f) (landing m f) m (unwound named m f (over k s)))

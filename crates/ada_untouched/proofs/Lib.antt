@@ -4,6 +4,8 @@
 pub mod Heaps
 -- what forms do
 pub mod Forms
+-- what is done as an object is treated
+pub mod Treats
 -- statements, declarations, allocators and frees; what a frame does
 pub mod Frames
 -- a jump passes frames; the law

@@ -4,6 +4,8 @@ use Rattle.std.specs.Prelude.{◌≡◌, ℕ, Bool, true, false, List, length, O
 use Rattle.std.specs.List.{slice_get}
 use Rattle.ada_meaning.specs.declared.state.Id.{Id}
 use Rattle.ada_meaning.specs.declared.state.Value.{Value}
+use Rattle.ada_meaning.specs.declared.state.Value.TheVariants.{Null, Names, Scalar, Part}
+use Rattle.ada_meaning.specs.Event.{Event, Back, Followed}
 use Rattle.ada_meaning.specs.Step.{halts, moves, tells, asks, picks}
 use Rattle.ada_meaning.specs.Named.{Object, State, Next, object_at}
 
@@ -41,11 +43,25 @@ pub record StatesAlike (hidden : Id → (component : ℕ) → Bool) (ghosts : Id
   pub rest : t ≡ record s { heap = t.heap }
   pub heaps : HeapsAlike hidden ghosts s.heap t.heap
 
--- What comes next of both: the same, but that the states are alike, whatever is answered.
+-- Does a value name a ghost?
+abbrev pub is_ghost : (ghosts : Id → Bool) → Value → Bool
+is_ghost ghosts Null = false
+is_ghost ghosts (Names o) = ghosts o
+is_ghost ghosts (Scalar v) = false
+is_ghost ghosts (Part o place) = false
+
+-- An event follows no ghost (4.1.3), and gives back the words of none (13.11.2).
+abbrev pub SparesGhosts : (ghosts : Id → Bool) → Event Value → Type 0
+SparesGhosts ghosts (Followed v) = is_ghost ghosts v ≡ false
+SparesGhosts ghosts (Back v access number pool subpool cause) = is_ghost ghosts v ≡ false
+SparesGhosts ghosts e = Unit {0}
+
+-- What comes next of both: the same, but that the states are alike, whatever is answered. Where an event comes, it spares the ghosts.
 abbrev pub NextAlike : (hidden : Id → (component : ℕ) → Bool) → (ghosts : Id → Bool) → Next → Next → Type 0
 NextAlike hidden ghosts (halts h) n = n ≡ halts h
-NextAlike hidden ghosts (moves event s) n = (t : State) × (n ≡ moves event t) × StatesAlike hidden ghosts s t
-NextAlike hidden ghosts (tells request event s) n = (t : State) × (n ≡ tells request event t) × StatesAlike hidden ghosts s t
+NextAlike hidden ghosts (moves event s) n = (t : State) × (n ≡ moves event t) × StatesAlike hidden ghosts s t × SparesGhosts ghosts event
+NextAlike hidden ghosts (tells request event s) n =
+    (t : State) × (n ≡ tells request event t) × StatesAlike hidden ghosts s t × SparesGhosts ghosts event
 NextAlike hidden ghosts (asks request answered) n =
     (answers : Bool → State) × (n ≡ asks request answers) × ((granted : Bool) → StatesAlike hidden ghosts (answered granted) (answers granted))
 NextAlike hidden ghosts (picks count taken) n =

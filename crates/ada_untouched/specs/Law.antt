@@ -12,7 +12,7 @@ use Rattle.ada_untouched.specs.Alike.{StatesAlike, NextAlike}
 use Rattle.ada_untouched.specs.Untouched.{Untouched}
 use Rattle.ada_untouched.specs.Unwritten.{Unwritten}
 
--- States that are alike do alike next, where the step looks at nothing in which they may differ.
+-- States that are alike do alike next, where the step looks at nothing in which they may differ; and its event spares the ghosts.
 abbrev pub UntouchedPartsDoNotMatter : Type 0
 UntouchedPartsDoNotMatter =
     (types : List TypeDefinition) (bodies : List BodyForm) (hidden : Id → (component : ℕ) → Bool) (ghosts : Id → Bool) (s t : State)

@@ -1,6 +1,6 @@
 -- What a step does not touch does not matter to it, and what it does not write stays.
 
--- states that are alike but for some components and some objects
+-- states that are alike but for some components and some objects; events that spare these objects
 pub mod Alike
 -- what a step looks at
 pub mod Untouched

@@ -14,13 +14,7 @@ use Rattle.ada_meaning.specs.Heap.{Cell, Found, on_null, on_gone, on_other, find
 use Rattle.ada_meaning.specs.State.{Item, Master, type_housed}
 use Rattle.ada_meaning.specs.Step.{held, newest, selected, before_last}
 use Rattle.ada_meaning.specs.Named.{State, named, look, whole, inside}
-
--- Does a value name a ghost?
-abbrev pub is_ghost : (ghosts : Id → Bool) → Value → Bool
-is_ghost ghosts Null = false
-is_ghost ghosts (Names o) = ghosts o
-is_ghost ghosts (Scalar v) = false
-is_ghost ghosts (Part o place) = false
+pub use Rattle.ada_untouched.specs.Alike.{is_ghost}
 
 -- Which components are hidden of the object that a value names.
 abbrev pub hides : (hidden : Id → (component : ℕ) → Bool) → Value → (component : ℕ) → Bool
@@ -126,8 +120,9 @@ module _ (hidden : Id → (component : ℕ) → Bool) (ghosts : Id → Bool) (s 
   StatementsAreOpen no_stmts = Unit {0}
   StatementsAreOpen (a_stmt f fs) = StatementIsOpen f
 
-  -- What a frame looks at, where no jump is on its way. Where a record is copied from an object, that hides no component. None treats controlled parts (7.6), or
-  -- takes an object out of its collection where a master is left (7.6.1).
+  -- What a frame looks at, where no jump is on its way. Where a record is copied from an object, that hides no component. An object is treated whose components
+  -- may be hidden (7.6, 7.6.1). None waits for an operation that was to begin a part (7.6), or takes an object out of its collection where a master is left
+  -- (7.6.1).
   abbrev pub FrameIsOpen : Frame Value → Type 0
   FrameIsOpen (frame.Does fs) = StatementsAreOpen fs
   FrameIsOpen (frame.Leaves mode) = InnermostHousesNone s.masters
@@ -146,7 +141,7 @@ module _ (hidden : Id → (component : ℕ) → Bool) (ghosts : Id → Bool) (s 
   FrameIsOpen (frame.StoresRecord v first count) = IsInSight ghosts v
   FrameIsOpen (frame.Receives c) = IsInSight ghosts (newest named s)
   FrameIsOpen (frame.FreesIn access c) = IsReadable hidden ghosts (newest named s) c × MayBeFreed ghosts c (look s.heap (newest named s))
-  FrameIsOpen (frame.Treats v treatment tasks) = ⊥
+  FrameIsOpen (frame.Treats v treatment tasks) = IsInSight ghosts v
   FrameIsOpen (frame.Awaits v by done of part tasks) = ⊥
   FrameIsOpen (frame.Ends v) = IsInSight ghosts v
   FrameIsOpen (frame.GivesBack v cause pool) = IsInSight ghosts v

@@ -5,7 +5,8 @@ ghost use Rattle.ada_untouched.specs.Example.{PremisesAreMet, PremiseIsNeeded, W
 ghost use Rattle.ada_untouched.specs.Law.{UntouchedPartsDoNotMatter, HiddenPartsStay};
 
 /// Where a step looks neither at a hidden component nor at a ghost, a state that is alike but for these takes the same step: the
-/// same is asked of storage and told to it, the same is shown, and the states behind it are alike again, or both end so.
+/// same is asked of storage and told to it, the same is shown, and the states behind it are alike again, or both end so. No ghost is
+/// followed, and the words of none go back.
 pub fn untouched_parts_do_not_matter()
     ensures { UntouchedPartsDoNotMatter }
 {}

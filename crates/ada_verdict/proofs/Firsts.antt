@@ -21,6 +21,7 @@ use Rattle.ada_operations.specs.declared.rule.OperationRule.{OperationRule}
 use Rattle.ada_operations.specs.declared.rule.OperationRule.TheVariants.{FinalizeOrder, MayPropagate, FinalizeAllocates}
 use Rattle.ada_operations.specs.Operations.{HasFault, IsFirstFault as IsFirstOf, rule_number}
 use Rattle.ada_quiet.specs.First.{HasUnused, IsFirst as IsFirstPlace}
+use Rattle.ada_quiet.specs.Idle.{makes_parts}
 use Rattle.ada_quiet.specs.InUse.{may_be_frugal}
 use Rattle.ada_resolve.specs.declared.fault.NameFault.{NameFault}
 use Rattle.ada_resolve.specs.declared.fault.NameFault.TheVariants as names
@@ -179,7 +180,7 @@ unused_obeys p unused.NoMemory first = first
 
 -- In a program of this form the end of what a component names reaches no object of a type in which such a component lies.
 abbrev SparesHoldersIn : ProgramForm → Type 0
-SparesHoldersIn p = may_be_frugal p ≡ true → spare_holders (implicit_of p) p.types 0 p.types ≡ true
+SparesHoldersIn p = may_be_frugal p ≡ true → makes_parts p ≡ true → spare_holders (implicit_of p) p.types 0 p.types ≡ true
 
 -- Programs that are alike spare alike.
 same_spared : (p q : Program) → program_form p ≡ program_form q → SparesHolders p → SparesHolders q

@@ -1,4 +1,4 @@
--- An accepted program frees, where an object ends or is adjusted, none of the same access type.
+-- An accepted program uses, where an object ends, none of the same access type, and frees none where one is adjusted.
 use Rattle.std.proofs.Common.{◌≡◌, ℕ, ◌+◌, suc, Bool, true, false, not, ◌&&◌, List, [], ◌∷◌, refl, ap, ◌∙◌, arith}
 use Rattle.std.specs.List.{slice_get}
 use Rattle.std.specs.Prelude.{Option, Some, None, is_some}
@@ -10,9 +10,9 @@ use Rattle.ada_program.specs.ProgramForm.{TypeForm, record_of, access_to, object
 use Rattle.ada_program.specs.WellFormed.{is_access, designated_in}
 use Rattle.ada_sound.specs.Always.{spares_own_type, spare_own_types}
 
--- An object of the access type of a number spares that type, where it ends or is adjusted.
+-- An object of the access type of a number spares that type, where it ends, and where it is adjusted.
 abbrev Spares : Implicit → ℕ → Type 0
-Spares implicit t = (implicit.end_frees t t ≡ false) × (implicit.adjust_frees t t ≡ false)
+Spares implicit t = (implicit.end_reaches t t ≡ false) × (implicit.adjust_frees t t ≡ false)
 
 type_spares : (implicit : Implicit) (t : ℕ) (form : TypeForm) → (is_some (designated_in (Some form)) ≡ true → Spares implicit t) → spares_own_type implicit t form ≡ true
 type_spares implicit t (record_of name parts components finalization) h = refl

@@ -40,8 +40,8 @@ abbrev pub OperationsObey : Program → Type 0
 OperationsObey program = IsFirstOf (program_form program) None
 
 -- Each operation is in use: Initialize is plain or, where it may be, frugal, Adjust is quiet, or, of a type that declares a component of an access type, simple
--- and silent, where it may track, and Finalize is quiet or, where it may be, frugal and silent. And where one may touch storage, the end of what a
--- component names reaches no access type whose objects have such a component.
+-- and silent, where it may track, and Finalize is quiet or, where it may be, frugal and silent. And where one may touch storage, and something creates an
+-- object with controlled parts, the end of what a component names reaches no access type whose objects have such a component.
 abbrev pub OperationsAreInUse : Program → Type 0
 OperationsAreInUse program = IsFirstNotInUse (program_form program) None × SparesHolders program
 

@@ -25,7 +25,7 @@ use ada_operations::laws::ends_spare_their_own;
 use ada_operations::operations;
 use ada_parser::parse;
 use ada_program::Program;
-use ada_quiet::{first_unused, may_be_frugal};
+use ada_quiet::{first_unused, makes_parts, may_be_frugal};
 use ada_resolve::resolve;
 use ada_sound::laws::rules_imply_safety;
 use ada_tree::unit::Unit;
@@ -134,7 +134,8 @@ fn obey(alloc: Global, program: &Program, implicit: &Implicit) -> Result<(), Flo
 
 /// Each operation is in use: Initialize is plain or, where it may be, frugal, Adjust is quiet, or, of a type that declares a component
 /// of an access type, simple and silent, where it may track, and Finalize is quiet or, where it may be, frugal and silent. And where one
-/// may touch storage, the end of what a component names reaches no access type whose objects have such a component.
+/// may touch storage, and something creates an object with controlled parts, the end of what a component names reaches no access type
+/// whose objects have such a component.
 ///
 /// # Errors
 /// The first one that is not, or that the end of what a component names may reach a holder of such a component, or want of memory.
@@ -151,7 +152,8 @@ fn use_all(alloc: Global, program: &Program, implicit: &Implicit) -> Result<(), 
     }
 }
 
-/// Where a Finalize may touch storage, the end of what a component names reaches no access type whose objects have such a component.
+/// Where a Finalize may touch storage, and something creates an object with controlled parts, the end of what a component names reaches
+/// no access type whose objects have such a component.
 ///
 /// # Errors
 /// That it may reach one, or want of memory.
@@ -164,7 +166,10 @@ fn spare_all_holders(
     ensures spared { IfOk result (λ _. SparesHolders program.now) }
     ensures refused { IfErr result (λ fault. (fault ≡ unused.Holder × (SparesHolders program.now → ⊥)) ⊎ fault ≡ unused.NoMemory) }
 {
-    if spare_holders(&program.types, implicit) || !may_be_frugal(alloc, program)? {
+    if spare_holders(&program.types, implicit)
+        || !makes_parts(program)
+        || !may_be_frugal(alloc, program)?
+    {
         Ok(())
     } else {
         Err(UnusedFault::Holder)

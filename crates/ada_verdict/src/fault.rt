@@ -28,10 +28,8 @@ pub enum UnusedFault {
     /// frugal and silent, or an Adjust that is neither quiet nor, of a type that declares a component of an access type, simple and
     /// silent where it may track, and no theorem speaks of it. Its body begins here.
     Operation(Spot),
-    /// Each operation is in use, but a Finalize may touch storage, and the end of what a component names may reach an object in which
-    /// such a component lies.
-    /// No source is known that comes here: S8 wants the collection of what is reached in front, and the order of collections wants it
-    /// behind; but no law says so.
+    /// Each operation is in use, but a Finalize may touch storage, something creates an object with controlled parts, and the end of what
+    /// a component names may reach an allocated object in which such a component lies (13.11.2).
     Holder,
     NoMemory,
 }

@@ -1,4 +1,4 @@
--- By fourteen programs and their runs.
+-- By sixteen programs and their runs.
 use Rattle.ada_sound.proofs.ExampleOperations as operations
 use Rattle.ada_sound.proofs.ExampleTidying as tidying
 use Rattle.ada_sound.proofs.ExampleOverwriting as overwriting
@@ -6,6 +6,7 @@ use Rattle.ada_sound.proofs.ExampleEmptying as emptying
 use Rattle.ada_sound.proofs.ExampleBoxing as boxing
 use Rattle.ada_sound.proofs.ExampleReleasing as releasing
 use Rattle.ada_sound.proofs.ExampleUnshelving as unshelving
+use Rattle.ada_sound.proofs.ExampleLeaving as leaving
 use Rattle.ada_sound.proofs.ExampleNesting as nesting
 use Rattle.ada_sound.proofs.ExampleAllocating as allocating
 use Rattle.ada_sound.proofs.ExampleUndoing as undoing
@@ -82,6 +83,24 @@ returns c = record {
     unshelving.unshelving_does,
     unshelving.unshelving_accepted,
     unshelving.unshelves,
+  );
+  leaves = (
+    leaving.leaving,
+    leaving.leaving_overrides,
+    leaving.leaving_has,
+    leaving.leaving_declares,
+    leaving.leaving_does,
+    leaving.leaving_accepted,
+    leaving.leaves,
+  );
+  names_gone = (
+    leaving.leaving_three,
+    leaving.three_overrides,
+    leaving.three_has,
+    leaving.three_declares,
+    leaving.three_does,
+    leaving.three_accepted,
+    leaving.is_spoken_of,
   );
   nests = (
     nesting.nesting,

@@ -126,7 +126,7 @@ returns-clause-frees_gone c = (
   operations.freeing_operations,
   operations.freeing_bodies,
   operations.freeing_form,
-  operations.freeing_not_in_use,
+  operations.freeing_uses_own,
   operations.frees_gone,
 )
 

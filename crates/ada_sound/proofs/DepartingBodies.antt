@@ -1,0 +1,453 @@
+-- While an operation runs for a member of a collection that goes (7.6.1), none of the bodies that run uses a value of the collection's access type: what each of their
+-- steps leads to, the end of the operation included.
+
+use Rattle.std.proofs.Common.{◌≡◌, ℕ, suc, ◌≤◌, Bool, true, false, List, [], ◌∷◌, ◌++◌, length, refl, sym, ap, subst, ◌∙◌, ◌⊎◌, inl, inr}
+use Rattle.std.proofs.lemmas.Bool.{and_parts, false_from_ne_true}
+use Rattle.std.specs.Prelude.{◌==◌, Option, Some}
+use Rattle.std.specs.List.{slice_get}
+use Rattle.ada_deeds.specs.Implicit.{implicit_of}
+use Rattle.ada_finalized.proofs.Twice.{operated_exist}
+use Rattle.ada_finalized.specs.Law.{NamesExisting, NoOperationRuns, NoOperationRunsOn}
+use Rattle.ada_program.specs.declared.program.Program.{Program}
+use Rattle.ada_program.specs.declared.program.TypeDefinition.{TypeDefinition}
+use Rattle.ada_program.specs.Form.{DeclarationForm, HandlersForm, StmtsForm}
+use Rattle.ada_program.specs.ProgramForm.{BodyForm, ProgramForm, program_form, body_forms, seen_in}
+use Rattle.ada_program.specs.WellFormed.{is_access}
+use Rattle.ada_meaning.specs.declared.event.Cause.TheVariants.{Leaving}
+use Rattle.ada_meaning.specs.declared.event.Halt.{Halt}
+use Rattle.ada_meaning.specs.declared.state.Id.{Id}
+use Rattle.ada_meaning.specs.declared.state.Mode.{Mode}
+use Rattle.ada_meaning.specs.declared.state.Stage.{Stage}
+use Rattle.ada_meaning.specs.declared.state.Stage.TheVariants.{Building, Existing, Gone}
+use Rattle.ada_meaning.specs.declared.state.Value.{Value}
+use Rattle.ada_meaning.specs.declared.state.Value.TheVariants.{Names}
+use Rattle.ada_meaning.specs.Event.{Quiet}
+use Rattle.ada_meaning.specs.Frame as frame
+use Rattle.ada_meaning.specs.Frame.{Treatment, begins, ends, Leaves, Returns}
+use Rattle.ada_meaning.specs.Law.{items_of}
+use Rattle.ada_meaning.specs.Named.{Object, State, Next, object_at, next}
+use Rattle.ada_meaning.specs.Run.{Event}
+use Rattle.ada_meaning.specs.State.{Activation, Master}
+use Rattle.ada_meaning.specs.Step.{halts, moves, tells, asks, picks, older, operands, places, procedure_of, treating}
+use Rattle.ada_reaching.proofs.Law.{stays_reaching}
+use Rattle.ada_reaching.specs.Law.{AllGoOn, FirstTakesNone, GoesOn, none_hidden}
+use Rattle.ada_reaching.specs.Reaching.{IsReaching, none_unnamed}
+use Rattle.ada_scopes.proofs.Components.{items_fit}
+use Rattle.ada_scopes.proofs.Homes.{ItemsFit}
+use Rattle.ada_typed.proofs.Kept.{behind_call}
+use Rattle.ada_untouched.proofs.Law.{steps_alike}
+use Rattle.ada_untouched.specs.Alike.{NextAlike, SparesGhosts, StatesAlike}
+use Rattle.ada_untouched.specs.Untouched.{Untouched}
+use Rattle.ada_sound.specs.Agreement.{running_procedure}
+use Rattle.ada_sound.specs.Callees.{IsCovered}
+use Rattle.ada_sound.proofs.Alters.{Alters, alters_same}
+use Rattle.ada_sound.proofs.Callers.{Suspension, callers_of, known_in}
+use Rattle.ada_sound.proofs.CoveredBy.{covered_by}
+use Rattle.ada_sound.proofs.Departing.{IsGoing, IsLeft, IsMember, Seen, Within, confined, ending}
+use Rattle.ada_sound.proofs.DepartingBehind.{BodyEnds, body_ends, confines_running, ending_member, ends_or_not, going_by, has_home, home_inside, home_outside, left_operated, none_frugal, none_quiet, reaching_not_calm, returns_untouched, same_end}
+use Rattle.ada_sound.proofs.DepartingGoes.{GoesDeparting, InDeparting}
+use Rattle.ada_sound.proofs.DepartingTreats.{is_member_still}
+use Rattle.ada_sound.proofs.FrugalControl.{Frugal}
+use Rattle.ada_sound.proofs.FrugalLeaves.{innermost_houses_none}
+use Rattle.ada_sound.proofs.Grounded.{grounds}
+use Rattle.ada_sound.proofs.Grounds.{Grounds, may_free}
+use Rattle.ada_sound.proofs.Invariant.{AllWait, Control, CoveredIn, EndsWell, IsNewest, ReadyIn, Says, innermost}
+use Rattle.ada_sound.proofs.Items.{HasItem}
+use Rattle.ada_sound.proofs.Operates.{Operates}
+use Rattle.ada_sound.proofs.Operating.{Comes, IsCalm, OwnVariables, Sight, WaitsFor, behind_operation}
+use Rattle.ada_sound.proofs.OperationLaw.{operation_ends}
+use Rattle.ada_sound.proofs.OrdinarySteps.{operating_goes, state_with}
+use Rattle.ada_sound.proofs.SeenGrounds.{HasHomeThere, home_around, reaching_seen, seen_grounds_within, seen_typed}
+use Rattle.ada_sound.proofs.SeenStates.{seen_activations, seen_alters, seen_at, seen_control, seen_ends, seen_masters, seen_mode, seen_on, seen_says}
+use Rattle.ada_sound.proofs.Starts.{Sound}
+use Rattle.ada_sound.proofs.Stored.{Stored, exists_out}
+use Rattle.ada_sound.proofs.StoredStates.{ready_stored}
+use Rattle.ada_sound.proofs.Touching.{Pause, Rests, Touching, origin}
+use Rattle.ada_sound.proofs.TouchingGoes.{GoesTouching, Went}
+use Rattle.ada_sound.proofs.TouchingReturns.{ended_in}
+use Rattle.ada_sound.proofs.TouchingStands.{covers_outermost, finalized_by, frees_not, treating_before}
+use Rattle.ada_sound.proofs.TouchingSteps.{touching_step}
+use Rattle.ada_sound.proofs.TouchingWatched.{takes_none}
+
+-- A step while the operation runs.
+module _ (program : Program) (s : State) (sound : Sound program s) (w : Within program s) where
+  -- The program.
+  abbrev p : ProgramForm
+  p = program_form program
+
+  -- Its types.
+  abbrev tds : List TypeDefinition
+  tds = program.types.items
+
+  -- Its bodies.
+  abbrev bodies : List BodyForm
+  bodies = body_forms program
+
+  -- The access type of the collection is shunned.
+  abbrev shuns : ℕ → Bool
+  shuns = λ t. w.access == t
+
+  -- The state that stands for the real one.
+  abbrev v : State
+  v = w.v
+
+  -- An operation runs behind the end of the outermost body.
+  waits : NoOperationRuns w.behind → ⊥
+  waits none = let first = (subst NoOperationRuns w.is none).0 in cc first
+
+  -- The bodies shun that type in this one, too.
+  reaching_too : IsReaching p shuns w.apart w.ghosts none_unnamed w.behind v
+  reaching_too = reaching_seen w.seen p shuns w.apart w.behind w.reaching
+
+  -- So one runs behind the call of the running body.
+  not_calm : IsCalm (behind_call s.control) → ⊥
+  not_calm calm = reaching_not_calm p shuns w.apart w.ghosts w.behind waits s w.reaching calm
+
+  -- The object exists: an operation of it runs.
+  member_found : object_at v.heap w.object ≡ Some w.member.0
+  member_found = seen_at w.seen w.object w.is_no_ghost ∙ w.member.1
+
+  -- So its stage says.
+  exists : w.member.0.stage ≡ Existing
+  exists = by w.member.0.stage refl
+    where
+      missing : (NamesExisting s.heap (Names w.object) → ⊥) → ⊥
+      missing none =
+          let never = operated_exist program sound.reached.0 sound.reached.1 s sound.reached.2 w.object none in
+          let behind = left_operated p shuns w.apart w.ghosts w.behind (Names w.object) (procedure_of s.activations) s.control (older s.activations) w.reaching.control never in
+          (subst (NoOperationRunsOn (Names w.object)) w.is behind).0 (treating_before (Names w.object) (Leaving w.master w.item) w.tasks (ending w.object w.master w.item w.pool w.mode w.k) refl)
+
+      other : (stage : Stage) → w.member.0.stage ≡ stage → (stage ≡ Existing → ⊥) → NamesExisting s.heap (Names w.object) → ⊥
+      other stage is not (q, named, x, found, there) =
+          let same : w.object ≡ q = cc named in
+          let one : w.member.0 ≡ x = (let at = w.member.1 in cc (at, same, found)) in
+          not (sym is ∙ ap (λ (y : Object). y.stage) one ∙ there)
+
+      by : (stage : Stage) → w.member.0.stage ≡ stage → w.member.0.stage ≡ Existing
+      by Building is = absurd (missing (other Building is (λ same. cc same)))
+      by Existing is = is
+      by Gone is = absurd (missing (other Gone is (λ same. cc same)))
+
+  -- Its home is an item of the masters in which it is stored.
+  home_in : (under : List Id) (masters : List Master) → Stored under v.heap masters → HasItem w.item w.access w.pool (items_of masters)
+  home_in under masters stored =
+      let x = w.member.0 in
+      let out = exists_out w.object x member_found exists stored in
+      subst (λ (pool : Option ℕ). HasItem w.item w.access pool (items_of masters)) w.member.4
+      (subst (λ (item : ℕ). HasItem item w.access x.cell.home.pool (items_of masters)) w.member.3
+      (subst (λ (access : ℕ). HasItem x.cell.home.item access x.cell.home.pool (items_of masters)) w.member.2 ((stored.sane w.object x member_found).housed out)))
+
+  -- The body of an operation that touches storage runs.
+  module _ (f : Touching program v) where
+    -- The outermost operation.
+    abbrev outermost : Pause program (length f.within.inner) v
+    outermost = f.within.outermost
+
+    -- It runs behind the end of its body.
+    waits_behind : (treatment : Treatment) → WaitsFor p.types outermost.object outermost.of treatment outermost.tasks outermost.after outermost.behind → NoOperationRuns outermost.behind → ⊥
+    waits_behind (begins by done) (part, is) none = let first = (subst NoOperationRuns is none).0 in cc first
+    waits_behind (ends cause) (is, inside) none = let first = (subst NoOperationRuns is none).0 in cc first
+
+    -- The outermost one is the operation of the object.
+    back_is : outermost.behind ≡ w.behind
+    back_is =
+        same_end p shuns w.apart w.ghosts w.behind waits w.calm f.within.thrift outermost.behind (waits_behind outermost.treatment outermost.awaited) f.within.calm v.mode v.control f.within.frugal.upper
+        (procedure_of v.activations) (older v.activations) f.within.frugal.frugal reaching_too.control
+
+    -- Its object is finalized behind that.
+    ended_behind : (treatment : Treatment) → WaitsFor p.types outermost.object outermost.of treatment outermost.tasks outermost.after outermost.behind
+        → Rests (known_in program outermost.procedure outermost.suspensions) treatment outermost.held outermost.watch outermost.object outermost.access outermost.home outermost.places outermost.operands outermost.also outermost.after outermost.lower outermost.rooms outermost.holds
+        → ended_in outermost.behind ≡ Names outermost.object
+    ended_behind (begins by done) (part, is) rests = absurd (let never = sym is ∙ back_is ∙ w.is in cc never)
+    ended_behind (ends cause) (is, inside) rests =
+        ap ended_in is
+        ∙ treating_before (Names outermost.object) cause outermost.tasks outermost.after
+        (finalized_by (known_in program outermost.procedure outermost.suspensions) cause outermost.held outermost.watch outermost.object outermost.access outermost.home outermost.places outermost.operands outermost.also outermost.after outermost.lower outermost.rooms outermost.holds rests)
+
+    -- So that is this object.
+    object_is : outermost.object ≡ w.object
+    object_is =
+        let ended = ended_behind outermost.treatment outermost.awaited outermost.rests in
+        let here : ended_in w.behind ≡ Names w.object =
+        ap ended_in w.is ∙ treating_before (Names w.object) (Leaving w.master w.item) w.tasks (ending w.object w.master w.item w.pool w.mode w.k) refl in
+        let same : Names outermost.object ≡ Names w.object = sym ended ∙ (ap ended_in back_is ∙ here) in
+        cc same
+
+    -- So the running body frees no object of its type.
+    frees_none : may_free program s w.access ≡ false
+    frees_none = false_from_ne_true (may_free program s w.access) (λ may. (
+        let so = and_parts (is_access p.types w.access) _ (subst (λ (z : State). may_free program z w.access ≡ true) (sym w.seen.alike.rest) may) in
+        let waiting = subst (λ (all : List Suspension). AllWait (implicit_of p) (seen_in (running_procedure v) p) (callers_of program all)) f.within.are f.stands.standing.waiting in
+        let behind_it = origin program (length f.within.inner) v outermost ∷ outermost.suspensions in
+        let covered = covers_outermost program sound.spares_own v f.within.thrift outermost.behind outermost.lower (running_procedure v) 0 outermost.number behind_it f.within.inner f.within.within waiting w.access so.1 in
+        frees_not program sound.spares_own v (length f.within.inner) outermost w.object w.member.0 member_found object_is
+        (subst (λ (t : ℕ). CoveredIn (implicit_of p) (seen_in (Some outermost.number) p) t) (sym w.member.2) covered)
+        (subst (λ (t : ℕ). is_access p.types t ≡ true) (sym w.member.2) w.accessed)
+        ))
+
+    -- The home of the object is among the masters.
+    home_touching : HasItem w.item w.access w.pool (items_of v.masters)
+    home_touching = let stored = ready_stored (known_in program (running_procedure v) f.suspensions) v f.ready in home_in stored.0 v.masters stored.1
+
+    -- The home of its type is behind the masters of the bodies.
+    own_first :
+        (mode : Mode) (c : Control) (upper : List Master) → Frugal f.within.thrift outermost.behind mode c upper → (ds : List DeclarationForm) (fs : StmtsForm) (hs : HandlersForm) (k : Control)
+        → c ≡ frame.Elaborates ds fs hs ∷ k → (m : Master) × (ms : List Master) × (upper ≡ m ∷ ms)
+    own_first mode c upper frugal ds fs hs k is = by upper (subst (λ (j : Control). Frugal f.within.thrift outermost.behind mode j upper) is frugal)
+      where
+        by : (ms : List Master) → Frugal f.within.thrift outermost.behind mode (frame.Elaborates ds fs hs ∷ k) ms → (m : Master) × (rest : List Master) × (ms ≡ m ∷ rest)
+        by [] (inl q) = absurd q
+        by [] (inr (runs, leaving)) = absurd leaving
+        by (m ∷ rest) q = (m, rest, refl)
+
+    -- So the grounds of the real state say.
+    home_there : HasHomeThere w.access w.item w.pool s
+    home_there =
+        let upper = f.within.frugal.upper in
+        let masters : s.masters ≡ upper ++ outermost.lower = sym (seen_masters w.seen) ∙ f.within.frugal.masters in
+        let outside = home_outside w.item w.access w.pool upper outermost.lower f.within.frugal.own (subst (λ (ms : List Master). HasItem w.item w.access w.pool (items_of ms)) f.within.frugal.masters home_touching) in
+        home_around w.access w.item w.pool s upper outermost.lower masters (has_home w.item w.access w.pool (items_of outermost.lower) outside)
+        (λ ds fs hs k is. own_first v.mode v.control upper f.within.frugal.frugal ds fs hs k (seen_control w.seen ∙ is))
+
+    -- They hold in the state that stands for it.
+    grounds_touching : Untouched none_hidden w.ghosts s → Grounds program v
+    grounds_touching untouched = seen_grounds_within program w.seen (grounds program s sound) sound.reached home_there untouched not_calm frees_none
+
+  -- The body of one runs that touches none.
+  module _ (o : Operates program v) where
+    -- What it sees.
+    abbrev quiet_sight : Sight
+    quiet_sight = record { program = seen_in (Some o.procedure) p; object = o.object; access = o.access }
+
+    -- The home of the object is among the masters.
+    home_operating : HasItem w.item w.access w.pool (items_of v.masters)
+    home_operating =
+        let c = (operation_ends program v o).0 in
+        let stored = ready_stored (known_in program o.caller.procedure o.suspended.suspensions) (behind_operation (o.caller ∷ o.rest) o.behind o.lower v) c.stepped.ready in
+        rw o.masters (home_inside w.item w.access w.pool o.upper o.lower (home_in stored.0 o.lower stored.1))
+
+    -- A master that it leaves is one of its own, which owns variables alone.
+    none_taken : (mode : Mode) (k : Control) (upper : List Master) (operands : List Value) → Comes quiet_sight o.behind upper mode k operands → OwnVariables upper → FirstTakesNone k (upper ++ o.lower)
+    none_taken mode [] upper operands comes own = tt
+    none_taken mode (Leaves exit ∷ k) upper operands (inl (scalars, goes, leads)) own = absurd leads
+    none_taken mode (Leaves exit ∷ k) [] operands (inr (runs, finds)) own = absurd finds.1
+    none_taken mode (Leaves exit ∷ k) (m ∷ ms) operands (inr (runs, finds)) own = innermost_houses_none ((m ∷ ms) ++ o.lower) own.0
+    none_taken mode (f ∷ k) upper operands comes own = tt
+
+  -- A master that is left takes no object.
+  takes_in : Operates program v ⊎ Touching program v → FirstTakesNone v.control v.masters
+  takes_in (inl o) = subst (λ (ms : List Master). FirstTakesNone v.control ms) (sym o.masters) (none_taken o v.mode v.control o.upper o.operands o.body.comes o.body.own)
+  takes_in (inr f) = takes_none program f.suspensions v f.within v.control refl
+
+  -- So it is in the real state.
+  takes : FirstTakesNone s.control s.masters
+  takes = subst (λ (ms : List Master). FirstTakesNone s.control ms) (seen_masters w.seen) (subst (λ (k : Control). FirstTakesNone k v.masters) (seen_control w.seen) (takes_in w.goes))
+
+  -- The home of the object is among the masters, whichever body runs.
+  home_so : Operates program v ⊎ Touching program v → HasItem w.item w.access w.pool (items_of v.masters)
+  home_so (inl o) = home_operating o
+  home_so (inr f) = home_touching f
+
+  -- What comes next of the state that stands for the real one.
+  seen_goes : Untouched none_hidden w.ghosts s → Operates program v ⊎ Touching program v → GoesTouching program v (next tds bodies v)
+  seen_goes untouched (inl o) = operating_goes program v o
+  seen_goes untouched (inr f) = touching_step program v (grounds_touching f untouched) f
+
+  -- Some master is entered.
+  entered : (masters : List Master) → HasItem w.item w.access w.pool (items_of masters) → (m : Master) × (ms : List Master) × (masters ≡ m ∷ ms)
+  entered [] has = absurd has
+  entered (m ∷ ms) has = (m, ms, refl)
+
+  -- Where a run ends there, it ends well.
+  ends_well : (halt : Halt) → EndsWell halt v.heap v.masters → EndsWell halt s.heap s.masters
+  ends_well halt well = let some = entered v.masters (home_so w.goes) in seen_ends w.seen halt some.0 some.1 some.2 well
+
+  -- The bodies go on.
+  module _ (on : s.control ≡ Returns [] [] ∷ w.behind → ⊥) where
+    -- Each step of the real state looks at no ghost.
+    reach : Untouched none_hidden w.ghosts s × AllGoOn (GoesOn p shuns w.apart w.ghosts none_unnamed w.behind s.heap) (next tds bodies s)
+    reach = stays_reaching program sound.well shuns w.apart w.are_apart w.ghosts none_unnamed w.behind s sound.typed w.reaching (record { on = on; takes = takes })
+
+    -- So it is with the one that stands for it.
+    reach_too : Untouched none_hidden w.ghosts v × AllGoOn (GoesOn p shuns w.apart w.ghosts none_unnamed w.behind v.heap) (next tds bodies v)
+    reach_too =
+        stays_reaching program sound.well shuns w.apart w.are_apart w.ghosts none_unnamed w.behind v (seen_typed w.seen p sound.typed) reaching_too
+        (record { on = λ is. on (sym (seen_control w.seen) ∙ is); takes = takes_in w.goes })
+
+    module _ (e : Event) (after view : State) (alike : StatesAlike none_hidden w.ghosts after view) (spares : SparesGhosts w.ghosts e)
+        (goes : GoesOn p shuns w.apart w.ghosts none_unnamed w.behind s.heap after) (goes_too : GoesOn p shuns w.apart w.ghosts none_unnamed w.behind v.heap view) where
+      -- The one state stands for the other one behind the step.
+      seen_then : Seen w.access w.item w.pool w.ghosts after view
+      seen_then = seen_on w.seen goes.same goes_too.same alike
+
+      -- The operation runs on.
+      within_on : Alters v.heap e view.heap → (Operates program view ⊎ Touching program view)
+          → Says (implicit_of p) (seen_in (running_procedure view) p) e v.heap view
+          → ((depth : ℕ) (a : Activation Value) (number : ℕ) → slice_get view.activations depth ≡ Some a → a.procedure ≡ Some number → IsCovered program number e) → InDeparting program s.heap e after
+      within_on alters runs says covers =
+          let alters_real = seen_alters w.seen seen_then e alters goes.same in
+          let procedure : running_procedure view ≡ running_procedure after = ap procedure_of (seen_activations seen_then) in
+          record {
+            body = inr (inr (record {
+              access = w.access;
+              master = w.master;
+              item = w.item;
+              pool = w.pool;
+              ghosts = w.ghosts;
+              v = view;
+              seen = seen_then;
+              object = w.object;
+              is_no_ghost = w.is_no_ghost;
+              member = is_member_still s.heap after.heap e w.object w.access w.item w.pool alters_real w.member;
+              tasks = w.tasks;
+              mode = w.mode;
+              k = w.k;
+              behind = w.behind;
+              is = w.is;
+              calm = w.calm;
+              ahead = w.ahead;
+              accessed = w.accessed;
+              apart = w.apart;
+              are_apart = w.are_apart;
+              reaching = goes.reaching;
+              goes = runs;
+            }));
+            alters = alters_real;
+            says = seen_says w.seen seen_then (implicit_of p) (seen_in (running_procedure after) p) e spares
+                (subst (λ (number : Option ℕ). Says (implicit_of p) (seen_in number p) e v.heap view) procedure says);
+            covers = λ depth a number at is. covers depth a number (subst (λ (all : List (Activation Value)). slice_get all depth ≡ Some a) (sym (seen_activations seen_then)) at) is;
+          }
+
+      -- It does, whatever is behind the step.
+      went_at : Went program v.heap e view → InDeparting program s.heap e after
+      went_at (inl c) = within_on c.alters (inr c.body) c.says (λ depth a number at is. covered_by program e v.heap view c.body.suspensions c.body.stands c.says depth a number at is)
+      went_at (inr (inl c)) = within_on c.alters (inl c.operates) (c.says _ _) (λ depth a number at is. c.covered number)
+      went_at (inr (inr (c, calm, settled))) =
+          absurd (reaching_not_calm p shuns w.apart w.ghosts w.behind waits after goes.reaching (subst (λ (k : Control). IsCalm (behind_call k)) (seen_control seen_then) calm))
+
+    -- So it is with the real one, whatever comes next.
+    goes_next :
+        (n m : Next) → NextAlike none_hidden w.ghosts n m → AllGoOn (GoesOn p shuns w.apart w.ghosts none_unnamed w.behind s.heap) n
+        → AllGoOn (GoesOn p shuns w.apart w.ghosts none_unnamed w.behind v.heap) m → GoesTouching program v m → GoesDeparting program s n
+    goes_next (halts halt) m is goes too touching = ends_well halt (subst (GoesTouching program v) is touching)
+    goes_next (moves e after) m (view, is, alike, spares) goes too touching =
+        inl (went_at e after view alike spares goes (subst (AllGoOn (GoesOn p shuns w.apart w.ghosts none_unnamed w.behind v.heap)) is too) (subst (GoesTouching program v) is touching))
+    goes_next (tells request e after) m (view, is, alike, spares) goes too touching =
+        inl (went_at e after view alike spares goes (subst (AllGoOn (GoesOn p shuns w.apart w.ghosts none_unnamed w.behind v.heap)) is too) (subst (GoesTouching program v) is touching))
+    goes_next (asks request answered) m (views, is, each) goes too touching = λ granted.
+        let all_on : (b : Bool) → GoesOn p shuns w.apart w.ghosts none_unnamed w.behind v.heap (views b) = subst (AllGoOn (GoesOn p shuns w.apart w.ghosts none_unnamed w.behind v.heap)) is too in
+        let all_went : (b : Bool) → Went program v.heap Quiet (views b) = subst (GoesTouching program v) is touching in
+        inl (went_at Quiet (answered granted) (views granted) (each granted) tt (goes granted) (all_on granted) (all_went granted))
+    goes_next (picks n taken) m (views, is, each) goes too touching = λ i lt.
+        let all_on : (j : ℕ) → suc j ≤ n → GoesOn p shuns w.apart w.ghosts none_unnamed w.behind v.heap (views j) = subst (AllGoOn (GoesOn p shuns w.apart w.ghosts none_unnamed w.behind v.heap)) is too in
+        let all_went : (j : ℕ) → suc j ≤ n → Went program v.heap Quiet (views j) = subst (GoesTouching program v) is touching in
+        inl (went_at Quiet (taken i) (views i) (each i) tt (goes i lt) (all_on i lt) (all_went i lt))
+
+    -- That is what comes next.
+    bodies_go_on : GoesDeparting program s (next tds bodies s)
+    bodies_go_on =
+        goes_next (next tds bodies s) (next tds bodies v) (steps_alike tds bodies none_hidden w.ghosts s v reach.0 w.seen.alike) reach.1 reach_too.1 (seen_goes reach.0 w.goes)
+
+  -- The outermost one ends.
+  module _ (is : s.control ≡ Returns [] [] ∷ w.behind) where
+    -- The state, with what comes next.
+    here : s ≡ state_with s.mode (Returns [] [] ∷ w.behind) s.activations s
+    here = ap (λ (k : Control). record s { control = k }) is
+
+    -- So it is with the one that stands for it.
+    view_here : v ≡ state_with v.mode (Returns [] [] ∷ w.behind) v.activations v
+    view_here = ap (λ (k : Control). record v { control = k }) (seen_control w.seen ∙ is)
+
+    -- What the step leads to.
+    real_end : BodyEnds program w.behind s
+    real_end = subst (BodyEnds program w.behind) (sym here) (body_ends program w.behind s.mode s.activations s)
+
+    -- And there.
+    view_end : BodyEnds program w.behind v
+    view_end = subst (BodyEnds program w.behind) (sym view_here) (body_ends program w.behind v.mode v.activations v)
+
+    -- It looks at no object.
+    untouched_here : Untouched none_hidden w.ghosts s
+    untouched_here = subst (Untouched none_hidden w.ghosts) (sym here) (returns_untouched w.ghosts s.mode w.behind s.activations s)
+
+    -- The real state behind it.
+    abbrev after : State
+    after = real_end.after
+
+    -- The state that stands for it.
+    abbrev view : State
+    view = view_end.after
+
+    -- Both states go on alike.
+    alike_then : StatesAlike none_hidden w.ghosts after view
+    alike_then =
+        let alike : NextAlike none_hidden w.ghosts (moves Quiet after) (next tds bodies v) = subst (λ (n : Next). NextAlike none_hidden w.ghosts n (next tds bodies v)) real_end.is (steps_alike tds bodies none_hidden w.ghosts s v untouched_here w.seen.alike) in
+        let same : alike.0 ≡ view = (let one = sym alike.1 ∙ view_end.is in cc one) in
+        subst (StatesAlike none_hidden w.ghosts after) same alike.2
+
+    -- So the one stands for the other one.
+    seen_behind : Seen w.access w.item w.pool w.ghosts after view
+    seen_behind = seen_on w.seen (λ o ghost. ap (λ (heap : List Object). object_at heap o) real_end.heap) (λ o ghost. ap (λ (heap : List Object). object_at heap o) view_end.heap) alike_then
+
+    -- What is left of the object comes next.
+    control_behind : view.control ≡ frame.Confines ∷ treating (Names w.object) (ends (Leaving w.master w.item)) w.tasks (ending w.object w.master w.item w.pool w.mode w.k)
+    control_behind = view_end.control ∙ w.is
+
+    -- It is of the collection still.
+    member_behind : IsMember after.heap w.object w.access w.item w.pool
+    member_behind = subst (λ (heap : List Object). IsMember heap w.object w.access w.item w.pool) (sym real_end.heap) w.member
+
+    -- No operation runs then.
+    went_behind : Went program v.heap Quiet view → InDeparting program s.heap Quiet after
+    went_behind (inl c) =
+        let f = c.body in
+        absurd (none_frugal f.within.thrift f.within.outermost.behind view.mode w.mode w.object w.master w.item w.pool w.tasks w.k f.within.frugal.upper
+        (subst (λ (k : Control). Frugal f.within.thrift f.within.outermost.behind view.mode k f.within.frugal.upper) control_behind f.within.frugal.frugal))
+    went_behind (inr (inl c)) =
+        let o = c.operates in
+        let sight : Sight = record { program = seen_in (Some o.procedure) p; object = o.object; access = o.access } in
+        absurd (none_quiet sight o.behind o.upper view.mode _ o.operands (subst (λ (k : Control). Comes sight o.behind o.upper view.mode k o.operands) control_behind o.body.comes))
+    went_behind (inr (inr (c, calm, settled))) =
+        let known = known_in program (running_procedure view) c.suspensions in
+        let ready = subst (λ (k : Control). ReadyIn known view.mode k view.heap (places view) (operands view) view.masters) control_behind c.stepped.ready.1 in
+        let confined_so = confines_running known view.mode _ view.heap (places view) (operands view) view.masters ready in
+        let e = ending_member known w.object w.master w.item w.pool w.mode w.k view.heap (places view) (operands view) view.masters w.tasks confined_so.1 in
+        let has = subst (λ (heap : List Object). object_at heap w.object ≡ Some w.member.0) (sym view_end.heap) member_found in
+        let one : e.x ≡ w.member.0 = (let at = e.found in cc (at, has)) in
+        let masters : view.masters ≡ s.masters = view_end.masters ∙ seen_masters w.seen in
+        let home : HasItem w.item w.access w.pool (items_of view.masters) = subst (λ (ms : List Master). HasItem w.item w.access w.pool (items_of ms)) (sym view_end.masters) (home_so w.goes) in
+        let newest : IsNewest w.item (innermost view.masters) = subst (λ (number : ℕ). IsNewest number (innermost view.masters)) (sym e.at_home) e.newest in
+        let fit : ItemsFit p.types (items_of view.masters) = subst (λ (ms : List Master). ItemsFit p.types (items_of ms)) (sym masters) (items_fit p s sound.nested) in
+        let going = going_by program w.access w.item w.pool view.masters w.accessed fit e.stored.counted home newest w.ahead in
+        record {
+          body = inl (record {
+            access = w.access;
+            master = w.master;
+            item = w.item;
+            pool = w.pool;
+            ghosts = w.ghosts;
+            v = view;
+            seen = seen_behind;
+            runs = sym (seen_mode seen_behind) ∙ confined_so.0;
+            going = subst (IsGoing program w.access w.item w.pool) (seen_masters seen_behind) going;
+            left = subst (IsLeft w.access w.master w.item w.pool w.ghosts after.heap) (sym (real_end.control ∙ w.is)) (confined w.object w.tasks w.mode w.k w.is_no_ghost (member_behind.0, member_behind.1, member_behind.2));
+            ordinary = record { suspensions = c.suspensions; ready = c.stepped.ready; stands = c.stands; calm = calm; settled = settled };
+          });
+          alters = subst (Alters s.heap Quiet) (sym real_end.heap) (alters_same s.heap Quiet);
+          says = tt;
+          covers = λ depth a number at own. tt;
+        }
+
+    -- That is what comes next.
+    body_ends_here : GoesDeparting program s (next tds bodies s)
+    body_ends_here =
+        let went : Went program v.heap Quiet view = subst (GoesTouching program v) view_end.is (seen_goes untouched_here w.goes) in
+        subst (GoesDeparting program s) (sym real_end.is) (inl (went_behind went))
+
+-- So it is in each state where an operation runs for such a member.
+pub within_step : (program : Program) (s : State) → Sound program s → Within program s → GoesDeparting program s (next program.types.items (body_forms program) s)
+within_step program s sound w =
+    elim (ends_or_not (program_form program) (λ t. w.access == t) w.apart w.ghosts w.behind (procedure_of s.activations) s.control (older s.activations) w.reaching.control) [
+      | inl is ↦ body_ends_here program s sound w is
+      | inr on ↦ bodies_go_on program s sound w on
+    ]

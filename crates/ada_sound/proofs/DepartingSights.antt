@@ -1,0 +1,78 @@
+-- While an operation runs for a member of a collection that goes (7.6.1), flow speaks of the state that stands for the real one.
+
+use Rattle.std.proofs.Common.{◌≡◌, ℕ, suc, Bool, true, false, List, [], ◌∷◌, refl, sym, subst, ◌⊎◌, inl, inr, arith}
+use Rattle.std.specs.Prelude.{Option, Contains}
+use Rattle.ada_parts.specs.Task.{Task}
+use Rattle.ada_program.specs.declared.program.Program.{Program}
+use Rattle.ada_program.specs.ProgramForm.{ProgramForm}
+use Rattle.ada_meaning.specs.declared.event.Cause.TheVariants.{Leaving}
+use Rattle.ada_meaning.specs.declared.state.Id.{Id}
+use Rattle.ada_meaning.specs.declared.state.Value.{Value}
+use Rattle.ada_meaning.specs.declared.state.Value.TheVariants.{Names}
+use Rattle.ada_meaning.specs.Frame as frame
+use Rattle.ada_meaning.specs.Frame.{Frame, Treatment, ends, is_return}
+use Rattle.ada_meaning.specs.Named.{State, object_at}
+use Rattle.ada_meaning.specs.State.{Activation}
+use Rattle.ada_meaning.specs.Step.{older, procedure_of, treating}
+use Rattle.ada_reaching.specs.Apart.{Apart}
+use Rattle.ada_reaching.specs.Reaching.{AtEnd, IsInner, IsLast, LeftShuns}
+use Rattle.ada_sound.proofs.Departing.{Seen, Within, ending}
+use Rattle.ada_sound.proofs.SeenStates.{seen_at}
+use Rattle.ada_sound.specs.StandsFor.{HasDeparted, IsBeingLeft, StandsFor}
+
+-- What is among some things is among more.
+contains_later : {X : Type 0} (y x : X) (xs : List X) → Contains xs x → Contains (y ∷ xs) x
+contains_later y x xs found = let less = found.1 in (suc found.0, omega (arith, less), found.2)
+
+-- What is behind some bodies is left to do.
+module _ (p : ProgramForm) (shuns : ℕ → Bool) (apart : Apart) (ghosts unnamed : Id → Bool) (behind : List (Frame Value)) (f : Frame Value) (there : Contains behind f) where
+  left_contains : (procedure : Option ℕ) (k : List (Frame Value)) (suspended : List (Activation Value)) → LeftShuns p shuns apart ghosts unnamed behind procedure k suspended → Contains k f
+  left_contains procedure [] suspended left = absurd left
+  left_contains procedure (g ∷ k) suspended left =
+      by _ _ (is_return g) (left_contains (procedure_of suspended) k (older suspended)) (left_contains procedure k suspended) left
+    where
+      by : (First Front : Type 0) (b : Bool)
+          → (LeftShuns p shuns apart ghosts unnamed behind (procedure_of suspended) k (older suspended) → Contains k f)
+          → (LeftShuns p shuns apart ghosts unnamed behind procedure k suspended → Contains k f)
+          → AtEnd b (IsLast behind g k ⊎ IsInner ghosts unnamed g k suspended (LeftShuns p shuns apart ghosts unnamed behind (procedure_of suspended) k (older suspended)))
+          (First × Front × LeftShuns p shuns apart ghosts unnamed behind procedure k suspended)
+          → Contains (g ∷ k) f
+      by first front true inner further (inl last) = subst (λ (j : List (Frame Value)). Contains j f) (sym last) (contains_later (frame.Returns [] []) f behind there)
+      by first front true inner further (inr on) = contains_later g f k (inner on.others)
+      by first front false inner further on = contains_later g f k (further on.2)
+
+-- So is what is behind a treatment.
+treating_contains : (v : Value) (treatment : Treatment) (tasks : List Task) (k : List (Frame Value)) (f : Frame Value) → Contains k f → Contains (treating v treatment tasks k) f
+treating_contains v treatment [] k f found = found
+treating_contains v treatment (task ∷ tasks) k f found = contains_later (frame.Treats v treatment (task ∷ tasks)) f k found
+
+module _ (program : Program) (s : State) (d : Within program s) where
+  member_goes : Contains s.control (frame.GivesBack (Names d.object) (Leaving d.master d.item) d.pool)
+  member_goes =
+      left_contains _ _ d.apart d.ghosts _ d.behind (frame.GivesBack (Names d.object) (Leaving d.master d.item) d.pool)
+      (subst (λ (k : List (Frame Value)). Contains k (frame.GivesBack (Names d.object) (Leaving d.master d.item) d.pool)) (sym d.is)
+      (contains_later frame.Confines _ _
+      (treating_contains (Names d.object) (ends (Leaving d.master d.item)) d.tasks (ending d.object d.master d.item d.pool d.mode d.k) _ (1, omega arith, refl))))
+      _ s.control _ d.reaching.control
+
+  pub is_being_left : IsBeingLeft s d.access d.item
+  is_being_left = record {
+    member = d.object;
+    object = d.member.0;
+    there = d.member.1;
+    of_access = d.member.2;
+    at_home = d.member.3;
+    master = d.master;
+    pool = d.pool;
+    going = member_goes;
+  }
+
+-- Each object is as it is in the real state, or it is a ghost.
+pub stands_for : {access item : ℕ} {pool : Option ℕ} {ghosts : Id → Bool} {s v : State} → Seen access item pool ghosts s v → StandsFor s v access item
+stands_for {access} {item} {pool} {ghosts} {s} {v} seen = record { rest = seen.alike.rest; objects = λ o. by o (ghosts o) refl }
+  where
+    by : (o : Id) (b : Bool) → ghosts o ≡ b → (object_at v.heap o ≡ object_at s.heap o) ⊎ HasDeparted access item (object_at s.heap o) (object_at v.heap o)
+    by o false is = inl (seen_at seen o is)
+    by o true is =
+        let d = seen.departed o is in
+        inr (record { object = d.object; there = d.there; gone = d.gone; back = d.back; of_access = d.of_access; at_home = d.at_home; is = d.is })
