@@ -32,9 +32,9 @@ all_more types less more (b ∷ bs) same tells n h =
     all_more types (less ++ one ∷ []) (more ++ other ∷ []) bs (last_length less more one other same) (last_more less more one other same tells also) n h
 
 -- A procedure that is frugal where none may free such objects is so where some may.
-pub procedures_more : (p : ProgramForm) → TellsMore (frugal_procedures p false) (frugal_procedures p true)
+pub procedures_more : (p : ProgramForm) → TellsMore (frugal_procedures p) (frugal_procedures p)
 procedures_more p = all_more p.types [] [] p.bodies refl (λ n h. h)
 
 -- So is a body.
-pub frugal_more : (p : ProgramForm) (b : BodyForm) → is_frugal_body (thrift_of p false) b ≡ true → is_frugal_body (thrift_of p true) b ≡ true
-frugal_more p b h = body_more p.types false true (λ is. refl) (frugal_procedures p false) (frugal_procedures p true) (procedures_more p) b h
+pub frugal_more : (p : ProgramForm) (b : BodyForm) → is_frugal_body (thrift_of p) b ≡ true → is_frugal_body (thrift_of p) b ≡ true
+frugal_more p b h = body_more p.types false true (λ is. refl) (frugal_procedures p) (frugal_procedures p) (procedures_more p) b h

@@ -4,7 +4,7 @@ use Rattle.std.specs.Prelude.{ℕ, Bool, true, false, not, ◌&&◌, ◌==◌, i
 use Rattle.std.specs.List.{list_all, list_any, slice_get}
 use Rattle.ada_program.specs.declared.program.ComponentKind.{ComponentKind}
 use Rattle.ada_program.specs.declared.program.ComponentKind.TheVariants as component
-use Rattle.ada_program.specs.Form.{RightForm, nothing, value_of, allocates, allocates_default, computes, StmtForm, skips, assigns, assigns_record, frees, gets, writes, writes_text, chooses, repeats, counts, exits, calls, returns, raises, encloses, StmtsForm, no_stmts, a_stmt, BranchesForm, otherwise, a_branch, HandlersForm, no_handlers, a_handler}
+use Rattle.ada_program.specs.Form.{StmtForm, skips, assigns, assigns_record, frees, gets, writes, writes_text, chooses, repeats, counts, exits, calls, returns, raises, encloses, StmtsForm, no_stmts, a_stmt, BranchesForm, otherwise, a_branch, HandlersForm, no_handlers, a_handler}
 use Rattle.ada_program.specs.Nested.{collected}
 use Rattle.ada_program.specs.ProgramForm.{TypeForm, record_of, access_to, object_of, BodyForm, ProgramForm, main_body}
 use Rattle.ada_program.specs.WellFormed.{designated_type, finalization_of}
@@ -20,14 +20,6 @@ is_bare_access types (Some (object_of record_type)) = false
 -- So is the type of a number: its objects are bare, they have no controlled parts.
 abbrev pub has_bare_objects : List TypeForm → (access : ℕ) → Bool
 has_bare_objects types t = is_bare_access types (slice_get types t)
-
--- What is assigned is no new object (4.8), or one without controlled parts.
-abbrev pub allocates_bare : List TypeForm → RightForm → Bool
-allocates_bare types nothing = true
-allocates_bare types (value_of path) = true
-allocates_bare types (allocates access items) = has_bare_objects types access
-allocates_bare types (allocates_default access) = has_bare_objects types access
-allocates_bare types (computes e) = true
 
 -- A component is of an access type (3.8, 3.10).
 abbrev pub is_component_of : (access : ℕ) → ComponentKind → Bool

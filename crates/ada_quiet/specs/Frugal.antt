@@ -1,48 +1,54 @@
--- Bodies of Initialize and Finalize that touch storage, and of procedures that they call (7.6, 4.8, 5.2, 6.4, 13.11.2): they allocate, move and follow objects
--- without controlled parts, assign records without them, and declare variables alone, which may be given what they allocate. They free objects without controlled
--- parts, and those of a Finalize, and of an Adjust that is never called, others, too.
+-- Bodies of Initialize and Finalize that touch storage, and of procedures that they call (7.6, 4.8, 5.2, 6.4, 13.11.2): they allocate, move, follow and free objects, assign
+-- records without controlled parts, and declare variables alone, which may be given what they allocate. The objects with controlled parts that they allocate begin
+-- quietly.
 
-use Rattle.std.specs.Prelude.{ℕ, Bool, true, false, not, ◌&&◌, ◌||◌, List, [], ◌∷◌, ◌++◌, Option, Some, None, is_some}
+use Rattle.std.specs.Prelude.{ℕ, Bool, true, false, not, ◌&&◌, List, [], ◌∷◌, ◌++◌, Option, Some, None, is_some}
 use Rattle.std.specs.List.{list_all, slice_get, slice_index_or}
-use Rattle.ada_program.specs.Form.{StmtForm, skips, assigns, assigns_record, frees, gets, writes, writes_text, chooses, repeats, counts, exits, calls, returns, raises, encloses, StmtsForm, no_stmts, a_stmt, BranchesForm, otherwise, a_branch, HandlersForm, no_handlers, a_handler, DeclarationForm, creates_pool, collects, declares, declares_record}
+use Rattle.ada_program.specs.Form.{RightForm, nothing, value_of, allocates, allocates_default, computes, StmtForm, skips, assigns, assigns_record, frees, gets, writes, writes_text, chooses, repeats, counts, exits, calls, returns, raises, encloses, StmtsForm, no_stmts, a_stmt, BranchesForm, otherwise, a_branch, HandlersForm, no_handlers, a_handler, DeclarationForm, creates_pool, collects, declares, declares_record}
 use Rattle.ada_program.specs.declared.program.ProcedureNo.{ProcedureNo}
 use Rattle.ada_program.specs.ProgramForm.{TypeForm, BodyForm, ProgramForm}
 use Rattle.ada_program.specs.WellFormed.{finalization_of}
-use Rattle.ada_quiet.specs.Bare.{has_bare_objects, allocates_bare}
+use Rattle.ada_quiet.specs.Bare.{has_bare_objects}
+use Rattle.ada_quiet.specs.Calm.{has_calm_objects, quietly_begun_types}
 use Rattle.ada_effects.specs.Effects.{Effects, no_implicit, effects_of, body_raises}
 
--- A declaration is that of a variable (3.3.1), and what that is given at first is no new object with controlled parts: no record object, no collection and no pool
--- is created.
-abbrev pub is_frugal_declaration : List TypeForm → DeclarationForm → Bool
-is_frugal_declaration types (creates_pool p) = false
-is_frugal_declaration types (collects access) = false
-is_frugal_declaration types (declares x right) = allocates_bare types right
-is_frugal_declaration types (declares_record x t initial) = false
+-- What is assigned is no new object (4.8), or one for which no operation is called that touches storage, or lets an exception out: it has no controlled parts, or it is
+-- initialized by default, and begins quietly (7.6).
+abbrev pub allocates_quietly : List TypeForm → (begun : List Bool) → RightForm → Bool
+allocates_quietly types begun nothing = true
+allocates_quietly types begun (value_of path) = true
+allocates_quietly types begun (allocates access items) = has_bare_objects types access
+allocates_quietly types begun (allocates_default access) = has_calm_objects types begun access
+allocates_quietly types begun (computes e) = true
+
+-- A declaration is that of a variable (3.3.1), and what that is given at first begins quietly, if it is a new object: no record object, no collection and no pool is
+-- created.
+abbrev pub is_frugal_declaration : List TypeForm → (begun : List Bool) → DeclarationForm → Bool
+is_frugal_declaration types begun (creates_pool p) = false
+is_frugal_declaration types begun (collects access) = false
+is_frugal_declaration types begun (declares x right) = allocates_quietly types begun right
+is_frugal_declaration types begun (declares_record x t initial) = false
 
 -- So is each of these.
-abbrev pub are_frugal_declarations : List TypeForm → List DeclarationForm → Bool
-are_frugal_declarations types ds = list_all (is_frugal_declaration types) ds
+abbrev pub are_frugal_declarations : List TypeForm → (begun : List Bool) → List DeclarationForm → Bool
+are_frugal_declarations types begun ds = list_all (is_frugal_declaration types begun) ds
 
--- What frugal bodies go by: the types of the program, whether they may free objects with controlled parts, and of each procedure, by its number, whether its body
--- is frugal.
+-- What frugal bodies go by: the types of the program, of each record type with controlled parts, by its number among these, whether its objects begin quietly, and of
+-- each procedure, by its number, whether its body is frugal.
 pub record Thrift : Type 0 where
   pub types : List TypeForm
-  pub ends_parts : Bool
+  pub begun : List Bool
   pub procedures : List Bool
-
--- Such a body may free objects of an access type (13.11.2): they have no controlled parts, or it may free those that have some.
-abbrev pub may_end : Thrift → (access : ℕ) → Bool
-may_end thrift access = thrift.ends_parts || has_bare_objects thrift.types access
 
 module _ (thrift : Thrift) where
   abbrev mutual
-    -- A statement assigns no record with controlled parts as a whole (5.2), allocates no object with some (4.8), frees none with some unless it may (13.11.2), and calls
-    -- procedures with frugal bodies alone (6.4).
+    -- A statement assigns no record with controlled parts as a whole (5.2), allocates no object that begins otherwise (4.8), and calls procedures with frugal bodies alone
+    -- (6.4).
     pub is_frugal_stmt : StmtForm → Bool
     is_frugal_stmt skips = true
-    is_frugal_stmt (assigns target right) = allocates_bare thrift.types right
+    is_frugal_stmt (assigns target right) = allocates_quietly thrift.types thrift.begun right
     is_frugal_stmt (assigns_record target items) = not (is_some (finalization_of thrift.types target.record_type))
-    is_frugal_stmt (frees access path) = may_end thrift access
+    is_frugal_stmt (frees access path) = true
     is_frugal_stmt (gets target) = true
     is_frugal_stmt (writes e) = true
     is_frugal_stmt (writes_text text) = true
@@ -53,7 +59,7 @@ module _ (thrift : Thrift) where
     is_frugal_stmt (calls procedure actuals) = slice_index_or thrift.procedures procedure false
     is_frugal_stmt (returns spot) = true
     is_frugal_stmt (raises e) = true
-    is_frugal_stmt (encloses ds fs hs) = are_frugal_declarations thrift.types ds && are_frugal fs && are_frugal_handlers hs
+    is_frugal_stmt (encloses ds fs hs) = are_frugal_declarations thrift.types thrift.begun ds && are_frugal fs && are_frugal_handlers hs
 
     -- So it is with statements.
     pub are_frugal : StmtsForm → Bool
@@ -72,25 +78,25 @@ module _ (thrift : Thrift) where
 
 -- All of a body is so.
 abbrev pub is_frugal_body : Thrift → BodyForm → Bool
-is_frugal_body thrift b = are_frugal_declarations thrift.types b.declarations && are_frugal thrift b.statements && are_frugal_handlers thrift b.handlers
+is_frugal_body thrift b = are_frugal_declarations thrift.types thrift.begun b.declarations && are_frugal thrift b.statements && are_frugal_handlers thrift b.handlers
 
 -- Of these procedures, behind others: each calls those before it.
-abbrev pub frugal_from : List TypeForm → (ends_parts : Bool) → (frugal : List Bool) → List BodyForm → List Bool
-frugal_from types ends frugal [] = frugal
-frugal_from types ends frugal (b ∷ bs) = frugal_from types ends (frugal ++ is_frugal_body (record { types = types; ends_parts = ends; procedures = frugal }) b ∷ []) bs
+abbrev pub frugal_from : List TypeForm → (begun : List Bool) → (frugal : List Bool) → List BodyForm → List Bool
+frugal_from types begun frugal [] = frugal
+frugal_from types begun frugal (b ∷ bs) = frugal_from types begun (frugal ++ is_frugal_body (record { types = types; begun = begun; procedures = frugal }) b ∷ []) bs
 
 -- Of the procedures of a program.
-abbrev pub frugal_procedures : ProgramForm → (ends_parts : Bool) → List Bool
-frugal_procedures p ends = frugal_from p.types ends [] p.bodies
+abbrev pub frugal_procedures : ProgramForm → List Bool
+frugal_procedures p = frugal_from p.types (quietly_begun_types p) [] p.bodies
 
 -- What the frugal bodies of a program go by.
-abbrev pub thrift_of : ProgramForm → (ends_parts : Bool) → Thrift
-thrift_of p ends = record { types = p.types; ends_parts = ends; procedures = frugal_procedures p ends }
+abbrev pub thrift_of : ProgramForm → Thrift
+thrift_of p = record { types = p.types; begun = quietly_begun_types p; procedures = frugal_procedures p }
 
 -- What overrides an operation has such a body, if one is overridden (7.6).
-abbrev pub is_frugal_operation : ProgramForm → (ends_parts : Bool) → Option ProcedureNo → Bool
-is_frugal_operation p ends None = true
-is_frugal_operation p ends (Some procedure) = slice_index_or (frugal_procedures p ends) procedure.0 false
+abbrev pub is_frugal_operation : ProgramForm → Option ProcedureNo → Bool
+is_frugal_operation p None = true
+is_frugal_operation p (Some procedure) = slice_index_or (frugal_procedures p) procedure.0 false
 
 -- What the procedures of a program may raise, but for what is called implicitly: in frugal bodies that is Finalize alone, out of which no exception comes.
 abbrev pub own_effects : ProgramForm → Effects

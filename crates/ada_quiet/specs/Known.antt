@@ -13,13 +13,14 @@ use Rattle.ada_quiet.specs.declared.components.Held.{Held}
 use Rattle.ada_quiet.specs.declared.known.Known.{Known}
 use Rattle.ada_quiet.specs.Frugal.{Thrift, frugal_procedures, own_effects}
 
--- It is what the definitions say: which bodies are frugal, where they free no object with controlled parts, and where they may free some; and what each may raise.
+-- It is what the definitions say: which bodies are frugal, and what each may raise.
 abbrev pub IsKnown : ProgramForm → Known → Type 0
-IsKnown p known = (known.sparing.now ≡ frugal_procedures p false) × (known.ending.now ≡ frugal_procedures p true) × (effects_in known.effects ≡ own_effects p)
+IsKnown p known = (known.frugal.now ≡ frugal_procedures p) × (effects_in known.effects ≡ own_effects p)
 
--- What frugal bodies go by, as the code holds it: the types, whether bodies may free objects with controlled parts, and of each procedure whether its body is frugal.
-abbrev pub thrift_in : List TypeDefinition → (ends_parts : Bool) → (frugal : List Bool) → Thrift
-thrift_in types ends frugal = record { types = types_in types; ends_parts = ends; procedures = frugal }
+-- What frugal bodies go by, as the code holds it: the types, of each record type with controlled parts whether its objects begin quietly, and of each procedure whether its
+-- body is frugal.
+abbrev pub thrift_in : List TypeDefinition → (begun : List Bool) → (frugal : List Bool) → Thrift
+thrift_in types begun frugal = record { types = types_in types; begun = begun; procedures = frugal }
 
 -- The procedure or the type of a number is marked. None behind the last mark is.
 abbrev pub is_marked : (marks : List Bool) → (number : ℕ) → Bool

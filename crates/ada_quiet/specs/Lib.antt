@@ -14,6 +14,8 @@ pub mod Simple
 pub mod Apart
 -- programs that call no operation
 pub mod Idle
+-- components of records that free objects
+pub mod Releases
 -- what is in use
 pub mod InUse
 -- what is known of all bodies, as the code holds it

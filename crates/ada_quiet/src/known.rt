@@ -1,5 +1,4 @@
-//! What is known of all bodies of a program: which are frugal, where none may free objects with controlled parts and where some may, and
-//! what they may raise, each by what is known of those before it.
+//! What is known of all bodies of a program: which are frugal, and what they may raise, each by what is known of those before it.
 
 ghost use Rattle.std.specs.Prelude.{◌≡◌, ◌++◌, ◌∷◌, [], IfOk, OnOk};
 ghost use Rattle.ada_effects.specs.Effects.{effect_of as effect_by, effects_from, known_of};
@@ -8,6 +7,7 @@ ghost use Rattle.ada_program.specs.Kept.{types_in};
 ghost use Rattle.ada_program.specs.ProgramForm.{body_form, program_form};
 ghost use Rattle.ada_quiet.specs.Frugal as rules;
 
+use crate::calm::quietly_begun_types;
 use crate::frugal::{Thrift, is_frugal_body};
 use ada_effects::{Effect, Effects, Implicit, effect_of};
 use ada_program::Program;
@@ -17,31 +17,29 @@ use std::alloc::{AllocError, Global};
 /// What is known of all bodies of a program.
 #[derive(Clone, Copy)]
 pub(crate) struct Known<'a> {
-    /// Of each procedure, by its number, whether its body is frugal, where none may free objects with controlled parts.
-    pub(crate) sparing: &'a [bool],
-    /// Of each one, whether it is, where some may.
-    pub(crate) ending: &'a [bool],
+    /// Of each procedure, by its number, whether its body is frugal.
+    pub(crate) frugal: &'a [bool],
     /// What each may raise, but for what is called implicitly.
     pub(crate) effects: Effects<'a>,
 }
 
-/// Of each procedure, by its number, whether its body is frugal, where objects with controlled parts may be freed or may not: it calls those
-/// before it. Linear in the bodies.
+/// Of each procedure, by its number, whether its body is frugal: it calls those before it. Linear in the types, their components, and the
+/// bodies.
 ///
 /// # Errors
 /// `AllocError` where memory was refused.
 pub(crate) fn frugal_procedures(
     alloc: Global,
     program: &Program,
-    ends_parts: bool,
 ) -> Result<Vec<bool>, AllocError>
-    ensures { IfOk result (λ frugal. frugal.items ≡ rules.frugal_procedures (program_form program.now) ends_parts) }
+    ensures { IfOk result (λ frugal. frugal.items ≡ rules.frugal_procedures (program_form program.now)) }
 {
+    let begun = quietly_begun_types(alloc, program)?;
     let mut frugal = Vec::new(alloc);
     'procedures: for procedure in &program.procedures {
         let thrift = Thrift {
             types: &program.types,
-            ends_parts,
+            begun: &begun,
             procedures: &frugal,
         };
         let is_frugal = is_frugal_body(thrift, procedure);

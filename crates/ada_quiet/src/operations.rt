@@ -1,6 +1,6 @@
 //! The bodies that override operations of controlled types (7.6), where they are plain, quiet, frugal or silent.
 
-ghost use Rattle.std.specs.Prelude.{◌≡◌, ◌&&◌, Bool, Some, is_some, map, not, IfOk};
+ghost use Rattle.std.specs.Prelude.{◌≡◌, ◌&&◌, Some, is_some, map, not, IfOk};
 ghost use Rattle.std.specs.List.{list_any, slice_get};
 ghost use Rattle.ada_program.specs.Kept.{types_in};
 ghost use Rattle.ada_program.specs.ProgramForm.{ProgramForm, part_form, program_form, type_form};
@@ -51,9 +51,9 @@ pub(crate) fn is_quiet_operation(
     is_quiet_body(alloc, &program.types, procedure)
 }
 
-/// Whether it has a frugal one, by the procedures whose bodies are so where objects with controlled parts may be freed, or may not.
+/// Whether it has a frugal one, by the procedures whose bodies are so.
 pub(crate) fn is_frugal_operation(procedures: &[bool], operation: Option<ProcedureNo>) -> bool
-    ensures { (p : ProgramForm) (ends : Bool) → procedures.now ≡ frugal.frugal_procedures p ends → result ≡ frugal.is_frugal_operation p ends operation }
+    ensures { (p : ProgramForm) → procedures.now ≡ frugal.frugal_procedures p → result ≡ frugal.is_frugal_operation p operation }
 {
     match operation {
         None => true,

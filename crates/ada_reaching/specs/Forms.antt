@@ -1,8 +1,8 @@
 -- Bodies that shun some access types (3.10): they follow no value of one (4.1) and free none (13.11.2), and call procedures alone whose bodies do so. They
 -- may move such values, store them, compare them with null, pass them, and copy them with records that have no controlled parts (7.6). They declare no record
--- object, create no collection and no pool, and allocate objects without controlled parts alone; of some access types they may free objects with such parts.
+-- object, and create no collection and no pool; objects with controlled parts they may free of some access types, and allocate of some by default.
 
-use Rattle.std.specs.Prelude.{ℕ, Bool, true, false, not, ◌&&◌, List, [], ◌∷◌, Option, Some, None, is_some}
+use Rattle.std.specs.Prelude.{ℕ, Bool, true, false, not, ◌&&◌, ◌||◌, List, [], ◌∷◌, Option, Some, None, is_some}
 use Rattle.std.specs.List.{list_all}
 use Rattle.ada_program.specs.Form.{PathForm, RecordPathForm, ActualForm, in_value, in_null, in_access, in_record, in_out_path, in_out_access, in_out_component, in_out_record, ExpressionForm, integer, boolean, reads, is_null, applied_to, chained, LinksForm, no_more_links, a_link, ItemForm, null_item, item_of_path, item_of_value, item_of_record, RightForm, nothing, value_of, allocates, allocates_default, computes, DeclarationForm, creates_pool, collects, declares, declares_record, StmtForm, skips, assigns, assigns_record, frees, gets, writes, writes_text, chooses, repeats, counts, exits, calls, returns, raises, encloses, StmtsForm, no_stmts, a_stmt, BranchesForm, otherwise, a_branch, HandlersForm, no_handlers, a_handler}
 use Rattle.ada_program.specs.declared.program.VariableKind.{VariableKind}
@@ -27,6 +27,10 @@ may_end apart (Some variable.Integer) = true
 may_end apart (Some variable.Boolean) = true
 may_end apart (Some (variable.Access access)) = apart.ends access.0
 may_end apart (Some (variable.Record object)) = true
+
+-- An object of an access type may be allocated by default (4.8): it has no controlled parts, or those with some may be.
+abbrev pub may_start : List TypeForm → Apart → (access : ℕ) → Bool
+may_start types apart access = has_bare_objects types access || apart.starts access
 
 -- Selectors follow no value that is shunned: each follows the value in front of it, and the last value is not followed (4.1.3).
 abbrev pub selectors_shun : List TypeForm → (shuns : ℕ → Bool) → Option VariableKind → (selectors : List ℕ) → Bool
@@ -70,12 +74,13 @@ module _ (types : List TypeForm) (shuns : ℕ → Bool) (apart : Apart) (variabl
   item_shuns (item_of_value e) = expression_shuns e
   item_shuns (item_of_record q) = record_path_shuns q
 
-  -- Those of what is assigned do not, and a new object has no controlled parts (5.2, 4.8).
+  -- Those of what is assigned do not; a new object has no controlled parts, or is initialized by default, and is of an access type of which some may be allocated
+  -- (5.2, 4.8).
   abbrev pub right_shuns : RightForm → Bool
   right_shuns nothing = true
   right_shuns (value_of path) = path_shuns path
   right_shuns (allocates access items) = has_bare_objects types access && list_all item_shuns items
-  right_shuns (allocates_default access) = has_bare_objects types access
+  right_shuns (allocates_default access) = may_start types apart access
   right_shuns (computes e) = expression_shuns e
 
   -- Those of an actual parameter do not (6.4.1).

@@ -1,5 +1,6 @@
 -- Bodies run that shun some access types, while some objects are there, the ghosts: objects of these types, and unnamed ones, declared record objects that no
--- value of the bodies names. What is left of the bodies, and of the finalizations of what they free, shuns the types, and refers to no ghost.
+-- value of the bodies names. What is left of the bodies, of the finalizations of what they free, and of the initializations of what they allocate, shuns the types, and
+-- refers to no ghost.
 
 use Rattle.std.specs.Prelude.{◌≡◌, ◌⊎◌, ℕ, Bool, true, false, not, ◌&&◌, List, [], ◌∷◌, Option, Some}
 use Rattle.std.specs.List.{list_all, slice_get}
@@ -11,16 +12,19 @@ use Rattle.ada_meaning.specs.declared.state.Mode.{Mode}
 use Rattle.ada_meaning.specs.declared.state.Mode.TheVariants.{Running}
 use Rattle.ada_meaning.specs.declared.state.Value.{Value}
 use Rattle.ada_meaning.specs.declared.state.Value.TheVariants.{Null, Names, Scalar, Part}
+use Rattle.ada_parts.specs.declared.tasks.Direction.TheVariants.{PartsFirst, WholeFirst}
+use Rattle.ada_parts.specs.Part as parts
 use Rattle.ada_parts.specs.Task.{Task}
+use Rattle.ada_meaning.specs.declared.event.Birth.{Birth}
+use Rattle.ada_meaning.specs.declared.event.Birth.TheVariants.{Creation}
 use Rattle.ada_meaning.specs.Frame.{Frame, Treatment, begins, ends, is_return}
 use Rattle.ada_meaning.specs.Frame as frame
 use Rattle.ada_meaning.specs.State.{Activation}
 use Rattle.ada_meaning.specs.Step.{operands_of, older, places_of, procedure_of}
 use Rattle.ada_meaning.specs.Named.{Object, State, object_at}
-use Rattle.ada_quiet.specs.Bare.{has_bare_objects}
 use Rattle.ada_untouched.specs.Untouched.{IsInSight}
-use Rattle.ada_reaching.specs.Apart.{Apart, IsLeftOf}
-use Rattle.ada_reaching.specs.Forms.{may_follow, may_end, selectors_shun, record_path_shuns, path_shuns, expression_shuns, links_shun, condition_shuns, item_shuns, right_shuns, declarations_shun, statements_shun, branches_shun, handlers_shun, body_shuns}
+use Rattle.ada_reaching.specs.Apart.{Apart, AreBegunIn, AreUndoneIn, IsBegunIn, IsLeftOf}
+use Rattle.ada_reaching.specs.Forms.{may_follow, may_end, may_start, selectors_shun, record_path_shuns, path_shuns, expression_shuns, links_shun, condition_shuns, item_shuns, right_shuns, declarations_shun, statements_shun, branches_shun, handlers_shun, body_shuns}
 
 -- An object is there, and is of an access type that is shunned (3.10).
 pub record IsOfShunned (types : List TypeForm) (shuns : ℕ → Bool) (found : Option Object) : Type 0 where
@@ -80,13 +84,32 @@ abbrev pub IsInFront : Frame Value → (behind : List (Frame Value)) → Type 0
 IsInFront (frame.Follows cs) k = Unit {0}
 IsInFront f k = begins_anew k ≡ true
 
--- What is left of the treatment of an object is that of the finalization of one that the bodies may free (7.6.1, 13.11.2).
-abbrev pub EndsApart : Apart → Treatment → List Task → Type 0
-EndsApart apart (begins by done) tasks = ⊥
-EndsApart apart (ends cause) tasks = (access : ℕ) × (apart.ends access ≡ true) × IsLeftOf apart.definitions access tasks
+-- What is left of the initialization of an object is that of one that the bodies may allocate (7.6, 4.8), of which these parts have begun.
+pub record StartsApart (apart : Apart) (by : Birth) (done : List parts.Part) (tasks : List Task) : Type 0 where
+  pub access : ℕ
+  pub may : apart.starts access ≡ true
+  pub created : by ≡ Creation
+  pub left : IsLeftOf apart.definitions PartsFirst access tasks
+  pub begun : AreBegunIn apart.definitions access done
 
--- What a frame holds of a body with these variables shuns the types, and names no ghost where it stores, clears, finalizes, ends or gives back. Nothing begins a
--- record, and what is created or assigned to has no controlled parts.
+-- What is left of the finalization of an object is that of one that the bodies may free (7.6.1, 13.11.2), or that of what has begun of one that they may allocate.
+abbrev pub EndsApart : Apart → List Task → Type 0
+EndsApart apart tasks =
+    (access : ℕ) × (((apart.ends access ≡ true) × IsLeftOf apart.definitions WholeFirst access tasks)
+    ⊎ ((apart.starts access ≡ true) × AreUndoneIn apart.definitions access tasks))
+
+-- So it is with what is left of the treatment of an object.
+abbrev pub TreatsApart : Apart → Treatment → List Task → Type 0
+TreatsApart apart (begins by done) tasks = StartsApart apart by done tasks
+TreatsApart apart (ends cause) tasks = EndsApart apart tasks
+
+-- The operation runs that begins a part of such an object, behind which this is left.
+pub record AwaitsApart (apart : Apart) (by : Birth) (done : List parts.Part) (of part : ℕ) (tasks : List Task) : Type 0 where
+  pub starts : StartsApart apart by done tasks
+  pub begins : IsBegunIn apart.definitions starts.access of part
+
+-- What a frame holds of a body with these variables shuns the types, and names no ghost where it stores, clears, begins, finalizes, ends or gives back. What is assigned
+-- to has no controlled parts, and neither has what is created, unless such objects may be.
 module _ (types : List TypeForm) (shuns : ℕ → Bool) (apart : Apart) (bodies : List BodyForm) (ghosts : Id → Bool) (variables : List VariableForm) where
   abbrev pub FrameShuns : Frame Value → Type 0
   FrameShuns (frame.Elaborates ds fs hs) =
@@ -107,16 +130,15 @@ module _ (types : List TypeForm) (shuns : ℕ → Bool) (apart : Apart) (bodies 
   FrameShuns (frame.Continues links) = links_shun types shuns apart variables links ≡ true
   FrameShuns (frame.Fills items) = list_all (item_shuns types shuns apart variables) items ≡ true
   FrameShuns (frame.Copies c t) = Unit {0}
-  FrameShuns (frame.Creates access count) = has_bare_objects types access ≡ true
+  FrameShuns (frame.Creates access count) = may_start types apart access ≡ true
   FrameShuns (frame.Targets c right) = right_shuns types shuns apart variables right ≡ true
   FrameShuns (frame.StoresIn v c) = IsInSight ghosts v
   FrameShuns (frame.TargetsRecord c t items) = list_all (item_shuns types shuns apart variables) items ≡ true
   FrameShuns (frame.StoresRecord v c count) = IsInSight ghosts v
   FrameShuns (frame.Assigns t) = ⊥
   FrameShuns (frame.DeclaresRecord x t) = ⊥
-  FrameShuns (frame.Treats v treatment tasks) = IsInSight ghosts v × EndsApart apart treatment tasks
-  FrameShuns (frame.Awaits v by done of part tasks) = ⊥
-  FrameShuns (frame.Resumes mode) = ⊥
+  FrameShuns (frame.Treats v treatment tasks) = IsInSight ghosts v × TreatsApart apart treatment tasks
+  FrameShuns (frame.Awaits v by done of part tasks) = IsInSight ghosts v × AwaitsApart apart by done of part tasks
   FrameShuns (frame.Ends v) = IsInSight ghosts v
   FrameShuns (frame.GivesBack v cause pool) = IsInSight ghosts v
   FrameShuns (frame.ClearsIn v c) = IsInSight ghosts v

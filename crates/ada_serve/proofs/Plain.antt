@@ -155,10 +155,10 @@ module _ (program : Program) (well : IsWellFormed (program_form program)) where
       let handlers = are_frugal_handlers thrift b.handlers in
       declarations_frugal b.declarations (left_of declarations statements (left_of (declarations && statements) handlers frugal))
 
-  procedure_frugal : (ends : Bool) (n : ℕ) (found : Option BodyForm) → slice_index_or (frugal_procedures p ends) n false ≡ true → slice_get p.bodies n ≡ found →
+  procedure_frugal : (ends : Bool) (n : ℕ) (found : Option BodyForm) → slice_index_or (frugal_procedures p) n false ≡ true → slice_get p.bodies n ≡ found →
       body_creates tds found ≡ false
   procedure_frugal ends n None frugal at = refl
-  procedure_frugal ends n (Some b) frugal at = body_frugal ends (frugal_procedures p ends) b (frugal_at p ends n b frugal at)
+  procedure_frugal ends n (Some b) frugal at = body_frugal ends (frugal_procedures p) b (frugal_at p ends n b frugal at)
 
   operation_frugal : (ends : Bool) (o : Option ProcedureNo) → is_frugal_operation p ends o ≡ true → operation_creates tds p.bodies o ≡ false
   operation_frugal ends None frugal = refl
@@ -177,20 +177,20 @@ module _ (program : Program) (well : IsWellFormed (program_form program)) where
   -- So it is with an Initialize and a Finalize that are in use.
   initialize_used : (o : Option ProcedureNo) → uses_initialize p o ≡ true → operation_creates tds p.bodies o ≡ false
   initialize_used o used =
-      operation_either p tds o (is_plain_operation p o) (may_be_frugal p && is_frugal_operation p false o) (operation_plain p tds o)
-      (λ both. operation_frugal false o (right_of (may_be_frugal p) (is_frugal_operation p false o) both)) used
+      operation_either p tds o (is_plain_operation p o) (may_be_frugal p && is_frugal_operation p o) (operation_plain p tds o)
+      (λ both. operation_frugal false o (right_of (may_be_frugal p) (is_frugal_operation p o) both)) used
 
   finalize_used : (o : Option ProcedureNo) → uses_finalize p o ≡ true → operation_creates tds p.bodies o ≡ false
   finalize_used o used =
-      let frugal = may_be_frugal p && is_frugal_operation p true o in
+      let frugal = may_be_frugal p && is_frugal_operation p o in
       operation_either p tds o (is_quiet_operation p o) (frugal && is_silent_operation p o) (λ quiet. operation_plain p tds o (plain_operation p o quiet))
-      (λ both. operation_frugal true o (right_of (may_be_frugal p) (is_frugal_operation p true o) (left_of frugal (is_silent_operation p o) both))) used
+      (λ both. operation_frugal true o (right_of (may_be_frugal p) (is_frugal_operation p o) (left_of frugal (is_silent_operation p o) both))) used
 
   -- So it is with an Adjust that is in use: it is simple, where it may track, or quiet.
   adjust_used : (owns : Bool) (o : Option ProcedureNo) → uses_adjust p owns o ≡ true → operation_creates tds p.bodies o ≡ false
   adjust_used owns o used =
-      operation_either p tds o (adjusts_nothing p && is_frugal_operation p true o) (uses_called_adjust p owns o)
-      (λ nothing. operation_frugal true o (right_of (adjusts_nothing p) (is_frugal_operation p true o) nothing))
+      operation_either p tds o (adjusts_nothing p && is_frugal_operation p o) (uses_called_adjust p owns o)
+      (λ nothing. operation_frugal true o (right_of (adjusts_nothing p) (is_frugal_operation p o) nothing))
       (λ called. by (owns && is_some (operation_body p o)) called) used
     where
       by : (tracks : Bool)

@@ -24,8 +24,8 @@ use Rattle.ada_tracked.specs.Simple.{FrameIsSimple}
 use Rattle.ada_tracked.specs.Staying.{BodyIsSimple, IsWithinBody, StaysSimple, at_once, behind_treatment}
 use Rattle.ada_typed.proofs.Kept.{behind_call, crosses as crosses_by, Behind, Each, is_treatment, Keeps}
 use Rattle.ada_typed.proofs.KeptSteps.{pass_keeps, step_keeps}
-use Rattle.ada_quiet.specs.Frugal.{Thrift}
-use Rattle.ada_sound.proofs.FrugalBodies.{calling_none}
+use Rattle.ada_sound.proofs.Marks.{Marks, marks_of}
+use Rattle.ada_sound.proofs.Marks.{simple_marks}
 use Rattle.ada_sound.proofs.FrugalControl.{Frugal, FrugalLeads, FrugalLeaves, is_return_first}
 use Rattle.ada_sound.proofs.FrugalSteps.{is_call_first, treats_none}
 use Rattle.ada_sound.proofs.Invariant.{Control}
@@ -38,18 +38,18 @@ calls_or_copies (Elaborates (declares_record x t initial ∷ ds) fs hs ∷ k) = 
 calls_or_copies k = false
 
 -- Not in a frugal body, where no procedure is called frugal.
-leads_on : (types : List TypeForm) (behind k : Control) (ms : List Master) → FrugalLeads (calling_none types) behind k ms → calls_or_copies k ≡ false
+leads_on : (types : List TypeForm) (behind k : Control) (ms : List Master) → FrugalLeads (simple_marks types) behind k ms → calls_or_copies k ≡ false
 leads_on types behind (Does (a_stmt (calls procedure actuals) fs) ∷ k) ms q = absurd (cc (q.0))
 leads_on types behind (Elaborates (declares_record x t initial ∷ ds) fs hs ∷ k) [] q = absurd q
 leads_on types behind (Elaborates (declares_record x t initial ∷ ds) fs hs ∷ k) (m ∷ ms) q = absurd (cc (q.0.0))
 leads_on types behind k ms q = refl
 
-leaves_on : (types : List TypeForm) (behind k : Control) (ms : List Master) → FrugalLeaves (calling_none types) behind k ms → calls_or_copies k ≡ false
+leaves_on : (types : List TypeForm) (behind k : Control) (ms : List Master) → FrugalLeaves (simple_marks types) behind k ms → calls_or_copies k ≡ false
 leaves_on types behind [] ms q = refl
 leaves_on types behind (Leaves left ∷ k) ms q = refl
 leaves_on types behind (f ∷ k) ms q = absurd q
 
-pub frugal_alone : (types : List TypeForm) (behind : Control) (mode : Mode) (k : Control) (ms : List Master) → Frugal (calling_none types) behind mode k ms → calls_or_copies k ≡ false
+pub frugal_alone : (types : List TypeForm) (behind : Control) (mode : Mode) (k : Control) (ms : List Master) → Frugal (simple_marks types) behind mode k ms → calls_or_copies k ≡ false
 frugal_alone types behind mode k ms (inl q) = leads_on types behind k ms q
 frugal_alone types behind mode k ms (inr (runs, q)) = leaves_on types behind k ms q
 
@@ -275,7 +275,7 @@ module _ (types : List TypeDefinition) (bodies : List BodyForm) (w : View) where
   no_treatment (freeing access) c k l v treatment tasks e = absurd (cc e)
 
   -- So none is, where the other one is frugal, and frees no objects with controlled parts.
-  treated_not : (marks : Thrift) → marks.ends_parts ≡ false → (back : Control) (s t : State) (ms : List Master) (v : Value) (treatment : frame.Treatment) (tasks : List Task) (k : Control) → Seen types bodies w s t → Frugal marks back t.mode t.control ms → s.control ≡ frame.Treats v treatment tasks ∷ k → ⊥
+  treated_not : (marks : Marks) → marks.ends_parts ≡ false → (back : Control) (s t : State) (ms : List Master) (v : Value) (treatment : frame.Treatment) (tasks : List Task) (k : Control) → Seen types bodies w s t → Frugal marks back t.mode t.control ms → s.control ≡ frame.Treats v treatment tasks ∷ k → ⊥
   treated_not marks none_parts back s t ms v treatment tasks k (plainly others is) frugal e =
       let control : t.control ≡ frame.Treats v treatment tasks ∷ seen_control w k = rw (is, e) refl in
       treats_none marks none_parts back t.mode t.control ms frugal v treatment tasks (seen_control w k) control
@@ -286,7 +286,7 @@ module _ (types : List TypeDefinition) (bodies : List BodyForm) (w : View) where
       no_treatment waiting c (Does fs ∷ j) k v treatment tasks (sym control_is ∙ e)
 
   -- So what is left to do stays simple.
-  pub simple_still : (marks : Thrift) → marks.ends_parts ≡ false → (back : Control) (s t : State) (ms : List Master) → Seen types bodies w s t → Frugal marks back t.mode t.control ms → StaysSimple w.tracks.first s.control → BodyIsSimple w.tracks.first s.control
+  pub simple_still : (marks : Marks) → marks.ends_parts ≡ false → (back : Control) (s t : State) (ms : List Master) → Seen types bodies w s t → Frugal marks back t.mode t.control ms → StaysSimple w.tracks.first s.control → BodyIsSimple w.tracks.first s.control
   simple_still marks none_parts back s t ms seen frugal (at_once simple) = simple
   simple_still marks none_parts back s t ms seen frugal (behind_treatment v treatment tasks k is simple) = absurd (treated_not marks none_parts back s t ms v treatment tasks k seen frugal is)
 

@@ -180,8 +180,8 @@ module _
     simple_so : is_simple_body p.types true c.b ≡ true
     simple_so = simple_with p.types (adjusts_alone p) c.b tracks.1
 
-    frugal : is_frugal_body (thrift_of p false) c.b ≡ true
-    frugal = simple_frugal (thrift_of p false) c.b simple_so
+    frugal : is_frugal_body (thrift_of p) c.b ≡ true
+    frugal = simple_frugal (thrift_of p) c.b simple_so
 
     -- What the waiting activation sees, and the body.
     known_types : (known_in program a.procedure gs).program.types ≡ p.types

@@ -64,7 +64,7 @@ module _ (program : Program) (well : IsWellFormed (program_form program)) where
       walked_bare p.types t first part (slice_get p.types access) (lie.1 (some_parts p.types well.types_fit t (slice_get p.types t) f refl is)) (ap (λ (o : Option Finalization). is_some o) is)
 
   -- What a frugal body may free, or one that it calls, has none, where these may free nothing with some.
-  pub frugal_frees_bare : (number : ℕ) (b : BodyForm) → slice_get p.bodies number ≡ Some b → is_frugal_body (thrift_of p false) b ≡ true → (t : ℕ) → CoveredIn (implicit_of p) (seen_in (Some number) p) t → has_bare_objects p.types t ≡ true
+  pub frugal_frees_bare : (number : ℕ) (b : BodyForm) → slice_get p.bodies number ≡ Some b → is_frugal_body (thrift_of p) b ≡ true → (t : ℕ) → CoveredIn (implicit_of p) (seen_in (Some number) p) t → has_bare_objects p.types t ≡ true
   frugal_frees_bare number b there frugal t covered = covered_bare p well number b there frugal t covered
 
   -- Nothing has controlled parts that is allocated, where operations may be frugal and collections are not created in order.

@@ -1,6 +1,8 @@
 -- The body of an operation runs that touches storage, a frugal one (7.6, 7.6.1, 13.11.2), or one that it calls (6.4), or the operation of an object that it frees: what
--- is left before its end. Nothing in that is adjusted or initialized; where bodies may free objects with controlled parts, these are finalized.
+-- is left before its end. Nothing in that is adjusted; what bodies allocate is initialized first, and begins quietly; where they may free objects with controlled parts,
+-- these are finalized.
 
+use Rattle.std.specs.Prelude.{Some}
 use Rattle.std.proofs.Common.{◌≡◌, ℕ, suc, ◌≤◌, Bool, true, false, List, [], ◌∷◌, ◌++◌, length, refl, sym, ap, subst, ◌⊎◌, inl, inr, arith}
 use Rattle.ada_program.specs.Form.{ActualForm}
 use Rattle.ada_finalized.specs.Law.{NoOperationRunsOn, finalized_before}
@@ -8,19 +10,23 @@ use Rattle.ada_program.specs.ProgramForm.{BodyForm}
 use Rattle.ada_meaning.specs.declared.state.Value.{Value}
 use Rattle.ada_meaning.specs.declared.state.Mode.{Mode}
 use Rattle.ada_meaning.specs.declared.state.Mode.TheVariants.{Running}
+use Rattle.ada_meaning.specs.declared.event.Birth.{Birth}
+use Rattle.ada_meaning.specs.declared.event.Birth.TheVariants.{Creation, Copy, Adjustment}
+use Rattle.ada_meaning.specs.declared.state.Id.{Id}
+use Rattle.ada_meaning.specs.declared.state.Value.TheVariants.{Names}
 use Rattle.ada_meaning.specs.declared.event.Cause.TheVariants.{Leaving, Freeing, Assigning, Undoing}
 use Rattle.ada_meaning.specs.Frame.{Frame, is_return, Elaborates, Does, Decides, Repeats, Turns, Ranges, Counts, Exits, Handles, Closes, Leaves, Calls, Returns, Evaluates, Computes, Follows, TestsNull, Refers, RefersIn, Opens, OpensIn, Continues, Applies, AppliesAlone, Stores, Targets, StoresIn, TargetsRecord, StoresRecord, Receives, Fills, Copies, Creates, FreesIn, Declares, Writes, Ends, GivesBack, Clears, ClearsIn, Treatment, begins, ends}
 use Rattle.ada_meaning.specs.Frame as frame
 use Rattle.ada_meaning.specs.State.{Master}
 use Rattle.ada_meaning.specs.Step.{operating, treating, halts, moves, tells, asks, picks}
-use Rattle.ada_meaning.specs.Named.{State, Next, named}
+use Rattle.ada_meaning.specs.Named.{Object, State, Next, named, object_at}
 use Rattle.ada_parts.specs.Task.{Task}
-use Rattle.ada_quiet.specs.Bare.{allocates_bare, has_bare_objects}
-use Rattle.ada_quiet.specs.Frugal.{Thrift, may_end, are_frugal_declarations, are_frugal, are_frugal_branches, are_frugal_handlers, is_frugal_body}
+use Rattle.ada_quiet.specs.Calm.{has_calm_objects}
+use Rattle.ada_quiet.specs.Frugal.{allocates_quietly, are_frugal_declarations}
 use Rattle.ada_typed.proofs.Control.{is_operation}
 use Rattle.ada_typed.proofs.Kept.{is_treatment}
 use Rattle.ada_sound.proofs.Invariant.{Control, IsAwaited}
-use Rattle.ada_sound.proofs.FrugalBodies.{frugal_parts}
+use Rattle.ada_sound.proofs.Marks.{Marks, may_end, are_thrifty, are_thrifty_branches, are_thrifty_handlers, is_thrifty_body, thrifty_parts}
 use Rattle.ada_sound.proofs.Operating.{OwnVariables}
 
 -- An object ends that is freed (13.11.2).
@@ -31,23 +37,37 @@ IsFreed (ends (Freeing number)) = Unit {0}
 IsFreed (ends (Assigning number)) = ⊥
 IsFreed (ends (Undoing number)) = ⊥
 
+-- Or it is finalized so, or initialized, in the body of another operation that frees or allocates it (4.8).
+abbrev pub IsInside : Treatment → Type 0
+IsInside (begins Creation done) = Unit {0}
+IsInside (begins Copy done) = ⊥
+IsInside (begins (Adjustment number) done) = ⊥
+IsInside (ends cause) = IsFreed (ends cause)
+
+-- A new object begins first.
+abbrev pub begins_first : Control → Bool
+begins_first [] = false
+begins_first (frame.Treats v (begins by done) tasks ∷ k) = true
+begins_first (frame.Awaits v by done of part tasks ∷ k) = true
+begins_first (f ∷ k) = false
+
 -- What the frugal bodies of the program go by.
-module _ (frugal : Thrift) where
-  -- What a frame of such a body does, or of one that it calls: what it allocates has no controlled parts, and what it frees has none, unless bodies may free others. While
-  -- a master is left, that is the first frame: below.
+module _ (frugal : Marks) where
+  -- What a frame of such a body does, or of one that it calls: what it allocates begins quietly, and what it frees has no controlled parts, unless bodies may free others.
+  -- While a master is left, or a new object begins, that is the first frame: below.
   abbrev pub FrugalFrame : Frame Value → Type 0
-  FrugalFrame (Elaborates ds fs hs) = (are_frugal_declarations frugal.types ds ≡ true) × (are_frugal frugal fs ≡ true) × (are_frugal_handlers frugal hs ≡ true)
-  FrugalFrame (Does fs) = (are_frugal frugal fs ≡ true)
-  FrugalFrame (Decides fs branches) = (are_frugal frugal fs ≡ true) × (are_frugal_branches frugal branches ≡ true)
-  FrugalFrame (Repeats condition fs) = (are_frugal frugal fs ≡ true)
-  FrugalFrame (Turns e fs) = (are_frugal frugal fs ≡ true)
-  FrugalFrame (Ranges x fs) = (are_frugal frugal fs ≡ true)
-  FrugalFrame (Counts x value last fs) = (are_frugal frugal fs ≡ true)
+  FrugalFrame (Elaborates ds fs hs) = (are_frugal_declarations frugal.types frugal.begun ds ≡ true) × (are_thrifty frugal fs ≡ true) × (are_thrifty_handlers frugal hs ≡ true)
+  FrugalFrame (Does fs) = (are_thrifty frugal fs ≡ true)
+  FrugalFrame (Decides fs branches) = (are_thrifty frugal fs ≡ true) × (are_thrifty_branches frugal branches ≡ true)
+  FrugalFrame (Repeats condition fs) = (are_thrifty frugal fs ≡ true)
+  FrugalFrame (Turns e fs) = (are_thrifty frugal fs ≡ true)
+  FrugalFrame (Ranges x fs) = (are_thrifty frugal fs ≡ true)
+  FrugalFrame (Counts x value last fs) = (are_thrifty frugal fs ≡ true)
   FrugalFrame Exits = Unit {0}
-  FrugalFrame (Handles hs) = (are_frugal_handlers frugal hs ≡ true)
+  FrugalFrame (Handles hs) = (are_thrifty_handlers frugal hs ≡ true)
   FrugalFrame Closes = Unit {0}
-  FrugalFrame (Calls number b actuals) = (is_frugal_body frugal b ≡ true)
-  FrugalFrame (Evaluates right) = (allocates_bare frugal.types right ≡ true)
+  FrugalFrame (Calls number b actuals) = (is_thrifty_body frugal b ≡ true)
+  FrugalFrame (Evaluates right) = (allocates_quietly frugal.types frugal.begun right ≡ true)
   FrugalFrame (Computes e) = Unit {0}
   FrugalFrame (Follows cs) = Unit {0}
   FrugalFrame (TestsNull equal) = Unit {0}
@@ -59,14 +79,14 @@ module _ (frugal : Thrift) where
   FrugalFrame (Applies operator) = Unit {0}
   FrugalFrame (AppliesAlone operator) = Unit {0}
   FrugalFrame (Stores x) = Unit {0}
-  FrugalFrame (Targets c right) = (allocates_bare frugal.types right ≡ true)
+  FrugalFrame (Targets c right) = (allocates_quietly frugal.types frugal.begun right ≡ true)
   FrugalFrame (StoresIn v c) = Unit {0}
   FrugalFrame (TargetsRecord first t items) = Unit {0}
   FrugalFrame (StoresRecord v first count) = Unit {0}
   FrugalFrame (Receives c) = Unit {0}
   FrugalFrame (Fills items) = Unit {0}
   FrugalFrame (Copies first t) = Unit {0}
-  FrugalFrame (Creates access count) = (has_bare_objects frugal.types access ≡ true)
+  FrugalFrame (Creates access count) = (has_calm_objects frugal.types frugal.begun access ≡ true)
   FrugalFrame (FreesIn access c) = (may_end frugal access ≡ true)
   FrugalFrame (Declares x) = Unit {0}
   FrugalFrame Writes = Unit {0}
@@ -106,22 +126,35 @@ module _ (frugal : Thrift) where
   FrugalLeaves behind (Leaves left ∷ k) (m ∷ ms) = FrugalLeads behind k ms
   FrugalLeaves behind (f ∷ k) ms = ⊥
 
+  -- An object is there that begins quietly, and behind it none of its operations runs.
+  abbrev pub BeginsQuietly : List Object → Value → Birth → Control → Type 0
+  BeginsQuietly heap v by k =
+      (by ≡ Creation) × NoOperationRunsOn v k
+      × ((o : Id) × (v ≡ Names o) × (x : Object) × (object_at heap o ≡ Some x) × (has_calm_objects frugal.types frugal.begun x.cell.access ≡ true))
+
+  -- Such an object begins first (4.8, 7.6), and then this is left to do.
+  abbrev pub FrugalBegins : (behind : Control) → List Object → Control → List Master → Type 0
+  FrugalBegins behind heap [] ms = ⊥
+  FrugalBegins behind heap (frame.Treats v (begins by done) tasks ∷ k) ms = BeginsQuietly heap v by k × FrugalLeads behind k ms
+  FrugalBegins behind heap (frame.Awaits v by done of part tasks ∷ k) ms = BeginsQuietly heap v by k × FrugalLeads behind k ms
+  FrugalBegins behind heap (f ∷ k) ms = ⊥
+
   -- What comes next in the body.
-  abbrev pub Frugal : (behind : Control) → Mode → Control → List Master → Type 0
-  Frugal behind mode k ms = FrugalLeads behind k ms ⊎ ((mode ≡ Running) × FrugalLeaves behind k ms)
+  abbrev pub Frugal : (behind : Control) → List Object → Mode → Control → List Master → Type 0
+  Frugal behind heap mode k ms = FrugalLeads behind k ms ⊎ ((mode ≡ Running) × (FrugalLeaves behind k ms ⊎ FrugalBegins behind heap k ms))
 
 -- Is the end of a body next?
 abbrev pub is_return_first : Control → Bool
 is_return_first [] = false
 is_return_first (f ∷ k) = is_return f
 
-module _ (marks : Thrift) (lower : List Master) (behind : Control) where
+module _ (marks : Marks) (lower : List Master) (behind : Control) where
   -- The body runs still, or one that it calls, in masters of their own that own variables alone.
   pub record Frugally (after : State) : Type 0 where
     pub upper : List Master
     pub masters : after.masters ≡ upper ++ lower
     pub own : OwnVariables upper
-    pub frugal : Frugal marks behind after.mode after.control upper
+    pub frugal : Frugal marks behind after.heap after.mode after.control upper
 
   -- So it does whatever comes next, if the run does not end.
   abbrev pub GoesFrugally : Next → Type 0
@@ -132,40 +165,40 @@ module _ (marks : Thrift) (lower : List Master) (behind : Control) where
   GoesFrugally (picks n taken) = (i : ℕ) → suc i ≤ n → Frugally (taken i)
 
 -- It begins, in a master of its own.
-pub frugal_begins : {mode : Mode} (frugal : Thrift) (b : BodyForm) → is_frugal_body frugal b ≡ true → (behind : Control) (m : Master) → Frugal frugal behind mode (Elaborates b.declarations b.statements b.handlers ∷ Returns [] [] ∷ behind) (m ∷ [])
-frugal_begins frugal b is behind m =
-    inl (frugal_parts frugal b is, inl ((refl, refl), refl, refl))
+pub frugal_begins : {mode : Mode} (heap : List Object) (frugal : Marks) (b : BodyForm) → is_thrifty_body frugal b ≡ true → (behind : Control) (m : Master) → Frugal frugal behind heap mode (Elaborates b.declarations b.statements b.handlers ∷ Returns [] [] ∷ behind) (m ∷ [])
+frugal_begins heap frugal b is behind m =
+    inl (thrifty_parts frugal b is, inl ((refl, refl), refl, refl))
 
 -- So it does as the operation of a part of an object.
-pub frugal_starts : (frugal : Thrift) (procedure : ℕ) (b : BodyForm) → is_frugal_body frugal b ≡ true → (reference : Value) (behind : Control) (s : State) → Frugally frugal s.masters behind (operating named procedure b reference behind s)
+pub frugal_starts : (frugal : Marks) (procedure : ℕ) (b : BodyForm) → is_thrifty_body frugal b ≡ true → (reference : Value) (behind : Control) (s : State) → Frugally frugal s.masters behind (operating named procedure b reference behind s)
 frugal_starts frugal procedure b is reference behind s = record {
   upper = record { number = s.next; items = [] } ∷ [];
   masters = refl;
   own = (tt, tt);
-  frugal = frugal_begins frugal b is behind (record { number = s.next; items = [] });
+  frugal = frugal_begins s.heap frugal b is behind (record { number = s.next; items = [] });
 }
 
 -- In front of what is left to do already, the body of another operation begins so.
 pub frugal_starts_inside :
-    (frugal : Thrift) (back : Control) (upper lower : List Master) (procedure : ℕ) (b : BodyForm) → is_frugal_body frugal b ≡ true → (reference : Value) (behind : Control) (s : State)
+    (frugal : Marks) (back : Control) (upper lower : List Master) (procedure : ℕ) (b : BodyForm) → is_thrifty_body frugal b ≡ true → (reference : Value) (behind : Control) (s : State)
     → s.masters ≡ upper ++ lower → OwnVariables upper → FrugalLeads frugal back behind upper → Frugally frugal lower back (operating named procedure b reference behind s)
 frugal_starts_inside frugal back upper lower procedure b is reference behind s masters own leads = record {
   upper = record { number = s.next; items = [] } ∷ upper;
   masters = ap (λ (ms : List Master). record { number = s.next; items = [] } ∷ ms) masters;
   own = (tt, own);
-  frugal = inl (frugal_parts frugal b is, inr leads);
+  frugal = inl (thrifty_parts frugal b is, inr leads);
 }
 
 -- An object that is freed is finalized before this.
 pub treating_leads :
-    (frugal : Thrift) (back : Control) (v : Value) (treatment : Treatment) (tasks : List Task) (k : Control) (ms : List Master) → EndsFreed frugal v treatment k → FrugalLeads frugal back k ms
+    (frugal : Marks) (back : Control) (v : Value) (treatment : Treatment) (tasks : List Task) (k : Control) (ms : List Master) → EndsFreed frugal v treatment k → FrugalLeads frugal back k ms
     → FrugalLeads frugal back (treating v treatment tasks k) ms
 treating_leads frugal back v treatment [] k ms ending q = q
 treating_leads frugal back v treatment (task ∷ tasks) k ms ending q = (ending, q)
 
 -- The operation of one of its parts is called: the others are finalized behind that.
 pub ends_leads :
-    (frugal : Thrift) (back : Control) (v : Value) (treatment : Treatment) (tasks : List Task) (k : Control) (ms : List Master) → EndsFreed frugal v treatment k → FrugalLeads frugal back k ms
+    (frugal : Marks) (back : Control) (v : Value) (treatment : Treatment) (tasks : List Task) (k : Control) (ms : List Master) → EndsFreed frugal v treatment k → FrugalLeads frugal back k ms
     → FrugalLeads frugal back (frame.Confines ∷ treating v treatment tasks k) ms
 ends_leads frugal back v treatment tasks k ms ending q = ((ending.1, by tasks), treating_leads frugal back v treatment tasks k ms ending q)
   where
@@ -175,7 +208,7 @@ ends_leads frugal back v treatment tasks k ms ending q = ((ending.1, by tasks), 
 
 -- Each frame in front of its end is one of such a body, but where an object is finalized.
 pub first_frugal :
-    (frugal : Thrift) (behind : Control) (f : Frame Value) (k : Control) (ms : List Master) → is_return f ≡ false → is_treatment f ≡ false → is_operation f ≡ false → FrugalLeads frugal behind (f ∷ k) ms
+    (frugal : Marks) (behind : Control) (f : Frame Value) (k : Control) (ms : List Master) → is_return f ≡ false → is_treatment f ≡ false → is_operation f ≡ false → FrugalLeads frugal behind (f ∷ k) ms
     → FrugalFrame frugal f
 first_frugal frugal behind (Returns actuals references) k ms inner plain calm q = absurd (cc inner)
 first_frugal frugal behind (Elaborates ds fs hs) k [] inner plain calm q = absurd q
@@ -189,14 +222,14 @@ first_frugal frugal behind frame.Confines k ms inner plain calm q = absurd (cc c
 first_frugal frugal behind f k ms inner plain calm q = q.0
 
 -- Where no object with controlled parts is freed, none is finalized, and no operation ends.
-pub none_treated : (frugal : Thrift) → frugal.ends_parts ≡ false → (behind : Control) (f : Frame Value) (k : Control) (ms : List Master) → FrugalLeads frugal behind (f ∷ k) ms → (is_treatment f ≡ false) × (is_operation f ≡ false)
+pub none_treated : (frugal : Marks) → frugal.ends_parts ≡ false → (behind : Control) (f : Frame Value) (k : Control) (ms : List Master) → FrugalLeads frugal behind (f ∷ k) ms → (is_treatment f ≡ false) × (is_operation f ≡ false)
 none_treated frugal none behind (frame.Treats v treatment tasks) k ms q = let ends_parts = q.0.1 in absurd (cc (none, ends_parts))
 none_treated frugal none behind frame.Confines k ms q = let ends_parts = q.0.0 in absurd (cc (none, ends_parts))
 none_treated frugal none behind (frame.Awaits v by done of part tasks) k ms q = absurd q.0
 none_treated frugal none behind f k ms q = (refl, refl)
 
 -- There is more to do than what is behind all of it.
-leads_longer : (frugal : Thrift) (behind k : Control) (ms : List Master) → FrugalLeads frugal behind k ms → suc (length behind) ≤ length k
+leads_longer : (frugal : Marks) (behind k : Control) (ms : List Master) → FrugalLeads frugal behind k ms → suc (length behind) ≤ length k
 leads_longer frugal behind [] ms q = absurd q
 leads_longer frugal behind (Returns actuals references ∷ k) ms (inl q) = let same = ap length q.2 in omega (arith, same)
 leads_longer frugal behind (Returns actuals references ∷ k) ms (inr q) = let longer = leads_longer frugal behind k ms q in omega (arith, longer)
@@ -208,7 +241,7 @@ leads_longer frugal behind (Declares x ∷ k) [] q = absurd q
 leads_longer frugal behind (Declares x ∷ k) (m ∷ ms) q = let longer = leads_longer frugal behind k (m ∷ ms) q.1 in omega (arith, longer)
 leads_longer frugal behind (f ∷ k) ms q = let longer = leads_longer frugal behind k ms q.1 in omega (arith, longer)
 
-pub shorter : (frugal : Thrift) (back k : Control) (ms : List Master) → FrugalLeads frugal back k ms → k ≡ back → ⊥
+pub shorter : (frugal : Marks) (back k : Control) (ms : List Master) → FrugalLeads frugal back k ms → k ≡ back → ⊥
 shorter frugal back k ms q is =
     let longer = leads_longer frugal back k ms q in
     let same = ap length is in
@@ -216,27 +249,27 @@ shorter frugal back k ms q is =
 
 -- Where the end of the operation's own body is next, the masters have been left.
 pub frugal_ends :
-    (frugal : Thrift) (back : Control) (mode : Mode) (actuals : List ActualForm) (references : List Value) (k : Control) (ms : List Master) → k ≡ back → Frugal frugal back mode (Returns actuals references ∷ k) ms
+    (frugal : Marks) (back : Control) (heap : List Object) (mode : Mode) (actuals : List ActualForm) (references : List Value) (k : Control) (ms : List Master) → k ≡ back → Frugal frugal back heap mode (Returns actuals references ∷ k) ms
     → (actuals ≡ []) × (references ≡ []) × (ms ≡ [])
-frugal_ends frugal back mode actuals references k ms last (inl (inl q)) = (q.0.0, q.0.1, q.1)
-frugal_ends frugal back mode actuals references k ms last (inl (inr q)) = absurd (shorter frugal back k ms q last)
-frugal_ends frugal back mode actuals references k ms last (inr (runs, leaving)) = absurd leaving
+frugal_ends frugal back heap mode actuals references k ms last (inl (inl q)) = (q.0.0, q.0.1, q.1)
+frugal_ends frugal back heap mode actuals references k ms last (inl (inr q)) = absurd (shorter frugal back k ms q last)
+frugal_ends frugal back heap mode actuals references k ms last (inr (runs, other)) = elim other [ inl leaving ↦ absurd leaving | inr begins' ↦ absurd begins' ]
 
 -- Where that of another one is next, what is behind that goes on: the body that called it, or the end of the object of which it is an operation.
 pub frugal_returns_inside :
-    (frugal : Thrift) (back : Control) (mode : Mode) (actuals : List ActualForm) (references : List Value) (k : Control) (ms : List Master) → (k ≡ back → ⊥) → Frugal frugal back mode (Returns actuals references ∷ k) ms
+    (frugal : Marks) (back : Control) (heap : List Object) (mode : Mode) (actuals : List ActualForm) (references : List Value) (k : Control) (ms : List Master) → (k ≡ back → ⊥) → Frugal frugal back heap mode (Returns actuals references ∷ k) ms
     → FrugalLeads frugal back k ms
-frugal_returns_inside frugal back mode actuals references k ms inside (inl (inl q)) = absurd (inside q.2)
-frugal_returns_inside frugal back mode actuals references k ms inside (inl (inr q)) = q
-frugal_returns_inside frugal back mode actuals references k ms inside (inr (runs, leaving)) = absurd leaving
+frugal_returns_inside frugal back heap mode actuals references k ms inside (inl (inl q)) = absurd (inside q.2)
+frugal_returns_inside frugal back heap mode actuals references k ms inside (inl (inr q)) = q
+frugal_returns_inside frugal back heap mode actuals references k ms inside (inr (runs, other)) = elim other [ inl leaving ↦ absurd leaving | inr begins' ↦ absurd begins' ]
 
 -- So it is with one that was called.
-pub frugal_returns : (frugal : Thrift) (behind : Control) (mode : Mode) (actuals : List ActualForm) (references : List Value) (k : Control) (ms : List Master) → IsAwaited behind → (IsAwaited k → ⊥) → Frugal frugal behind mode (Returns actuals references ∷ k) ms → FrugalLeads frugal behind k ms
-frugal_returns frugal behind mode actuals references k ms awaited calls frugally =
-    frugal_returns_inside frugal behind mode actuals references k ms (λ last. calls (subst IsAwaited (sym last) awaited)) frugally
+pub frugal_returns : (frugal : Marks) (behind : Control) (heap : List Object) (mode : Mode) (actuals : List ActualForm) (references : List Value) (k : Control) (ms : List Master) → IsAwaited behind → (IsAwaited k → ⊥) → Frugal frugal behind heap mode (Returns actuals references ∷ k) ms → FrugalLeads frugal behind k ms
+frugal_returns frugal behind heap mode actuals references k ms awaited calls frugally =
+    frugal_returns_inside frugal behind heap mode actuals references k ms (λ last. calls (subst IsAwaited (sym last) awaited)) frugally
 
 -- Which items a master owns does not matter.
-pub same_masters : (frugal : Thrift) (behind : Control) (j : Control) (m n : Master) (ms : List Master) → FrugalLeads frugal behind j (m ∷ ms) → FrugalLeads frugal behind j (n ∷ ms)
+pub same_masters : (frugal : Marks) (behind : Control) (j : Control) (m n : Master) (ms : List Master) → FrugalLeads frugal behind j (m ∷ ms) → FrugalLeads frugal behind j (n ∷ ms)
 same_masters frugal behind [] m n ms q = q
 same_masters frugal behind (Returns actuals references ∷ k) m n ms (inl q) = let none = q.1 in absurd (cc none)
 same_masters frugal behind (Returns actuals references ∷ k) m n ms (inr q) = inr (same_masters frugal behind k m n ms q)

@@ -28,17 +28,16 @@ use Rattle.ada_meaning.specs.Frame.{Frame, Elaborates, Leaves, Calls, TestsNull,
 use Rattle.ada_meaning.specs.State.{Activation, Item, Master, Owned, declared, collection, record_object, storage_pool, Destination, height, home_of, pool_freed_to}
 use Rattle.ada_meaning.specs.Step.{first_or, older, places_of, operands_of, with_operands, begun, record_holder_next, referred_next, refers_next, open_next, opened_next, opens_next, storing, returned, computing, call_next, entered, all_tasks, halts, moves, same_pool, raised, jumping, computed, put, owned, at, reading, component_next, follow_next, path_next, selected, named_next, before_last, last_of, holder_next, expression_next, null_test_next, is_decided, link_next, links_next, outcome_next, place_in, record_in, item_next, items_next, copied_next, copies_next, answered, new_next, right_next, freeing, freeing_next, free_next, end_next, told_back, given_back, back_next, assign_next, target_next, stored_next, store_next, record_target_next, record_stored_next, newest_ones, store_record_next, record_assign_next, has_parts, frees_next, freed_next, free_component_next, free_in_next, branches_next, decided_next, turn_next, repeats_next, turned_next, count_turn_next, counts_next, ranges_next, gets_next, received_next, receive_next, exit_next, exited_next, stmt_next, line_next, declarations_next, leave_next, master_leave_next, item_leave_next}
 use Rattle.ada_meaning.specs.Named.{State, Next, named, whole, look, standing}
-use Rattle.ada_quiet.specs.Bare.{allocates_bare}
-use Rattle.ada_quiet.specs.Frugal.{Thrift, may_end, is_frugal_declaration, are_frugal_declarations, is_frugal_stmt, are_frugal, are_frugal_branches, are_frugal_handlers, is_frugal_body}
+use Rattle.ada_quiet.specs.Frugal.{allocates_quietly, is_frugal_declaration, are_frugal_declarations}
+use Rattle.ada_sound.proofs.Marks.{Marks, may_end, is_thrifty_stmt, are_thrifty, are_thrifty_branches, are_thrifty_handlers, is_thrifty_body, marks_of, thrifty_parts}
 use Rattle.ada_sound.proofs.Fits.{place_at}
 use Rattle.ada_sound.proofs.Invariant.{Control}
 use Rattle.ada_sound.proofs.OperationStarts.{apart}
 use Rattle.ada_sound.proofs.Operating.{IsVariable, AreVariables, OwnVariables}
-use Rattle.ada_sound.proofs.FrugalBodies.{frugal_parts}
 use Rattle.ada_sound.proofs.FrugalControl.{FrugalLeads, FrugalLeaves, Frugally, GoesFrugally, same_masters, treating_leads}
 use Rattle.ada_sound.proofs.FrugalFrees.{RecordIsBare, IsFreely, StmtIsFreely}
 
-module _ (marks : Thrift) (lower : List Master) (behind : Control) (tds : List TypeDefinition) (bodies : List BodyForm) (s : State) where
+module _ (marks : Marks) (lower : List Master) (behind : Control) (tds : List TypeDefinition) (bodies : List BodyForm) (s : State) where
   abbrev pub Fine : Next → Type 0
   Fine n = GoesFrugally marks lower behind n
 
@@ -128,7 +127,7 @@ module _ (marks : Thrift) (lower : List Master) (behind : Control) (tds : List T
     outcome_on (Err WrongType) all k q = tt
 
     -- What is assigned.
-    pub right_on : (right : RightForm) → allocates_bare marks.types right ≡ true → (all : List (Activation Value)) → (k : Control) → Left k → Fine (right_next named tds right (now all k ms))
+    pub right_on : (right : RightForm) → allocates_quietly marks.types marks.begun right ≡ true → (all : List (Activation Value)) → (k : Control) → Left k → Fine (right_next named tds right (now all k ms))
     right_on nothing bare all k q = computes_on _ all k q
     right_on (value_of path) bare all k q = named_on path.selectors path.root all k q
     right_on (allocates access items) bare all k q = on _ refl (tt, (bare, q))
@@ -167,11 +166,11 @@ module _ (marks : Thrift) (lower : List Master) (behind : Control) (tds : List T
     new_on access count words None none all k q = raises_on StorageError all k q
     new_on access count words (Some home) none all k q = answered_on access count words home none all k q
 
-    assigns_on : (cs : List ℕ) (x : ℕ) (right : RightForm) → allocates_bare marks.types right ≡ true → (all : List (Activation Value)) → (k : Control) → Left k → Fine (assign_next named cs x right (now all k ms))
+    assigns_on : (cs : List ℕ) (x : ℕ) (right : RightForm) → allocates_quietly marks.types marks.begun right ≡ true → (all : List (Activation Value)) → (k : Control) → Left k → Fine (assign_next named cs x right (now all k ms))
     assigns_on [] x right bare all k q = on _ refl (bare, (tt, q))
     assigns_on (c ∷ cs) x right bare all k q = holder_on c cs x (λ last. Targets last right) all k (λ last. (bare, q))
 
-    pub target_on : (o : Value) (c : ℕ) (right : RightForm) (found : Found (Cell Value)) → allocates_bare marks.types right ≡ true → (all : List (Activation Value)) → (k : Control) → Left k → Fine (target_next named o c right found (now all k ms))
+    pub target_on : (o : Value) (c : ℕ) (right : RightForm) (found : Found (Cell Value)) → allocates_quietly marks.types marks.begun right ≡ true → (all : List (Activation Value)) → (k : Control) → Left k → Fine (target_next named o c right found (now all k ms))
     target_on o c right on_null bare all k q = raises_on ConstraintError all k q
     target_on o c right on_gone bare all k q = tt
     target_on o c right on_other bare all k q = tt
@@ -277,43 +276,43 @@ module _ (marks : Thrift) (lower : List Master) (behind : Control) (tds : List T
         by false = tt
 
     -- Branches.
-    pub branches_on : (branches : BranchesForm) → are_frugal_branches marks branches ≡ true → (all : List (Activation Value)) → (k : Control) → Left k → Fine (branches_next named branches (now all k ms))
+    pub branches_on : (branches : BranchesForm) → are_thrifty_branches marks branches ≡ true → (all : List (Activation Value)) → (k : Control) → Left k → Fine (branches_next named branches (now all k ms))
     branches_on (otherwise fs) frugal all k q = on _ refl (frugal, q)
     branches_on (a_branch e fs branches) frugal all k q =
-        let both = apart (are_frugal marks fs) (are_frugal_branches marks branches) frugal in
+        let both = apart (are_thrifty marks fs) (are_thrifty_branches marks branches) frugal in
         on _ refl (tt, (both, q))
 
-    pub decided_on : (fs : StmtsForm) (branches : BranchesForm) (truth : Option Bool) → (are_frugal marks fs ≡ true) × (are_frugal_branches marks branches ≡ true) → (all : List (Activation Value)) → (k : Control) → Left k → Fine (decided_next named fs branches truth (now all k ms))
+    pub decided_on : (fs : StmtsForm) (branches : BranchesForm) (truth : Option Bool) → (are_thrifty marks fs ≡ true) × (are_thrifty_branches marks branches ≡ true) → (all : List (Activation Value)) → (k : Control) → Left k → Fine (decided_next named fs branches truth (now all k ms))
     decided_on fs branches None frugal all k q = tt
     decided_on fs branches (Some true) frugal all k q = on _ refl (frugal.0, q)
     decided_on fs branches (Some false) frugal all k q = branches_on branches frugal.1 all k q
 
     -- Loops.
-    turn_on : (condition : Option ExpressionForm) (fs : StmtsForm) → are_frugal marks fs ≡ true → (all : List (Activation Value)) → (k : Control) → Left k → Fine (turn_next named condition fs (now all k ms))
+    turn_on : (condition : Option ExpressionForm) (fs : StmtsForm) → are_thrifty marks fs ≡ true → (all : List (Activation Value)) → (k : Control) → Left k → Fine (turn_next named condition fs (now all k ms))
     turn_on condition no_stmts frugal all k q = tt
     turn_on condition (a_stmt f fs) frugal all k q = on _ refl (frugal, (frugal, q))
 
-    pub repeats_on : (condition : Option ExpressionForm) (fs : StmtsForm) → are_frugal marks fs ≡ true → (all : List (Activation Value)) → (k : Control) → Left k → Fine (repeats_next named condition fs (now all k ms))
+    pub repeats_on : (condition : Option ExpressionForm) (fs : StmtsForm) → are_thrifty marks fs ≡ true → (all : List (Activation Value)) → (k : Control) → Left k → Fine (repeats_next named condition fs (now all k ms))
     repeats_on None fs frugal all k q = turn_on None fs frugal all k q
     repeats_on (Some e) fs frugal all k q = on _ refl (tt, (frugal, q))
 
-    pub turned_on : (e : ExpressionForm) (fs : StmtsForm) (truth : Option Bool) → are_frugal marks fs ≡ true → (all : List (Activation Value)) → (k : Control) → Left k → Fine (turned_next named e fs truth (now all k ms))
+    pub turned_on : (e : ExpressionForm) (fs : StmtsForm) (truth : Option Bool) → are_thrifty marks fs ≡ true → (all : List (Activation Value)) → (k : Control) → Left k → Fine (turned_next named e fs truth (now all k ms))
     turned_on e fs None frugal all k q = tt
     turned_on e fs (Some true) frugal all k q = turn_on (Some e) fs frugal all k q
     turned_on e fs (Some false) frugal all k q = on _ refl q
 
-    count_turn_on : (x : ℕ) (value last : ℤ) (fs : StmtsForm) → are_frugal marks fs ≡ true → (all : List (Activation Value)) → (k : Control) → Left k → Fine (count_turn_next named x value last fs (now all k ms))
+    count_turn_on : (x : ℕ) (value last : ℤ) (fs : StmtsForm) → are_thrifty marks fs ≡ true → (all : List (Activation Value)) → (k : Control) → Left k → Fine (count_turn_next named x value last fs (now all k ms))
     count_turn_on x value last no_stmts frugal all k q = tt
     count_turn_on x value last (a_stmt f fs) frugal all k q = on _ refl (frugal, (frugal, q))
 
-    pub counts_on : (x : ℕ) (value last : ℤ) (fs : StmtsForm) → are_frugal marks fs ≡ true → (all : List (Activation Value)) → (k : Control) → Left k → Fine (counts_next named x value last fs (now all k ms))
+    pub counts_on : (x : ℕ) (value last : ℤ) (fs : StmtsForm) → are_thrifty marks fs ≡ true → (all : List (Activation Value)) → (k : Control) → Left k → Fine (counts_next named x value last fs (now all k ms))
     counts_on x value last fs frugal all k q = by (int_le value last)
       where
         by : (b : Bool) → Fine (if b then count_turn_next named x value last fs (now all k ms) else moves Quiet (now all k ms))
         by true = count_turn_on x value last fs frugal all k q
         by false = on _ refl q
 
-    pub ranges_on : (x : ℕ) (fs : StmtsForm) (low high : Option ℤ) → are_frugal marks fs ≡ true → (all : List (Activation Value)) → (k : Control) → Left k → Fine (ranges_next named x fs low high (now all k ms))
+    pub ranges_on : (x : ℕ) (fs : StmtsForm) (low high : Option ℤ) → are_thrifty marks fs ≡ true → (all : List (Activation Value)) → (k : Control) → Left k → Fine (ranges_next named x fs low high (now all k ms))
     ranges_on x fs None high frugal all k q = tt
     ranges_on x fs (Some low) None frugal all k q = tt
     ranges_on x fs (Some low) (Some high) frugal all k q = counts_on x low high fs frugal all k q
@@ -350,10 +349,10 @@ module _ (marks : Thrift) (lower : List Master) (behind : Control) (tds : List T
     line_on (Some i) all k q = on _ refl q
 
     -- A block is a master of its own.
-    encloses_on : (ds : List DeclarationForm) (fs : StmtsForm) (hs : HandlersForm) → (are_frugal_declarations marks.types ds && are_frugal marks fs && are_frugal_handlers marks hs) ≡ true → (all : List (Activation Value)) → (k : Control) → Left k → Goes (entered (at (Elaborates ds fs hs ∷ k) (now all k ms)))
+    encloses_on : (ds : List DeclarationForm) (fs : StmtsForm) (hs : HandlersForm) → (are_frugal_declarations marks.types marks.begun ds && are_thrifty marks fs && are_thrifty_handlers marks hs) ≡ true → (all : List (Activation Value)) → (k : Control) → Left k → Goes (entered (at (Elaborates ds fs hs ∷ k) (now all k ms)))
     encloses_on ds fs hs frugal all k q =
-        let one = apart (are_frugal_declarations marks.types ds && are_frugal marks fs) (are_frugal_handlers marks hs) frugal in
-        let two = apart (are_frugal_declarations marks.types ds) (are_frugal marks fs) one.0 in
+        let one = apart (are_frugal_declarations marks.types marks.begun ds && are_thrifty marks fs) (are_thrifty_handlers marks hs) frugal in
+        let two = apart (are_frugal_declarations marks.types marks.begun ds) (are_thrifty marks fs) one.0 in
         record {
           upper = record { number = s.next; items = [] } ∷ ms;
           masters = refl;
@@ -403,17 +402,17 @@ module _ (marks : Thrift) (lower : List Master) (behind : Control) (tds : List T
     computing_left (in_out_component path ∷ rest) k q = (tt, computing_left rest k q)
     computing_left (in_out_record p ∷ rest) k q = (tt, computing_left rest k q)
 
-    call_on : (number : ℕ) (actuals : List ActualForm) (found : Option BodyForm) → ((b : BodyForm) → found ≡ Some b → is_frugal_body marks b ≡ true) → (all : List (Activation Value)) → (k : Control) → Left k → Fine (call_next named number actuals found (now all k ms))
+    call_on : (number : ℕ) (actuals : List ActualForm) (found : Option BodyForm) → ((b : BodyForm) → found ≡ Some b → is_thrifty_body marks b ≡ true) → (all : List (Activation Value)) → (k : Control) → Left k → Fine (call_next named number actuals found (now all k ms))
     call_on number actuals None frugal all k q = tt
     call_on number actuals (Some b) frugal all k q = on _ refl (computing_left actuals (Calls number b actuals ∷ k) (frugal b refl, q))
 
     -- The body that is called begins, in a master of its own.
-    pub begun_on : (number : ℕ) (b : BodyForm) (actuals : List ActualForm) (vs : List Value) → is_frugal_body marks b ≡ true → (all : List (Activation Value)) → (k : Control) → Left k → Goes (begun named number b actuals vs (now all k ms))
+    pub begun_on : (number : ℕ) (b : BodyForm) (actuals : List ActualForm) (vs : List Value) → is_thrifty_body marks b ≡ true → (all : List (Activation Value)) → (k : Control) → Left k → Goes (begun named number b actuals vs (now all k ms))
     begun_on number b actuals vs frugal all k q = record {
       upper = record { number = s.next; items = [] } ∷ ms;
       masters = refl;
       own = (tt, own);
-      frugal = inl (frugal_parts marks b frugal, inr q);
+      frugal = inl (thrifty_parts marks b frugal, inr q);
     }
 
     -- It has ended: what its caller gets back in components is stored next.
@@ -425,7 +424,7 @@ module _ (marks : Thrift) (lower : List Master) (behind : Control) (tds : List T
     returned_on actuals references all k q = on _ refl (storing_left references k q)
 
     -- Statements.
-    pub stmt_on : (f : StmtForm) → ((number : ℕ) (b : BodyForm) → slice_get bodies number ≡ Some b → slice_index_or marks.procedures number false ≡ true → is_frugal_body marks b ≡ true) → RecordIsBare marks.types tds → is_frugal_stmt marks f ≡ true → (all : List (Activation Value)) → (k : Control) → StmtIsFreely marks tds f k s.heap (places_of all) → Left k → Fine (stmt_next named tds bodies f (now all k ms))
+    pub stmt_on : (f : StmtForm) → ((number : ℕ) (b : BodyForm) → slice_get bodies number ≡ Some b → slice_index_or marks.procedures number false ≡ true → is_thrifty_body marks b ≡ true) → RecordIsBare marks.types tds → is_thrifty_stmt marks f ≡ true → (all : List (Activation Value)) → (k : Control) → StmtIsFreely marks tds f k s.heap (places_of all) → Left k → Fine (stmt_next named tds bodies f (now all k ms))
     stmt_on skips finds_frugal records_bare frugal all k freely q = on _ refl q
     stmt_on (assigns target right) finds_frugal records_bare frugal all k freely q = assigns_on target.selectors target.root right frugal all k q
     stmt_on (assigns_record target items) finds_frugal records_bare frugal all k freely q =
@@ -444,7 +443,7 @@ module _ (marks : Thrift) (lower : List Master) (behind : Control) (tds : List T
     stmt_on (encloses ds fs hs) finds_frugal records_bare frugal all k freely q = encloses_on ds fs hs frugal all k q
 
   -- The declarations of a block, or of the body.
-  declaration_on : (m : Master) (ms : List Master) → OwnVariables (m ∷ ms) → (d : DeclarationForm) (ds : List DeclarationForm) (fs : StmtsForm) (hs : HandlersForm) → is_frugal_declaration marks.types d ≡ true → (are_frugal_declarations marks.types ds ≡ true) × (are_frugal marks fs ≡ true) × (are_frugal_handlers marks hs ≡ true) → (all : List (Activation Value)) → (k : Control) → FrugalLeads marks behind k ms → Fine (declarations_next named tds (d ∷ ds) fs hs (now all k (m ∷ ms)))
+  declaration_on : (m : Master) (ms : List Master) → OwnVariables (m ∷ ms) → (d : DeclarationForm) (ds : List DeclarationForm) (fs : StmtsForm) (hs : HandlersForm) → is_frugal_declaration marks.types marks.begun d ≡ true → (are_frugal_declarations marks.types marks.begun ds ≡ true) × (are_thrifty marks fs ≡ true) × (are_thrifty_handlers marks hs ≡ true) → (all : List (Activation Value)) → (k : Control) → FrugalLeads marks behind k ms → Fine (declarations_next named tds (d ∷ ds) fs hs (now all k (m ∷ ms)))
   declaration_on m ms own (creates_pool p) ds fs hs frugal more all k q = absurd (cc frugal)
   declaration_on m ms own (collects access) ds fs hs frugal more all k q = absurd (cc frugal)
   declaration_on m ms own (declares_record x t initial) ds fs hs frugal more all k q = absurd (cc frugal)
@@ -454,7 +453,7 @@ module _ (marks : Thrift) (lower : List Master) (behind : Control) (tds : List T
   declarations_on [] own ds fs hs all k q = absurd q
   declarations_on (m ∷ ms) own [] fs hs all k ((ds_frugal, frugal, hs_frugal), q) = on (m ∷ ms) own _ refl (frugal, (hs_frugal, (tt, q)))
   declarations_on (m ∷ ms) own (d ∷ ds) fs hs all k ((ds_frugal, frugal, hs_frugal), q) =
-      let both = apart (is_frugal_declaration marks.types d) (are_frugal_declarations marks.types ds) ds_frugal in
+      let both = apart (is_frugal_declaration marks.types marks.begun d) (are_frugal_declarations marks.types marks.begun ds) ds_frugal in
       declaration_on m ms own d ds fs hs both.0 (both.1, frugal, hs_frugal) all k q
 
   pub declares_on : (ms : List Master) → OwnVariables ms → (x : ℕ) (v : Value) (all : List (Activation Value)) → (k : Control) → FrugalLeads marks behind (Declares x ∷ k) ms → Goes (owned (declared x) (put x v (now all k ms)))

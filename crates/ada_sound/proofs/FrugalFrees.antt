@@ -19,8 +19,7 @@ use Rattle.ada_program.specs.ProgramForm.{TypeForm, record_of, access_to, object
 use Rattle.ada_program.specs.WellFormed.{is_access, is_this, finalization_of, kind_among, kind_fits, reached_components, components_in, components_reached, named_in, type_fits, access_of, path_access, variable_kind, selected_kind, selectors_kind}
 use Rattle.ada_program.specs.Freed.{statement_frees_own, statements_free_own}
 use Rattle.ada_quiet.specs.Bare.{has_bare_objects, is_bare_access}
-use Rattle.ada_quiet.specs.Frugal.{Thrift, may_end, are_frugal}
-use Rattle.ada_finalized.specs.Law.{NoOperationRunsOn}
+use Rattle.ada_finalized.specs.Law.{NamesExisting, NoOperationRunsOn}
 use Rattle.ada_parts.specs.declared.tasks.Direction.{Direction}
 use Rattle.ada_parts.specs.declared.tasks.Direction.TheVariants.{WholeFirst}
 use Rattle.ada_meaning.specs.declared.state.Id.{Id}
@@ -44,6 +43,8 @@ use Rattle.ada_typed.proofs.Runs.{typed_holds}
 use Rattle.ada_typed.proofs.Targets.{component_there}
 use Rattle.ada_typed.proofs.Values as typing
 use Rattle.ada_typed.proofs.Values.{OperandKind, of_kind, AreComputed}
+use Rattle.ada_quiet.specs.Frugal.{allocates_quietly, is_frugal_declaration, are_frugal_declarations}
+use Rattle.ada_sound.proofs.Marks.{Marks, may_end, is_thrifty_stmt, are_thrifty, are_thrifty_branches, are_thrifty_handlers, is_thrifty_body, marks_of, thrifty_parts}
 use Rattle.ada_sound.proofs.Assigned.{access_from, this_is}
 use Rattle.ada_sound.proofs.Calm.{ends_operation, operation_ends_there}
 use Rattle.ada_sound.proofs.Fits.{place_at}
@@ -261,12 +262,16 @@ module _ (p : ProgramForm) (whole : OwnBody p) where
       let nowhere : typed.Goes p (cells_of s.heap) Running s.control = rw same at goes in
       absurd nowhere
 
--- Where bodies may free objects with controlled parts, no object of these access types that is in its collection has an operation that runs behind this (7.6.1).
-abbrev pub ListedAlone : (may : ℕ → Bool) → (ends_parts : Bool) → List Object → Control → Type 0
-ListedAlone may ends_parts heap k =
-    (o : Id) (x : Object) → object_at heap o ≡ Some x → x.listed ≡ true → may x.cell.access ≡ true → ends_parts ≡ true → NoOperationRunsOn (Names o) k
+-- No object of these access types that is in its collection has an operation that runs behind this (7.6.1).
+abbrev pub ListedAlone : (may : ℕ → Bool) → List Object → Control → Type 0
+ListedAlone may heap k =
+    (o : Id) (x : Object) → object_at heap o ≡ Some x → x.listed ≡ true → may x.cell.access ≡ true → NoOperationRunsOn (Names o) k
 
-module _ (frugal : Thrift) (tds : List TypeDefinition) where
+-- None runs of an object that does not exist (7.6).
+abbrev pub Unborn : List Object → Control → Type 0
+Unborn heap k = (o : Id) → (NamesExisting heap (Names o) → ⊥) → NoOperationRunsOn (Names o) k
+
+module _ (frugal : Marks) (tds : List TypeDefinition) where
   -- What is found of an object may be freed: nothing is to be done for it, or bodies may free what has controlled parts, and none of its operations runs behind this.
   abbrev pub IsFreely : Control → Value → Found (Cell Value) → Type 0
   IsFreely k v on_null = Unit {0}
@@ -326,15 +331,15 @@ module _ (frugal : Thrift) (tds : List TypeDefinition) where
       → FrugalLeads frugal behind k ms → FreesAmong may k → NextFreesOwn k heap values results → NextIsFreely k heap values results
   next_freely bare may behind heap values results [] ms alone q freely own = tt
   next_freely bare may behind heap values results (Does (a_stmt (frees access path) fs) ∷ k) ms alone q freely own =
-      λ stands. is_freely bare may heap (Does fs ∷ k) alone (place_at values path.root) access (apart (may_end frugal access) (are_frugal frugal fs) q.0).0 freely (own stands)
+      λ stands. is_freely bare may heap (Does fs ∷ k) alone (place_at values path.root) access (apart (may_end frugal access) (are_thrifty frugal fs) q.0).0 freely (own stands)
   next_freely bare may behind heap values results (FreesIn access c ∷ k) ms alone q freely own =
       λ cell w found there. is_freely bare may heap k alone w access q.0 freely (own cell w found there)
   next_freely bare may behind heap values results (f ∷ k) ms alone q freely own = tt
 
 -- Where bodies free no objects with controlled parts, what is freed next has none.
-pub frees_bare : (frugal : Thrift) → frugal.ends_parts ≡ false → (behind : Control) (mode : Mode) (k : Control) (ms : List Master) → Frugal frugal behind mode k ms → FreesAmong (has_bare_objects frugal.types) k
+pub frees_bare : (frugal : Marks) → frugal.ends_parts ≡ false → (behind : Control) (mode : Mode) (k : Control) (ms : List Master) → Frugal frugal behind mode k ms → FreesAmong (has_bare_objects frugal.types) k
 frees_bare frugal none behind mode [] ms q = tt
-frees_bare frugal none behind mode (Does (a_stmt (frees access path) fs) ∷ k) ms (inl q) = let may = (apart (may_end frugal access) (are_frugal frugal fs) q.0).0 in rw none at may
+frees_bare frugal none behind mode (Does (a_stmt (frees access path) fs) ∷ k) ms (inl q) = let may = (apart (may_end frugal access) (are_thrifty frugal fs) q.0).0 in rw none at may
 frees_bare frugal none behind mode (Does (a_stmt (frees access path) fs) ∷ k) ms (inr (runs, leaving)) = absurd leaving
 frees_bare frugal none behind mode (FreesIn access c ∷ k) ms (inl q) = let may = q.0 in rw none at may
 frees_bare frugal none behind mode (FreesIn access c ∷ k) ms (inr (runs, leaving)) = absurd leaving

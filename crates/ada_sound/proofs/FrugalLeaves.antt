@@ -16,9 +16,10 @@ use Rattle.ada_meaning.specs.Law.{items_of}
 use Rattle.ada_meaning.specs.State.{Owned, declared, collection, record_object, storage_pool, type_housed, Item, Master}
 use Rattle.ada_meaning.specs.Named.{Object, object_at}
 use Rattle.ada_owners.specs.Places.{is_there}
-use Rattle.ada_quiet.specs.Frugal.{Thrift}
 use Rattle.ada_scopes.specs.Scopes.{is_number_of, is_innermost}
 use Rattle.ada_tracked.specs.Law.{InnermostHousesNone, NewestHousesNone}
+use Rattle.ada_quiet.specs.Frugal.{allocates_quietly, is_frugal_declaration, are_frugal_declarations}
+use Rattle.ada_sound.proofs.Marks.{Marks, may_end, is_thrifty_stmt, are_thrifty, are_thrifty_branches, are_thrifty_handlers, is_thrifty_body, marks_of, thrifty_parts}
 use Rattle.ada_sound.proofs.FrugalControl.{Frugal, FrugalLeads}
 use Rattle.ada_sound.proofs.Invariant.{Control, EndingBy, Known, LeavesTo, Parting, ReadyIn, Rooms, ThenBack, departs, departs_next, innermost, is_collection}
 use Rattle.ada_sound.proofs.Items.{Counted, HasItem, Houses, item_below}
@@ -75,7 +76,7 @@ innermost_houses_none [] own = tt
 innermost_houses_none (m ∷ ms) own = houses_none m.items own
 
 -- The master that a frugal body leaves is one of its own.
-pub leaves_own : (marks : Thrift) (back : Control) (mode left : Mode) (k : Control) (upper lower : List Master) → Frugal marks back mode (Leaves left ∷ k) upper → OwnVariables upper → AreVariables (innermost (upper ++ lower))
+pub leaves_own : (marks : Marks) (back : Control) (mode left : Mode) (k : Control) (upper lower : List Master) → Frugal marks back mode (Leaves left ∷ k) upper → OwnVariables upper → AreVariables (innermost (upper ++ lower))
 leaves_own marks back mode left k upper lower (inl leads) own = absurd leads.0
 leaves_own marks back mode left k [] lower (inr leaving) own = absurd leaving.1
 leaves_own marks back mode left k (m ∷ upper) lower (inr leaving) own = own.0
@@ -92,7 +93,7 @@ variables_stay ahead (i ∷ is) own = by i.owned own.0
     by (storage_pool declaration number) variable = absurd variable
 
 -- What is freed ends in front of no master that is left.
-module _ (known : Known) (marks : Thrift) (back : Control) (heap : List Object) (places : List Value) (masters : List Master) (upper : List Master) where
+module _ (known : Known) (marks : Marks) (back : Control) (heap : List Object) (places : List Value) (masters : List Master) (upper : List Master) where
   none_left : (under : Option Id) (k : Control) → LeavesTo known under heap places masters k → FrugalLeads marks back k upper → ⊥
   none_left under [] left leads = left
   none_left under (Leaves mode ∷ k) left leads = leads.0
@@ -111,7 +112,7 @@ module _ (known : Known) (marks : Thrift) (back : Control) (heap : List Object) 
   none_ending (Part o place) w m item pool k ending leads = ending
 
 -- So no collection is left while a frugal body runs for whose objects operations may be called that touch storage.
-pub frugal_stays : (known : Known) (marks : Thrift) (back : Control) (mode : Mode) (k : Control) (heap : List Object) (places operands : List Value) (upper lower : List Master) → Frugal marks back mode k upper → OwnVariables upper
+pub frugal_stays : (known : Known) (marks : Marks) (back : Control) (mode : Mode) (k : Control) (heap : List Object) (places operands : List Value) (upper lower : List Master) → Frugal marks back mode k upper → OwnVariables upper
     → ReadyIn known Running k heap places operands (upper ++ lower) → departs_next (departs known.ahead (innermost (upper ++ lower))) k ≡ false
 frugal_stays known marks back mode [] heap places operands upper lower frugal own ready = refl
 frugal_stays known marks back mode (Leaves left ∷ k) heap places operands upper lower frugal own ready =

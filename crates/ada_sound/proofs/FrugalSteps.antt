@@ -29,13 +29,14 @@ use Rattle.ada_meaning.specs.Heap.{PartState, Cell, Found, on_null, on_gone, on_
 use Rattle.ada_meaning.specs.State.{Activation, Master, home_of}
 use Rattle.ada_meaning.specs.Step.{halts, picks, treating, direction_of, picked_task, treated_on, operation_next, ended_next, finalized_next, performed_next, treats_next, first_or, places_of, operands_of, operand_count, newest_ones, frame_next, landed, jump_next, mode_next}
 use Rattle.ada_meaning.specs.Named.{Object, State, Next, named, next, look, lent, finalize}
-use Rattle.ada_quiet.specs.Frugal.{Thrift, are_frugal, are_frugal_handlers, is_frugal_body, thrift_of}
 use Rattle.ada_quiet.proofs.FrugalAt.{frugal_at}
 use Rattle.ada_typed.specs.Holding.{cells_of}
 use Rattle.ada_typed.proofs.Bodies.{own_bodies}
 use Rattle.ada_typed.proofs.Control as typed
 use Rattle.ada_typed.proofs.Control.{OwnBody}
 use Rattle.ada_typed.proofs.Kept.{Each, crosses as crosses_by, is_treatment}
+use Rattle.ada_quiet.specs.Frugal.{allocates_quietly, is_frugal_declaration, are_frugal_declarations}
+use Rattle.ada_sound.proofs.Marks.{Marks, may_end, is_thrifty_stmt, are_thrifty, are_thrifty_branches, are_thrifty_handlers, is_thrifty_body, marks_of, thrifty_parts}
 use Rattle.ada_sound.specs.Agreement.{running_procedure}
 use Rattle.ada_sound.proofs.Calm.{ends_operation, operation_ends_there}
 use Rattle.ada_sound.proofs.Invariant.{Control, IsAwaited}
@@ -48,26 +49,26 @@ use Rattle.ada_sound.proofs.FrugalFrees.{AccessIsBare, bare_by, RecordIsBare, re
 use Rattle.ada_sound.proofs.FrugalFrames as frames
 
 -- The statements of the handler that takes an exception.
-handler_frugal : (marks : Thrift) (hs : HandlersForm) (e : Exception) (fs : StmtsForm) → handler_of e hs ≡ Some fs → are_frugal_handlers marks hs ≡ true → are_frugal marks fs ≡ true
+handler_frugal : (marks : Marks) (hs : HandlersForm) (e : Exception) (fs : StmtsForm) → handler_of e hs ≡ Some fs → are_thrifty_handlers marks hs ≡ true → are_thrifty marks fs ≡ true
 handler_frugal marks no_handlers e fs is frugal = absurd (cc is)
 handler_frugal marks (a_handler choices gs hs) e fs is frugal = by (some_takes e choices) is (λ later more. handler_frugal marks hs e fs later more)
   where
-    both : (are_frugal marks gs ≡ true) × (are_frugal_handlers marks hs ≡ true)
-    both = apart (are_frugal marks gs) (are_frugal_handlers marks hs) frugal
+    both : (are_thrifty marks gs ≡ true) × (are_thrifty_handlers marks hs ≡ true)
+    both = apart (are_thrifty marks gs) (are_thrifty_handlers marks hs) frugal
 
-    by : (b : Bool) → (if b then Some gs else handler_of e hs) ≡ Some fs → (handler_of e hs ≡ Some fs → are_frugal_handlers marks hs ≡ true → are_frugal marks fs ≡ true) → are_frugal marks fs ≡ true
+    by : (b : Bool) → (if b then Some gs else handler_of e hs) ≡ Some fs → (handler_of e hs ≡ Some fs → are_thrifty_handlers marks hs ≡ true → are_thrifty marks fs ≡ true) → are_thrifty marks fs ≡ true
     by true is' more = let same : gs ≡ fs = cc is' in rw (← same) both.0
     by false is' more = more is' both.1
 
 -- The body that a statement calls is frugal, where its procedure is.
-abbrev FindsFrugal : Thrift → List BodyForm → Type 0
-FindsFrugal marks bodies = (number : ℕ) (b : BodyForm) → slice_get bodies number ≡ Some b → slice_index_or marks.procedures number false ≡ true → is_frugal_body marks b ≡ true
+abbrev FindsFrugal : Marks → List BodyForm → Type 0
+FindsFrugal marks bodies = (number : ℕ) (b : BodyForm) → slice_get bodies number ≡ Some b → slice_index_or marks.procedures number false ≡ true → is_thrifty_body marks b ≡ true
 
 -- No object is treated next (7.6.1).
 abbrev pub TreatsNothing : Control → Type 0
 TreatsNothing k = (v : Value) (treatment : Treatment) (tasks : List Task) (j : Control) → k ≡ Treats v treatment tasks ∷ j → ⊥
 
-module _ (marks : Thrift) (lower : List Master) (behind : Control) (tds : List TypeDefinition) (bodies : List BodyForm) (access_bare : AccessIsBare marks.types tds) (records_bare : RecordIsBare marks.types tds) (finds_frugal : FindsFrugal marks bodies) (s : State) where
+module _ (marks : Marks) (lower : List Master) (behind : Control) (tds : List TypeDefinition) (bodies : List BodyForm) (access_bare : AccessIsBare marks.types tds) (records_bare : RecordIsBare marks.types tds) (finds_frugal : FindsFrugal marks bodies) (s : State) where
   abbrev Fine : Next → Type 0
   Fine n = GoesFrugally marks lower behind n
 
@@ -166,7 +167,7 @@ module _ (marks : Thrift) (lower : List Master) (behind : Control) (tds : List T
   abbrev passing : Mode → List (Activation Value) → Control → List Master → State
   passing m all k ms = record s { mode = m; control = k; activations = all; masters = ms ++ lower }
 
-  handled_on : (e : Exception) (hs : HandlersForm) (found : Option StmtsForm) → handler_of e hs ≡ found → are_frugal_handlers marks hs ≡ true → (k : Control) (ms : List Master) → OwnVariables ms → (all : List (Activation Value)) → FrugalLeads marks behind k ms → Fine (landed named (handler_landing found) (Raising e) (passing (Raising e) all k ms))
+  handled_on : (e : Exception) (hs : HandlersForm) (found : Option StmtsForm) → handler_of e hs ≡ found → are_thrifty_handlers marks hs ≡ true → (k : Control) (ms : List Master) → OwnVariables ms → (all : List (Activation Value)) → FrugalLeads marks behind k ms → Fine (landed named (handler_landing found) (Raising e) (passing (Raising e) all k ms))
   handled_on e hs None is frugal k ms own all q = frames.on marks lower behind tds bodies s ms own _ refl q
   handled_on e hs (Some no_stmts) is frugal k ms own all q = tt
   handled_on e hs (Some (a_stmt f fs)) is frugal k ms own all q = frames.on marks lower behind tds bodies s ms own _ refl (handler_frugal marks hs e (a_stmt f fs) is frugal, q)
@@ -226,14 +227,14 @@ module _ (marks : Thrift) (lower : List Master) (behind : Control) (tds : List T
   mode_on Returning (f ∷ k) ms own all inner none freely (inl q) = returning_on f k ms own all (is_inner f k ms inner) q
 
 -- Where a body comes to its end next, it is one that was called: what called it goes on in these masters.
-abbrev pub EndsInner : (marks : Thrift) (behind : Control) → Control → List Master → Type 0
+abbrev pub EndsInner : (marks : Marks) (behind : Control) → Control → List Master → Type 0
 EndsInner marks behind k ms = (actuals : List ActualForm) (references : List Value) (j : Control) → k ≡ Returns actuals references ∷ j → FrugalLeads marks behind j ms
 
 -- While a frugal body runs, or one that it calls, and its own end is not next, whatever comes next is in such a body, too, where no object is treated next. Each Free of
 -- what runs is by the instance for the access type of what it frees (13.11.2), among some types; and where bodies may free objects with controlled parts, no object of
 -- these types that is in its collection has an operation that runs.
 pub frugal_steps :
-    (p : ProgramForm) → OwnBody p → (tds : List TypeDefinition) (bodies : List BodyForm) (marks : Thrift) → AccessIsBare marks.types tds → RecordIsBare marks.types tds → FindsFrugal marks bodies
+    (p : ProgramForm) → OwnBody p → (tds : List TypeDefinition) (bodies : List BodyForm) (marks : Marks) → AccessIsBare marks.types tds → RecordIsBare marks.types tds → FindsFrugal marks bodies
     → (behind : Control) (lower : List Master) (s : State) (f : Frugally marks lower behind s)
     → EndsInner marks behind s.control f.upper → (s.mode ≡ Running → TreatsNothing s.control) → typed.TypedIn p s
     → (may : ℕ → Bool) → (s.mode ≡ Running → FreesAmong may s.control) → ListedAlone may marks.ends_parts s.heap s.control
@@ -259,19 +260,19 @@ frugal_steps p whole tds bodies marks bare records_bare finds_frugal behind lowe
 -- The body, or what it calls, runs on, unless its own end is next, or an object is treated, in a run of a well-formed program.
 pub frugal_goes :
     (program : Program) → FreesItsOwn (program_form program) → (ends_parts : Bool)
-    → (lower : List Master) (behind : Control) (s : State) (f : Frugally (thrift_of (program_form program) ends_parts) lower behind s)
-    → EndsInner (thrift_of (program_form program) ends_parts) behind s.control f.upper → (s.mode ≡ Running → TreatsNothing s.control)
+    → (lower : List Master) (behind : Control) (s : State) (f : Frugally (marks_of (program_form program)) lower behind s)
+    → EndsInner (marks_of (program_form program)) behind s.control f.upper → (s.mode ≡ Running → TreatsNothing s.control)
     → typed.TypedIn (seen_in (running_procedure s) (program_form program)) s
     → (may : ℕ → Bool) → (s.mode ≡ Running → FreesAmong may s.control) → ListedAlone may ends_parts s.heap s.control
-    → GoesFrugally (thrift_of (program_form program) ends_parts) lower behind (next program.types.items (body_forms program) s)
+    → GoesFrugally (marks_of (program_form program)) lower behind (next program.types.items (body_forms program) s)
 frugal_goes program whole ends_parts lower behind s f inner none typing may among alone =
     let p = program_form program in
     let procedure = running_procedure s in
-    frugal_steps (seen_in procedure p) (own_bodies p whole procedure) program.types.items (body_forms program) (thrift_of p ends_parts) (bare_by program) (records_bare_by program)
+    frugal_steps (seen_in procedure p) (own_bodies p whole procedure) program.types.items (body_forms program) (thrift_of p) (bare_by program) (records_bare_by program)
     (λ number b there told. frugal_at p ends_parts number b told there) behind lower s f inner none typing may among alone
 
 -- An object is treated next that such a body frees (7.6.1): the body of a Finalize begins, or what is left to do is so behind that.
-module _ (marks : Thrift) (lower : List Master) (back : Control) (tds : List TypeDefinition) (bodies : List BodyForm) (s : State) where
+module _ (marks : Marks) (lower : List Master) (back : Control) (tds : List TypeDefinition) (bodies : List BodyForm) (s : State) where
   abbrev pub GoesOrBegins : State → Type 0
   GoesOrBegins after = Frugally marks lower back after ⊎ (length after.activations ≡ suc (length s.activations))
 
@@ -324,7 +325,7 @@ module _ (marks : Thrift) (lower : List Master) (back : Control) (tds : List Typ
     treats_on treatment ending tasks (Perform of part) = performed_on treatment ending of part (performed tasks) (look s.heap v)
 
 pub treats_frugally :
-    (marks : Thrift) (lower : List Master) (back : Control) (tds : List TypeDefinition) (bodies : List BodyForm) (s : State) → Frugally marks lower back s → s.mode ≡ Running
+    (marks : Marks) (lower : List Master) (back : Control) (tds : List TypeDefinition) (bodies : List BodyForm) (s : State) → Frugally marks lower back s → s.mode ≡ Running
     → (v : Value) (treatment : Treatment) (tasks : List Task) (k : Control) → s.control ≡ Treats v treatment tasks ∷ k → GoesTreating marks lower back tds bodies s (next tds bodies s)
 unfolding next
 treats_frugally marks lower back tds bodies s f runs v treatment tasks k first =
@@ -366,7 +367,7 @@ called_back p s number b given k (typed.on_jump mode jumps goes) runs is awaited
     nowhere
 
 -- Where bodies free no objects with controlled parts, no object is treated.
-pub treats_none : (marks : Thrift) → marks.ends_parts ≡ false → (behind : Control) (mode : Mode) (k : Control) (ms : List Master) → Frugal marks behind mode k ms → TreatsNothing k
+pub treats_none : (marks : Marks) → marks.ends_parts ≡ false → (behind : Control) (mode : Mode) (k : Control) (ms : List Master) → Frugal marks behind mode k ms → TreatsNothing k
 treats_none marks none behind mode k ms (inl q) v treatment tasks j is =
     let first = none_treated marks none behind (Treats v treatment tasks) j ms (rw is at q) in
     let never : true ≡ false = first.0 in
@@ -374,7 +375,7 @@ treats_none marks none behind mode k ms (inl q) v treatment tasks j is =
 treats_none marks none behind mode k ms (inr (runs, leaving)) v treatment tasks j is = let never : ⊥ = rw is at leaving in never
 
 -- No operation of a controlled type ends in such a body, either.
-pub none_ends : (marks : Thrift) → marks.ends_parts ≡ false → (behind : Control) (mode : Mode) (k : Control) (ms : List Master) → Frugal marks behind mode k ms → ends_operation k ≡ false
+pub none_ends : (marks : Marks) → marks.ends_parts ≡ false → (behind : Control) (mode : Mode) (k : Control) (ms : List Master) → Frugal marks behind mode k ms → ends_operation k ≡ false
 none_ends marks none behind mode [] ms frugal = refl
 none_ends marks none behind mode (f ∷ k) ms (inl q) = (none_treated marks none behind f k ms q).1
 none_ends marks none behind mode (Leaves left ∷ k) ms (inr (runs, q)) = refl
@@ -393,14 +394,14 @@ calls_nothing (Returns actuals references) k inner none plain = absurd (cc inner
 calls_nothing (Treats v treatment tasks) k inner none plain = absurd (cc plain)
 calls_nothing f k inner none plain = refl
 
-leaving_crosses : (marks : Thrift) (behind : Control) (k : Control) (ms : List Master) → FrugalLeaves marks behind k ms → crosses Running k ≡ false
+leaving_crosses : (marks : Marks) (behind : Control) (k : Control) (ms : List Master) → FrugalLeaves marks behind k ms → crosses Running k ≡ false
 leaving_crosses marks behind [] ms leaving = refl
 leaving_crosses marks behind (Leaves left ∷ k) ms leaving = refl
 leaving_crosses marks behind (f ∷ k) ms leaving = absurd leaving
 
 -- Where bodies free no objects with controlled parts, and neither the end of a body is next, nor the beginning of one, no body begins, none ends, and no operation is
 -- called.
-pub frugal_crosses : (marks : Thrift) → marks.ends_parts ≡ false → (behind : Control) (mode : Mode) (k : Control) (ms : List Master) → Frugal marks behind mode k ms → is_return_first k ≡ false → (mode ≡ Running → is_call_first k ≡ false) → crosses mode k ≡ false
+pub frugal_crosses : (marks : Marks) → marks.ends_parts ≡ false → (behind : Control) (mode : Mode) (k : Control) (ms : List Master) → Frugal marks behind mode k ms → is_return_first k ≡ false → (mode ≡ Running → is_call_first k ≡ false) → crosses mode k ≡ false
 frugal_crosses marks ends_none behind mode k ms (inr (runs, leaving)) inner none = rw runs (leaving_crosses marks behind k ms leaving)
 frugal_crosses marks ends_none behind mode [] ms (inl q) inner none = absurd q
 frugal_crosses marks ends_none behind Running (f ∷ k) ms (inl q) inner none = calls_nothing f k inner (none refl) (none_treated marks ends_none behind f k ms q).0

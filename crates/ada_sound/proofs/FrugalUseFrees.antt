@@ -215,20 +215,20 @@ module _ (p : ProgramForm) (well : IsWellFormed p) where
       (λ is t. body_bare p well.types_fit t marks known callable (λ procedure profile at told h. free_at p.types marks known all procedure told t h) b is two.0))
 
   -- What calls of a frugal procedure may free has no controlled parts.
-  calls_free_bare : (i : ℕ) → slice_index_or (frugal_procedures p false) i false ≡ true → (t : ℕ) → call_frees (slice_get (effects_of (implicit_of p) p).calls i) t ≡ true → has_bare_objects p.types t ≡ true
-  calls_free_bare = free_at p.types (frugal_procedures p false) (effects_of (implicit_of p) p).calls (all_free_bare p.bodies [] [] [] well.bodies_fit tt)
+  calls_free_bare : (i : ℕ) → slice_index_or (frugal_procedures p) i false ≡ true → (t : ℕ) → call_frees (slice_get (effects_of (implicit_of p) p).calls i) t ≡ true → has_bare_objects p.types t ≡ true
+  calls_free_bare = free_at p.types (frugal_procedures p) (effects_of (implicit_of p) p).calls (all_free_bare p.bodies [] [] [] well.bodies_fit tt)
 
-  pub covered_bare : (number : ℕ) (b : BodyForm) → slice_get p.bodies number ≡ Some b → is_frugal_body (thrift_of p false) b ≡ true → (t : ℕ)
+  pub covered_bare : (number : ℕ) (b : BodyForm) → slice_get p.bodies number ≡ Some b → is_frugal_body (thrift_of p) b ≡ true → (t : ℕ)
       → CoveredIn (implicit_of p) (seen_in (Some number) p) t → has_bare_objects p.types t ≡ true
   covered_bare number b there frugal t covered =
       let callable = [] ++ map profile_of (take number p.bodies) in
       let known = effects_from p.types (implicit_of p) [] (take number p.bodies) in
       let fits = body_at p.types p.texts p.exceptions [] p.bodies number b well.bodies_fit there in
       let freed : body_frees p.types (effects_of (implicit_of p) (seen_by number b p)) b t ≡ true = rw (seen_is p number b there) at covered in
-      let called : (procedure : ℕ) (profile : Profile) → slice_get callable procedure ≡ Some profile → slice_index_or (frugal_procedures p false) procedure false ≡ true
+      let called : (procedure : ℕ) (profile : Profile) → slice_get callable procedure ≡ Some profile → slice_index_or (frugal_procedures p) procedure false ≡ true
       → call_frees (slice_get known procedure) t ≡ true → has_bare_objects p.types t ≡ true =
       λ procedure profile at is h.
       calls_free_bare procedure is t
       (ap (λ (o : Option Effect). call_frees o t)
       (sym (known_before p well number procedure (slice_get (take number p.bodies) procedure) profile refl (sym (slice_get-map profile_of (take number p.bodies) procedure) ∙ at))) ∙ h) in
-      body_bare p well.types_fit t (frugal_procedures p false) known callable called b frugal fits freed
+      body_bare p well.types_fit t (frugal_procedures p) known callable called b frugal fits freed

@@ -238,9 +238,9 @@ module _ (p : ProgramForm) (well : IsWellFormed p) where
       (λ is among. body_same p well.types_fit marks first second callable (λ procedure profile at. agree_at marks first second agree procedure) b is two.0 among))
 
   -- What calls of a frugal procedure are known to raise, they are known to raise without what is called implicitly.
-  calls_agree : (i : ℕ) → slice_index_or (frugal_procedures p true) i false ≡ true → (among : Exception → Bool)
+  calls_agree : (i : ℕ) → slice_index_or (frugal_procedures p) i false ≡ true → (among : Exception → Bool)
       → call_raises (slice_get (effects_of (implicit_of p) p).calls i) among ≡ call_raises (slice_get (own_effects p).calls i) among
-  calls_agree = agree_at (frugal_procedures p true) (effects_of (implicit_of p) p).calls (own_effects p).calls (all_agree p.bodies [] [] [] [] well.bodies_fit tt)
+  calls_agree = agree_at (frugal_procedures p) (effects_of (implicit_of p) p).calls (own_effects p).calls (all_agree p.bodies [] [] [] [] well.bodies_fit tt)
 
   -- A procedure before a body is known to that body as to all.
   pub known_before : (number procedure : ℕ) (o : Option BodyForm) (profile : Profile) → slice_get (take number p.bodies) procedure ≡ o → option_map profile_of o ≡ Some profile
@@ -271,7 +271,7 @@ never true is not_so = cc not_so
 never false is not_so = cc is
 
 -- So no exception comes out of a silent one.
-pub silent_frugal : (p : ProgramForm) → IsWellFormed p → (number : ℕ) (b : BodyForm) → slice_get p.bodies number ≡ Some b → is_frugal_body (thrift_of p true) b ≡ true
+pub silent_frugal : (p : ProgramForm) → IsWellFormed p → (number : ℕ) (b : BodyForm) → slice_get p.bodies number ≡ Some b → is_frugal_body (thrift_of p) b ≡ true
     → body_raises (own_effects p) b (λ x. true) ≡ false → (e : Exception) → body_among (implicit_of p) (seen_in (Some number) p) e ≡ true → ⊥
 silent_frugal p well number b there frugal silent e among =
     let callable = [] ++ map profile_of (take number p.bodies) in
@@ -279,13 +279,13 @@ silent_frugal p well number b there frugal silent e among =
     let second = (own_effects p).calls in
     let fits = body_at p.types p.texts p.exceptions [] p.bodies number b well.bodies_fit there in
     let raised : body_raises (known_of (implicit_of p) first) b (is_same e) ≡ true = rw (seen_is p number b there) at among in
-    let known : (procedure : ℕ) (profile : Profile) → slice_get callable procedure ≡ Some profile → slice_index_or (frugal_procedures p true) procedure false ≡ true → (some : Exception → Bool)
+    let known : (procedure : ℕ) (profile : Profile) → slice_get callable procedure ≡ Some profile → slice_index_or (frugal_procedures p) procedure false ≡ true → (some : Exception → Bool)
     → call_raises (slice_get first procedure) some ≡ call_raises (slice_get second procedure) some =
     λ procedure profile at is some.
     ap (λ (o : Option Effect). call_raises o some)
     (known_before p well number procedure (slice_get (take number p.bodies) procedure) profile refl (sym (slice_get-map profile_of (take number p.bodies) procedure) ∙ at))
     ∙ calls_agree p well procedure is some in
-    let own : body_raises (own_effects p) b (is_same e) ≡ true = sym (body_same p well.types_fit (frugal_procedures p true) first second callable known b frugal fits (is_same e)) ∙ raised in
+    let own : body_raises (own_effects p) b (is_same e) ≡ true = sym (body_same p well.types_fit (frugal_procedures p) first second callable known b frugal fits (is_same e)) ∙ raised in
     never (body_raises (own_effects p) b (λ x. true)) (raises_more (own_effects p) (program_each no_implicit p) b (is_same e) (λ x. true) (λ x is. refl) own) silent
 
 -- What a body may raise, calls of its procedure are known to raise: so it comes out of its procedure.
@@ -319,7 +319,7 @@ starts_let program well access of part number b operable overrides there e among
 -- What comes out of the body of such an operation may come out of the treatment that calls it: of an Initialize what the creation of the object may raise, and of a
 -- Finalize nothing (7.6, 7.6.1).
 pub touches_let : (program : Program) → IsWellFormed (program_form program) → (access of part number : ℕ) (b : BodyForm) → IsOperable (program_form program).types access of part
-    → (treatment : Treatment) → MayTouch treatment → LetsNone (program_form program) treatment b → IsCalled (operations_of program.types.items of) treatment number → slice_get (body_forms program) number ≡ Some b → is_frugal_body (thrift_of (program_form program) (ends_here treatment)) b ≡ true
+    → (treatment : Treatment) → MayTouch treatment → LetsNone (program_form program) treatment b → IsCalled (operations_of program.types.items of) treatment number → slice_get (body_forms program) number ≡ Some b → is_frugal_body (thrift_of (program_form program)) b ≡ true
     → (e : Exception) → body_among (implicit_of (program_form program)) (seen_in (Some number) (program_form program)) e ≡ true → lets_out (implicit_of (program_form program)) access treatment e ≡ true
 touches_let program well access of part number b operable (begins Creation done) touch lets called there frugal e among = starts_let program well access of part number b operable called there e among
 touches_let program well access of part number b operable (begins Copy done) touch lets called there frugal e among = absurd touch

@@ -30,14 +30,16 @@ use Rattle.ada_idle.proofs.Idle.{ControlIsIdle, IsIdle}
 use Rattle.ada_idle.proofs.Unadjusted.{AdjustsNone}
 use Rattle.ada_quiet.specs.Apart.{is_tracker, operations_stand_apart}
 use Rattle.ada_quiet.specs.Idle.{copies_parts, makes_parts}
-use Rattle.ada_quiet.specs.InUse.{operations_are_in_use}
+use Rattle.ada_quiet.specs.InUse.{may_be_frugal, operations_are_in_use}
 use Rattle.ada_scopes.proofs.Runs.{Scoped}
 use Rattle.ada_typed.proofs.Control as typed
 use Rattle.ada_typed.proofs.Kept.{behind_call}
 use Rattle.ada_sound.specs.Agreement.{running_procedure}
-use Rattle.ada_sound.specs.Always.{SparesHolders, SparesOwn}
+use Rattle.ada_sound.specs.Always.{SparesOwn, SparesStarts, reaches_holder}
 use Rattle.ada_sound.proofs.Callers.{Suspension, known_in, Stands, callers_of}
 use Rattle.ada_sound.proofs.CallsApart.{CallApart}
+use Rattle.ada_sound.proofs.FreesInside.{FreesNoneInside}
+use Rattle.ada_sound.proofs.FrugalFrees.{Unborn}
 use Rattle.ada_sound.proofs.Invariant.{Control, Ready, under_in}
 use Rattle.ada_sound.proofs.Operating.{IsCalm}
 use Rattle.ada_sound.proofs.Standing.{FinalizesIn, any_type}
@@ -72,18 +74,21 @@ pub record Grounds (program : Program) (s : State) : Type 0 where
   pub in_use : operations_are_in_use (program_form program) ≡ true
   pub frees_own : FreesItsOwn (program_form program)
   pub spares_own : SparesOwn program
-  pub spares_holders : SparesHolders program
+  pub spares_starts : SparesStarts program
   pub obeys : Obeys program
   -- what is left to do, and values
   pub idle : makes_parts (program_form program) ≡ false → IsIdle (program_form program).types s
   pub copies : copies_parts (program_form program) ≡ false → AdjustsNone (program_form program).types s.control
   pub apart : operations_stand_apart (program_form program) ≡ true → CallApart (program_form program).types (is_tracker (program_form program)) s.control
+  pub releases : may_be_frugal (program_form program) ≡ true → makes_parts (program_form program) ≡ true
+      → FreesNoneInside (reaches_holder (implicit_of (program_form program)) (program_form program).types) s.control
   pub typed : typed.Typed (program_form program) s
   pub nested : Scoped (program_form program) s
   -- where no operation runs, each object that may be freed stands, and no treatment finalizes a value that does not exist
   pub finalizes : IsCalm (behind_call s.control) → (forms : List TypeForm) → FinalizesIn any_type forms program.types.items (body_forms program) s.mode s.control s
-  -- no operation runs of an object that is in its collection, where nothing of it begins; and it stands, if the running body may free it, and is one of an operation,
+  -- no operation runs of an object that does not exist; and none runs of an object that is in its collection, where nothing of it begins; and it stands, if the running body may free it, and is one of an operation,
   -- or is called by one
+  pub unborn : Unborn s.heap s.control
   pub unrun : (o : Id) (x : Object) → object_at s.heap o ≡ Some x → x.listed ≡ true → NothingBegins (Names o) s.control → NoOperationRunsOn (Names o) s.control
   pub stands : (IsCalm (behind_call s.control) → ⊥) → (o : Id) (x : Object) → object_at s.heap o ≡ Some x → x.listed ≡ true → NothingBegins (Names o) s.control → may_free program s x.cell.access ≡ true
       → all_alive x.cell.parts ≡ true

@@ -883,13 +883,18 @@ abbrev pub PassesNone : List TypeForm → Option VariableKind → List ℕ → O
 PassesNone types kind cs None = Unit {0}
 PassesNone types kind cs (Some t) = passes_type types kind cs t ≡ false
 
+-- Where operations may be called for an object of this access type that touch storage, those that end it neither follow nor free values of this other one, if it is an
+-- access type: an object of that holds the component which names the former (7.6.1).
+abbrev pub SparesHolder : Known → (access holder : ℕ) → Type 0
+SparesHolder known t u = known.touches t ≡ true → is_access known.program.types u ≡ true → known.implicit.end_reaches t u ≡ false
+
 -- Of what the end of an object of this access type may free, no suspended activation and no variable has an alias, and the running body may free it (7.6.1).
 abbrev pub EndsWellBy : Known → (access : ℕ) → Holds → Type 0
 EndsWellBy known t holds = Spares known (known.implicit.end_frees t) × Unaliased known.program.variables (known.implicit.end_frees t) holds
 
 -- A component is to be freed (13.11.2), by the instance for its own access type, to which these selectors lead, and this one behind them: no value on the
--- way is of that type, whose aliases are lost then, and where an exception is raised; less may be known behind it,
--- where its finalization frees objects.
+-- way is of that type, whose aliases are lost then, and where an exception is raised; operations that are called then spare the object in which the component lies; less
+-- may be known behind it, where its finalization frees objects.
 pub record Releasing (known : Known) (heap : List Object) (v : Value) (cs : List ℕ) (instance c : ℕ) (k : Control) (rooms : Rooms) (holds : Holds) : Type 0 where
   pub from : Option VariableKind
   pub access : Option ℕ
@@ -901,6 +906,7 @@ pub record Releasing (known : Known) (heap : List Object) (v : Value) (cs : List
   pub spares : (t : ℕ) → access ≡ Some t → NoOuterAlias known.program.types (outers known) t
   pub covered : (t : ℕ) → access ≡ Some t → CoveredIn known.implicit known.program t
   pub raises : RaisesAt known v cs k rooms (behind_end known.program.variables access holds)
+  pub spared : (t u : ℕ) → access ≡ Some t → access_of (selectors_kind known.program.types from cs) ≡ Some u → SparesHolder known t u
   pub runs : To (λ less. RunsOn known k rooms less × ((t : ℕ) → access ≡ Some t → EndsWellBy known t less)) (behind_end known.program.variables access holds)
 
 -- A condition is awaited: by branches, by a loop, by an exit.
@@ -1140,13 +1146,15 @@ FreesWell known heap (Some o) holds =
     (object : Object) → object_at heap o ≡ Some object
     → EndsWellBy known object.cell.access holds
 
--- A component that is freed names the object under way, if there is one, and is of its type.
+-- A component that is freed names the object under way, if there is one, and is of its type; operations that are called for that spare the object in which the component
+-- lies.
 abbrev pub IsNamedIn : Known → List Object → (holder : Value) → (c : ℕ) → (under : Option Id) → Type 0
 IsNamedIn known heap v c None = Unit {0}
 IsNamedIn known heap Null c (Some o) = ⊥
 IsNamedIn known heap (Names p) c (Some o) =
     (holder : Object) × (object : Object) × (object_at heap p ≡ Some holder) × (object_at heap o ≡ Some object)
     × (component_access known.program.types holder c ≡ Some object.cell.access) × (slice_get holder.cell.values c ≡ Some (Names o))
+    × SparesHolder known object.cell.access holder.cell.access
 IsNamedIn known heap (Scalar v) c (Some o) = ⊥
 IsNamedIn known heap (Part p place) c (Some o) = ⊥
 

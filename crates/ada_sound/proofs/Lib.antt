@@ -125,6 +125,8 @@ pub mod Waiting
 pub mod Operating
 -- where none does
 pub mod Calm
+-- frugal bodies, and what they may free
+pub mod Marks
 -- a frugal body of a Finalize runs
 pub mod FrugalBodies
 -- simple bodies of an Adjust
@@ -149,6 +151,8 @@ pub mod Started
 pub mod Uncalled
 -- procedures that track stand apart in what is left to do
 pub mod CallsApart
+-- no component of a record frees what may reach others in which such a component lies
+pub mod FreesInside
 -- whatever the next step is
 pub mod CallsApartSteps
 -- in whole runs: what tracks is never called

@@ -1,6 +1,7 @@
--- The body of an operation runs that touches Integers and Booleans alone (7.6): no other one is under way, or one that touches storage is, which frees the object.
+-- The body of an operation runs that touches Integers and Booleans alone (7.6): no other one is under way, or one that touches storage is, which frees the object, or
+-- allocates it.
 
-use Rattle.std.proofs.Common.{◌≡◌, ℕ, true, List, [], ◌∷◌, ◌++◌, ◌⊎◌}
+use Rattle.std.proofs.Common.{◌≡◌, ℕ, true, false, List, [], ◌∷◌, ◌++◌, ◌⊎◌, inl, inr}
 use Rattle.std.specs.Prelude.{Some}
 use Rattle.ada_program.specs.declared.program.Exception.{Exception}
 use Rattle.ada_program.specs.declared.program.Program.{Program}
@@ -22,16 +23,21 @@ use Rattle.ada_sound.specs.Callees.{IsCovered}
 use Rattle.ada_sound.proofs.Alters.{Alters}
 use Rattle.ada_sound.proofs.Bodies.{IsBody}
 use Rattle.ada_sound.proofs.Callers.{Suspension, known_in, Stands, callers_of}
-use Rattle.ada_sound.proofs.FrugalControl.{IsFreed}
+use Rattle.ada_sound.proofs.FrugalControl.{IsInside}
 use Rattle.ada_sound.proofs.Invariant.{Control, Says, TreatsBy, under_in}
 use Rattle.ada_sound.proofs.Operating.{Body, IsCalm, WaitsFor, behind_operation, lets_out}
 use Rattle.ada_sound.proofs.Touching.{Within}
 
 -- What is around the body of such an operation, by what it is called for, where these activations wait: no operation runs, or one that touches storage is under
--- way, in which the object is freed (13.11.2).
+-- way, in which the object is freed or allocated (13.11.2, 4.8).
 abbrev pub AroundTreated : (program : Program) → Treatment → List Suspension → State → Type 0
 AroundTreated program treatment gs s =
-    (IsCalm (behind_call s.control) × (under_in (callers_of program gs) ≡ [])) ⊎ (IsFreed treatment × Within program gs s)
+    (IsCalm (behind_call s.control) × (under_in (callers_of program gs) ≡ [])) ⊎ (IsInside treatment × Within program gs s)
+
+-- One that touches storage is.
+abbrev pub IsAmidst : {Calm Inside : Type 0} → Calm ⊎ Inside → Type 0
+IsAmidst (inl calm) = ⊥
+IsAmidst (inr within) = Unit {0}
 
 -- The object that an operation is called for is treated; and what waits for it goes on behind that, whatever the body does.
 pub record Suspended (program : Program) (object : Id) (treatment : Treatment) (caller : Activation Value) (rest : List (Activation Value)) (behind : Control) (lower : List Master) (s : State) : Type 0 where
@@ -63,6 +69,7 @@ pub record Operates (program : Program) (s : State) : Type 0 where
   pub body : Body (record { program = seen_in (Some procedure) (program_form program); object = object; access = access }) behind upper s.heap places operands s.mode s.control
   pub treatment : Treatment
   pub suspended : Suspended program object treatment caller rest behind lower s
+  pub silent : IsAmidst suspended.around → (e : Exception) → body_raises no_calls (main_body (seen_in (Some procedure) (program_form program))) (is_same e) ≡ false
   pub prepared : (e : Exception) → body_raises no_calls (main_body (seen_in (Some procedure) (program_form program))) (is_same e) ≡ true → lets_out (implicit_of (program_form program)) access treatment e ≡ true
 
 -- The body of such an operation runs behind a step that gives nothing back; and what that does to objects.

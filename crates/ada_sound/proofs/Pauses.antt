@@ -17,13 +17,13 @@ use Rattle.ada_meaning.specs.Named.{Object, State, object_at}
 use Rattle.ada_meaning.specs.Run.{Event}
 use Rattle.ada_meaning.specs.State.{Activation, Master}
 use Rattle.ada_meaning.specs.Step.{older, operands_of, procedure_of, treating}
-use Rattle.ada_quiet.specs.Frugal.{Thrift}
 use Rattle.ada_owners.proofs.Objects.{id_is}
 use Rattle.ada_reaching.specs.Apart.{Apart}
 use Rattle.ada_reaching.specs.Law.{GhostsStay}
 use Rattle.ada_reaching.specs.Reaching.{IsReaching}
 use Rattle.ada_reaching.proofs.Behind.{ends_other, reaching_kept}
 use Rattle.ada_tracked.proofs.Lists.{is_apart, is_same}
+use Rattle.ada_sound.proofs.Marks.{Marks, marks_of}
 use Rattle.ada_sound.specs.Agreement.{running_procedure}
 use Rattle.ada_sound.proofs.Alters.{Alters}
 use Rattle.ada_sound.proofs.Callers.{Suspension}
@@ -70,9 +70,9 @@ pause_on program depth later s after e f alters same still = record {
   lets = f.lets;
 }
 
-module _ (program : Program) (s : State) (thrift : Thrift) (back : Control) (lower : List Master) where
+module _ (program : Program) (s : State) (marks : Marks) (back : Control) (lower : List Master) where
   -- What is watched in each of these activations that waits for an operation is so still in a state.
-  abbrev pub AllWatched : (after : State) (running : Option ℕ) (depth : ℕ) (outermost : Option ℕ) (others inner : List Suspension) → AreInner program s thrift back lower running depth outermost others inner → Type 0
+  abbrev pub AllWatched : (after : State) (running : Option ℕ) (depth : ℕ) (outermost : Option ℕ) (others inner : List Suspension) → AreInner program s marks back lower running depth outermost others inner → Type 0
   AllWatched after running depth outermost others [] w = Unit {0}
   AllWatched after running depth outermost others (g ∷ inner) (inl call, more) = AllWatched after g.procedure (suc depth) outermost others inner more
   AllWatched after running depth outermost others (g ∷ inner) (inr operation, more) =
@@ -97,9 +97,9 @@ module _ (program : Program) (s : State) (thrift : Thrift) (back : Control) (low
 
   -- What they wait for is known behind a step, too.
   pub inner_on :
-      (after : State) (e : Event) (running : Option ℕ) (depth later : ℕ) (outermost : Option ℕ) (others inner : List Suspension) (w : AreInner program s thrift back lower running depth outermost others inner)
+      (after : State) (e : Event) (running : Option ℕ) (depth later : ℕ) (outermost : Option ℕ) (others inner : List Suspension) (w : AreInner program s marks back lower running depth outermost others inner)
       → Alters s.heap e after.heap → SameBehind after depth later
-      → AllWatched after running depth outermost others inner w → AreInner program after thrift back lower running later outermost others inner
+      → AllWatched after running depth outermost others inner w → AreInner program after marks back lower running later outermost others inner
   inner_on after e running depth later outermost others [] w alters same still = w
   inner_on after e running depth later outermost others (g ∷ inner) (inl call, more) alters same still =
       (inl call, inner_on after e g.procedure (suc depth) (suc later) outermost others inner more alters (same_further after depth later same) still)
@@ -163,15 +163,15 @@ module _ (program : Program) (s after : State) (o : Id) (ending : EndsBehind o s
 
   -- So it is of each of these activations.
   all_on :
-      (thrift : Thrift) (back : Control) (lower : List Master) (running : Option ℕ) (depth : ℕ) (outermost : Option ℕ) (waiting inner : List Suspension)
-      (w : AreInner program s thrift back lower running depth outermost waiting inner)
-      → AllWatched program s thrift back lower after running depth outermost waiting inner w
-  all_on thrift back lower running depth outermost waiting [] w = tt
-  all_on thrift back lower running depth outermost waiting (g ∷ inner) (inl call, more) =
-      all_on thrift back lower g.procedure (suc depth) outermost waiting inner more
-  all_on thrift back lower running depth outermost waiting (g ∷ inner) (inr operation, more) = (
+      (marks : Marks) (back : Control) (lower : List Master) (running : Option ℕ) (depth : ℕ) (outermost : Option ℕ) (waiting inner : List Suspension)
+      (w : AreInner program s marks back lower running depth outermost waiting inner)
+      → AllWatched program s marks back lower after running depth outermost waiting inner w
+  all_on marks back lower running depth outermost waiting [] w = tt
+  all_on marks back lower running depth outermost waiting (g ∷ inner) (inl call, more) =
+      all_on marks back lower g.procedure (suc depth) outermost waiting inner more
+  all_on marks back lower running depth outermost waiting (g ∷ inner) (inr operation, more) = (
     watched_on operation.pause.watch operation.pause.behind operation.pause.still,
-    all_on thrift back lower g.procedure (suc depth) outermost waiting inner more,
+    all_on marks back lower g.procedure (suc depth) outermost waiting inner more,
   )
 
   pub within_kept :
@@ -188,14 +188,12 @@ module _ (program : Program) (s after : State) (o : Id) (ending : EndsBehind o s
             pause_on program (length w.inner) (length w.inner) s after e w.outermost alters (same (length w.inner))
             (watched_on w.outermost.watch w.outermost.behind w.outermost.still);
         are = w.are;
-        thrift = w.thrift;
-        goes_by = w.goes_by;
         within =
-            subst (λ (procedure : Option ℕ). AreInner program after w.thrift w.outermost.behind w.outermost.lower procedure 0 last waiting w.inner)
+            subst (λ (procedure : Option ℕ). AreInner program after (marks_of (program_form program)) w.outermost.behind w.outermost.lower procedure 0 last waiting w.inner)
             (sym (ap procedure_of active))
-            (inner_on program s w.thrift w.outermost.behind w.outermost.lower after e (running_procedure s) 0 0 last waiting w.inner w.within alters
+            (inner_on program s (marks_of (program_form program)) w.outermost.behind w.outermost.lower after e (running_procedure s) 0 0 last waiting w.inner w.within alters
             (λ n. same (0 + n))
-            (all_on w.thrift w.outermost.behind w.outermost.lower (running_procedure s) 0 last waiting w.inner w.within));
+            (all_on (marks_of (program_form program)) w.outermost.behind w.outermost.lower (running_procedure s) 0 last waiting w.inner w.within));
         frugal = record {
           upper = w.frugal.upper;
           masters = masters ∙ w.frugal.masters;

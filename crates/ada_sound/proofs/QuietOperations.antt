@@ -137,7 +137,7 @@ module _ (p : ProgramForm) where
 
   -- A procedure is frugal, where that may be, and its body may free objects with controlled parts or not.
   abbrev pub IsFrugal : (ends_parts : Bool) → ℕ → Type 0
-  IsFrugal ends_parts number = (may_be_frugal p ≡ true) × (slice_index_or (frugal_procedures p ends_parts) number false ≡ true)
+  IsFrugal ends_parts number = (may_be_frugal p ≡ true) × (slice_index_or (frugal_procedures p) number false ≡ true)
 
   abbrev pub IsSilent : ℕ → Type 0
   IsSilent number = is_silent_procedure (own_effects p) (slice_get p.bodies number) ≡ true
@@ -148,9 +148,9 @@ module _ (p : ProgramForm) where
   -- What overrides Initialize is plain or frugal, what overrides Adjust is quiet, or simple and silent and of a type that owns, and what overrides Finalize is
   -- quiet, or frugal and silent.
   record AreUsed (Owns : Type 0) (o : Operations) (number : ℕ) : Type 0 where
-    initializes : procedure_number o.initialize ≡ Some number → IsPlain number ⊎ (IsFrugal false number × IsNotPlain number)
+    initializes : procedure_number o.initialize ≡ Some number → IsPlain number ⊎ (IsFrugal number × IsNotPlain number)
     adjusts : copies_parts p ≡ true → procedure_number o.adjust ≡ Some number → IsQuiet number ⊎ (IsSimple number × IsSilent number × Owns)
-    finalizes : procedure_number o.finalize ≡ Some number → IsQuiet number ⊎ (IsFrugal true number × IsSilent number × IsNotQuiet number)
+    finalizes : procedure_number o.finalize ≡ Some number → IsQuiet number ⊎ (IsFrugal number × IsSilent number × IsNotQuiet number)
 
   plain_one : (o : Option ProcedureNo) (number : ℕ) → is_plain_operation p o ≡ true → procedure_number o ≡ Some number → IsPlain number
   plain_one None number plain is = absurd (cc is)
@@ -168,7 +168,7 @@ module _ (p : ProgramForm) where
   not_quiet None number other is = absurd (cc is)
   not_quiet (Some procedure) number other is = let same : procedure.0 ≡ number = cc is in rw same at other
 
-  frugal_one : (ends_parts : Bool) (o : Option ProcedureNo) (number : ℕ) → is_frugal_operation p ends_parts o ≡ true → procedure_number o ≡ Some number → slice_index_or (frugal_procedures p ends_parts) number false ≡ true
+  frugal_one : (ends_parts : Bool) (o : Option ProcedureNo) (number : ℕ) → is_frugal_operation p o ≡ true → procedure_number o ≡ Some number → slice_index_or (frugal_procedures p) number false ≡ true
   frugal_one ends_parts None number frugal is = absurd (cc is)
   frugal_one ends_parts (Some procedure) number frugal is = let same : procedure.0 ≡ number = cc is in rw same at frugal
 
@@ -176,15 +176,15 @@ module _ (p : ProgramForm) where
   silent_one None number silent is = absurd (cc is)
   silent_one (Some procedure) number silent is = let same : procedure.0 ≡ number = cc is in rw same at silent
 
-  pub finalize_one : (o : Option ProcedureNo) (number : ℕ) → uses_finalize p o ≡ true → procedure_number o ≡ Some number → IsQuiet number ⊎ (IsFrugal true number × IsSilent number × IsNotQuiet number)
+  pub finalize_one : (o : Option ProcedureNo) (number : ℕ) → uses_finalize p o ≡ true → procedure_number o ≡ Some number → IsQuiet number ⊎ (IsFrugal number × IsSilent number × IsNotQuiet number)
   finalize_one o number uses is = by (is_quiet_operation p o) refl uses
     where
-      by : (quiet : Bool) → is_quiet_operation p o ≡ quiet → (quiet || (may_be_frugal p && is_frugal_operation p true o && is_silent_operation p o)) ≡ true
-          → IsQuiet number ⊎ (IsFrugal true number × IsSilent number × IsNotQuiet number)
+      by : (quiet : Bool) → is_quiet_operation p o ≡ quiet → (quiet || (may_be_frugal p && is_frugal_operation p o && is_silent_operation p o)) ≡ true
+          → IsQuiet number ⊎ (IsFrugal number × IsSilent number × IsNotQuiet number)
       by true quiet uses' = inl (quiet_one o number quiet is)
       by false quiet uses' =
-          let three = apart (may_be_frugal p && is_frugal_operation p true o) (is_silent_operation p o) uses' in
-          let both = apart (may_be_frugal p) (is_frugal_operation p true o) three.0 in
+          let three = apart (may_be_frugal p && is_frugal_operation p o) (is_silent_operation p o) uses' in
+          let both = apart (may_be_frugal p) (is_frugal_operation p o) three.0 in
           inr ((both.0, frugal_one true o number both.1 is), silent_one o number three.1 is, not_quiet o number quiet is)
 
   simple_one :
@@ -209,12 +209,12 @@ module _ (p : ProgramForm) where
           let both = apart (may_track p) (is_simple_operation p (adjusts_alone p) o) three.0 in
           inr ((both.0, simple_one o number both.1 is), silent_one o number three.1 is, (apart owns (is_some (operation_body p o)) so).0)
 
-  initialize_one : (o : Option ProcedureNo) (number : ℕ) → uses_initialize p o ≡ true → procedure_number o ≡ Some number → IsPlain number ⊎ (IsFrugal false number × IsNotPlain number)
+  initialize_one : (o : Option ProcedureNo) (number : ℕ) → uses_initialize p o ≡ true → procedure_number o ≡ Some number → IsPlain number ⊎ (IsFrugal number × IsNotPlain number)
   initialize_one o number uses is = by (is_plain_operation p o) refl uses
     where
-      by : (plain : Bool) → is_plain_operation p o ≡ plain → (plain || (may_be_frugal p && is_frugal_operation p false o)) ≡ true → IsPlain number ⊎ (IsFrugal false number × IsNotPlain number)
+      by : (plain : Bool) → is_plain_operation p o ≡ plain → (plain || (may_be_frugal p && is_frugal_operation p o)) ≡ true → IsPlain number ⊎ (IsFrugal number × IsNotPlain number)
       by true plain uses' = inl (plain_one o number plain is)
-      by false plain uses' = let both = apart (may_be_frugal p) (is_frugal_operation p false o) uses' in inr ((both.0, frugal_one false o number both.1 is), not_plain o number plain is)
+      by false plain uses' = let both = apart (may_be_frugal p) (is_frugal_operation p o) uses' in inr ((both.0, frugal_one false o number both.1 is), not_plain o number plain is)
 
   three_used : (Owns : Type 0) (owns : Bool) (f : Option Finalization) (number : ℕ) → (owns ≡ true → is_adjust_of number f ≡ true → Owns) → uses_operations p owns f ≡ true → AreUsed Owns (operations_in f) number
   three_used Owns owns None number own uses = record { initializes = λ is. absurd (cc is); adjusts = λ copies is. absurd (cc is); finalizes = λ is. absurd (cc is) }
@@ -310,7 +310,7 @@ module _ (p : ProgramForm) where
   initialize_nests t None right uses = tt
   initialize_nests t (Some procedure) right uses = by (initialize_one (Some procedure) procedure.0 uses refl)
     where
-      by : IsPlain procedure.0 ⊎ (IsFrugal false procedure.0 × IsNotPlain procedure.0) → NestsAnywhere (callees_of p) (Some procedure)
+      by : IsPlain procedure.0 ⊎ (IsFrugal procedure.0 × IsNotPlain procedure.0) → NestsAnywhere (callees_of p) (Some procedure)
       by (inl plain) = plain_nests t (Some procedure) right plain
       by (inr both) = frugal_nests p false procedure.0 both.0.1
 
@@ -318,20 +318,20 @@ module _ (p : ProgramForm) where
   finalize_nests t None right uses = tt
   finalize_nests t (Some procedure) right uses = by (finalize_one (Some procedure) procedure.0 uses refl)
     where
-      by : IsQuiet procedure.0 ⊎ (IsFrugal true procedure.0 × IsSilent procedure.0 × IsNotQuiet procedure.0) → NestsAnywhere (callees_of p) (Some procedure)
+      by : IsQuiet procedure.0 ⊎ (IsFrugal procedure.0 × IsSilent procedure.0 × IsNotQuiet procedure.0) → NestsAnywhere (callees_of p) (Some procedure)
       by (inl quiet) = plain_nests t (Some procedure) right (plain_operation p (Some procedure) quiet)
       by (inr both) = frugal_nests p true procedure.0 both.0.1
 
   adjust_nests : (t : ℕ) (owns : Bool) (o : Option ProcedureNo) → overrides_rightly p.types (callable_in p) t o ≡ true → uses_adjust p owns o ≡ true → NestsAnywhere (callees_of p) o
   adjust_nests t owns None right uses = tt
-  adjust_nests t owns (Some procedure) right uses = either (or_cases (adjusts_nothing p && is_frugal_operation p true (Some procedure)) (uses_called_adjust p owns (Some procedure)) uses)
+  adjust_nests t owns (Some procedure) right uses = either (or_cases (adjusts_nothing p && is_frugal_operation p (Some procedure)) (uses_called_adjust p owns (Some procedure)) uses)
     where
       by : IsQuiet procedure.0 ⊎ (IsSimple procedure.0 × IsSilent procedure.0 × (owns ≡ true)) → NestsAnywhere (callees_of p) (Some procedure)
       by (inl quiet) = plain_nests t (Some procedure) right (plain_operation p (Some procedure) quiet)
       by (inr both) = let b = there_one t (Some procedure) procedure.0 right refl in nests_there procedure.0 b.0 b.1 (λ callees around. simple_nests p.types callees b.0 around (simple_with p.types (adjusts_alone p) b.0 (rw (b.1) at both.0.1)))
 
-      either : ((adjusts_nothing p && is_frugal_operation p true (Some procedure)) ≡ true) ⊎ (uses_called_adjust p owns (Some procedure) ≡ true) → NestsAnywhere (callees_of p) (Some procedure)
-      either (inl nothing) = frugal_nests p true procedure.0 (apart (adjusts_nothing p) (is_frugal_operation p true (Some procedure)) nothing).1
+      either : ((adjusts_nothing p && is_frugal_operation p (Some procedure)) ≡ true) ⊎ (uses_called_adjust p owns (Some procedure) ≡ true) → NestsAnywhere (callees_of p) (Some procedure)
+      either (inl nothing) = frugal_nests p true procedure.0 (apart (adjusts_nothing p) (is_frugal_operation p (Some procedure)) nothing).1
       either (inr called) = by (adjust_one owns (Some procedure) procedure.0 called refl)
 
   nests_three : (t : ℕ) (owns : Bool) (f : Option Finalization) → has_operations p.types (callable_in p) t f ≡ true → uses_operations p owns f ≡ true → AllNestAnywhere (callees_of p) (operations_in f)
@@ -404,7 +404,7 @@ ends_here (ends cause) = true
 abbrev pub IsUsedAs : ProgramForm → (of number : ℕ) → Treatment → BodyForm → Type 0
 IsUsedAs p of number treatment b =
     (PlainBody p.types b × LetsNothingOut treatment b)
-    ⊎ ((MayTouch treatment × (may_be_frugal p ≡ true) × (is_frugal_body (thrift_of p (ends_here treatment)) b ≡ true) × LetsNone p treatment b × TouchesStorage p treatment b)
+    ⊎ ((MayTouch treatment × (may_be_frugal p ≡ true) × (is_frugal_body (thrift_of p) b ≡ true) × LetsNone p treatment b × TouchesStorage p treatment b)
     ⊎ (AdjustsCopy treatment × MayTrack p b × AdjustsOwn p.types of number))
 
 -- A type that passes the test of a number has that number among the controlled ones, as what is shown of it says.

@@ -168,7 +168,7 @@ module _ (p : ProgramForm) (u : ℕ) where
   -- Each frugal procedure of which a call is no use may be called,
   abbrev pub CallsFrugal : Apart → Type 0
   CallsFrugal apart =
-      (n : ℕ) → slice_index_or (frugal_procedures p true) n false ≡ true → Spares p u (λ d. procedure_does (does_by p d) n) → apart.calls n ≡ true
+      (n : ℕ) → slice_index_or (frugal_procedures p) n false ≡ true → Spares p u (λ d. procedure_does (does_by p d) n) → apart.calls n ≡ true
 
   -- and objects of each access type may be freed whose end is no use (7.6.1).
   abbrev pub EndsSpared : Apart → Type 0
@@ -205,15 +205,15 @@ module _ (p : ProgramForm) (u : ℕ) where
     -- where its statements and its handlers have it.
     master_shaped :
         (ds : List DeclarationForm) (fs : StmtsForm) (hs : HandlersForm)
-        → (are_frugal (thrift_of p true) fs ≡ true → Spares p u (λ d. stmts_do p.types variables (does_by p d) d fs)
+        → (are_frugal (thrift_of p) fs ≡ true → Spares p u (λ d. stmts_do p.types variables (does_by p d) d fs)
         → statements_shun p.types (λ t. false) apart variables fs ≡ true)
-        → (are_frugal_handlers (thrift_of p true) hs ≡ true → Spares p u (λ d. handlers_do p.types variables (does_by p d) d hs)
+        → (are_frugal_handlers (thrift_of p) hs ≡ true → Spares p u (λ d. handlers_do p.types variables (does_by p d) d hs)
         → handlers_shun p.types (λ t. false) apart variables hs ≡ true)
-        → (are_frugal_declarations p.types ds && are_frugal (thrift_of p true) fs && are_frugal_handlers (thrift_of p true) hs) ≡ true
+        → (are_frugal_declarations p.types ds && are_frugal (thrift_of p) fs && are_frugal_handlers (thrift_of p) hs) ≡ true
         → Spares p u (master_does ds fs hs) → master_shuns ds fs hs ≡ true
     master_shaped ds fs hs within behind frugal spares =
-        let parts = and_parts (are_frugal_declarations p.types ds && are_frugal (thrift_of p true) fs) (are_frugal_handlers (thrift_of p true) hs) frugal in
-        let inner = and_parts (are_frugal_declarations p.types ds) (are_frugal (thrift_of p true) fs) parts.0 in
+        let parts = and_parts (are_frugal_declarations p.types ds && are_frugal (thrift_of p) fs) (are_frugal_handlers (thrift_of p) hs) frugal in
+        let inner = and_parts (are_frugal_declarations p.types ds) (are_frugal (thrift_of p) fs) parts.0 in
         let declared = λ (d : Deed). declarations_do p.types variables (does_by p d) d ds in
         let inside = λ (d : Deed). stmts_do p.types variables (does_by p d) d fs in
         let left = λ (d : Deed). is_left hs d && inside d in
@@ -230,7 +230,7 @@ module _ (p : ProgramForm) (u : ℕ) where
     mutual
       -- A frugal statement has the shape, where what it does is no use,
       statement_shaped :
-          (f : StmtForm) → is_frugal_stmt (thrift_of p true) f ≡ true → Spares p u (λ d. stmt_does p.types variables (does_by p d) d f)
+          (f : StmtForm) → is_frugal_stmt (thrift_of p) f ≡ true → Spares p u (λ d. stmt_does p.types variables (does_by p d) d f)
           → statement_shuns p.types (λ t. false) apart variables f ≡ true
       statement_shaped skips frugal spares = refl
       statement_shaped (assigns target right) frugal spares =
@@ -280,11 +280,11 @@ module _ (p : ProgramForm) (u : ℕ) where
 
       -- and so have statements,
       statements_shaped :
-          (fs : StmtsForm) → are_frugal (thrift_of p true) fs ≡ true → Spares p u (λ d. stmts_do p.types variables (does_by p d) d fs)
+          (fs : StmtsForm) → are_frugal (thrift_of p) fs ≡ true → Spares p u (λ d. stmts_do p.types variables (does_by p d) d fs)
           → statements_shun p.types (λ t. false) apart variables fs ≡ true
       statements_shaped no_stmts frugal spares = refl
       statements_shaped (a_stmt f fs) frugal spares =
-          let both = and_parts (is_frugal_stmt (thrift_of p true) f) (are_frugal (thrift_of p true) fs) frugal in
+          let both = and_parts (is_frugal_stmt (thrift_of p) f) (are_frugal (thrift_of p) fs) frugal in
           let one = λ (d : Deed). stmt_does p.types variables (does_by p d) d f in
           let more = λ (d : Deed). stmts_do p.types variables (does_by p d) d fs in
           and_from (statement_shuns p.types (λ t. false) apart variables f) (statements_shun p.types (λ t. false) apart variables fs)
@@ -292,11 +292,11 @@ module _ (p : ProgramForm) (u : ℕ) where
 
       -- branches (5.3)
       branches_shaped :
-          (branches : BranchesForm) → are_frugal_branches (thrift_of p true) branches ≡ true
+          (branches : BranchesForm) → are_frugal_branches (thrift_of p) branches ≡ true
           → Spares p u (λ d. branches_do p.types variables (does_by p d) d branches) → branches_shun p.types (λ t. false) apart variables branches ≡ true
       branches_shaped (otherwise fs) frugal spares = statements_shaped fs frugal spares
       branches_shaped (a_branch e fs branches) frugal spares =
-          let both = and_parts (are_frugal (thrift_of p true) fs) (are_frugal_branches (thrift_of p true) branches) frugal in
+          let both = and_parts (are_frugal (thrift_of p) fs) (are_frugal_branches (thrift_of p) branches) frugal in
           let tested = λ (d : Deed). expression_does p.types variables d e in
           let inside = λ (d : Deed). stmts_do p.types variables (does_by p d) d fs in
           let more = λ (d : Deed). branches_do p.types variables (does_by p d) d branches in
@@ -309,11 +309,11 @@ module _ (p : ProgramForm) (u : ℕ) where
 
       -- and handlers (11.2).
       handlers_shaped :
-          (hs : HandlersForm) → are_frugal_handlers (thrift_of p true) hs ≡ true → Spares p u (λ d. handlers_do p.types variables (does_by p d) d hs)
+          (hs : HandlersForm) → are_frugal_handlers (thrift_of p) hs ≡ true → Spares p u (λ d. handlers_do p.types variables (does_by p d) d hs)
           → handlers_shun p.types (λ t. false) apart variables hs ≡ true
       handlers_shaped no_handlers frugal spares = refl
       handlers_shaped (a_handler choices fs hs) frugal spares =
-          let both = and_parts (are_frugal (thrift_of p true) fs) (are_frugal_handlers (thrift_of p true) hs) frugal in
+          let both = and_parts (are_frugal (thrift_of p) fs) (are_frugal_handlers (thrift_of p) hs) frugal in
           let one = λ (d : Deed). stmts_do p.types variables (does_by p d) d fs in
           let more = λ (d : Deed). handlers_do p.types variables (does_by p d) d hs in
           and_from (statements_shun p.types (λ t. false) apart variables fs) (handlers_shun p.types (λ t. false) apart variables hs)
@@ -322,7 +322,7 @@ module _ (p : ProgramForm) (u : ℕ) where
   -- So has a frugal body.
   pub body_shaped :
       (apart : Apart) → CallsFrugal apart → EndsSpared apart → list_all (type_fits p.types) p.types ≡ true → (b : BodyForm)
-      → list_all (variable_fits p.types) b.variables ≡ true → is_frugal_body (thrift_of p true) b ≡ true
+      → list_all (variable_fits p.types) b.variables ≡ true → is_frugal_body (thrift_of p) b ≡ true
       → Spares p u (λ d. body_does p.types (does_by p d) d b) → body_shuns p.types (λ t. false) apart b ≡ true
   body_shaped apart marked ended types_fit b variables_fit =
       master_shaped apart marked ended types_fit b.variables variables_fit b.declarations b.statements b.handlers

@@ -46,7 +46,7 @@ use Rattle.ada_sound.proofs.Shunning.{CallsFrugal, EndsSpared, Spares, body_shap
 -- A body is frugal, where there is one; it may free objects with controlled parts.
 abbrev is_frugal_one : ProgramForm → Option BodyForm → Bool
 is_frugal_one p None = true
-is_frugal_one p (Some b) = is_frugal_body (thrift_of p true) b
+is_frugal_one p (Some b) = is_frugal_body (thrift_of p) b
 
 -- A procedure is frugal, and frees and follows no value of an access type.
 abbrev is_shunning : ProgramForm → (access procedure : ℕ) → Bool
@@ -133,7 +133,7 @@ module _ (p : ProgramForm) (u : ℕ) where
       rw same (parts_spare (designated_type p.types access) spares)
 
   -- A procedure that is told to be frugal has a frugal body, if it has one.
-  told_frugal : (n : ℕ) → slice_index_or (frugal_procedures p true) n false ≡ true → is_frugal_one p (slice_get p.bodies n) ≡ true
+  told_frugal : (n : ℕ) → slice_index_or (frugal_procedures p) n false ≡ true → is_frugal_one p (slice_get p.bodies n) ≡ true
   told_frugal n told = by (slice_get p.bodies n) refl
     where
       by : (found : Option BodyForm) → slice_get p.bodies n ≡ found → is_frugal_one p found ≡ true
@@ -189,9 +189,9 @@ module _ (program : Program) (well : IsWellFormed (program_form program)) (uses 
       → is_frugal_one p (slice_get p.bodies number) ≡ true
   finalize_frugal of number overrides = by (slice_get p.bodies number) refl
     where
-      as_used : (b : BodyForm) → IsUsedAs p of number (ends (Freeing number)) b → is_frugal_body (thrift_of p true) b ≡ true
+      as_used : (b : BodyForm) → IsUsedAs p of number (ends (Freeing number)) b → is_frugal_body (thrift_of p) b ≡ true
       as_used b (inl (plain, silent)) =
-          frugal_body (thrift_of p true) p.types b (and_from (is_plain_body p.types b) (not (body_raises no_calls b (λ e. true))) plain.plain (ap not silent))
+          frugal_body (thrift_of p) p.types b (and_from (is_plain_body p.types b) (not (body_raises no_calls b (λ e. true))) plain.plain (ap not silent))
       as_used b (inr (inl (may, enabled, frugal, lets, stores))) = frugal
       as_used b (inr (inr (copies, tracks, own))) = absurd copies
 
@@ -278,7 +278,7 @@ module _ (program : Program) (well : IsWellFormed (program_form program)) (uses 
     all_apart = unused_apart p (λ t. u == t) apart unused program.types.items well shaped
 
   -- A frugal body has the shape of bodies that shun types, whatever it uses, and so have all that it calls, and the operations of what it frees.
-  module _ (number : ℕ) (b : BodyForm) (there : slice_get p.bodies number ≡ Some b) (frugal : is_frugal_body (thrift_of p true) b ≡ true) where
+  module _ (number : ℕ) (b : BodyForm) (there : slice_get p.bodies number ≡ Some b) (frugal : is_frugal_body (thrift_of p) b ≡ true) where
     -- No type has the number behind the last one: so nothing is a use of it.
     none_used : (d : Deed) → is_deed_of p d ≡ nat_lt (length p.types) (length p.types) → does_by p d (calling number) ≡ false
     none_used d same =
@@ -308,7 +308,7 @@ finalize_shuns program well uses access of part number u b operable overrides th
 -- The frugal body of a procedure has the shape of bodies that shun types, and so have all that it calls and the operations of what it frees.
 pub body_is_shaped :
     (program : Program) → IsWellFormed (program_form program) → operations_may_be_called (program_form program) ≡ true → (number : ℕ) (b : BodyForm)
-    → slice_get (body_forms program) number ≡ Some b → is_frugal_body (thrift_of (program_form program) true) b ≡ true
+    → slice_get (body_forms program) number ≡ Some b → is_frugal_body (thrift_of (program_form program)) b ≡ true
     → (apart : Apart) × AreApart (program_form program) program.types.items (λ t. false) apart
     × (body_shuns (program_form program).types (λ t. false) apart b ≡ true)
 body_is_shaped = own_shaped

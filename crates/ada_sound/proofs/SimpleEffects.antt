@@ -30,4 +30,4 @@ simple_silent program well number b there is silent tracks components orderly e 
     let p = program_form program in
     let seen = seen_in (Some number) p in
     let same = judged_among seen tracks (tracks_seen p number b tracks there components) (orderly_seen p number b tracks there orderly) (implicit_of p) e in
-    silent_frugal p well number b there (simple_frugal (thrift_of p true) b is) silent e (sym same ∙ among)
+    silent_frugal p well number b there (simple_frugal (thrift_of p) b is) silent e (sym same ∙ among)

@@ -17,7 +17,7 @@ use Rattle.ada_flow.specs.Tracking.{Tracks, no_tracks}
 use Rattle.ada_meaning.specs.Step.{blanks}
 use Rattle.ada_meaning.specs.Named.{State, named}
 use Rattle.ada_meaning.specs.Run.{here, first_state}
-use Rattle.ada_sound.specs.Always.{SparesHolders, SparesOwn}
+use Rattle.ada_sound.specs.Always.{SparesHolders, SparesOwn, SparesStarts, reaches_holder}
 use Rattle.ada_idle.proofs.Idle.{IsIdle}
 use Rattle.ada_idle.proofs.Runs.{first_idle}
 use Rattle.ada_idle.proofs.Unadjusted.{AdjustsNone}
@@ -37,6 +37,7 @@ use Rattle.ada_sound.proofs.Bodies.{IsBody, IsFine, seen_is, tracks_in, obeys_in
 use Rattle.ada_sound.proofs.BodyRuns.{body_runs, none_suspended}
 use Rattle.ada_sound.proofs.Exits.{no_exits, no_exit_handlers}
 use Rattle.ada_sound.proofs.Invariant.{Ready}
+use Rattle.ada_sound.proofs.FreesInside.{FreesNoneInside}
 use Rattle.ada_sound.proofs.Callers.{known_in}
 use Rattle.ada_sound.proofs.Touching.{Touching}
 use Rattle.ada_sound.proofs.Departing.{Departing}
@@ -56,11 +57,14 @@ pub record Sound (program : Program) (s : State) : Type 0 where
   pub frees_own : FreesItsOwn (program_form program)
   pub spares_own : SparesOwn program
   pub spares_holders : SparesHolders program
+  pub spares_starts : SparesStarts program
   pub obeys : Obeys program
   pub goes : Ordinary program s ⊎ (Operates program s ⊎ (Touching program s ⊎ (AdjustingCopy program s ⊎ Departing program s)))
   pub idle : makes_parts (program_form program) ≡ false → IsIdle (program_form program).types s
   pub copies : copies_parts (program_form program) ≡ false → AdjustsNone (program_form program).types s.control
   pub apart : operations_stand_apart (program_form program) ≡ true → CallApart (program_form program).types (is_tracker (program_form program)) s.control
+  pub releases : may_be_frugal (program_form program) ≡ true → makes_parts (program_form program) ≡ true
+      → FreesNoneInside (reaches_holder (implicit_of (program_form program)) (program_form program).types) s.control
   pub typed : typed.Typed (program_form program) s
   pub nested : Scoped (program_form program) s
 

@@ -28,6 +28,7 @@ use Rattle.ada_meaning.specs.Heap.{Home}
 use Rattle.ada_meaning.specs.State.{Master}
 use Rattle.ada_meaning.specs.Named.{Object, State, object_at}
 use Rattle.ada_typed.proofs.Kept.{behind_call}
+use Rattle.ada_sound.proofs.Marks.{Marks, marks_of}
 use Rattle.ada_sound.proofs.Bodies.{IsBody}
 use Rattle.ada_sound.proofs.Callers.{Suspension, known_in, Stands, callers_of}
 use Rattle.ada_sound.proofs.Fits.{Fit, Outsiders, IsPlace, IsRelied, IsSaid, IsUnreferred, component_access, none_spared, outer_hold, outer_value, place_at, Reference, IsReferred}
@@ -37,7 +38,6 @@ use Rattle.ada_sound.proofs.Invariant.{body_among, CoveredIn, Control, Rooms, Ro
 use Rattle.ada_sound.proofs.Operating.{WaitsFor, IsCalm, lets_out, OwnVariables}
 use Rattle.ada_sound.proofs.Stored.{Stored}
 use Rattle.ada_sound.specs.Agreement.{running_procedure}
-use Rattle.ada_quiet.specs.Frugal.{Thrift, thrift_of}
 use Rattle.ada_finalized.specs.Law.{NothingBegins}
 use Rattle.ada_meaning.specs.declared.event.Cause.{Cause}
 use Rattle.ada_meaning.specs.Step.{first_or, operands_of}
@@ -273,12 +273,14 @@ abbrev pub treated_frees : Implicit → Treatment → (access : ℕ) → (behind
 treated_frees implicit (begins by done) access k t = implicit.start_frees access t
 treated_frees implicit (ends cause) access k t = ended_frees implicit cause access k t
 
--- While a Free ends an object, the one that is watched, if there is one, is there, and is another one, in which a component of the freed one's access type lies.
+-- While a Free ends an object, the one that is watched, if there is one, is there, and is another one; the end of the object reaches none of its type, if that is an
+-- access type.
 abbrev pub IsSpared : Known → Treatment → Id → (access : ℕ) → List Object → (watch : Option Watch) → Type 0
 IsSpared known treatment o access heap None = Unit {0}
 IsSpared known (begins by done) o access heap (Some w) = ⊥
 IsSpared known (ends cause) o access heap (Some w) =
-    (object_at heap w.holder ≡ Some w.is) × (w.holder ≢ o) × ((c : ℕ) × (component_access known.program.types w.is c ≡ Some access))
+    (object_at heap w.holder ≡ Some w.is) × (w.holder ≢ o)
+    × (is_access known.program.types w.is.cell.access ≡ true → known.implicit.end_reaches access w.is.cell.access ≡ false)
 
 -- What is watched, if something is, is there as it was; and the bodies that run in front of this, of procedures among some that neither follow nor free values of its
 -- type, if that is an access type, refer to nothing in it, and the operations of what they free are such procedures.
@@ -339,9 +341,9 @@ abbrev pub IsEnding : Treatment → Type 0
 IsEnding (begins by done) = ⊥
 IsEnding (ends cause) = Unit {0}
 
--- What the body of such an operation may free: for an object that is initialized, what has no controlled parts; for one that is finalized, what its end may free.
+-- What the body of such an operation may free, the initialization of its object may, or the end of that.
 abbrev pub CoversBy : ProgramForm → Treatment → (access freed : ℕ) → Type 0
-CoversBy p (begins by done) access t = has_bare_objects p.types t ≡ true
+CoversBy p (begins by done) access t = (implicit_of p).start_frees access t ≡ true
 CoversBy p (ends cause) access t = (implicit_of p).end_frees access t ≡ true
 
 -- The body of such an operation runs, or one that it has called, or the operation of an object that one of these frees: `depth` activations wait for these since then, and
@@ -390,7 +392,7 @@ abbrev pub IsCall : Suspension → Type 0
 IsCall g = (IsAwaited g.control → ⊥) × (g.under ≡ [])
 
 -- In what the outermost operation has called so far, by what bodies go, what is left to do behind it, and the masters that were entered before it.
-module _ (program : Program) (s : State) (thrift : Thrift) (back : Control) (lower : List Master) where
+module _ (program : Program) (s : State) (marks : Marks) (back : Control) (lower : List Master) where
   -- An activation waits, in front of these, for the operation of an object that it frees, whose body is this one (7.6.1, 13.11.2): behind that its own body goes on, in
   -- masters of its own.
   pub record IsOperation (running : Option ℕ) (depth : ℕ) (others : List Suspension) (g : Suspension) : Type 0 where
@@ -402,7 +404,7 @@ module _ (program : Program) (s : State) (thrift : Thrift) (back : Control) (low
     pub upper : List Master
     pub masters : pause.lower ≡ upper ++ lower
     pub own : OwnVariables upper
-    pub leads : FrugalLeads thrift back pause.behind upper
+    pub leads : FrugalLeads marks back pause.behind upper
 
   -- These activations wait, in front of others, the nearest one first, for calls or for such operations: the first one for the body that runs, and the last one is
   -- the body of the outermost operation, if none waits, that is the one that runs.
@@ -410,19 +412,13 @@ module _ (program : Program) (s : State) (thrift : Thrift) (back : Control) (low
   AreInner running depth outermost others [] = running ≡ outermost
   AreInner running depth outermost others (g ∷ inner) = (IsCall g ⊎ IsOperation running depth (inner ++ others) g) × AreInner g.procedure (suc depth) outermost others inner
 
--- What the bodies go by that run for a treatment (7.6): those of a Finalize may free objects with controlled parts.
-abbrev pub GoesBy : ProgramForm → Treatment → Thrift → Type 0
-GoesBy p treatment thrift = (thrift ≡ thrift_of p false) ⊎ ((thrift ≡ thrift_of p true) × IsEnding treatment)
-
 -- An operation that touches storage is under way: `inner` are the activations that wait since then, the nearest one first; and behind the outermost operation none runs.
 pub record Within (program : Program) (gs : List Suspension) (s : State) : Type 0 where
   pub inner : List Suspension
   pub outermost : Pause program (length inner) s
   pub are : gs ≡ inner ++ origin program (length inner) s outermost ∷ outermost.suspensions
-  pub thrift : Thrift
-  pub goes_by : GoesBy (program_form program) outermost.treatment thrift
-  pub within : AreInner program s thrift outermost.behind outermost.lower (running_procedure s) 0 (Some outermost.number) (origin program (length inner) s outermost ∷ outermost.suspensions) inner
-  pub frugal : Frugally thrift outermost.lower outermost.behind s
+  pub within : AreInner program s (marks_of (program_form program)) outermost.behind outermost.lower (running_procedure s) 0 (Some outermost.number) (origin program (length inner) s outermost ∷ outermost.suspensions) inner
+  pub frugal : Frugally (marks_of (program_form program)) outermost.lower outermost.behind s
   pub untreated : (v : Value) → v ≢ Names outermost.object → NothingBegins v outermost.after
   pub calm : IsCalm (behind_call outermost.behind)
   pub settled : under_in (callers_of program outermost.suspensions) ≡ []

@@ -3,13 +3,15 @@
 use Rattle.std.proofs.Common.{◌≡◌, false, List, ◌∷◌, ◌++◌, sym, subst, ℕ, Bool, []}
 use Rattle.std.specs.Prelude.{Option}
 use Rattle.ada_program.specs.declared.program.Program.{Program}
-use Rattle.ada_program.specs.ProgramForm.{TypeForm}
+use Rattle.ada_program.specs.ProgramForm.{TypeForm, program_form}
 use Rattle.ada_meaning.specs.declared.state.Mode.{Mode}
 use Rattle.ada_meaning.specs.declared.state.Mode.TheVariants.{Running}
 use Rattle.ada_meaning.specs.Frame.{Leaves}
 use Rattle.ada_meaning.specs.Named.{State}
 use Rattle.ada_meaning.specs.State.{Master, Item, Owned, declared, collection, record_object, storage_pool}
 use Rattle.ada_meaning.specs.Step.{places_of, operands_of}
+use Rattle.ada_quiet.specs.Frugal.{thrift_of}
+use Rattle.ada_sound.proofs.Marks.{marks_of}
 use Rattle.ada_sound.proofs.Callers.{known_in}
 use Rattle.ada_sound.proofs.Touching.{Touching}
 use Rattle.ada_sound.proofs.FrugalLeaves.{frugal_stays, held_in_none, leaves_own}
@@ -37,7 +39,7 @@ variables_in_order ahead types (i ∷ is) own =
 pub leaves_variables : (program : Program) (s : State) (f : Touching program s) (left : Mode) (k : Control) → s.control ≡ Leaves left ∷ k → AreVariables (innermost s.masters)
 leaves_variables program s f left k leaves =
     let w = f.within in
-    let inner = leaves_own w.thrift w.outermost.behind s.mode left k w.frugal.upper w.outermost.lower (rw leaves at w.frugal.frugal) w.frugal.own in
+    let inner = leaves_own (marks_of (program_form program)) w.outermost.behind s.mode left k w.frugal.upper w.outermost.lower (rw leaves at w.frugal.frugal) w.frugal.own in
     rw w.frugal.masters inner
 
 -- So its items go in order.
@@ -63,4 +65,4 @@ touching_stays program s f runs =
     let known = known_in program (running_procedure s) f.suspensions in
     let ready : ReadyIn known Running s.control s.heap (places_of s.activations) (operands_of s.activations) (w.frugal.upper ++ w.outermost.lower) = rw (runs, w.frugal.masters) at f.ready.1 in
     subst (λ (ms : List Master). departs_next (departs known.ahead (innermost ms)) s.control ≡ false) (sym w.frugal.masters)
-    (frugal_stays known w.thrift w.outermost.behind s.mode s.control s.heap (places_of s.activations) (operands_of s.activations) w.frugal.upper w.outermost.lower w.frugal.frugal w.frugal.own ready)
+    (frugal_stays known (marks_of (program_form program)) w.outermost.behind s.mode s.control s.heap (places_of s.activations) (operands_of s.activations) w.frugal.upper w.outermost.lower w.frugal.frugal w.frugal.own ready)

@@ -10,7 +10,6 @@ use Rattle.ada_program.specs.ProgramForm.{TypeForm, BodyForm, ProgramForm, progr
 use Rattle.ada_program.specs.WellFormed.{is_access}
 use Rattle.ada_flow.specs.Flow.{Holds}
 use Rattle.ada_quiet.specs.Bare.{has_bare_objects}
-use Rattle.ada_quiet.specs.Frugal.{Thrift}
 use Rattle.ada_parts.specs.Task.{Task}
 use Rattle.ada_finalized.specs.Law.{NothingBegins, NoOperationRuns, NoOperationRunsOn, finalized_before}
 use Rattle.ada_meaning.specs.declared.event.Cause.TheVariants.{Leaving, Freeing, Assigning, Undoing}
@@ -31,6 +30,7 @@ use Rattle.ada_meaning.specs.Named.{State, Object, object_at, next}
 use Rattle.ada_meaning.specs.Run.{Halts}
 use Rattle.ada_typed.proofs.Bodies.{own_bodies}
 use Rattle.ada_typed.proofs.Kept.{behind_call}
+use Rattle.ada_sound.proofs.Marks.{Marks, marks_of}
 use Rattle.ada_sound.specs.Agreement.{running_procedure}
 use Rattle.ada_sound.specs.Always.{SparesOwn}
 use Rattle.ada_sound.proofs.Below.{either_one}
@@ -50,7 +50,7 @@ use Rattle.ada_sound.proofs.Touching.{AreInner, CoversBy, IsCall, IsOperation, P
 use Rattle.ada_sound.proofs.TouchingRests.{IsEnd}
 
 -- In front of the end of a frugal body, nothing begins: what is treated there is finalized.
-module _ (frugal : Thrift) where
+module _ (frugal : Marks) where
   leads_begin : (v : Value) (behind k : Control) (ms : List Master) → NothingBegins v behind → FrugalLeads frugal behind k ms → NothingBegins v k
   leads_begin v behind [] ms none q = absurd q
   leads_begin v behind (frame.Returns actuals references ∷ k) ms none (inl q) = subst (NothingBegins v) (sym q.2) none
@@ -223,10 +223,10 @@ module _ (program : Program) (spares : SparesOwn program) (s : State) where
   treated_is (ends (Undoing number)) object o (inl same) = same
   treated_is (ends (Undoing number)) object o (inr none) = absurd none
 
-  module _ (thrift : Thrift) (back : Control) (lower : List Master) where
+  module _ (marks : Marks) (back : Control) (lower : List Master) where
     -- What the running body may free, that of the outermost operation may free.
     pub covers_outermost :
-        (procedure : Option ℕ) (depth number : ℕ) (others inner : List Suspension) → AreInner program s thrift back lower procedure depth (Some number) others inner
+        (procedure : Option ℕ) (depth number : ℕ) (others inner : List Suspension) → AreInner program s marks back lower procedure depth (Some number) others inner
         → AllWait (implicit_of p) (seen_in procedure p) (callers_of program (inner ++ others)) → (t : ℕ) → Covers procedure t → Covers (Some number) t
     covers_outermost procedure depth number others [] w waits t covered = subst (λ (own : Option ℕ). Covers own t) w covered
     covers_outermost procedure depth number others (g ∷ inner) w waits t covered =
@@ -234,7 +234,7 @@ module _ (program : Program) (spares : SparesOwn program) (s : State) where
 
     -- No object under way in the activations that wait is one that the running body may free, if none is in those behind them.
     pub none_in :
-        (procedure : Option ℕ) (depth number : ℕ) (others inner : List Suspension) → AreInner program s thrift back lower procedure depth (Some number) others inner
+        (procedure : Option ℕ) (depth number : ℕ) (others inner : List Suspension) → AreInner program s marks back lower procedure depth (Some number) others inner
         → AllWait (implicit_of p) (seen_in procedure p) (callers_of program (inner ++ others)) → (o : Id) (x : Object) → object_at s.heap o ≡ Some x → is_access p.types x.cell.access ≡ true
         → Covers procedure x.cell.access → (Covers (Some number) x.cell.access → IsUnder (under_in (callers_of program others)) o → ⊥) → IsUnder (under_in (callers_of program (inner ++ others))) o → ⊥
     none_in procedure depth number others [] w waits o x found of covered behind under = behind (subst (λ (own : Option ℕ). Covers own x.cell.access) w covered) under
@@ -242,7 +242,7 @@ module _ (program : Program) (spares : SparesOwn program) (s : State) where
         by w.0 (λ later. none_in g.procedure (suc depth) number others inner w.1 waits.1 o x found of (waits_covers waits.0 x.cell.access covered) behind later)
         (either_one g.under (under_in (callers_of program (inner ++ others))) o under)
       where
-        by : IsCall g ⊎ IsOperation program s thrift back lower procedure depth (inner ++ others) g → (IsUnder (under_in (callers_of program (inner ++ others))) o → ⊥) → IsUnder g.under o ⊎ IsUnder (under_in (callers_of program (inner ++ others))) o → ⊥
+        by : IsCall g ⊎ IsOperation program s marks back lower procedure depth (inner ++ others) g → (IsUnder (under_in (callers_of program (inner ++ others))) o → ⊥) → IsUnder g.under o ⊎ IsUnder (under_in (callers_of program (inner ++ others))) o → ⊥
         by v further (inr later) = further later
         by (inl call) further (inl here) = subst (λ (under' : List Id). IsUnder under' o) call.1 here
         by (inr operation) further (inl here) =
@@ -281,7 +281,7 @@ module _ (program : Program) (s : State) (grounds : Grounds program s) (gs : Lis
   not_freed : (o : Id) (x : Object) → IsUnder (under_in (callers_of program gs)) o → object_at s.heap o ≡ Some x → may_free program s x.cell.access ≡ true → ⊥
   not_freed o x under found may =
       let so = may_cover program s x.cell.access may in
-      none_in program grounds.spares_own s w.thrift outermost.behind outermost.lower (running_procedure s) 0 outermost.number behind_it w.inner w.within waiting o x found so.0 so.1
+      none_in program grounds.spares_own s (marks_of (program_form program)) outermost.behind outermost.lower (running_procedure s) 0 outermost.number behind_it w.inner w.within waiting o x found so.0 so.1
       (λ covered there. frees_not program grounds.spares_own s (length w.inner) outermost o x found (under_outermost o there) covered so.0)
       (subst (λ (all : List Suspension). IsUnder (under_in (callers_of program all)) o) w.are under)
 
@@ -295,20 +295,20 @@ module _ (program : Program) (s : State) (grounds : Grounds program s) (gs : Lis
 
   -- What is left to do initializes and adjusts no other object.
   pub begins_nothing : (v : Value) → (v ≢ Names outermost.object) → NothingBegins v s.control
-  begins_nothing v ne = frugal_begin w.thrift v outermost.behind s.mode s.control w.frugal.upper (waits_begin v ne outermost.treatment outermost.awaited) w.frugal.frugal
+  begins_nothing v ne = frugal_begin (marks_of (program_form program)) v outermost.behind s.mode s.control w.frugal.upper (waits_begin v ne outermost.treatment outermost.awaited) w.frugal.frugal
 
   -- So it is of an object that is treated next, behind its treatment.
   pub treated_begin : (v : Value) (treatment : Treatment) (tasks : List Task) (k : Control) → s.control ≡ frame.Treats v treatment tasks ∷ k → NothingBegins v k
-  treated_begin v treatment tasks k is = by w.frugal.upper (subst (λ (all : Control). Frugal w.thrift outermost.behind s.mode all w.frugal.upper) is w.frugal.frugal)
+  treated_begin v treatment tasks k is = by w.frugal.upper (subst (λ (all : Control). Frugal (marks_of (program_form program)) outermost.behind s.mode all w.frugal.upper) is w.frugal.frugal)
     where
-      other : (ms : List Master) → EndsFreed w.thrift v treatment k × FrugalLeads w.thrift outermost.behind k ms → v ≢ Names outermost.object
-      other ms q = other_treated program (length w.inner) s outermost v (leads_alone w.thrift v outermost.behind k ms q.0.3 q.1)
+      other : (ms : List Master) → EndsFreed (marks_of (program_form program)) v treatment k × FrugalLeads (marks_of (program_form program)) outermost.behind k ms → v ≢ Names outermost.object
+      other ms q = other_treated program (length w.inner) s outermost v (leads_alone (marks_of (program_form program)) v outermost.behind k ms q.0.3 q.1)
 
       behind : (way : Treatment) → IsFreed way → NothingBegins v (frame.Treats v way tasks ∷ k) → NothingBegins v k
       behind (begins birth done) freed none = absurd freed
       behind (ends cause) freed none = none
 
-      by : (ms : List Master) → Frugal w.thrift outermost.behind s.mode (frame.Treats v treatment tasks ∷ k) ms → NothingBegins v k
+      by : (ms : List Master) → Frugal (marks_of (program_form program)) outermost.behind s.mode (frame.Treats v treatment tasks ∷ k) ms → NothingBegins v k
       by ms (inl q) = behind treatment q.0.0 (subst (NothingBegins v) is (begins_nothing v (other ms q)))
       by ms (inr (runs, leaving)) = absurd leaving
 
@@ -316,7 +316,7 @@ module _ (program : Program) (s : State) (grounds : Grounds program s) (gs : Lis
   other_object : (o : Id) (x : Object) → object_at s.heap o ≡ Some x → may_free program s x.cell.access ≡ true → Names o ≡ Names outermost.object → ⊥
   other_object o x found may same =
       let so = may_cover program s x.cell.access may in
-      let covered = covers_outermost program grounds.spares_own s w.thrift outermost.behind outermost.lower (running_procedure s) 0 outermost.number behind_it w.inner w.within waiting x.cell.access so.1 in
+      let covered = covers_outermost program grounds.spares_own s (marks_of (program_form program)) outermost.behind outermost.lower (running_procedure s) 0 outermost.number behind_it w.inner w.within waiting x.cell.access so.1 in
       frees_not program grounds.spares_own s (length w.inner) outermost o x found (cc same) covered so.0
 
   -- Nothing begins of an object that the running body may free.
@@ -333,7 +333,7 @@ module _ (program : Program) (s : State) (grounds : Grounds program s) (gs : Lis
   waits_operated (ends cause) (is, inside) none = let waits = (subst NoOperationRuns is none).0 in cc waits
 
   pub touching_runs : IsCalm (behind_call s.control) → ⊥
-  touching_runs calm = waits_operated outermost.treatment outermost.awaited (frugal_calm w.thrift outermost.behind s.mode s.control w.frugal.upper calm w.frugal.frugal)
+  touching_runs calm = waits_operated outermost.treatment outermost.awaited (frugal_calm (marks_of (program_form program)) outermost.behind s.mode s.control w.frugal.upper calm w.frugal.frugal)
 
   -- Each object that may be freed stands.
   stand : (forms : List TypeForm) → AllStand (may_free program s) forms s.heap
@@ -354,7 +354,7 @@ module _ (program : Program) (s : State) (grounds : Grounds program s) (gs : Lis
       (subst (λ (t : State). Halts program t (Erroneous FinalizesTwice)) (sym (state_is Running (frame.Treats v treatment tasks ∷ k) runs is)) twice)
 
   by_frame :
-      (g : Frame Value) (k : Control) (ms : List Master) → s.mode ≡ Running → s.control ≡ g ∷ k → Frugal w.thrift outermost.behind Running (g ∷ k) ms → (forms : List TypeForm)
+      (g : Frame Value) (k : Control) (ms : List Master) → s.mode ≡ Running → s.control ≡ g ∷ k → Frugal (marks_of (program_form program)) outermost.behind Running (g ∷ k) ms → (forms : List TypeForm)
       → FinalizesBy (may_free program s) forms types bodies g (record s { mode = Running; control = k })
   by_frame (frame.Does fs) k ms runs is q forms = stand forms
   by_frame (frame.FreesIn access c) k ms runs is q forms = stand forms
@@ -362,7 +362,7 @@ module _ (program : Program) (s : State) (grounds : Grounds program s) (gs : Lis
   by_frame (frame.Treats v treatment tasks) k ms runs is (inr (now, leaving)) forms = absurd leaving
   by_frame g k ms runs is q forms = tt
 
-  by_mode : (mode : Mode) (k : Control) (ms : List Master) → s.mode ≡ mode → s.control ≡ k → Frugal w.thrift outermost.behind mode k ms → (forms : List TypeForm) → FinalizesIn (may_free program s) forms types bodies mode k s
+  by_mode : (mode : Mode) (k : Control) (ms : List Master) → s.mode ≡ mode → s.control ≡ k → Frugal (marks_of (program_form program)) outermost.behind mode k ms → (forms : List TypeForm) → FinalizesIn (may_free program s) forms types bodies mode k s
   by_mode Running [] ms runs is q forms = tt
   by_mode Running (g ∷ k) ms runs is q forms = by_frame g k ms runs is q forms
   by_mode (Raising e) k ms runs is q forms = tt

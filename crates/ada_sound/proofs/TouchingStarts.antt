@@ -42,6 +42,7 @@ use Rattle.ada_typed.proofs.Bodies.{seen_as}
 use Rattle.ada_typed.proofs.Control as typed
 use Rattle.ada_typed.proofs.Kept.{behind_call}
 use Rattle.ada_typed.proofs.Overridings.{OperationFor, beginning_for, ending_for}
+use Rattle.ada_sound.proofs.Marks.{marks_of}
 use Rattle.ada_sound.proofs.Alters.{Alters}
 use Rattle.ada_sound.proofs.Callers.{Suspension, known_in, Stands, callers_of}
 use Rattle.ada_sound.proofs.FrugalControl.{Frugally, IsFreed, frugal_starts}
@@ -216,12 +217,12 @@ module _ (program : Program) (a : Activation Value) (rest : List (Activation Val
 
     -- What the body may free has no controlled parts, or the end of the object may free it.
     covers_by : (access of part number : ℕ) (b : BodyForm) (by : Treatment) → IsOperable p.types access of part → IsCalled (operations_of program.types.items of) by number → slice_get (body_forms program) number ≡ Some b
-        → is_frugal_body (thrift_of p (ends_here by)) b ≡ true → (t : ℕ) → CoveredIn (implicit_of p) (seen_in (Some number) p) t → CoversBy p by access t
+        → is_frugal_body (thrift_of p) b ≡ true → (t : ℕ) → CoveredIn (implicit_of p) (seen_in (Some number) p) t → CoversBy p by access t
     covers_by access of part number b (begins by done) operable called there frugal t covered = frugal_frees_bare program grounds.well number b there frugal t covered
     covers_by access of part number b (ends cause) operable called there frugal t covered = ends_free program grounds.well access of part number b operable called there t covered
 
     -- So the body begins, for this object, in front of what is behind its treatment.
-    begins_so : operations_may_be_called p ≡ true → makes_parts p ≡ true → (e : Event) (after : State) (c : Begins known a rest s program.types.items (body_forms program) k IsOperated e after) → MayTouch c.treatment → may_be_frugal p ≡ true → LetsNone p c.treatment c.b → is_frugal_body (thrift_of p (ends_here c.treatment)) c.b ≡ true → TouchesStorage p c.treatment c.b
+    begins_so : operations_may_be_called p ≡ true → makes_parts p ≡ true → (e : Event) (after : State) (c : Begins known a rest s program.types.items (body_forms program) k IsOperated e after) → MayTouch c.treatment → may_be_frugal p ≡ true → LetsNone p c.treatment c.b → is_frugal_body (thrift_of p) c.b ≡ true → TouchesStorage p c.treatment c.b
         → typed.Typed p after → (begun : Begun program gs c.treatment c.behind s.masters after) × (begun.pause.object ≡ c.o) × (begun.pause.after ≡ k)
     begins_so uses made e after c touches may silent frugal stores typing =
         let operated = c.operated.1 in
@@ -250,7 +251,7 @@ module _ (program : Program) (a : Activation Value) (rest : List (Activation Val
         (watched_begins program grounds.well uses a rest gs s c.treatment at.watch c.o c.x.cell.access c.of operated.1 c.number c.b c.place c.behind c.heap operable c.called c.there frugal (grounds.spares_holders may made) at.spared))
 
     -- That is known of it, whatever runs behind it.
-    pub touching_starts : operations_may_be_called p ≡ true → makes_parts p ≡ true → (e : Event) (after : State) (c : Begins known a rest s program.types.items (body_forms program) k IsOperated e after) → MayTouch c.treatment → may_be_frugal p ≡ true → LetsNone p c.treatment c.b → is_frugal_body (thrift_of p (ends_here c.treatment)) c.b ≡ true → TouchesStorage p c.treatment c.b
+    pub touching_starts : operations_may_be_called p ≡ true → makes_parts p ≡ true → (e : Event) (after : State) (c : Begins known a rest s program.types.items (body_forms program) k IsOperated e after) → MayTouch c.treatment → may_be_frugal p ≡ true → LetsNone p c.treatment c.b → is_frugal_body (thrift_of p) c.b ≡ true → TouchesStorage p c.treatment c.b
         → typed.Typed p after → Begun program gs c.treatment c.behind s.masters after
     touching_starts uses made e after c touches may silent frugal stores typing = (begins_so uses made e after c touches may silent frugal stores typing).0
 
@@ -317,17 +318,17 @@ module _ (program : Program) (a : Activation Value) (rest : List (Activation Val
           (subst (λ (w : Value). TreatsBy known w c.treatment c.tasks k c.heap a.places a.operands s.masters) (sym c.operated.3) c.treats)
 
       -- What bodies go by then.
-      goes_so : (by by' : Treatment) → by' ≡ by → GoesBy p by' (thrift_of p (ends_here by))
+      goes_so : (by by' : Treatment) → by' ≡ by → GoesBy p by' (thrift_of p)
       goes_so (begins how done) by' is = inl refl
       goes_so (ends cause) by' is = inr (refl, subst IsEnding (sym is) tt)
 
       -- Its body runs, as the outermost one.
-      pub touching_outermost : may_be_frugal p ≡ true → LetsNone p c.treatment c.b → is_frugal_body (thrift_of p (ends_here c.treatment)) c.b ≡ true → TouchesStorage p c.treatment c.b → typed.Typed p after → Touching program after
+      pub touching_outermost : may_be_frugal p ≡ true → LetsNone p c.treatment c.b → is_frugal_body (thrift_of p) c.b ≡ true → TouchesStorage p c.treatment c.b → typed.Typed p after → Touching program after
       touching_outermost may silent frugal stores typing =
           let started = begins_so whole same grounds lone_outermost stands (treats_in_use program whole grounds (Treats v treatment tasks ∷ k) is tt) (treats_made program whole grounds v treatment tasks k is) e after c touches may silent frugal stores typing in
           let begun = started.0 in
           let waits : WaitsFor p.types c.o c.of c.treatment c.tasks k c.behind = subst (λ (types : List TypeForm). WaitsFor types c.o c.of c.treatment c.tasks k c.behind) (same_types a.procedure p) c.waits in
-          let runs : Frugally (thrift_of p (ends_here c.treatment)) s.masters c.behind after = rw c.is (frugal_starts (thrift_of p (ends_here c.treatment)) c.number c.b frugal (Part c.o c.place) c.behind (record s { activations = a ∷ rest; heap = c.heap; mode = Running; control = k })) in
+          let runs : Frugally (marks_of p) s.masters c.behind after = rw c.is (frugal_starts (thrift_of p) c.number c.b frugal (Part c.o c.place) c.behind (record s { activations = a ∷ rest; heap = c.heap; mode = Running; control = k })) in
           record {
             suspensions = origin program 0 after begun.pause ∷ gs;
             ready = begun.ready;
@@ -336,8 +337,6 @@ module _ (program : Program) (a : Activation Value) (rest : List (Activation Val
               inner = [];
               outermost = begun.pause;
               are = ap (λ (others : List Suspension). origin program 0 after begun.pause ∷ others) (sym begun.suspensions);
-              thrift = thrift_of p (ends_here c.treatment);
-              goes_by = goes_so c.treatment begun.pause.treatment begun.treated;
               within = begun.runs;
               frugal = rw (begun.is_lower, begun.is_behind) runs;
               untreated = λ u other. subst (NothingBegins u) (sym started.2) (untreated_outermost u (λ same. other (same ∙ ap Names (sym started.1))));

@@ -17,11 +17,11 @@ use Rattle.ada_meaning.specs.Frame.{Frame, Treatment, Calls, Returns, Treats, is
 use Rattle.ada_meaning.specs.State.{Activation, Master}
 use Rattle.ada_meaning.specs.Step.{halts, moves, tells, asks, picks, older, procedure_of, frame_next, pass_next, jump_next, mode_next}
 use Rattle.ada_meaning.specs.Named.{State, Next, named, next}
-use Rattle.ada_quiet.specs.Frugal.{Thrift, thrift_of}
 use Rattle.ada_scopes.proofs.Components.{collect_two}
 use Rattle.ada_typed.proofs.Bodies.{own_bodies}
 use Rattle.ada_typed.proofs.Kept.{crosses, is_treatment, Each, Keeps}
 use Rattle.ada_typed.proofs.KeptSteps.{step_keeps, pass_keeps}
+use Rattle.ada_sound.proofs.Marks.{Marks, marks_of}
 use Rattle.ada_sound.specs.Agreement.{running_procedure}
 use Rattle.ada_sound.proofs.CallBegins.{runs_called}
 use Rattle.ada_sound.proofs.Callers.{Suspension, known_in, Stands}
@@ -46,9 +46,9 @@ use Rattle.ada_sound.proofs.TracksWell.{copies_at, allocates_at, called_apart}
 use Rattle.ada_sound.proofs.Waiting.{SameBody}
 
 -- What bodies go by while an operation is under way.
-goes_by_one : (p : ProgramForm) (treatment : Treatment) (thrift : Thrift) → GoesBy p treatment thrift → (ends : Bool) × (thrift ≡ thrift_of p ends)
-goes_by_one p treatment thrift (inl is) = (false, is)
-goes_by_one p treatment thrift (inr (is, ending)) = (true, is)
+goes_by_one : (p : ProgramForm) (treatment : Treatment) (marks : Marks) → GoesBy p treatment marks → (ends : Bool) × (marks ≡ marks_of p ends)
+goes_by_one p treatment marks (inl is) = (false, is)
+goes_by_one p treatment marks (inr (is, ending)) = (true, is)
 
 -- Behind a call no operation waits.
 runs_unawaited : (known : Known) (k : Control) (rooms : Rooms) (holds : _) → RunsOn known k rooms holds → IsAwaited k → ⊥
@@ -65,13 +65,13 @@ module _ (program : Program) (s : State) (f : Touching program s) (grounds : Gro
   coming = next program.types.items (body_forms program) s
 
   -- What is left to do is so behind each step but the end of a body, and the treatment of an object.
-  goes_on : (s.mode ≡ Running → TreatsNothing s.control) → GoesFrugally f.within.thrift f.within.outermost.lower f.within.outermost.behind coming
+  goes_on : (s.mode ≡ Running → TreatsNothing s.control) → GoesFrugally (marks_of (program_form program)) f.within.outermost.lower f.within.outermost.behind coming
   goes_on plain =
       let w = f.within in
-      let by = goes_by_one p w.outermost.treatment w.thrift w.goes_by in
-      subst (λ (thrift : Thrift). GoesFrugally thrift w.outermost.lower w.outermost.behind coming) (sym by.1)
+      let by = goes_by_one p w.outermost.treatment (marks_of (program_form program)) w.goes_by in
+      subst (λ (marks : Marks). GoesFrugally marks w.outermost.lower w.outermost.behind coming) (sym by.1)
       (frugal_goes program grounds.frees_own by.0 w.outermost.lower w.outermost.behind s
-      (subst (λ (thrift : Thrift). Frugally thrift w.outermost.lower w.outermost.behind s) by.1 w.frugal)
+      (subst (λ (marks : Marks). Frugally marks w.outermost.lower w.outermost.behind s) by.1 w.frugal)
       (λ actuals references k is. absurd (let end = not_end in cc (rw is at end))) plain grounds.typed.inside
       (may_free program s) (touching_frees program s grounds f.suspensions f.ready)
       (λ o x found listed may ends. listed_alone program s grounds f.suspensions w f.stands o x found listed may))
@@ -156,7 +156,7 @@ module _ (program : Program) (a : Activation Value) (k : Control) (s : State) (r
       (runs_called program number b given k a gs s grounds.well grounds.obeys (called_apart program before number b given k refl grounds.obeys.0 grounds.apart) works stands.body ready.rest.1 rest stands) in
       inl (touching_on program before f (waits ∷ w.inner) Quiet _ (
         inl (runs_unawaited caller k works.rooms _ works.rest.1, refl),
-        inner_on program before w.thrift w.outermost.behind w.outermost.lower _ Quiet a.procedure 0 (suc 0) (Some w.outermost.number) (behind_it program before f) w.inner w.within c.stepped.alters
+        inner_on program before (marks_of (program_form program)) w.outermost.behind w.outermost.lower _ Quiet a.procedure 0 (suc 0) (Some w.outermost.number) (behind_it program before f) w.inner w.within c.stepped.alters
             (λ n. sym (operands_deeper n rest a _)) still.1,
       )
       refl
@@ -202,14 +202,14 @@ module _ (program : Program) (a : Activation Value) (k : Control) (s : State) (r
   returning_step g grounds f = passed_on Returning (λ runs. cc runs) g refl refl _ refl refl grounds f
 
 -- Nothing is left to do of no body.
-nothing_left : (frugal : Thrift) (behind : Control) (mode : Mode) (ms : List Master) → Frugal frugal behind mode [] ms → ⊥
+nothing_left : (frugal : Marks) (behind : Control) (mode : Mode) (ms : List Master) → Frugal frugal behind mode [] ms → ⊥
 nothing_left frugal behind mode ms (inl q) = q
 nothing_left frugal behind mode ms (inr (runs, leaving)) = leaving
 
 -- Any step while such an operation is under way.
 step_by : (program : Program) (mode : Mode) (k : Control) (all : List (Activation Value)) (s : State) → (grounds : Grounds program (with_parts mode k all s)) (f : Touching program (with_parts mode k all s)) → GoesTouching program (with_parts mode k all s) (mode_next named program.types.items (body_forms program) mode (with_parts mode k all s))
 step_by program mode k [] s grounds f = absurd f.ready.0
-step_by program mode [] (a ∷ rest) s grounds f = absurd (nothing_left f.within.thrift f.within.outermost.behind mode f.within.frugal.upper f.within.frugal.frugal)
+step_by program mode [] (a ∷ rest) s grounds f = absurd (nothing_left (marks_of (program_form program)) f.within.outermost.behind mode f.within.frugal.upper f.within.frugal.frugal)
 step_by program Running (g ∷ k) (a ∷ rest) s grounds f = running_step program a k s rest g grounds f
 step_by program (Raising e) (g ∷ k) (a ∷ rest) s grounds f = raising_step program a k s rest e g grounds f
 step_by program Exiting (g ∷ k) (a ∷ rest) s grounds f = exiting_step program a k s rest g grounds f

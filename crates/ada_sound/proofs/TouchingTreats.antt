@@ -16,7 +16,7 @@ use Rattle.ada_meaning.specs.State.{Activation, Master}
 use Rattle.ada_meaning.specs.Step.{halts, moves, tells, asks, picks, older, operating, procedure_of, operands_of, frame_next, treating}
 use Rattle.ada_meaning.specs.Named.{State, Next, named, next}
 use Rattle.ada_meaning.specs.Run.{Event, settled}
-use Rattle.ada_quiet.specs.Frugal.{Thrift, thrift_of, is_frugal_body}
+use Rattle.ada_quiet.specs.Frugal.{is_frugal_body, thrift_of}
 use Rattle.ada_quiet.specs.InUse.{may_be_frugal}
 use Rattle.ada_reaching.proofs.Behind.{behind_reaches, treating_inside}
 use Rattle.ada_reaching.specs.Apart.{Apart}
@@ -24,6 +24,7 @@ use Rattle.ada_reaching.specs.Reaching.{IsReaching}
 use Rattle.ada_typed.proofs.Control as typed
 use Rattle.ada_typed.proofs.Kept.{Each}
 use Rattle.ada_typed.proofs.Runs.{step_typed}
+use Rattle.ada_sound.proofs.Marks.{Marks, marks_of}
 use Rattle.ada_sound.specs.Agreement.{running_procedure}
 use Rattle.ada_sound.proofs.Alters.{Alters}
 use Rattle.ada_sound.proofs.Callers.{Suspension, known_in, Stands, AreOf}
@@ -47,9 +48,9 @@ use Rattle.ada_sound.proofs.Treatments.{Begins, StaysHere, TreatedIn}
 use Rattle.ada_sound.proofs.Waiting.{SameBody}
 
 -- Where bodies may free objects with controlled parts, they go by that.
-ends_thrift : (p : ProgramForm) (treatment : Treatment) (thrift : Thrift) → GoesBy p treatment thrift → thrift.ends_parts ≡ true → thrift ≡ thrift_of p true
-ends_thrift p treatment thrift (inl is) may = let none : thrift.ends_parts ≡ false = ap (λ (t : Thrift). t.ends_parts) is in absurd (cc (none, may))
-ends_thrift p treatment thrift (inr (is, ending)) may = is
+ends_thrift : (p : ProgramForm) (treatment : Treatment) (marks : Marks) → GoesBy p treatment marks → marks.ends_parts ≡ true → marks ≡ thrift_of p
+ends_thrift p treatment marks (inl is) may = let none : marks.ends_parts ≡ false = ap (λ (t : Marks). t.ends_parts) is in absurd (cc (none, may))
+ends_thrift p treatment marks (inr (is, ending)) may = is
 
 -- The body of a Finalize may do so.
 freed_here : (treatment : Treatment) → IsFreed treatment → ends_here treatment ≡ true
@@ -63,11 +64,11 @@ freed_adjusts (ends cause) freed copies = copies
 
 -- What is behind its Finalize is left to do in such bodies.
 freed_leads :
-    (types : List TypeForm) (thrift : Thrift) (back : Control) (o : Id) (of : ℕ) (treatment : Treatment) (tasks : List Task) (k behind : Control) (ms : List Master) → EndsFreed thrift (Names o) treatment k → FrugalLeads thrift back k ms
-    → WaitsFor types o of treatment tasks k behind → FrugalLeads thrift back behind ms
-freed_leads types thrift back o of (begins by done) tasks k behind ms ending leads waits = absurd ending.0
-freed_leads types thrift back o of (ends cause) tasks k behind ms ending leads (is, inside) =
-    subst (λ (j : Control). FrugalLeads thrift back j ms) (sym is) (ends_leads thrift back (Names o) (ends cause) tasks k ms ending leads)
+    (types : List TypeForm) (marks : Marks) (back : Control) (o : Id) (of : ℕ) (treatment : Treatment) (tasks : List Task) (k behind : Control) (ms : List Master) → EndsFreed marks (Names o) treatment k → FrugalLeads marks back k ms
+    → WaitsFor types o of treatment tasks k behind → FrugalLeads marks back behind ms
+freed_leads types marks back o of (begins by done) tasks k behind ms ending leads waits = absurd ending.0
+freed_leads types marks back o of (ends cause) tasks k behind ms ending leads (is, inside) =
+    subst (λ (j : Control). FrugalLeads marks back j ms) (sym is) (ends_leads marks back (Names o) (ends cause) tasks k ms ending leads)
 
 module _ (program : Program) (a : Activation Value) (rest : List (Activation Value)) (k : Control) (s : State) (v : Value) (treatment : Treatment) (tasks : List Task) where
   abbrev whole : State
@@ -77,8 +78,8 @@ module _ (program : Program) (a : Activation Value) (rest : List (Activation Val
     abbrev p : ProgramForm
     p = program_form program
 
-    abbrev thrift : Thrift
-    thrift = f.within.thrift
+    abbrev marks : Marks
+    marks = (marks_of (program_form program))
 
     abbrev operation : Pause program (length f.within.inner) whole
     operation = outermost program whole f
@@ -104,19 +105,19 @@ module _ (program : Program) (a : Activation Value) (rest : List (Activation Val
     }
 
     -- The object is freed, and no operation of it runs behind.
-    freed : EndsFreed thrift v treatment k × FrugalLeads thrift operation.behind k f.within.frugal.upper
+    freed : EndsFreed marks v treatment k × FrugalLeads marks operation.behind k f.within.frugal.upper
     freed = by f.within.frugal.frugal
       where
-        by : Frugal thrift operation.behind Running (Treats v treatment tasks ∷ k) f.within.frugal.upper → EndsFreed thrift v treatment k × FrugalLeads thrift operation.behind k f.within.frugal.upper
+        by : Frugal marks operation.behind Running (Treats v treatment tasks ∷ k) f.within.frugal.upper → EndsFreed marks v treatment k × FrugalLeads marks operation.behind k f.within.frugal.upper
         by (inl leads) = leads
         by (inr (runs, leaving)) = absurd leaving
 
     -- It goes on in the body that frees it.
-    goes_here : (e : Event) (after : State) → Stepped treater s.heap e after × StaysHere treater a rest s program.types.items (body_forms program) k Operated after → GoesOrBegins thrift operation.lower operation.behind program.types.items (body_forms program) whole after → Still program whole f after → InTouching program s.heap e after
+    goes_here : (e : Event) (after : State) → Stepped treater s.heap e after × StaysHere treater a rest s program.types.items (body_forms program) k Operated after → GoesOrBegins marks operation.lower operation.behind program.types.items (body_forms program) whole after → Still program whole f after → InTouching program s.heap e after
     goes_here e after (st, (acts, behind)) goes still =
         stays_on program whole f e after (record { procedure = ap procedure_of acts; suspended = ap older acts }) st (by goes) still
       where
-        by : GoesOrBegins thrift operation.lower operation.behind program.types.items (body_forms program) whole after → Frugally thrift operation.lower operation.behind after
+        by : GoesOrBegins marks operation.lower operation.behind program.types.items (body_forms program) whole after → Frugally marks operation.lower operation.behind after
         by (inl frugal) = frugal
         by (inr more) =
             let same : length after.activations ≡ length (a ∷ rest) = ap length acts in
@@ -129,11 +130,11 @@ module _ (program : Program) (a : Activation Value) (rest : List (Activation Val
       waits_here : WaitsFor p.types c.o c.of c.treatment c.tasks k c.behind
       waits_here = subst (λ (types : List TypeForm). WaitsFor types c.o c.of c.treatment c.tasks k c.behind) (same_types a.procedure p) c.waits
 
-      leads_behind : FrugalLeads thrift operation.behind c.behind f.within.frugal.upper
+      leads_behind : FrugalLeads marks operation.behind c.behind f.within.frugal.upper
       leads_behind =
-          let of_treatment : EndsFreed thrift v c.treatment k = subst (λ (by : Treatment). EndsFreed thrift v by k) (sym c.operated.0) freed.0 in
-          freed_leads p.types thrift operation.behind c.o c.of c.treatment c.tasks k c.behind f.within.frugal.upper
-          (subst (λ (u : Value). EndsFreed thrift u c.treatment k) c.operated.3 of_treatment) freed.1 waits_here
+          let of_treatment : EndsFreed marks v c.treatment k = subst (λ (by : Treatment). EndsFreed marks v by k) (sym c.operated.0) freed.0 in
+          freed_leads p.types marks operation.behind c.o c.of c.treatment c.tasks k c.behind f.within.frugal.upper
+          (subst (λ (u : Value). EndsFreed marks u c.treatment k) c.operated.3 of_treatment) freed.1 waits_here
 
       alters_here : Alters s.heap e after.heap
       alters_here = rw c.is c.alters
@@ -187,9 +188,9 @@ module _ (program : Program) (a : Activation Value) (rest : List (Activation Val
 
       all_behind :
           (procedure : Option ℕ) (depth : ℕ) (last : Option ℕ) (others inner : List Suspension)
-          (are : AreInner program whole thrift operation.behind operation.lower procedure depth last others inner)
-          → AllWatched program whole thrift operation.behind operation.lower after procedure depth last others inner are
-          → AllWatched program whole thrift operation.behind operation.lower behind_it_all procedure depth last others inner are
+          (are : AreInner program whole marks operation.behind operation.lower procedure depth last others inner)
+          → AllWatched program whole marks operation.behind operation.lower after procedure depth last others inner are
+          → AllWatched program whole marks operation.behind operation.lower behind_it_all procedure depth last others inner are
       all_behind procedure depth last others [] are begun = tt
       all_behind procedure depth last others (g ∷ inner) (inl call, more) begun = all_behind g.procedure (suc depth) last others inner more begun
       all_behind procedure depth last others (g ∷ inner) (inr outer, more) begun =
@@ -234,7 +235,7 @@ module _ (program : Program) (a : Activation Value) (rest : List (Activation Val
         }))
 
         -- One begins that touches storage.
-        module _ (begun : Begun program f.suspensions c.treatment c.behind s.masters after) (frugal : is_frugal_body (thrift_of p (ends_here c.treatment)) c.b ≡ true) where
+        module _ (begun : Begun program f.suspensions c.treatment c.behind s.masters after) (frugal : is_frugal_body (thrift_of p) c.b ≡ true) where
           abbrev waits_for : Suspension
           waits_for = origin program 0 after begun.pause
 
@@ -254,7 +255,7 @@ module _ (program : Program) (a : Activation Value) (rest : List (Activation Val
               let bodies : AreOf program (a ∷ rest) (waits_for ∷ f.suspensions) = subst (λ (all : List (Activation Value)). AreOf program all (waits_for ∷ f.suspensions)) (ap (λ (t : State). older t.activations) c.is) begun.stands.bodies in
               bodies.0
 
-          inner_begun : AreInner program after thrift operation.behind operation.lower (running_procedure after) 0 (Some operation.number) waiting (waits_for ∷ f.within.inner)
+          inner_begun : AreInner program after marks operation.behind operation.lower (running_procedure after) 0 (Some operation.number) waiting (waits_for ∷ f.within.inner)
           inner_begun = (
             inr (record {
               pause = begun.pause;
@@ -265,19 +266,19 @@ module _ (program : Program) (a : Activation Value) (rest : List (Activation Val
               upper = f.within.frugal.upper;
               masters = begun.is_lower ∙ f.within.frugal.masters;
               own = f.within.frugal.own;
-              leads = subst (λ (j : Control). FrugalLeads thrift operation.behind j f.within.frugal.upper) (sym begun.is_behind) leads_behind;
+              leads = subst (λ (j : Control). FrugalLeads marks operation.behind j f.within.frugal.upper) (sym begun.is_behind) leads_behind;
             }),
-            subst (λ (procedure : Option ℕ). AreInner program after thrift operation.behind operation.lower procedure (suc 0) (Some operation.number) waiting f.within.inner) of_body
-                (inner_on program whole thrift operation.behind operation.lower after e a.procedure 0 (suc 0) (Some operation.number) waiting f.within.inner f.within.within alters_here deeper still.1),
+            subst (λ (procedure : Option ℕ). AreInner program after marks operation.behind operation.lower procedure (suc 0) (Some operation.number) waiting f.within.inner) of_body
+                (inner_on program whole marks operation.behind operation.lower after e a.procedure 0 (suc 0) (Some operation.number) waiting f.within.inner f.within.within alters_here deeper still.1),
           )
 
           -- Its body is frugal as the others are.
-          runs_begun : Frugally thrift operation.lower operation.behind after
+          runs_begun : Frugally marks operation.lower operation.behind after
           runs_begun =
-              let same = ends_thrift p operation.treatment thrift f.within.goes_by freed.0.1 in
-              let body : is_frugal_body thrift c.b ≡ true = rw same (rw (freed_here c.treatment ends_it) at frugal) in
-              subst (λ (t : State). Frugally thrift operation.lower operation.behind t) (sym c.is)
-              (frugal_starts_inside thrift operation.behind f.within.frugal.upper operation.lower c.number c.b body (Part c.o c.place) c.behind (record (running k a rest s) { heap = c.heap }) f.within.frugal.masters f.within.frugal.own leads_behind)
+              let same = ends_thrift p operation.treatment marks f.within.goes_by freed.0.1 in
+              let body : is_frugal_body marks c.b ≡ true = rw same (rw (freed_here c.treatment ends_it) at frugal) in
+              subst (λ (t : State). Frugally marks operation.lower operation.behind t) (sym c.is)
+              (frugal_starts_inside marks operation.behind f.within.frugal.upper operation.lower c.number c.b body (Part c.o c.place) c.behind (record (running k a rest s) { heap = c.heap }) f.within.frugal.masters f.within.frugal.own leads_behind)
 
           begins_inside : InTouching program s.heap e after
           begins_inside =
@@ -291,7 +292,7 @@ module _ (program : Program) (a : Activation Value) (rest : List (Activation Val
                 stands = begun.stands;
               }))
 
-        begins_frugal : MayTouch c.treatment → may_be_frugal p ≡ true → LetsNone p c.treatment c.b → is_frugal_body (thrift_of p (ends_here c.treatment)) c.b ≡ true → TouchesStorage p c.treatment c.b → Went program s.heap e after
+        begins_frugal : MayTouch c.treatment → may_be_frugal p ≡ true → LetsNone p c.treatment c.b → is_frugal_body (thrift_of p) c.b ≡ true → TouchesStorage p c.treatment c.b → Went program s.heap e after
         begins_frugal touches may silent frugal stores =
             let uses = treats_in_use program whole grounds whole.control refl tt in
             let lone = lone_freed v treatment k freed.0.0 (treated_begin program whole grounds f.suspensions f.within f.stands v treatment tasks k refl) in
@@ -308,7 +309,7 @@ module _ (program : Program) (a : Activation Value) (rest : List (Activation Val
 
     -- Whatever comes next.
     treated_went : (n : Next) → next program.types.items (body_forms program) whole ≡ n → TreatedIn treater a rest s program.types.items (body_forms program) k Operated v n
-        → Each (GoesOrBegins thrift operation.lower operation.behind program.types.items (body_forms program) whole) n → Each (Still program whole f) n → GoesTouching program whole n
+        → Each (GoesOrBegins marks operation.lower operation.behind program.types.items (body_forms program) whole) n → Each (Still program whole f) n → GoesTouching program whole n
     treated_went (halts halt) is t goes still = t
     treated_went (moves e after) is (inl st) goes still = inl (goes_here e after st goes still)
     treated_went (moves e after) is (inr (inl c)) goes still = begins_there e after c still is
@@ -321,5 +322,5 @@ module _ (program : Program) (a : Activation Value) (rest : List (Activation Val
     unfolding next
     treats_step =
         treated_went _ refl (treated_next program a rest k s v treatment tasks grounds f.suspensions (touching_stands program whole grounds f.suspensions f.within f.stands treater.program.types) f.ready.1)
-        (treats_frugally thrift operation.lower operation.behind program.types.items (body_forms program) whole f.within.frugal refl v treatment tasks k refl)
+        (treats_frugally marks operation.lower operation.behind program.types.items (body_forms program) whole f.within.frugal refl v treatment tasks k refl)
         (still_on program whole f grounds (λ j awaited last. cc last))

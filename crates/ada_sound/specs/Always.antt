@@ -1,9 +1,8 @@
 -- What holds in every run of a program, whatever its input and whatever is granted and picked.
 
-use Rattle.std.specs.Prelude.{◌≡◌, ◌↔◌, ◌⊎◌, ℕ, suc, ℤ, Bool, true, false, not, ◌&&◌, List, [], ◌∷◌, Option, Some, None, All, AllPairs}
-use Rattle.std.specs.List.{filter, list_all}
+use Rattle.std.specs.Prelude.{◌≡◌, ◌↔◌, ◌⊎◌, ℕ, suc, ℤ, Bool, true, false, not, ◌&&◌, ◌||◌, List, [], ◌∷◌, Option, Some, None, All, AllPairs}
+use Rattle.std.specs.List.{filter, list_any}
 use Rattle.ada_program.specs.declared.program.ComponentKind.{ComponentKind}
-use Rattle.ada_program.specs.declared.program.ComponentKind.TheVariants as component
 use Rattle.ada_program.specs.declared.program.Program.{Program}
 use Rattle.ada_program.specs.declared.program.TypeNo.{TypeNo}
 use Rattle.ada_text.specs.declared.spot.Spot.{Spot}
@@ -29,8 +28,10 @@ use Rattle.ada_meaning.specs.Law.{IsBackHome, items_of, Falls, MastersFall, Give
 use Rattle.ada_scopes.specs.Scopes.{HoldsNames}
 use Rattle.ada_sound.specs.Agreement.{Agrees, Place, Turning, IsFlowAt, IsBehind, IsSpokenOf, running_procedure}
 use Rattle.ada_sound.specs.StandsFor.{IsBeingLeft, StandsFor}
+use Rattle.ada_quiet.specs.Bare.{is_component_of}
 use Rattle.ada_quiet.specs.Idle.{makes_parts}
 use Rattle.ada_quiet.specs.InUse.{may_be_frugal, operations_are_in_use}
+use Rattle.ada_quiet.specs.Releases.{text_frees_inside}
 
 -- Of the events of each run, and the state that it comes to.
 abbrev pub InEveryRun : Program → (List Event → State → Type 0) → Type 0
@@ -52,37 +53,52 @@ spare_own_types implicit n (t ∷ ts) = spares_own_type implicit n t && spare_ow
 abbrev pub SparesOwn : Program → Type 0
 SparesOwn program = spare_own_types (implicit_of (program_form program)) 0 (program_form program).types ≡ true
 
--- Where an object ends that a component names, no value of the access type of this number is followed or freed (7.6.1): the component may lie in one of its objects.
-abbrev pub spares_holder : Implicit → (holder : ℕ) → ComponentKind → Bool
-spares_holder implicit t (component.Integer initial) = true
-spares_holder implicit t (component.Boolean initial) = true
-spares_holder implicit t (component.Access access) = not (implicit.end_reaches access.0 t)
+-- One of the components of the objects of a type, if there are some, is of this access type (3.8, 3.10).
+abbrev pub hold_one : (access : ℕ) → Option (List ComponentKind) → Bool
+hold_one t None = false
+hold_one t (Some components) = list_any (is_component_of t) components
 
--- So it is with each component of the objects of the type, if there are some. No value of a type is followed by which a record object is known.
-abbrev pub spare_holder : Implicit → (holder : ℕ) → Option (List ComponentKind) → Bool
-spare_holder implicit t None = true
-spare_holder implicit t (Some components) = list_all (spares_holder implicit t) components
+-- The end of an object of an access type reaches one of these types, from a number on, whose objects have a component of the former: one that names the object may lie
+-- there (7.6.1). No value of a type is followed by which a record object is known.
+abbrev pub reaches_one : Implicit → List TypeForm → (access : ℕ) → (from : ℕ) → List TypeForm → Bool
+reaches_one implicit types t n [] = false
+reaches_one implicit types t n (form ∷ rest) =
+    (implicit.end_reaches t n && hold_one t (components_reached types (named_in (Some form)))) || reaches_one implicit types t (suc n) rest
 
--- So it is with each of these types, from a number on.
-abbrev pub spare_holders : Implicit → List TypeForm → (from : ℕ) → List TypeForm → Bool
-spare_holders implicit types n [] = true
-spare_holders implicit types n (t ∷ ts) =
-    spare_holder implicit n (components_reached types (named_in (Some t))) && spare_holders implicit types (suc n) ts
+-- So it does of all types.
+abbrev pub reaches_holder : Implicit → List TypeForm → (access : ℕ) → Bool
+reaches_holder implicit types t = reaches_one implicit types t 0 types
 
--- In a program in which a Finalize may touch storage, and something creates an object with controlled parts, the end of what a component names reaches no access type
--- whose objects have such a component: so the object in which it lies stays as it is.
+-- In a program in which a Finalize may touch storage, and something creates an object with controlled parts, no component of a record object, and none of a formal
+-- parameter, frees an object whose end reaches an access type whose objects have such a component: so the object in which it lies stays as it is.
 abbrev pub SparesHolders : Program → Type 0
 SparesHolders program =
-    may_be_frugal (program_form program) ≡ true
-    → makes_parts (program_form program) ≡ true
-    → spare_holders (implicit_of (program_form program)) (program_form program).types 0 (program_form program).types ≡ true
+    let p = program_form program in
+    may_be_frugal p ≡ true → makes_parts p ≡ true → text_frees_inside (reaches_holder (implicit_of p) p.types) p ≡ []
 
 -- That is told exactly: of each component of the objects of each type.
 abbrev pub HoldersAreTold : Type 0
 HoldersAreTold =
-    (implicit : Implicit) (types : List TypeForm)
-    → (spare_holders implicit types 0 types ≡ true)
-    ↔ ((holder c : ℕ) (t : TypeNo) → HoldsNames types holder c t → implicit.end_reaches t.0 holder ≡ false)
+    (implicit : Implicit) (types : List TypeForm) (t : TypeNo)
+    → (reaches_holder implicit types t.0 ≡ false)
+    ↔ ((holder c : ℕ) → HoldsNames types holder c t → implicit.end_reaches t.0 holder ≡ false)
+
+-- The initialization of an object frees no object of its own access type, where it is of one (7.6, 13.11.2).
+abbrev pub start_spares : Implicit → (type_number : ℕ) → TypeForm → Bool
+start_spares implicit t (record_of name parts components finalization) = true
+start_spares implicit t (access_to name designated pool) = not (implicit.start_frees t t)
+start_spares implicit t (object_of record_type) = true
+
+-- So it is with each of these types, from a number on.
+abbrev pub starts_spare : Implicit → (from : ℕ) → List TypeForm → Bool
+starts_spare implicit n [] = true
+starts_spare implicit n (t ∷ ts) = start_spares implicit n t && starts_spare implicit (suc n) ts
+
+-- So it is in a program in which an Initialize may touch storage, and something creates an object with controlled parts.
+abbrev pub SparesStarts : Program → Type 0
+SparesStarts program =
+    let p = program_form program in
+    may_be_frugal p ≡ true → makes_parts p ≡ true → starts_spare (implicit_of p) 0 p.types ≡ true
 
 -- A program has passed all checks.
 pub record IsChecked (program : Program) : Type 0 where
@@ -91,9 +107,8 @@ pub record IsChecked (program : Program) : Type 0 where
   -- what overrides an operation of a controlled type touches Integers and Booleans alone, and calls nothing, and no exception comes out of Adjust or Finalize
   -- (7.6); where all that has controlled parts lies in declared objects, or collections are created in order, Initialize and Finalize may also allocate, move,
   -- follow and free, and call what does so alone, and Adjust of a type that declares components of access types may allocate, move, follow and free, so that
-  -- these own what they name, or are null, where no component names an object with a part that has such an Adjust; none of these bodies allocates an object
-  -- with controlled parts, and only that of a Finalize frees some; where no Adjust is called, a frugal one is in use, which may free some, too; and where none is
-  -- called, each operation is
+  -- these own what they name, or are null, where no component names an object with a part that has such an Adjust; an Adjust allocates and frees no object with
+  -- controlled parts, and what other bodies allocate begins quietly; where no Adjust is called, a frugal one is in use; and where none is called, each operation is
   pub in_use : operations_are_in_use (program_form program) ≡ true
   -- no object lies in a collection that lasts longer than one in which its components' objects lie (3.10.2, 7.6.1)
   pub nests : CollectionsNest (program_form program)
@@ -101,9 +116,11 @@ pub record IsChecked (program : Program) : Type 0 where
   pub frees_own : FreesItsOwn (program_form program)
   -- where an object ends, none of its own access type is freed or followed, and where one is adjusted, none is freed (7.6.1)
   pub spares_own : SparesOwn program
-  -- where a Finalize may touch storage, and something creates an object with controlled parts, the end of what a component names reaches no access type whose objects
-  -- have such a component (7.6.1)
+  -- where a Finalize may touch storage, and something creates an object with controlled parts, no component of a record frees an object whose end reaches an access
+  -- type whose objects have such a component (7.6.1)
   pub spares_holders : SparesHolders program
+  -- and the initialization of an object frees none of its own access type (7.6)
+  pub spares_starts : SparesStarts program
   -- the flow of values breaks no rule
   pub obeys : ObeysRules program
 
@@ -205,6 +222,7 @@ pub record Breaks (rule : Rule) (program : Program) : Type 0 where
   pub frees_own : FreesItsOwn (program_form program)
   pub spares_own : SparesOwn program
   pub spares_holders : SparesHolders program
+  pub spares_starts : SparesStarts program
   pub spot : Spot
   pub faults_there : program_flow program ≡ faults spot rule
 
@@ -216,6 +234,7 @@ pub record IsIllFormed (program : Program) : Type 0 where
   pub frees_own : FreesItsOwn (program_form program)
   pub spares_own : SparesOwn program
   pub spares_holders : SparesHolders program
+  pub spares_starts : SparesStarts program
   pub obeys : ObeysRules program
 
 -- The program has passed all other checks, but its collections do not nest.
@@ -226,6 +245,7 @@ pub record IsIllNested (program : Program) : Type 0 where
   pub frees_own : FreesItsOwn (program_form program)
   pub spares_own : SparesOwn program
   pub spares_holders : SparesHolders program
+  pub spares_starts : SparesStarts program
   pub obeys : ObeysRules program
 
 -- The program has passed all other checks, but it frees by an instance for another access type.
@@ -236,6 +256,7 @@ pub record FreesOthers (program : Program) : Type 0 where
   pub frees_others : FreesItsOwn (program_form program) → ⊥
   pub spares_own : SparesOwn program
   pub spares_holders : SparesHolders program
+  pub spares_starts : SparesStarts program
   pub obeys : ObeysRules program
 
 -- The program is well formed, its collections nest, it frees by the instances for what it frees, and it obeys the rules, but something that overrides an

@@ -1,0 +1,124 @@
+-- Frugal bodies (7.6, 13.11.2) that free no object with controlled parts, or may free some, as what is proved of them tells them apart.
+
+use Rattle.std.proofs.Common.{◌≡◌, ℕ, Bool, true, false, ◌&&◌, ◌||◌, List, refl}
+use Rattle.std.specs.Prelude.{not, is_some}
+use Rattle.std.specs.List.{slice_index_or}
+use Rattle.std.proofs.lemmas.Bool.{and_from, and_parts}
+use Rattle.ada_program.specs.Form.{StmtForm, skips, assigns, assigns_record, frees, gets, writes, writes_text, chooses, repeats, counts, exits, calls, returns, raises, encloses, StmtsForm, no_stmts, a_stmt, BranchesForm, otherwise, a_branch, HandlersForm, no_handlers, a_handler}
+use Rattle.ada_program.specs.ProgramForm.{TypeForm, BodyForm, ProgramForm}
+use Rattle.ada_program.specs.WellFormed.{finalization_of}
+use Rattle.ada_quiet.specs.Bare.{has_bare_objects}
+use Rattle.ada_quiet.specs.Calm.{quietly_begun_types}
+use Rattle.ada_quiet.specs.Frugal.{allocates_quietly, are_frugal_declarations, frugal_procedures, is_frugal_stmt, are_frugal, are_frugal_branches, are_frugal_handlers, is_frugal_body, thrift_of}
+
+-- What such bodies go by: as frugal ones do, and whether they may free objects with controlled parts.
+pub record Marks : Type 0 where
+  pub types : List TypeForm
+  pub begun : List Bool
+  pub ends_parts : Bool
+  pub procedures : List Bool
+
+-- Such a body may free objects of an access type (13.11.2): they have no controlled parts, or it may free those that have some.
+abbrev pub may_end : Marks → (access : ℕ) → Bool
+may_end marks access = marks.ends_parts || has_bare_objects marks.types access
+
+module _ (marks : Marks) where
+  abbrev mutual
+    -- A statement is frugal, and frees no object with controlled parts unless it may (13.11.2).
+    pub is_thrifty_stmt : StmtForm → Bool
+    is_thrifty_stmt skips = true
+    is_thrifty_stmt (assigns target right) = allocates_quietly marks.types marks.begun right
+    is_thrifty_stmt (assigns_record target items) = not (is_some (finalization_of marks.types target.record_type))
+    is_thrifty_stmt (frees access path) = may_end marks access
+    is_thrifty_stmt (gets target) = true
+    is_thrifty_stmt (writes e) = true
+    is_thrifty_stmt (writes_text text) = true
+    is_thrifty_stmt (chooses branches) = are_thrifty_branches branches
+    is_thrifty_stmt (repeats condition fs spot) = are_thrifty fs
+    is_thrifty_stmt (counts x low high fs spot) = are_thrifty fs
+    is_thrifty_stmt (exits condition spot) = true
+    is_thrifty_stmt (calls procedure actuals) = slice_index_or marks.procedures procedure false
+    is_thrifty_stmt (returns spot) = true
+    is_thrifty_stmt (raises e) = true
+    is_thrifty_stmt (encloses ds fs hs) = are_frugal_declarations marks.types marks.begun ds && are_thrifty fs && are_thrifty_handlers hs
+
+    -- So it is with statements.
+    pub are_thrifty : StmtsForm → Bool
+    are_thrifty no_stmts = true
+    are_thrifty (a_stmt f fs) = is_thrifty_stmt f && are_thrifty fs
+
+    -- So it is with branches (5.3).
+    pub are_thrifty_branches : BranchesForm → Bool
+    are_thrifty_branches (otherwise fs) = are_thrifty fs
+    are_thrifty_branches (a_branch e fs branches) = are_thrifty fs && are_thrifty_branches branches
+
+    -- So it is with handlers (11.2).
+    pub are_thrifty_handlers : HandlersForm → Bool
+    are_thrifty_handlers no_handlers = true
+    are_thrifty_handlers (a_handler choices fs hs) = are_thrifty fs && are_thrifty_handlers hs
+
+-- All of a body is so.
+abbrev pub is_thrifty_body : Marks → BodyForm → Bool
+is_thrifty_body marks b = are_frugal_declarations marks.types marks.begun b.declarations && are_thrifty marks b.statements && are_thrifty_handlers marks b.handlers
+
+-- Those of a program, which may free some.
+abbrev pub marks_of : ProgramForm → Marks
+marks_of p = record { types = p.types; begun = quietly_begun_types p; ends_parts = true; procedures = frugal_procedures p }
+
+-- What is frugal is so.
+module _ (p : ProgramForm) where
+  mutual
+    stmt_thrifty : (f : StmtForm) → is_frugal_stmt (thrift_of p) f ≡ true → is_thrifty_stmt (marks_of p) f ≡ true
+    stmt_thrifty skips is = refl
+    stmt_thrifty (assigns target right) is = is
+    stmt_thrifty (assigns_record target items) is = is
+    stmt_thrifty (frees access path) is = refl
+    stmt_thrifty (gets target) is = refl
+    stmt_thrifty (writes e) is = refl
+    stmt_thrifty (writes_text text) is = refl
+    stmt_thrifty (chooses branches) is = branches_thrifty branches is
+    stmt_thrifty (repeats condition fs spot) is = stmts_thrifty fs is
+    stmt_thrifty (counts x low high fs spot) is = stmts_thrifty fs is
+    stmt_thrifty (exits condition spot) is = refl
+    stmt_thrifty (calls procedure actuals) is = is
+    stmt_thrifty (returns spot) is = refl
+    stmt_thrifty (raises e) is = refl
+    stmt_thrifty (encloses ds fs hs) is =
+        let two = and_parts (are_frugal_declarations p.types (quietly_begun_types p) ds && are_frugal (thrift_of p) fs) (are_frugal_handlers (thrift_of p) hs) is in
+        let three = and_parts (are_frugal_declarations p.types (quietly_begun_types p) ds) (are_frugal (thrift_of p) fs) two.0 in
+        rw (three.0, stmts_thrifty fs three.1, handlers_thrifty hs two.1) refl
+
+    stmts_thrifty : (fs : StmtsForm) → are_frugal (thrift_of p) fs ≡ true → are_thrifty (marks_of p) fs ≡ true
+    stmts_thrifty no_stmts is = refl
+    stmts_thrifty (a_stmt f fs) is = let both = and_parts (is_frugal_stmt (thrift_of p) f) (are_frugal (thrift_of p) fs) is in rw (stmt_thrifty f both.0, stmts_thrifty fs both.1) refl
+
+    branches_thrifty : (branches : BranchesForm) → are_frugal_branches (thrift_of p) branches ≡ true → are_thrifty_branches (marks_of p) branches ≡ true
+    branches_thrifty (otherwise fs) is = stmts_thrifty fs is
+    branches_thrifty (a_branch e fs branches) is =
+        let both = and_parts (are_frugal (thrift_of p) fs) (are_frugal_branches (thrift_of p) branches) is in
+        rw (stmts_thrifty fs both.0, branches_thrifty branches both.1) refl
+
+    handlers_thrifty : (hs : HandlersForm) → are_frugal_handlers (thrift_of p) hs ≡ true → are_thrifty_handlers (marks_of p) hs ≡ true
+    handlers_thrifty no_handlers is = refl
+    handlers_thrifty (a_handler choices fs hs) is =
+        let both = and_parts (are_frugal (thrift_of p) fs) (are_frugal_handlers (thrift_of p) hs) is in
+        rw (stmts_thrifty fs both.0, handlers_thrifty hs both.1) refl
+
+  -- So is a body.
+  pub body_thrifty : (b : BodyForm) → is_frugal_body (thrift_of p) b ≡ true → is_thrifty_body (marks_of p) b ≡ true
+  body_thrifty b is =
+      let two = and_parts (are_frugal_declarations p.types (quietly_begun_types p) b.declarations && are_frugal (thrift_of p) b.statements) (are_frugal_handlers (thrift_of p) b.handlers) is in
+      let three = and_parts (are_frugal_declarations p.types (quietly_begun_types p) b.declarations) (are_frugal (thrift_of p) b.statements) two.0 in
+      rw (three.0, stmts_thrifty b.statements three.1, handlers_thrifty b.handlers two.1) refl
+
+-- The declarations, the statements and the handlers of such a body are so.
+pub thrifty_parts : (marks : Marks) (b : BodyForm) → is_thrifty_body marks b ≡ true
+    → (are_frugal_declarations marks.types marks.begun b.declarations ≡ true) × (are_thrifty marks b.statements ≡ true) × (are_thrifty_handlers marks b.handlers ≡ true)
+thrifty_parts marks b is =
+    let three = and_parts _ _ is in
+    let two = and_parts _ _ three.0 in
+    (two.0, two.1, three.1)
+
+-- What a body goes by that calls nothing, frees no object with controlled parts, and allocates none.
+abbrev pub simple_marks : List TypeForm → Marks
+simple_marks types = record { types = types; begun = []; ends_parts = false; procedures = [] }
