@@ -5,6 +5,7 @@ use Rattle.std.proofs.Common.{◌≡◌, ℕ, zero, suc, true, false, List, [], 
 use Rattle.std.specs.Prelude.{ℤ, Option, Some, None}
 use Rattle.std.specs.List.{slice_get}
 use Rattle.ada_deeds.specs.Implicit.{implicit_of}
+use Rattle.ada_quiet.specs.InUse.{may_be_frugal}
 use Rattle.ada_program.specs.declared.program.Program.{Program}
 use Rattle.ada_program.specs.ProgramForm.{TypeForm, VariableForm, BodyForm, program_form, main_body, seen_in}
 use Rattle.ada_program.specs.WellFormed.{IsWellFormed}
