@@ -3,7 +3,7 @@
 -- these are finalized.
 
 use Rattle.std.specs.Prelude.{Some}
-use Rattle.std.proofs.Common.{◌≡◌, ℕ, suc, ◌≤◌, Bool, true, false, List, [], ◌∷◌, ◌++◌, length, refl, sym, ap, subst, ◌⊎◌, inl, inr, arith}
+use Rattle.std.proofs.Common.{◌≡◌, ℕ, suc, ◌≤◌, Bool, true, false, List, [], ◌∷◌, ◌++◌, length, refl, sym, ap, subst, ◌⊎◌, inl, inr, arith, ◌∙◌}
 use Rattle.ada_program.specs.Form.{ActualForm}
 use Rattle.ada_finalized.specs.Law.{NoOperationRunsOn, finalized_before}
 use Rattle.ada_program.specs.ProgramForm.{BodyForm}
@@ -28,6 +28,9 @@ use Rattle.ada_typed.proofs.Kept.{is_treatment}
 use Rattle.ada_sound.proofs.Invariant.{Control, IsAwaited}
 use Rattle.ada_sound.proofs.Marks.{Marks, may_end, are_thrifty, are_thrifty_branches, are_thrifty_handlers, is_thrifty_body, thrifty_parts}
 use Rattle.ada_sound.proofs.Operating.{OwnVariables}
+use Rattle.ada_parts.specs.Part.{Part}
+use Rattle.ada_meaning.specs.Run.{Event}
+use Rattle.ada_sound.proofs.Alters.{Alters}
 
 -- An object ends that is freed (13.11.2).
 abbrev pub IsFreed : Treatment → Type 0
@@ -126,11 +129,11 @@ module _ (frugal : Marks) where
   FrugalLeaves behind (Leaves left ∷ k) (m ∷ ms) = FrugalLeads behind k ms
   FrugalLeaves behind (f ∷ k) ms = ⊥
 
-  -- An object is there that begins quietly, and behind it none of its operations runs.
+  -- An object is there that begins quietly, and behind it none of its operations runs. So it is only where bodies may free objects with controlled parts, too.
   abbrev pub BeginsQuietly : List Object → Value → Birth → Control → Type 0
   BeginsQuietly heap v by k =
       (by ≡ Creation) × NoOperationRunsOn v k
-      × ((o : Id) × (v ≡ Names o) × (x : Object) × (object_at heap o ≡ Some x) × (has_calm_objects frugal.types frugal.begun x.cell.access ≡ true))
+      × ((o : Id) × (v ≡ Names o) × (x : Object) × (object_at heap o ≡ Some x) × (has_calm_objects frugal.types frugal.begun x.cell.access ≡ true) × (frugal.ends_parts ≡ true))
 
   -- Such an object begins first (4.8, 7.6), and then this is left to do.
   abbrev pub FrugalBegins : (behind : Control) → List Object → Control → List Master → Type 0
@@ -206,6 +209,35 @@ ends_leads frugal back v treatment tasks k ms ending q = ((ending.1, by tasks), 
     by [] = subst (λ (w : Value). NoOperationRunsOn w k) (sym ending.2) ending.3
     by (task ∷ left) = ending.3
 
+-- An object begins first that begins quietly, if anything is to be done for it.
+pub beginning_frugal :
+    (frugal : Marks) (back : Control) (heap : List Object) (v : Value) (by : Birth) (done : List Part) (tasks : List Task) (k : Control) (ms : List Master) → BeginsQuietly frugal heap v by k → FrugalLeads frugal back k ms
+    → Frugal frugal back heap Running (treating v (begins by done) tasks k) ms
+beginning_frugal frugal back heap v by done [] k ms quiet q = inl q
+beginning_frugal frugal back heap v by done (task ∷ tasks) k ms quiet q = inr (refl, inr (quiet, q))
+
+-- So it does whatever becomes of objects, as each stays of its access type.
+pub quietly_kept :
+    (frugal : Marks) (before after : List Object) (e : Event) (v : Value) (by : Birth) (k : Control) → Alters before e after → BeginsQuietly frugal before v by k → BeginsQuietly frugal after v by k
+quietly_kept frugal before after e v by k alters (creation, alone, (o, is, x, found, calm, ends_parts)) =
+    let there = alters.kept o x found in
+    (creation, alone, (o, is, there.0, there.1, ap (has_calm_objects frugal.types frugal.begun) there.2.0 ∙ calm, ends_parts))
+
+-- And so the body goes on.
+pub frugal_kept :
+    (frugal : Marks) (back : Control) (before after : List Object) (e : Event) (mode : Mode) (k : Control) (ms : List Master) → Alters before e after → Frugal frugal back before mode k ms
+    → Frugal frugal back after mode k ms
+frugal_kept frugal back before after e mode k ms alters (inl q) = inl q
+frugal_kept frugal back before after e mode k ms alters (inr (runs, inl leaving)) = inr (runs, inl leaving)
+frugal_kept frugal back before after e mode k ms alters (inr (runs, inr beginning)) = inr (runs, inr (by_control k beginning))
+  where
+    by_control : (j : Control) → FrugalBegins frugal back before j ms → FrugalBegins frugal back after j ms
+    by_control [] q = absurd q
+    by_control (frame.Treats v (begins by done) tasks ∷ j) q = (quietly_kept frugal before after e v by j alters q.0, q.1)
+    by_control (frame.Treats v (ends cause) tasks ∷ j) q = absurd q
+    by_control (frame.Awaits v by done of part tasks ∷ j) q = (quietly_kept frugal before after e v by j alters q.0, q.1)
+    by_control (f ∷ j) q = absurd q
+
 -- Each frame in front of its end is one of such a body, but where an object is finalized.
 pub first_frugal :
     (frugal : Marks) (behind : Control) (f : Frame Value) (k : Control) (ms : List Master) → is_return f ≡ false → is_treatment f ≡ false → is_operation f ≡ false → FrugalLeads frugal behind (f ∷ k) ms
@@ -227,6 +259,21 @@ none_treated frugal none behind (frame.Treats v treatment tasks) k ms q = let en
 none_treated frugal none behind frame.Confines k ms q = let ends_parts = q.0.0 in absurd (cc (none, ends_parts))
 none_treated frugal none behind (frame.Awaits v by done of part tasks) k ms q = absurd q.0
 none_treated frugal none behind f k ms q = (refl, refl)
+
+-- Nor does an object begin first.
+pub none_beginning : (frugal : Marks) → frugal.ends_parts ≡ false → (behind : Control) (heap : List Object) (k : Control) (ms : List Master) → FrugalBegins frugal behind heap k ms → ⊥
+none_beginning frugal none behind heap [] ms q = q
+none_beginning frugal none behind heap (frame.Treats v (begins by done) tasks ∷ k) ms ((creation, alone, (o, is, x, found, calm, ends_parts)), q) = cc (none, ends_parts)
+none_beginning frugal none behind heap (frame.Treats v (ends cause) tasks ∷ k) ms q = q
+none_beginning frugal none behind heap (frame.Awaits v by done of part tasks ∷ k) ms ((creation, alone, (o, is, x, found, calm, ends_parts)), q) = cc (none, ends_parts)
+none_beginning frugal none behind heap (f ∷ k) ms q = q
+
+-- Where the body runs on, no object begins first.
+pub leads_first : (frugal : Marks) (behind : Control) (k : Control) (ms : List Master) → FrugalLeads frugal behind k ms → begins_first k ≡ false
+leads_first frugal behind [] ms q = refl
+leads_first frugal behind (frame.Treats v (begins by done) tasks ∷ k) ms q = absurd q.0.0
+leads_first frugal behind (frame.Awaits v by done of part tasks ∷ k) ms q = absurd q.0
+leads_first frugal behind (f ∷ k) ms q = refl
 
 -- There is more to do than what is behind all of it.
 leads_longer : (frugal : Marks) (behind k : Control) (ms : List Master) → FrugalLeads frugal behind k ms → suc (length behind) ≤ length k

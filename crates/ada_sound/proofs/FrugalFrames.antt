@@ -23,19 +23,25 @@ use Rattle.ada_meaning.specs.declared.state.Value.TheVariants.{Null}
 use Rattle.ada_meaning.specs.declared.state.Mode.{Mode}
 use Rattle.ada_meaning.specs.declared.state.Mode.TheVariants.{Running, Raising, Exiting, Returning}
 use Rattle.ada_meaning.specs.Event.{Event, Followed, Quiet}
-use Rattle.ada_meaning.specs.Heap.{Cell, Found, on_null, on_gone, on_other, finds}
+use Rattle.ada_meaning.specs.Heap.{Cell, Found, on_null, on_gone, on_other, finds, PartState}
 use Rattle.ada_meaning.specs.Frame.{Frame, Elaborates, Leaves, Calls, TestsNull, RefersIn, OpensIn, Fills, Copies, Targets, Receives, FreesIn, Declares, Ends, GivesBack, Clears, ClearsIn, TargetsRecord, ends}
-use Rattle.ada_meaning.specs.State.{Activation, Item, Master, Owned, declared, collection, record_object, storage_pool, Destination, height, home_of, pool_freed_to}
-use Rattle.ada_meaning.specs.Step.{first_or, older, places_of, operands_of, with_operands, begun, record_holder_next, referred_next, refers_next, open_next, opened_next, opens_next, storing, returned, computing, call_next, entered, all_tasks, halts, moves, same_pool, raised, jumping, computed, put, owned, at, reading, component_next, follow_next, path_next, selected, named_next, before_last, last_of, holder_next, expression_next, null_test_next, is_decided, link_next, links_next, outcome_next, place_in, record_in, item_next, items_next, copied_next, copies_next, answered, new_next, right_next, freeing, freeing_next, free_next, end_next, told_back, given_back, back_next, assign_next, target_next, stored_next, store_next, record_target_next, record_stored_next, newest_ones, store_record_next, record_assign_next, has_parts, frees_next, freed_next, free_component_next, free_in_next, branches_next, decided_next, turn_next, repeats_next, turned_next, count_turn_next, counts_next, ranges_next, gets_next, received_next, receive_next, exit_next, exited_next, stmt_next, line_next, declarations_next, leave_next, master_leave_next, item_leave_next}
-use Rattle.ada_meaning.specs.Named.{State, Next, named, whole, look, standing}
+use Rattle.ada_meaning.specs.State.{Activation, Item, Master, Owned, declared, collection, record_object, storage_pool, Destination, height, home_of, pool_freed_to, counted}
+use Rattle.ada_meaning.specs.Step.{first_or, older, places_of, operands_of, with_operands, begun, record_holder_next, referred_next, refers_next, open_next, opened_next, opens_next, storing, returned, computing, call_next, entered, all_tasks, halts, moves, same_pool, raised, jumping, computed, put, owned, at, reading, component_next, follow_next, path_next, selected, named_next, before_last, last_of, holder_next, expression_next, null_test_next, is_decided, link_next, links_next, outcome_next, place_in, record_in, item_next, items_next, copied_next, copies_next, answered, new_next, right_next, freeing, freeing_next, free_next, end_next, told_back, given_back, back_next, assign_next, target_next, stored_next, store_next, record_target_next, record_stored_next, newest_ones, store_record_next, record_assign_next, has_parts, frees_next, freed_next, free_component_next, free_in_next, branches_next, decided_next, turn_next, repeats_next, turned_next, count_turn_next, counts_next, ranges_next, gets_next, received_next, receive_next, exit_next, exited_next, stmt_next, line_next, declarations_next, leave_next, master_leave_next, item_leave_next, granted, new_cell, born_next, awaited_next}
+use Rattle.ada_meaning.specs.Named.{State, Next, named, whole, look, standing, create, created, new_object, bear, born_part}
 use Rattle.ada_quiet.specs.Frugal.{allocates_quietly, is_frugal_declaration, are_frugal_declarations}
 use Rattle.ada_sound.proofs.Marks.{Marks, may_end, is_thrifty_stmt, are_thrifty, are_thrifty_branches, are_thrifty_handlers, is_thrifty_body, marks_of, thrifty_parts}
 use Rattle.ada_sound.proofs.Fits.{place_at}
 use Rattle.ada_sound.proofs.Invariant.{Control}
 use Rattle.ada_sound.proofs.OperationStarts.{apart}
 use Rattle.ada_sound.proofs.Operating.{IsVariable, AreVariables, OwnVariables}
-use Rattle.ada_sound.proofs.FrugalControl.{FrugalLeads, FrugalLeaves, Frugally, GoesFrugally, same_masters, treating_leads}
-use Rattle.ada_sound.proofs.FrugalFrees.{RecordIsBare, IsFreely, StmtIsFreely}
+use Rattle.ada_sound.proofs.FrugalControl.{FrugalLeads, FrugalLeaves, Frugally, GoesFrugally, same_masters, treating_leads, BeginsQuietly, beginning_frugal, quietly_kept}
+use Rattle.ada_sound.proofs.FrugalFrees.{RecordIsBare, IsFreely, StmtIsFreely, bare_calm, IsNewly}
+use Rattle.ada_meaning.specs.declared.event.Birth.{Birth}
+use Rattle.ada_meaning.specs.declared.event.Birth.TheVariants.{Creation}
+use Rattle.ada_parts.specs.Part.{Part}
+use Rattle.ada_parts.specs.Task.{Task}
+use Rattle.ada_owners.proofs.Objects.{next_id, at_new}
+use Rattle.ada_sound.proofs.Treatments.{alters_treated}
 
 module _ (marks : Marks) (lower : List Master) (behind : Control) (tds : List TypeDefinition) (bodies : List BodyForm) (s : State) where
   abbrev pub Fine : Next → Type 0
@@ -130,7 +136,7 @@ module _ (marks : Marks) (lower : List Master) (behind : Control) (tds : List Ty
     pub right_on : (right : RightForm) → allocates_quietly marks.types marks.begun right ≡ true → (all : List (Activation Value)) → (k : Control) → Left k → Fine (right_next named tds right (now all k ms))
     right_on nothing bare all k q = computes_on _ all k q
     right_on (value_of path) bare all k q = named_on path.selectors path.root all k q
-    right_on (allocates access items) bare all k q = on _ refl (tt, (bare, q))
+    right_on (allocates access items) bare all k q = on _ refl (tt, (bare_calm marks.types marks.begun access bare, q))
     right_on (allocates_default access) bare all k q = on _ refl (bare, q)
     right_on (computes e) bare all k q = on _ refl (tt, q)
 
@@ -157,14 +163,42 @@ module _ (marks : Marks) (lower : List Master) (behind : Control) (tds : List Ty
     copies_on o first count on_other all k q = tt
     copies_on o first count (finds cell) all k q = copied_on o (record_in cell.values first count) all k q
 
-    -- A pool is asked for a new object, for which nothing is to be done.
-    answered_on : (access count words : ℕ) (home : Destination) → all_tasks tds access PartsFirst ≡ [] → (all : List (Activation Value)) → (k : Control) → Left k → (granted : Bool) → Goes (answered named tds access count words home (now all k ms) granted)
-    answered_on access count words home none all k q true = rw none (on _ refl q)
-    answered_on access count words home none all k q false = raises_on StorageError all k q
+    -- A pool is asked for a new object, for which nothing is to be done, or that begins quietly.
+    granted_on : (access count words : ℕ) (home : Destination) (all : List (Activation Value)) → (k : Control) → IsNewly marks tds access s.heap k → Left k → Goes (granted named tds access count words home (now all k ms))
+    granted_on access count words home all k (inl none) q = rw none (on _ refl q)
+    granted_on access count words home all k (inr (calm, ends_parts, alone)) q = record {
+      upper = ms;
+      masters = refl;
+      own = own;
+      frugal = beginning_frugal marks behind (create s.heap words cell) (created s.heap words) Creation [] (all_tasks tds access PartsFirst) k ms (refl, alone, (next_id s.heap, refl, new_object cell, at_new s.heap words cell, calm, ends_parts)) q;
+    }
+      where
+        cell : Cell Value
+        cell = new_cell named tds access count home (now all k ms)
 
-    pub new_on : (access count words : ℕ) (home : Option Destination) → all_tasks tds access PartsFirst ≡ [] → (all : List (Activation Value)) → (k : Control) → Left k → Fine (new_next named tds access count words home (now all k ms))
-    new_on access count words None none all k q = raises_on StorageError all k q
-    new_on access count words (Some home) none all k q = answered_on access count words home none all k q
+    answered_on : (access count words : ℕ) (home : Destination) (all : List (Activation Value)) → (k : Control) → IsNewly marks tds access s.heap k → Left k → (granting : Bool) → Goes (answered named tds access count words home (now all k ms) granting)
+    answered_on access count words home all k new q true = granted_on access count words home all k new q
+    answered_on access count words home all k new q false = raises_on StorageError all k q
+
+    pub new_on : (access count words : ℕ) (home : Option Destination) (all : List (Activation Value)) → (k : Control) → IsNewly marks tds access s.heap k → Left k → Fine (new_next named tds access count words home (now all k ms))
+    new_on access count words None all k new q = raises_on StorageError all k q
+    new_on access count words (Some home) all k new q = answered_on access count words home all k new q
+
+    -- The Initialize of a part has come to its end: the object goes on beginning.
+    born_on : (v : Value) (by : Birth) (done : List Part) (of part : ℕ) (tasks : List Task) (found : Option PartState) (all : List (Activation Value)) → (k : Control) → BeginsQuietly marks s.heap v by k → Left k → Fine (born_next named v by done of part tasks found (now all k ms))
+    born_on v by done of part tasks None all k quiet q = tt
+    born_on v by done of part tasks (Some p) all k quiet q = record {
+      upper = ms;
+      masters = refl;
+      own = own;
+      frugal = beginning_frugal marks behind (bear s.heap v part (counted s.born)) v by (record { of = of; number = part } ∷ done) tasks k ms (quietly_kept marks s.heap _ Quiet v by k (alters_treated (born_part (counted s.born)) part s.heap Quiet v) quiet) q;
+    }
+
+    pub awaited_on : (v : Value) (by : Birth) (done : List Part) (of part : ℕ) (tasks : List Task) (found : Found (Cell Value)) (all : List (Activation Value)) → (k : Control) → BeginsQuietly marks s.heap v by k → Left k → Fine (awaited_next named v by done of part tasks found (now all k ms))
+    awaited_on v by done of part tasks on_null all k quiet q = tt
+    awaited_on v by done of part tasks on_gone all k quiet q = tt
+    awaited_on v by done of part tasks on_other all k quiet q = tt
+    awaited_on v by done of part tasks (finds cell) all k quiet q = born_on v by done of part tasks (slice_get cell.parts part) all k quiet q
 
     assigns_on : (cs : List ℕ) (x : ℕ) (right : RightForm) → allocates_quietly marks.types marks.begun right ≡ true → (all : List (Activation Value)) → (k : Control) → Left k → Fine (assign_next named cs x right (now all k ms))
     assigns_on [] x right bare all k q = on _ refl (bare, (tt, q))
@@ -471,7 +505,7 @@ module _ (marks : Marks) (lower : List Master) (behind : Control) (tds : List Ty
     upper = ms;
     masters = masters;
     own = own;
-    frugal = rw (in_mode, is) (inr (refl, q));
+    frugal = rw (in_mode, is) (inr (refl, inl q));
   }
 
   pub leaves_on : (ms : List Master) → OwnVariables ms → (left : Mode) (all : List (Activation Value)) → (k : Control) → FrugalLeaves marks behind (Leaves left ∷ k) ms → Fine (leave_next named tds left (ms ++ lower) (now all k ms))

@@ -21,7 +21,7 @@ use Rattle.ada_program.specs.Freed.{statement_frees_own, statements_free_own}
 use Rattle.ada_quiet.specs.Bare.{has_bare_objects, is_bare_access}
 use Rattle.ada_finalized.specs.Law.{NamesExisting, NoOperationRunsOn}
 use Rattle.ada_parts.specs.declared.tasks.Direction.{Direction}
-use Rattle.ada_parts.specs.declared.tasks.Direction.TheVariants.{WholeFirst}
+use Rattle.ada_parts.specs.declared.tasks.Direction.TheVariants.{WholeFirst, PartsFirst}
 use Rattle.ada_meaning.specs.declared.state.Id.{Id}
 use Rattle.ada_meaning.specs.declared.state.Stage.{Stage}
 use Rattle.ada_meaning.specs.declared.state.Stage.TheVariants.{Building, Existing, Gone}
@@ -52,6 +52,8 @@ use Rattle.ada_sound.proofs.FrugalControl.{Frugal, FrugalLeads}
 use Rattle.ada_sound.proofs.Invariant.{Control}
 use Rattle.ada_sound.proofs.OperationStarts.{apart}
 use Rattle.ada_sound.proofs.Standing.{FreesAmong}
+use Rattle.ada_quiet.specs.Calm.{has_calm_objects, is_calm_access, is_known_calm}
+use Rattle.ada_owners.proofs.Objects.{next_id, at_past}
 
 -- There is nothing to do for an object of an access type that designates a record type without controlled parts, neither to initialize nor to finalize it.
 abbrev pub AccessIsBare : List TypeForm → List TypeDefinition → Type 0
@@ -296,7 +298,7 @@ module _ (frugal : Marks) (tds : List TypeDefinition) where
   NextIsFreely [] heap places operands = Unit {0}
   NextIsFreely (f ∷ k) heap places operands = FrameIsFreely f k heap places operands
 
-  module _ (bare : AccessIsBare frugal.types tds) (may : ℕ → Bool) (heap : List Object) (k : Control) (alone : ListedAlone may frugal.ends_parts heap k) where
+  module _ (bare : AccessIsBare frugal.types tds) (may : ℕ → Bool) (heap : List Object) (k : Control) (alone : frugal.ends_parts ≡ true → ListedAlone may heap k) where
     bare_freely : (v : Value) (access : ℕ) (found : Found (Cell Value)) → has_bare_objects frugal.types access ≡ true → IsOf access found → IsFreely k v found
     bare_freely v access on_null has of = tt
     bare_freely v access on_gone has of = tt
@@ -310,7 +312,7 @@ module _ (frugal : Marks) (tds : List TypeDefinition) where
     alone_freely (Names o) access ends_parts freed of = by (object_at heap o) refl of
       where
         stands : (x : Object) → object_at heap o ≡ Some x → (listed alive : Bool) → x.listed ≡ listed → IsOf access (if listed && alive then finds x.cell else on_gone) → IsFreely k (Names o) (if listed && alive then finds x.cell else on_gone)
-        stands x at true true is of' = inr (ends_parts, alone o x at is (rw of' freed) ends_parts)
+        stands x at true true is of' = inr (ends_parts, alone ends_parts o x at is (rw of' freed))
         stands x at true false is of' = tt
         stands x at false alive is of' = tt
 
@@ -327,7 +329,7 @@ module _ (frugal : Marks) (tds : List TypeDefinition) where
 
   -- What is freed next in a frugal body may be so, where it is among these access types.
   pub next_freely :
-      AccessIsBare frugal.types tds → (may : ℕ → Bool) (behind : Control) (heap : List Object) (values results : List Value) (k : Control) (ms : List Master) → ListedAlone may frugal.ends_parts heap k
+      AccessIsBare frugal.types tds → (may : ℕ → Bool) (behind : Control) (heap : List Object) (values results : List Value) (k : Control) (ms : List Master) → (frugal.ends_parts ≡ true → ListedAlone may heap k)
       → FrugalLeads frugal behind k ms → FreesAmong may k → NextFreesOwn k heap values results → NextIsFreely k heap values results
   next_freely bare may behind heap values results [] ms alone q freely own = tt
   next_freely bare may behind heap values results (Does (a_stmt (frees access path) fs) ∷ k) ms alone q freely own =
@@ -337,10 +339,67 @@ module _ (frugal : Marks) (tds : List TypeDefinition) where
   next_freely bare may behind heap values results (f ∷ k) ms alone q freely own = tt
 
 -- Where bodies free no objects with controlled parts, what is freed next has none.
-pub frees_bare : (frugal : Marks) → frugal.ends_parts ≡ false → (behind : Control) (mode : Mode) (k : Control) (ms : List Master) → Frugal frugal behind mode k ms → FreesAmong (has_bare_objects frugal.types) k
-frees_bare frugal none behind mode [] ms q = tt
-frees_bare frugal none behind mode (Does (a_stmt (frees access path) fs) ∷ k) ms (inl q) = let may = (apart (may_end frugal access) (are_thrifty frugal fs) q.0).0 in rw none at may
-frees_bare frugal none behind mode (Does (a_stmt (frees access path) fs) ∷ k) ms (inr (runs, leaving)) = absurd leaving
-frees_bare frugal none behind mode (FreesIn access c ∷ k) ms (inl q) = let may = q.0 in rw none at may
-frees_bare frugal none behind mode (FreesIn access c ∷ k) ms (inr (runs, leaving)) = absurd leaving
-frees_bare frugal none behind mode (f ∷ k) ms q = tt
+pub frees_bare : (frugal : Marks) → frugal.ends_parts ≡ false → (behind : Control) (heap : List Object) (mode : Mode) (k : Control) (ms : List Master) → Frugal frugal behind heap mode k ms → FreesAmong (has_bare_objects frugal.types) k
+frees_bare frugal none behind heap mode [] ms q = tt
+frees_bare frugal none behind heap mode (Does (a_stmt (frees access path) fs) ∷ k) ms (inl q) = let may = (apart (may_end frugal access) (are_thrifty frugal fs) q.0).0 in rw none at may
+frees_bare frugal none behind heap mode (Does (a_stmt (frees access path) fs) ∷ k) ms (inr (runs, inl leaving)) = absurd leaving
+frees_bare frugal none behind heap mode (Does (a_stmt (frees access path) fs) ∷ k) ms (inr (runs, inr beginning)) = absurd beginning
+frees_bare frugal none behind heap mode (FreesIn access c ∷ k) ms (inl q) = let may = q.0 in rw none at may
+frees_bare frugal none behind heap mode (FreesIn access c ∷ k) ms (inr (runs, inl leaving)) = absurd leaving
+frees_bare frugal none behind heap mode (FreesIn access c ∷ k) ms (inr (runs, inr beginning)) = absurd beginning
+frees_bare frugal none behind heap mode (f ∷ k) ms q = tt
+
+-- For a new object there is nothing to do; or it begins quietly, and none of its operations runs behind this, as none of an object that is still to be created does.
+abbrev pub IsNewly : Marks → List TypeDefinition → (access : ℕ) → List Object → Control → Type 0
+IsNewly frugal tds access heap k =
+    (all_tasks tds access PartsFirst ≡ [])
+    ⊎ ((has_calm_objects frugal.types frugal.begun access ≡ true) × (frugal.ends_parts ≡ true) × NoOperationRunsOn (Names (next_id heap)) k)
+
+-- What has no controlled parts begins quietly.
+pub bare_calm : (types : List TypeForm) (calm : List Bool) (access : ℕ) → has_bare_objects types access ≡ true → has_calm_objects types calm access ≡ true
+bare_calm types calm access is = by (slice_get types access) is
+  where
+    parts : (o : Option Finalization) → not (is_some o) ≡ true → is_known_calm calm o ≡ true
+    parts None none = refl
+    parts (Some f) none = absurd (cc none)
+
+    by : (o : Option TypeForm) → is_bare_access types o ≡ true → is_calm_access types calm o ≡ true
+    by None is' = absurd (cc is')
+    by (Some (record_of name components known finalization)) is' = absurd (cc is')
+    by (Some (access_to name designated pool)) is' = parts (finalization_of types designated) is'
+    by (Some (object_of record_type)) is' = absurd (cc is')
+
+-- And nothing else does, where nothing is said to.
+calm_bare : (types : List TypeForm) (access : ℕ) → has_calm_objects types [] access ≡ true → has_bare_objects types access ≡ true
+calm_bare types access is = by (slice_get types access) is
+  where
+    parts : (o : Option Finalization) → is_known_calm [] o ≡ true → not (is_some o) ≡ true
+    parts None none = refl
+    parts (Some f) none = absurd (cc none)
+
+    by : (o : Option TypeForm) → is_calm_access types [] o ≡ true → is_bare_access types o ≡ true
+    by None is' = absurd (cc is')
+    by (Some (record_of name components known finalization)) is' = absurd (cc is')
+    by (Some (access_to name designated pool)) is' = parts (finalization_of types designated) is'
+    by (Some (object_of record_type)) is' = absurd (cc is')
+
+-- Where bodies free no objects with controlled parts, none of these begin quietly.
+abbrev pub BeginsNone : Marks → Type 0
+BeginsNone frugal = frugal.ends_parts ≡ false → frugal.begun ≡ []
+
+-- An object that has not been created does not exist.
+past_unborn : (heap : List Object) → NamesExisting heap (Names (next_id heap)) → ⊥
+past_unborn heap (o, is, x, found, stage) =
+    let same : o ≡ next_id heap = cc is in
+    let none = at_past heap in
+    cc (rw same at found, none)
+
+-- What such a body allocates is so.
+pub is_newly :
+    (frugal : Marks) (tds : List TypeDefinition) → AccessIsBare frugal.types tds → BeginsNone frugal → (access : ℕ) (heap : List Object) (k : Control) → (frugal.ends_parts ≡ true → Unborn heap k)
+    → has_calm_objects frugal.types frugal.begun access ≡ true → IsNewly frugal tds access heap k
+is_newly frugal tds bare begins_none access heap k unborn calm = by frugal.ends_parts refl
+  where
+    by : (ends_parts : Bool) → frugal.ends_parts ≡ ends_parts → IsNewly frugal tds access heap k
+    by true is = inr (calm, is, unborn is (next_id heap) (past_unborn heap))
+    by false is = let none = begins_none is in inl (bare access PartsFirst (calm_bare frugal.types access (rw none at calm)))

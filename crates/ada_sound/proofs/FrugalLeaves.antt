@@ -76,10 +76,11 @@ innermost_houses_none [] own = tt
 innermost_houses_none (m ∷ ms) own = houses_none m.items own
 
 -- The master that a frugal body leaves is one of its own.
-pub leaves_own : (marks : Marks) (back : Control) (mode left : Mode) (k : Control) (upper lower : List Master) → Frugal marks back mode (Leaves left ∷ k) upper → OwnVariables upper → AreVariables (innermost (upper ++ lower))
-leaves_own marks back mode left k upper lower (inl leads) own = absurd leads.0
-leaves_own marks back mode left k [] lower (inr leaving) own = absurd leaving.1
-leaves_own marks back mode left k (m ∷ upper) lower (inr leaving) own = own.0
+pub leaves_own : (marks : Marks) (back : Control) (heap : List Object) (mode left : Mode) (k : Control) (upper lower : List Master) → Frugal marks back heap mode (Leaves left ∷ k) upper → OwnVariables upper → AreVariables (innermost (upper ++ lower))
+leaves_own marks back heap mode left k upper lower (inl leads) own = absurd leads.0
+leaves_own marks back heap mode left k [] lower (inr (runs, inl leaving)) own = absurd leaving
+leaves_own marks back heap mode left k (m ∷ upper) lower (inr (runs, inl leaving)) own = own.0
+leaves_own marks back heap mode left k upper lower (inr (runs, inr beginning)) own = absurd beginning
 
 -- Such a master owns no collection.
 pub variables_stay : (ahead : Owned → Bool) (is : List Item) → AreVariables is → departs ahead is ≡ false
@@ -112,12 +113,13 @@ module _ (known : Known) (marks : Marks) (back : Control) (heap : List Object) (
   none_ending (Part o place) w m item pool k ending leads = ending
 
 -- So no collection is left while a frugal body runs for whose objects operations may be called that touch storage.
-pub frugal_stays : (known : Known) (marks : Marks) (back : Control) (mode : Mode) (k : Control) (heap : List Object) (places operands : List Value) (upper lower : List Master) → Frugal marks back mode k upper → OwnVariables upper
+pub frugal_stays : (known : Known) (marks : Marks) (back : Control) (mode : Mode) (k : Control) (heap : List Object) (places operands : List Value) (upper lower : List Master) → Frugal marks back heap mode k upper → OwnVariables upper
     → ReadyIn known Running k heap places operands (upper ++ lower) → departs_next (departs known.ahead (innermost (upper ++ lower))) k ≡ false
 frugal_stays known marks back mode [] heap places operands upper lower frugal own ready = refl
 frugal_stays known marks back mode (Leaves left ∷ k) heap places operands upper lower frugal own ready =
-    variables_stay known.ahead (innermost (upper ++ lower)) (leaves_own marks back mode left k upper lower frugal own)
+    variables_stay known.ahead (innermost (upper ++ lower)) (leaves_own marks back heap mode left k upper lower frugal own)
 frugal_stays known marks back mode (Ends v ∷ GivesBack w (Leaving m item) pool ∷ k) heap places operands upper lower (inl leads) own ready =
     absurd (none_ending known marks back heap places (upper ++ lower) upper v w m item pool k ready leads.1.1)
-frugal_stays known marks back mode (Ends v ∷ GivesBack w (Leaving m item) pool ∷ k) heap places operands upper lower (inr (runs, leaving)) own ready = absurd leaving
+frugal_stays known marks back mode (Ends v ∷ GivesBack w (Leaving m item) pool ∷ k) heap places operands upper lower (inr (runs, inl leaving)) own ready = absurd leaving
+frugal_stays known marks back mode (Ends v ∷ GivesBack w (Leaving m item) pool ∷ k) heap places operands upper lower (inr (runs, inr beginning)) own ready = absurd beginning
 frugal_stays known marks back mode k heap places operands upper lower frugal own ready = refl

@@ -23,12 +23,12 @@ use Rattle.ada_meaning.specs.declared.state.Value.{Value}
 use Rattle.ada_meaning.specs.declared.state.Value.TheVariants.{Null}
 use Rattle.ada_meaning.specs.declared.state.Mode.{Mode}
 use Rattle.ada_meaning.specs.declared.state.Mode.TheVariants.{Running, Raising, Exiting, Returning}
-use Rattle.ada_meaning.specs.Event.{Event, Finalized}
+use Rattle.ada_meaning.specs.Event.{Event, Finalized, Quiet}
 use Rattle.ada_meaning.specs.Frame.{Frame, Treatment, begins, ends, is_return, Elaborates, Does, Decides, Repeats, Turns, Ranges, Counts, Exits, Handles, Closes, Leaves, Calls, Returns, Evaluates, Computes, Follows, TestsNull, Refers, RefersIn, Opens, OpensIn, Continues, Applies, AppliesAlone, Fills, Copies, Creates, Stores, Targets, StoresIn, TargetsRecord, StoresRecord, Receives, FreesIn, Declares, Treats, Awaits, Confines, Writes, Ends, GivesBack, Clears, ClearsIn, handler_landing}
 use Rattle.ada_meaning.specs.Heap.{PartState, Cell, Found, on_null, on_gone, on_other, finds}
-use Rattle.ada_meaning.specs.State.{Activation, Master, home_of}
-use Rattle.ada_meaning.specs.Step.{halts, picks, treating, direction_of, picked_task, treated_on, operation_next, ended_next, finalized_next, performed_next, treats_next, first_or, places_of, operands_of, operand_count, newest_ones, frame_next, landed, jump_next, mode_next}
-use Rattle.ada_meaning.specs.Named.{Object, State, Next, named, next, look, lent, finalize}
+use Rattle.ada_meaning.specs.State.{Activation, Master, home_of, counted}
+use Rattle.ada_meaning.specs.Step.{halts, picks, treating, direction_of, picked_task, treated_on, operation_next, ended_next, finalized_next, performed_next, treats_next, first_or, places_of, operands_of, operand_count, newest_ones, frame_next, landed, jump_next, mode_next, born_next, begun_next, beginning}
+use Rattle.ada_meaning.specs.Named.{Object, State, Next, named, next, look, lent, finalize, bear, born_part}
 use Rattle.ada_quiet.proofs.FrugalAt.{frugal_at}
 use Rattle.ada_typed.specs.Holding.{cells_of}
 use Rattle.ada_typed.proofs.Bodies.{own_bodies}
@@ -36,17 +36,20 @@ use Rattle.ada_typed.proofs.Control as typed
 use Rattle.ada_typed.proofs.Control.{OwnBody}
 use Rattle.ada_typed.proofs.Kept.{Each, crosses as crosses_by, is_treatment}
 use Rattle.ada_quiet.specs.Frugal.{allocates_quietly, is_frugal_declaration, are_frugal_declarations}
-use Rattle.ada_sound.proofs.Marks.{Marks, may_end, is_thrifty_stmt, are_thrifty, are_thrifty_branches, are_thrifty_handlers, is_thrifty_body, marks_of, thrifty_parts}
+use Rattle.ada_sound.proofs.Marks.{Marks, may_end, is_thrifty_stmt, are_thrifty, are_thrifty_branches, are_thrifty_handlers, is_thrifty_body, marks_of, thrifty_parts, body_thrifty}
 use Rattle.ada_sound.specs.Agreement.{running_procedure}
 use Rattle.ada_sound.proofs.Calm.{ends_operation, operation_ends_there}
 use Rattle.ada_sound.proofs.Invariant.{Control, IsAwaited}
 use Rattle.ada_sound.proofs.OperationStarts.{apart}
 use Rattle.ada_sound.proofs.Operating.{OwnVariables}
-use Rattle.ada_sound.proofs.FrugalControl.{FrugalLeads, FrugalLeaves, EndsFreed, Frugal, is_return_first, none_treated, treating_leads, Frugally, GoesFrugally}
+use Rattle.ada_sound.proofs.FrugalControl.{FrugalLeads, FrugalLeaves, EndsFreed, Frugal, is_return_first, none_treated, treating_leads, Frugally, GoesFrugally, BeginsQuietly, FrugalBegins, beginning_frugal, begins_first, leads_first, none_beginning, quietly_kept}
 use Rattle.ada_sound.proofs.Standing.{FreesAmong}
 use Rattle.ada_sound.proofs.Steps.{crosses}
-use Rattle.ada_sound.proofs.FrugalFrees.{AccessIsBare, bare_by, RecordIsBare, records_bare_by, NextFreesOwn, next_own, ListedAlone, FrameIsFreely, NextIsFreely, next_freely}
+use Rattle.ada_sound.proofs.FrugalFrees.{AccessIsBare, bare_by, RecordIsBare, records_bare_by, NextFreesOwn, next_own, ListedAlone, FrameIsFreely, NextIsFreely, next_freely, BeginsNone, Unborn, is_newly}
 use Rattle.ada_sound.proofs.FrugalFrames as frames
+use Rattle.ada_meaning.specs.declared.event.Birth.{Birth}
+use Rattle.ada_parts.specs.Part.{Part}
+use Rattle.ada_sound.proofs.Treatments.{alters_treated}
 
 -- The statements of the handler that takes an exception.
 handler_frugal : (marks : Marks) (hs : HandlersForm) (e : Exception) (fs : StmtsForm) → handler_of e hs ≡ Some fs → are_thrifty_handlers marks hs ≡ true → are_thrifty marks fs ≡ true
@@ -68,7 +71,7 @@ FindsFrugal marks bodies = (number : ℕ) (b : BodyForm) → slice_get bodies nu
 abbrev pub TreatsNothing : Control → Type 0
 TreatsNothing k = (v : Value) (treatment : Treatment) (tasks : List Task) (j : Control) → k ≡ Treats v treatment tasks ∷ j → ⊥
 
-module _ (marks : Marks) (lower : List Master) (behind : Control) (tds : List TypeDefinition) (bodies : List BodyForm) (access_bare : AccessIsBare marks.types tds) (records_bare : RecordIsBare marks.types tds) (finds_frugal : FindsFrugal marks bodies) (s : State) where
+module _ (marks : Marks) (lower : List Master) (behind : Control) (tds : List TypeDefinition) (bodies : List BodyForm) (access_bare : AccessIsBare marks.types tds) (begins_none : BeginsNone marks) (records_bare : RecordIsBare marks.types tds) (finds_frugal : FindsFrugal marks bodies) (s : State) where
   abbrev Fine : Next → Type 0
   Fine n = GoesFrugally marks lower behind n
 
@@ -88,80 +91,88 @@ module _ (marks : Marks) (lower : List Master) (behind : Control) (tds : List Ty
   twice_without all = without (without all)
 
   -- What is left of the body goes on.
-  frame_on : (f : Frame Value) (k : Control) (ms : List Master) → OwnVariables ms → (all : List (Activation Value)) → IsInner f k ms → is_treatment f ≡ false → FrameIsFreely marks tds f k s.heap (places_of all) (operands_of all) → FrugalLeads marks behind (f ∷ k) ms → Fine (frame_next named tds bodies f (now all k ms))
-  frame_on (Elaborates ds fs hs) k ms own all inner plain freely q = frames.declarations_on marks lower behind tds bodies s ms own ds fs hs all k q
-  frame_on (Does no_stmts) k ms own all inner plain freely (frugal, q) = frames.on marks lower behind tds bodies s ms own _ refl q
-  frame_on (Does (a_stmt f fs)) k ms own all inner plain freely (frugal, q) =
+  frame_on : (f : Frame Value) (k : Control) (ms : List Master) → OwnVariables ms → (all : List (Activation Value)) → IsInner f k ms → is_treatment f ≡ false → FrameIsFreely marks tds f k s.heap (places_of all) (operands_of all) → (marks.ends_parts ≡ true → Unborn s.heap (f ∷ k)) → FrugalLeads marks behind (f ∷ k) ms → Fine (frame_next named tds bodies f (now all k ms))
+  frame_on (Elaborates ds fs hs) k ms own all inner plain freely unborn q = frames.declarations_on marks lower behind tds bodies s ms own ds fs hs all k q
+  frame_on (Does no_stmts) k ms own all inner plain freely unborn (frugal, q) = frames.on marks lower behind tds bodies s ms own _ refl q
+  frame_on (Does (a_stmt f fs)) k ms own all inner plain freely unborn (frugal, q) =
       let both = apart _ _ frugal in
       frames.stmt_on marks lower behind tds bodies s ms own f finds_frugal records_bare both.0 all (Does fs ∷ k) freely (both.1, q)
-  frame_on (Decides fs branches) k ms own all inner plain freely (frugal, q) =
+  frame_on (Decides fs branches) k ms own all inner plain freely unborn (frugal, q) =
       frames.decided_on marks lower behind tds bodies s ms own fs branches (named.reads_boolean (first_or Null (operands_of all))) frugal (without all) k q
-  frame_on (Repeats condition fs) k ms own all inner plain freely (frugal, q) = frames.repeats_on marks lower behind tds bodies s ms own condition fs frugal all k q
-  frame_on (Turns e fs) k ms own all inner plain freely (frugal, q) =
+  frame_on (Repeats condition fs) k ms own all inner plain freely unborn (frugal, q) = frames.repeats_on marks lower behind tds bodies s ms own condition fs frugal all k q
+  frame_on (Turns e fs) k ms own all inner plain freely unborn (frugal, q) =
       frames.turned_on marks lower behind tds bodies s ms own e fs (named.reads_boolean (first_or Null (operands_of all))) frugal (without all) k q
-  frame_on (Ranges x fs) k ms own all inner plain freely (frugal, q) =
+  frame_on (Ranges x fs) k ms own all inner plain freely unborn (frugal, q) =
       frames.ranges_on marks lower behind tds bodies s ms own x fs (named.reads_integer (first_or Null (operands_of (without all)))) (named.reads_integer (first_or Null (operands_of all))) frugal
       (twice_without all) k q
-  frame_on (Counts x value last fs) k ms own all inner plain freely (frugal, q) = frames.counts_on marks lower behind tds bodies s ms own x value last fs frugal all k q
-  frame_on Exits k ms own all inner plain freely (frugal, q) =
+  frame_on (Counts x value last fs) k ms own all inner plain freely unborn (frugal, q) = frames.counts_on marks lower behind tds bodies s ms own x value last fs frugal all k q
+  frame_on Exits k ms own all inner plain freely unborn (frugal, q) =
       frames.exited_on marks lower behind tds bodies s ms own (named.reads_boolean (first_or Null (operands_of all))) (without all) k q
-  frame_on (Handles hs) k ms own all inner plain freely (frugal, q) = frames.on marks lower behind tds bodies s ms own _ refl q
-  frame_on Closes k [] own all inner plain freely q = absurd q
-  frame_on Closes k (m ∷ ms) own all inner plain freely q = frames.leaves_first marks lower behind tds bodies s (m ∷ ms) own Running k _ refl refl refl q.1
-  frame_on (Calls number b actuals) k ms own all inner plain freely (frugal, q) =
+  frame_on (Handles hs) k ms own all inner plain freely unborn (frugal, q) = frames.on marks lower behind tds bodies s ms own _ refl q
+  frame_on Closes k [] own all inner plain freely unborn q = absurd q
+  frame_on Closes k (m ∷ ms) own all inner plain freely unborn q = frames.leaves_first marks lower behind tds bodies s (m ∷ ms) own Running k _ refl refl refl q.1
+  frame_on (Calls number b actuals) k ms own all inner plain freely unborn (frugal, q) =
       frames.begun_on marks lower behind tds bodies s ms own number b actuals (newest_ones named (operand_count actuals) (now all k ms)) frugal all k q
-  frame_on (Returns actuals references) k ms own all inner plain freely q = frames.returned_on marks lower behind tds bodies s ms own actuals references all k inner
-  frame_on (Refers path) k ms own all inner plain freely (frugal, q) = frames.record_on marks lower behind tds bodies s ms own path all k q
-  frame_on (RefersIn place t) k ms own all inner plain freely (frugal, q) =
+  frame_on (Returns actuals references) k ms own all inner plain freely unborn q = frames.returned_on marks lower behind tds bodies s ms own actuals references all k inner
+  frame_on (Refers path) k ms own all inner plain freely unborn (frugal, q) = frames.record_on marks lower behind tds bodies s ms own path all k q
+  frame_on (RefersIn place t) k ms own all inner plain freely unborn (frugal, q) =
       frames.refers_on marks lower behind tds bodies s ms own (first_or Null (operands_of all)) place (width_of tds t) (look s.heap (first_or Null (operands_of all))) (without all) k q
-  frame_on (Opens path) k ms own all inner plain freely (frugal, q) = frames.open_on marks lower behind tds bodies s ms own path.selectors path.root all k q
-  frame_on (OpensIn c) k ms own all inner plain freely (frugal, q) =
+  frame_on (Opens path) k ms own all inner plain freely unborn (frugal, q) = frames.open_on marks lower behind tds bodies s ms own path.selectors path.root all k q
+  frame_on (OpensIn c) k ms own all inner plain freely unborn (frugal, q) =
       frames.opens_on marks lower behind tds bodies s ms own (first_or Null (operands_of all)) c (look s.heap (first_or Null (operands_of all))) (without all) k q
-  frame_on (Evaluates right) k ms own all inner plain freely (frugal, q) = frames.right_on marks lower behind tds bodies s ms own right frugal all k q
-  frame_on (Computes e) k ms own all inner plain freely (frugal, q) = frames.expression_on marks lower behind tds bodies s ms own e all k q
-  frame_on (Follows cs) k ms own all inner plain freely (frugal, q) =
+  frame_on (Evaluates right) k ms own all inner plain freely unborn (frugal, q) = frames.right_on marks lower behind tds bodies s ms own right frugal all k q
+  frame_on (Computes e) k ms own all inner plain freely unborn (frugal, q) = frames.expression_on marks lower behind tds bodies s ms own e all k q
+  frame_on (Follows cs) k ms own all inner plain freely unborn (frugal, q) =
       frames.path_on marks lower behind tds bodies s ms own cs (first_or Null (operands_of all)) (without all) k q
-  frame_on (TestsNull equal) k ms own all inner plain freely (frugal, q) =
+  frame_on (TestsNull equal) k ms own all inner plain freely unborn (frugal, q) =
       frames.null_test_on marks lower behind tds bodies s ms own equal (named.reads_null (first_or Null (operands_of all))) (without all) k q
-  frame_on (Continues links) k ms own all inner plain freely (frugal, q) = frames.links_on marks lower behind tds bodies s ms own links all k q
-  frame_on (Applies operator) k ms own all inner plain freely (frugal, q) =
+  frame_on (Continues links) k ms own all inner plain freely unborn (frugal, q) = frames.links_on marks lower behind tds bodies s ms own links all k q
+  frame_on (Applies operator) k ms own all inner plain freely unborn (frugal, q) =
       frames.outcome_on marks lower behind tds bodies s ms own (named.binary operator (first_or Null (operands_of (without all))) (first_or Null (operands_of all))) (twice_without all) k q
-  frame_on (AppliesAlone operator) k ms own all inner plain freely (frugal, q) =
+  frame_on (AppliesAlone operator) k ms own all inner plain freely unborn (frugal, q) =
       frames.outcome_on marks lower behind tds bodies s ms own (named.unary operator (first_or Null (operands_of all))) (without all) k q
-  frame_on (Fills items) k ms own all inner plain freely (frugal, q) = frames.items_on marks lower behind tds bodies s ms own items all k q
-  frame_on (Copies first t) k ms own all inner plain freely (frugal, q) =
+  frame_on (Fills items) k ms own all inner plain freely unborn (frugal, q) = frames.items_on marks lower behind tds bodies s ms own items all k q
+  frame_on (Copies first t) k ms own all inner plain freely unborn (frugal, q) =
       frames.copies_on marks lower behind tds bodies s ms own (first_or Null (operands_of all)) first (width_of tds t) (look s.heap (first_or Null (operands_of all))) (without all) k q
-  frame_on (Creates access count) k ms own all inner plain freely (frugal, q) =
-      frames.new_on marks lower behind tds bodies s ms own access count (words_of tds access) (home_of access (ms ++ lower)) (access_bare access PartsFirst frugal) all k q
-  frame_on (Stores x) k ms own all inner plain freely (frugal, q) =
+  frame_on (Creates access count) k ms own all inner plain freely unborn (frugal, q) =
+      frames.new_on marks lower behind tds bodies s ms own access count (words_of tds access) (home_of access (ms ++ lower)) all k
+      (is_newly marks tds access_bare begins_none access s.heap k unborn frugal) q
+  frame_on (Stores x) k ms own all inner plain freely unborn (frugal, q) =
       frames.puts_on marks lower behind tds bodies s ms own x (first_or Null (operands_of all)) (without all) k q
-  frame_on (Targets c right) k ms own all inner plain freely (frugal, q) =
+  frame_on (Targets c right) k ms own all inner plain freely unborn (frugal, q) =
       frames.target_on marks lower behind tds bodies s ms own (first_or Null (operands_of all)) c right (look s.heap (first_or Null (operands_of all))) frugal (without all) k q
-  frame_on (StoresIn o c) k ms own all inner plain freely (frugal, q) =
+  frame_on (StoresIn o c) k ms own all inner plain freely unborn (frugal, q) =
       frames.store_on marks lower behind tds bodies s ms own o c (first_or Null (operands_of all)) (look s.heap o) (without all) k q
-  frame_on (TargetsRecord first t items) k ms own all inner plain freely (frugal, q) =
+  frame_on (TargetsRecord first t items) k ms own all inner plain freely unborn (frugal, q) =
       frames.record_target_on marks lower behind tds bodies s ms own (first_or Null (operands_of all)) first (width_of tds t) items (look s.heap (first_or Null (operands_of all))) (without all) k q
-  frame_on (StoresRecord o first count) k ms own all inner plain freely (frugal, q) =
+  frame_on (StoresRecord o first count) k ms own all inner plain freely unborn (frugal, q) =
       frames.store_record_on marks lower behind tds bodies s ms own o first count (look s.heap o) all k q
-  frame_on (Receives c) k ms own all inner plain freely (frugal, q) =
+  frame_on (Receives c) k ms own all inner plain freely unborn (frugal, q) =
       frames.receive_on marks lower behind tds bodies s ms own (first_or Null (operands_of all)) c (look s.heap (first_or Null (operands_of all))) (without all) k q
-  frame_on (FreesIn access c) k ms own all inner plain freely (frugal, q) =
+  frame_on (FreesIn access c) k ms own all inner plain freely unborn (frugal, q) =
       frames.free_in_on marks lower behind tds bodies s ms own access (first_or Null (operands_of all)) c (look s.heap (first_or Null (operands_of all))) (without all) k freely q
-  frame_on (Declares x) k ms own all inner plain freely q = frames.declares_on marks lower behind tds bodies s ms own x (first_or Null (operands_of all)) (without all) k q
-  frame_on Writes k ms own all inner plain freely (frugal, q) =
+  frame_on (Declares x) k ms own all inner plain freely unborn q = frames.declares_on marks lower behind tds bodies s ms own x (first_or Null (operands_of all)) (without all) k q
+  frame_on Writes k ms own all inner plain freely unborn (frugal, q) =
       frames.line_on marks lower behind tds bodies s ms own (named.reads_integer (first_or Null (operands_of all))) (without all) k q
-  frame_on (Ends v) k ms own all inner plain freely (frugal, q) = frames.end_on marks lower behind tds bodies s ms own v (look s.heap v) all k q
-  frame_on (GivesBack v cause pool) k ms own all inner plain freely (frugal, q) = frames.back_on marks lower behind tds bodies s ms own v cause pool (lent s.heap v) all k q
-  frame_on (Clears x) k ms own all inner plain freely (frugal, q) = frames.puts_on marks lower behind tds bodies s ms own x Null all k q
-  frame_on (ClearsIn o c) k ms own all inner plain freely (frugal, q) = frames.store_on marks lower behind tds bodies s ms own o c Null (look s.heap o) all k q
-  frame_on (Treats v treatment tasks) k ms own all inner plain freely q = absurd (cc plain)
-  frame_on Confines k ms own all inner plain freely q = frames.on marks lower behind tds bodies s ms own _ refl q.1
-  frame_on f k ms own all inner plain freely q = absurd q.0
+  frame_on (Ends v) k ms own all inner plain freely unborn (frugal, q) = frames.end_on marks lower behind tds bodies s ms own v (look s.heap v) all k q
+  frame_on (GivesBack v cause pool) k ms own all inner plain freely unborn (frugal, q) = frames.back_on marks lower behind tds bodies s ms own v cause pool (lent s.heap v) all k q
+  frame_on (Clears x) k ms own all inner plain freely unborn (frugal, q) = frames.puts_on marks lower behind tds bodies s ms own x Null all k q
+  frame_on (ClearsIn o c) k ms own all inner plain freely unborn (frugal, q) = frames.store_on marks lower behind tds bodies s ms own o c Null (look s.heap o) all k q
+  frame_on (Treats v treatment tasks) k ms own all inner plain freely unborn q = absurd (cc plain)
+  frame_on Confines k ms own all inner plain freely unborn q = frames.on marks lower behind tds bodies s ms own _ refl q.1
+  frame_on f k ms own all inner plain freely unborn q = absurd q.0
 
   leaving_on : (k : Control) (ms : List Master) → OwnVariables ms → (all : List (Activation Value)) → FrugalLeaves marks behind k ms → Fine (mode_next named tds bodies Running (now all k ms))
   leaving_on [] ms own all q = absurd q
   leaving_on (Leaves left ∷ k) ms own all q = frames.leaves_on marks lower behind tds bodies s ms own left all k q
   leaving_on (f ∷ k) ms own all q = absurd q
+
+  -- An object that begins first goes on doing so, where it is not treated next: the body of an operation has ended.
+  beginning_on : (k : Control) (ms : List Master) → OwnVariables ms → (all : List (Activation Value)) → TreatsNothing k → FrugalBegins marks behind s.heap k ms → Fine (mode_next named tds bodies Running (now all k ms))
+  beginning_on [] ms own all none q = absurd q
+  beginning_on (Treats v treatment tasks ∷ k) ms own all none q = absurd (none v treatment tasks k refl)
+  beginning_on (Awaits v by done of part tasks ∷ k) ms own all none q = frames.awaited_on marks lower behind tds bodies s ms own v by done of part tasks (look s.heap v) all k q.0 q.1
+  beginning_on (f ∷ k) ms own all none q = absurd q
 
   -- A jump passes what is left of the body, or lands there.
   abbrev passing : Mode → List (Activation Value) → Control → List Master → State
@@ -218,13 +229,14 @@ module _ (marks : Marks) (lower : List Master) (behind : Control) (tds : List Ty
   is_plain (Treats v treatment tasks) k none = absurd (none v treatment tasks k refl)
   is_plain f k none = refl
 
-  mode_on : (mode : Mode) (k : Control) (ms : List Master) → OwnVariables ms → (all : List (Activation Value)) → ((actuals : List ActualForm) (references : List Value) (j : Control) → k ≡ Returns actuals references ∷ j → FrugalLeads marks behind j ms) → (mode ≡ Running → TreatsNothing k) → (mode ≡ Running → NextIsFreely marks tds k s.heap (places_of all) (operands_of all)) → Frugal marks behind mode k ms → Fine (mode_next named tds bodies mode (passing mode all k ms))
-  mode_on mode k ms own all inner none freely (inr (runs, leaving)) = rw runs (leaving_on k ms own all leaving)
-  mode_on mode [] ms own all inner none freely (inl q) = absurd q
-  mode_on Running (f ∷ k) ms own all inner none freely (inl q) = frame_on f k ms own all (is_inner f k ms inner) (is_plain f k (none refl)) (freely refl) q
-  mode_on (Raising e) (f ∷ k) ms own all inner none freely (inl q) = raising_on e f k ms own all (is_inner f k ms inner) q
-  mode_on Exiting (f ∷ k) ms own all inner none freely (inl q) = exiting_on f k ms own all (is_inner f k ms inner) q
-  mode_on Returning (f ∷ k) ms own all inner none freely (inl q) = returning_on f k ms own all (is_inner f k ms inner) q
+  mode_on : (mode : Mode) (k : Control) (ms : List Master) → OwnVariables ms → (all : List (Activation Value)) → ((actuals : List ActualForm) (references : List Value) (j : Control) → k ≡ Returns actuals references ∷ j → FrugalLeads marks behind j ms) → (mode ≡ Running → TreatsNothing k) → (mode ≡ Running → NextIsFreely marks tds k s.heap (places_of all) (operands_of all)) → (marks.ends_parts ≡ true → Unborn s.heap k) → Frugal marks behind s.heap mode k ms → Fine (mode_next named tds bodies mode (passing mode all k ms))
+  mode_on mode k ms own all inner none freely unborn (inr (runs, inl leaving)) = rw runs (leaving_on k ms own all leaving)
+  mode_on mode k ms own all inner none freely unborn (inr (runs, inr beginning)) = let nothing = none runs in rw runs (beginning_on k ms own all nothing beginning)
+  mode_on mode [] ms own all inner none freely unborn (inl q) = absurd q
+  mode_on Running (f ∷ k) ms own all inner none freely unborn (inl q) = frame_on f k ms own all (is_inner f k ms inner) (is_plain f k (none refl)) (freely refl) unborn q
+  mode_on (Raising e) (f ∷ k) ms own all inner none freely unborn (inl q) = raising_on e f k ms own all (is_inner f k ms inner) q
+  mode_on Exiting (f ∷ k) ms own all inner none freely unborn (inl q) = exiting_on f k ms own all (is_inner f k ms inner) q
+  mode_on Returning (f ∷ k) ms own all inner none freely unborn (inl q) = returning_on f k ms own all (is_inner f k ms inner) q
 
 -- Where a body comes to its end next, it is one that was called: what called it goes on in these masters.
 abbrev pub EndsInner : (marks : Marks) (behind : Control) → Control → List Master → Type 0
@@ -232,26 +244,35 @@ EndsInner marks behind k ms = (actuals : List ActualForm) (references : List Val
 
 -- While a frugal body runs, or one that it calls, and its own end is not next, whatever comes next is in such a body, too, where no object is treated next. Each Free of
 -- what runs is by the instance for the access type of what it frees (13.11.2), among some types; and where bodies may free objects with controlled parts, no object of
--- these types that is in its collection has an operation that runs.
+-- these types that is in its collection has an operation that runs, unless one begins first, and none runs of an object that does not exist.
 pub frugal_steps :
-    (p : ProgramForm) → OwnBody p → (tds : List TypeDefinition) (bodies : List BodyForm) (marks : Marks) → AccessIsBare marks.types tds → RecordIsBare marks.types tds → FindsFrugal marks bodies
+    (p : ProgramForm) → OwnBody p → (tds : List TypeDefinition) (bodies : List BodyForm) (marks : Marks) → AccessIsBare marks.types tds → BeginsNone marks → RecordIsBare marks.types tds → FindsFrugal marks bodies
     → (behind : Control) (lower : List Master) (s : State) (f : Frugally marks lower behind s)
     → EndsInner marks behind s.control f.upper → (s.mode ≡ Running → TreatsNothing s.control) → typed.TypedIn p s
-    → (may : ℕ → Bool) → (s.mode ≡ Running → FreesAmong may s.control) → ListedAlone may marks.ends_parts s.heap s.control
+    → (may : ℕ → Bool) → (s.mode ≡ Running → FreesAmong may s.control) → (marks.ends_parts ≡ true → begins_first s.control ≡ false → ListedAlone may s.heap s.control)
+    → (marks.ends_parts ≡ true → Unborn s.heap s.control)
     → GoesFrugally marks lower behind (next tds bodies s)
 unfolding next
-frugal_steps p whole tds bodies marks bare records_bare finds_frugal behind lower s f inner none typing may among alone =
+frugal_steps p whole tds bodies marks bare begins_none records_bare finds_frugal behind lower s f inner none typing may among alone unborn =
     subst (λ (t : State). GoesFrugally marks lower behind (mode_next named tds bodies s.mode t)) state_is
-    (mode_on marks lower behind tds bodies bare records_bare finds_frugal s s.mode s.control f.upper f.own s.activations inner none (λ runs. by f.frugal (among runs) (next_own p whole s typing runs)) f.frugal)
+    (mode_on marks lower behind tds bodies bare begins_none records_bare finds_frugal s s.mode s.control f.upper f.own s.activations inner none (λ runs. by f.frugal (among runs) (next_own p whole s typing runs)) unborn f.frugal)
   where
-    by : Frugal marks behind s.mode s.control f.upper → FreesAmong may s.control → NextFreesOwn s.control s.heap (places_of s.activations) (operands_of s.activations) → NextIsFreely marks tds s.control s.heap (places_of s.activations) (operands_of s.activations)
-    by (inl q) freely own = next_freely marks tds bare may behind s.heap (places_of s.activations) (operands_of s.activations) s.control f.upper alone q freely own
-    by (inr (runs, leaving)) freely own = leaving_freely s.control f.upper leaving
+    by : Frugal marks behind s.heap s.mode s.control f.upper → FreesAmong may s.control → NextFreesOwn s.control s.heap (places_of s.activations) (operands_of s.activations) → NextIsFreely marks tds s.control s.heap (places_of s.activations) (operands_of s.activations)
+    by (inl q) freely own =
+        next_freely marks tds bare may behind s.heap (places_of s.activations) (operands_of s.activations) s.control f.upper (λ ends_parts. alone ends_parts (leads_first marks behind s.control f.upper q)) q freely own
+    by (inr (runs, inl leaving)) freely own = leaving_freely s.control f.upper leaving
       where
         leaving_freely : (k : Control) (ms : List Master) → FrugalLeaves marks behind k ms → NextIsFreely marks tds k s.heap (places_of s.activations) (operands_of s.activations)
         leaving_freely [] ms leaves = tt
         leaving_freely (Leaves left ∷ k) ms leaves = tt
         leaving_freely (g ∷ k) ms leaves = absurd leaves
+    by (inr (runs, inr beginning)) freely own = beginning_freely s.control f.upper beginning
+      where
+        beginning_freely : (k : Control) (ms : List Master) → FrugalBegins marks behind s.heap k ms → NextIsFreely marks tds k s.heap (places_of s.activations) (operands_of s.activations)
+        beginning_freely [] ms q = tt
+        beginning_freely (Treats v treatment tasks ∷ k) ms q = tt
+        beginning_freely (Awaits v how done of part tasks ∷ k) ms q = tt
+        beginning_freely (g ∷ k) ms q = absurd q
 
     -- The state, by its parts.
     state_is : record s { masters = f.upper ++ lower } ≡ s
@@ -259,19 +280,20 @@ frugal_steps p whole tds bodies marks bare records_bare finds_frugal behind lowe
 
 -- The body, or what it calls, runs on, unless its own end is next, or an object is treated, in a run of a well-formed program.
 pub frugal_goes :
-    (program : Program) → FreesItsOwn (program_form program) → (ends_parts : Bool)
+    (program : Program) → FreesItsOwn (program_form program)
     → (lower : List Master) (behind : Control) (s : State) (f : Frugally (marks_of (program_form program)) lower behind s)
     → EndsInner (marks_of (program_form program)) behind s.control f.upper → (s.mode ≡ Running → TreatsNothing s.control)
     → typed.TypedIn (seen_in (running_procedure s) (program_form program)) s
-    → (may : ℕ → Bool) → (s.mode ≡ Running → FreesAmong may s.control) → ListedAlone may ends_parts s.heap s.control
+    → (may : ℕ → Bool) → (s.mode ≡ Running → FreesAmong may s.control) → (begins_first s.control ≡ false → ListedAlone may s.heap s.control)
+    → Unborn s.heap s.control
     → GoesFrugally (marks_of (program_form program)) lower behind (next program.types.items (body_forms program) s)
-frugal_goes program whole ends_parts lower behind s f inner none typing may among alone =
+frugal_goes program whole lower behind s f inner none typing may among alone unborn =
     let p = program_form program in
     let procedure = running_procedure s in
-    frugal_steps (seen_in procedure p) (own_bodies p whole procedure) program.types.items (body_forms program) (thrift_of p) (bare_by program) (records_bare_by program)
-    (λ number b there told. frugal_at p ends_parts number b told there) behind lower s f inner none typing may among alone
+    frugal_steps (seen_in procedure p) (own_bodies p whole procedure) program.types.items (body_forms program) (marks_of p) (bare_by program) (λ never. absurd (cc never)) (records_bare_by program)
+    (λ number b there told. body_thrifty p b (frugal_at p number b told there)) behind lower s f inner none typing may among (λ ends_parts. alone) (λ ends_parts. unborn)
 
--- An object is treated next that such a body frees (7.6.1): the body of a Finalize begins, or what is left to do is so behind that.
+-- An object is treated next that such a body frees (7.6.1), or allocates (4.8): the body of an operation begins, or what is left to do is so behind that.
 module _ (marks : Marks) (lower : List Master) (back : Control) (tds : List TypeDefinition) (bodies : List BodyForm) (s : State) where
   abbrev pub GoesOrBegins : State → Type 0
   GoesOrBegins after = Frugally marks lower back after ⊎ (length after.activations ≡ suc (length s.activations))
@@ -279,33 +301,34 @@ module _ (marks : Marks) (lower : List Master) (back : Control) (tds : List Type
   abbrev pub GoesTreating : Next → Type 0
   GoesTreating n = Each GoesOrBegins n
 
-  module _ (v : Value) (treatment : Treatment) (k : Control) (f : Frugally marks lower back s) (ending : EndsFreed marks v treatment k) (leads : FrugalLeads marks back k f.upper) where
+  module _ (v : Value) (k : Control) (f : Frugally marks lower back s) (leads : FrugalLeads marks back k f.upper) where
     abbrev left_with : List Object → Control → State
     left_with heap c = record s { heap = heap; control = c }
 
-    goes_on : (heap : List Object) (tasks : List Task) → GoesOrBegins (left_with heap (treating v treatment tasks k))
-    goes_on heap tasks = inl (record {
-      upper = f.upper;
-      masters = f.masters;
-      own = f.own;
-      frugal = inl (treating_leads marks back v treatment tasks k f.upper ending leads);
-    })
+    called_on : (heap : List Object) (behind : Control) (procedure : ℕ) (found : Option BodyForm) (reference : Value) (event : Event Value) → GoesTreating (operation_next named procedure found reference behind event (left_with heap k))
+    called_on heap behind procedure None reference event = tt
+    called_on heap behind procedure (Some b) reference event = inr refl
 
-    called_on : (heap : List Object) (tasks : List Task) (procedure : ℕ) (found : Option BodyForm) (reference : Value) (event : Event Value) → GoesTreating (operation_next named procedure found reference (Confines ∷ treating v treatment tasks k) event (left_with heap k))
-    called_on heap tasks procedure None reference event = tt
-    called_on heap tasks procedure (Some b) reference event = inr refl
+    -- It is freed.
+    module _ (treatment : Treatment) (ending : EndsFreed marks v treatment k) where
+      goes_on : (heap : List Object) (tasks : List Task) → GoesOrBegins (left_with heap (treating v treatment tasks k))
+      goes_on heap tasks = inl (record {
+        upper = f.upper;
+        masters = f.masters;
+        own = f.own;
+        frugal = inl (treating_leads marks back v treatment tasks k f.upper ending leads);
+      })
 
-    ended_on : (heap : List Object) (tasks : List Task) (part : ℕ) (state : PartState) (operation : Option ℕ) (event : Event Value) → GoesTreating (ended_next named bodies v part state (treating v treatment tasks k) operation event (left_with heap k))
-    ended_on heap tasks part state None event = goes_on heap tasks
-    ended_on heap tasks part state (Some procedure) event = called_on heap tasks procedure (slice_get bodies procedure) _ event
+      ended_on : (heap : List Object) (tasks : List Task) (part : ℕ) (state : PartState) (operation : Option ℕ) (event : Event Value) → GoesTreating (ended_next named bodies v part state (treating v treatment tasks k) operation event (left_with heap k))
+      ended_on heap tasks part state None event = goes_on heap tasks
+      ended_on heap tasks part state (Some procedure) event = called_on heap (Confines ∷ treating v treatment tasks k) procedure (slice_get bodies procedure) _ event
 
-  module _ (v : Value) (k : Control) (f : Frugally marks lower back s) (leads : FrugalLeads marks back k f.upper) where
     finalized_on : (cause : Cause) → EndsFreed marks v (ends cause) k → (of part : ℕ) (tasks : List Task) (operation : Option ℕ) (found : Option PartState) → GoesTreating (finalized_next named bodies v cause of part tasks operation found (record s { control = k }))
     finalized_on cause ending of part tasks operation None = tt
     finalized_on cause ending of part tasks operation (Some state) = by state.alive
       where
         by : (alive : Bool) → GoesTreating (if alive then ended_next named bodies v part state (treating v (ends cause) tasks k) operation (Finalized v part state.turn of state.number cause) (record s { heap = finalize s.heap v part; control = k }) else halts (Erroneous FinalizesTwice))
-        by true = ended_on v (ends cause) k f ending leads (finalize s.heap v part) tasks part state operation _
+        by true = ended_on (ends cause) ending (finalize s.heap v part) tasks part state operation _
         by false = tt
 
     performed_on : (treatment : Treatment) → EndsFreed marks v treatment k → (of part : ℕ) (tasks : List Task) (found : Found (Cell Value)) → GoesTreating (performed_next named tds bodies v treatment of part tasks found (record s { control = k }))
@@ -316,13 +339,55 @@ module _ (marks : Marks) (lower : List Master) (back : Control) (tds : List Type
     performed_on (ends cause) ending of part tasks (finds cell) = finalized_on cause ending of part tasks (procedure_number (operations_of tds of).finalize) (slice_get cell.parts part)
 
     treats_on : (treatment : Treatment) → EndsFreed marks v treatment k → (tasks : List Task) (n : NextTask) → GoesTreating (treats_next named tds bodies v treatment tasks n (record s { control = k }))
-    treats_on treatment ending tasks Done = goes_on v treatment k f ending leads s.heap []
+    treats_on treatment ending tasks Done = goes_on treatment ending s.heap []
     treats_on treatment ending tasks (Pick count) = by (count == 0)
       where
         by : (none : Bool) → GoesTreating (if none then halts Stuck else picks count (λ i. treated_on named v treatment (picked_task (shapes_of tds) (direction_of treatment) tasks i) (record s { control = k })))
         by true = tt
-        by false = λ i lt. goes_on v treatment k f ending leads s.heap (picked_task (shapes_of tds) (direction_of treatment) tasks i)
+        by false = λ i lt. goes_on treatment ending s.heap (picked_task (shapes_of tds) (direction_of treatment) tasks i)
     treats_on treatment ending tasks (Perform of part) = performed_on treatment ending of part (performed tasks) (look s.heap v)
+
+    -- It is new.
+    module _ (by : Birth) (runs : s.mode ≡ Running) (quiet : BeginsQuietly marks s.heap v by k) where
+      goes_begun : (done : List Part) (tasks : List Task) → GoesOrBegins (left_with s.heap (treating v (begins by done) tasks k))
+      goes_begun done tasks = inl (record {
+        upper = f.upper;
+        masters = f.masters;
+        own = f.own;
+        frugal = rw runs (beginning_frugal marks back s.heap v by done tasks k f.upper quiet leads);
+      })
+
+      born_on : (done : List Part) (of part : ℕ) (tasks : List Task) (found : Option PartState) → GoesTreating (born_next named v by done of part tasks found (record s { control = k }))
+      born_on done of part tasks None = tt
+      born_on done of part tasks (Some p) = inl (record {
+        upper = f.upper;
+        masters = f.masters;
+        own = f.own;
+        frugal = rw runs (
+          beginning_frugal marks back (bear s.heap v part (counted s.born)) v by (record { of = of; number = part } ∷ done) tasks k f.upper
+              (quietly_kept marks s.heap _ Quiet v by k (alters_treated (born_part (counted s.born)) part s.heap Quiet v) quiet) leads
+        );
+      })
+
+      begun_on : (done : List Part) (of part : ℕ) (tasks : List Task) (operation : Option ℕ) (found : Option PartState) → GoesTreating (begun_next named bodies v by done of part tasks operation found (record s { control = k }))
+      begun_on done of part tasks operation None = tt
+      begun_on done of part tasks None (Some p) = born_on done of part tasks (Some p)
+      begun_on done of part tasks (Some procedure) (Some p) = called_on s.heap (Awaits v by done of part tasks ∷ k) procedure (slice_get bodies procedure) _ Quiet
+
+      starts_on : (done : List Part) (of part : ℕ) (tasks : List Task) (found : Found (Cell Value)) → GoesTreating (performed_next named tds bodies v (begins by done) of part tasks found (record s { control = k }))
+      starts_on done of part tasks on_null = tt
+      starts_on done of part tasks on_gone = tt
+      starts_on done of part tasks on_other = tt
+      starts_on done of part tasks (finds cell) = begun_on done of part tasks (beginning by (operations_of tds of)) (slice_get cell.parts part)
+
+      begins_on : (done : List Part) (tasks : List Task) (n : NextTask) → GoesTreating (treats_next named tds bodies v (begins by done) tasks n (record s { control = k }))
+      begins_on done tasks Done = goes_begun done []
+      begins_on done tasks (Pick count) = by_count (count == 0)
+        where
+          by_count : (none : Bool) → GoesTreating (if none then halts Stuck else picks count (λ i. treated_on named v (begins by done) (picked_task (shapes_of tds) (direction_of (begins by done)) tasks i) (record s { control = k })))
+          by_count true = tt
+          by_count false = λ i lt. goes_begun done (picked_task (shapes_of tds) (direction_of (begins by done)) tasks i)
+      begins_on done tasks (Perform of part) = starts_on done of part (performed tasks) (look s.heap v)
 
 pub treats_frugally :
     (marks : Marks) (lower : List Master) (back : Control) (tds : List TypeDefinition) (bodies : List BodyForm) (s : State) → Frugally marks lower back s → s.mode ≡ Running
@@ -331,15 +396,15 @@ unfolding next
 treats_frugally marks lower back tds bodies s f runs v treatment tasks k first =
     coming s.mode s.control runs first
   where
-    by : Frugal marks back s.mode (Treats v treatment tasks ∷ k) f.upper → EndsFreed marks v treatment k × FrugalLeads marks back k f.upper
-    by (inl q) = q
-    by (inr (running, leaving)) = absurd leaving
-
-    leads : EndsFreed marks v treatment k × FrugalLeads marks back k f.upper
-    leads = by (subst (λ (j : Control). Frugal marks back s.mode j f.upper) first f.frugal)
+    by_frugal : (treatment' : Treatment) → Frugal marks back s.heap s.mode (Treats v treatment' tasks ∷ k) f.upper
+        → GoesTreating marks lower back tds bodies s (treats_next named tds bodies v treatment' tasks (task_next tasks) (record s { control = k }))
+    by_frugal treatment' (inl q) = treats_on marks lower back tds bodies s v k f q.1 treatment' q.0 tasks (task_next tasks)
+    by_frugal treatment' (inr (running, inl leaving)) = absurd leaving
+    by_frugal (begins how done) (inr (running, inr q)) = begins_on marks lower back tds bodies s v k f q.1 how runs q.0 done tasks (task_next tasks)
+    by_frugal (ends cause) (inr (running, inr q)) = absurd q
 
     coming : (mode : Mode) (c : Control) → mode ≡ Running → c ≡ Treats v treatment tasks ∷ k → GoesTreating marks lower back tds bodies s (mode_next named tds bodies mode (record s { control = c }))
-    coming mode c running is = rw (running, is) (treats_on marks lower back tds bodies s v k f leads.1 treatment leads.0 tasks (task_next tasks))
+    coming mode c running is = rw (running, is) (by_frugal treatment (subst (λ (j : Control). Frugal marks back s.heap s.mode j f.upper) first f.frugal))
 
 -- No operation waits for the end of a call (6.4): typing says so.
 pub called_back : (p : ProgramForm) (s : State) (number : ℕ) (b : BodyForm) (given : List ActualForm) (k : Control) → typed.TypedIn p s → s.mode ≡ Running → s.control ≡ Calls number b given ∷ k → IsAwaited k → ⊥
@@ -367,19 +432,21 @@ called_back p s number b given k (typed.on_jump mode jumps goes) runs is awaited
     nowhere
 
 -- Where bodies free no objects with controlled parts, no object is treated.
-pub treats_none : (marks : Marks) → marks.ends_parts ≡ false → (behind : Control) (mode : Mode) (k : Control) (ms : List Master) → Frugal marks behind mode k ms → TreatsNothing k
-treats_none marks none behind mode k ms (inl q) v treatment tasks j is =
+pub treats_none : (marks : Marks) → marks.ends_parts ≡ false → (behind : Control) (heap : List Object) (mode : Mode) (k : Control) (ms : List Master) → Frugal marks behind heap mode k ms → TreatsNothing k
+treats_none marks none behind heap mode k ms (inl q) v treatment tasks j is =
     let first = none_treated marks none behind (Treats v treatment tasks) j ms (rw is at q) in
     let never : true ≡ false = first.0 in
     absurd (cc never)
-treats_none marks none behind mode k ms (inr (runs, leaving)) v treatment tasks j is = let never : ⊥ = rw is at leaving in never
+treats_none marks none behind heap mode k ms (inr (runs, inl leaving)) v treatment tasks j is = let never : ⊥ = rw is at leaving in never
+treats_none marks none behind heap mode k ms (inr (runs, inr beginning)) v treatment tasks j is = none_beginning marks none behind heap k ms beginning
 
 -- No operation of a controlled type ends in such a body, either.
-pub none_ends : (marks : Marks) → marks.ends_parts ≡ false → (behind : Control) (mode : Mode) (k : Control) (ms : List Master) → Frugal marks behind mode k ms → ends_operation k ≡ false
-none_ends marks none behind mode [] ms frugal = refl
-none_ends marks none behind mode (f ∷ k) ms (inl q) = (none_treated marks none behind f k ms q).1
-none_ends marks none behind mode (Leaves left ∷ k) ms (inr (runs, q)) = refl
-none_ends marks none behind mode (f ∷ k) ms (inr (runs, q)) = absurd q
+pub none_ends : (marks : Marks) → marks.ends_parts ≡ false → (behind : Control) (heap : List Object) (mode : Mode) (k : Control) (ms : List Master) → Frugal marks behind heap mode k ms → ends_operation k ≡ false
+none_ends marks none behind heap mode [] ms frugal = refl
+none_ends marks none behind heap mode (f ∷ k) ms (inl q) = (none_treated marks none behind f k ms q).1
+none_ends marks none behind heap mode (Leaves left ∷ k) ms (inr (runs, q)) = refl
+none_ends marks none behind heap mode (f ∷ k) ms (inr (runs, inl q)) = absurd q
+none_ends marks none behind heap mode (f ∷ k) ms (inr (runs, inr q)) = absurd (none_beginning marks none behind heap (f ∷ k) ms q)
 
 -- A call comes next.
 abbrev pub is_call_first : Control → Bool
@@ -401,10 +468,11 @@ leaving_crosses marks behind (f ∷ k) ms leaving = absurd leaving
 
 -- Where bodies free no objects with controlled parts, and neither the end of a body is next, nor the beginning of one, no body begins, none ends, and no operation is
 -- called.
-pub frugal_crosses : (marks : Marks) → marks.ends_parts ≡ false → (behind : Control) (mode : Mode) (k : Control) (ms : List Master) → Frugal marks behind mode k ms → is_return_first k ≡ false → (mode ≡ Running → is_call_first k ≡ false) → crosses mode k ≡ false
-frugal_crosses marks ends_none behind mode k ms (inr (runs, leaving)) inner none = rw runs (leaving_crosses marks behind k ms leaving)
-frugal_crosses marks ends_none behind mode [] ms (inl q) inner none = absurd q
-frugal_crosses marks ends_none behind Running (f ∷ k) ms (inl q) inner none = calls_nothing f k inner (none refl) (none_treated marks ends_none behind f k ms q).0
-frugal_crosses marks ends_none behind (Raising e) (f ∷ k) ms (inl q) inner none = inner
-frugal_crosses marks ends_none behind Exiting (f ∷ k) ms (inl q) inner none = inner
-frugal_crosses marks ends_none behind Returning (f ∷ k) ms (inl q) inner none = inner
+pub frugal_crosses : (marks : Marks) → marks.ends_parts ≡ false → (behind : Control) (heap : List Object) (mode : Mode) (k : Control) (ms : List Master) → Frugal marks behind heap mode k ms → is_return_first k ≡ false → (mode ≡ Running → is_call_first k ≡ false) → crosses mode k ≡ false
+frugal_crosses marks ends_none behind heap mode k ms (inr (runs, inl leaving)) inner none = rw runs (leaving_crosses marks behind k ms leaving)
+frugal_crosses marks ends_none behind heap mode k ms (inr (runs, inr beginning)) inner none = absurd (none_beginning marks ends_none behind heap k ms beginning)
+frugal_crosses marks ends_none behind heap mode [] ms (inl q) inner none = absurd q
+frugal_crosses marks ends_none behind heap Running (f ∷ k) ms (inl q) inner none = calls_nothing f k inner (none refl) (none_treated marks ends_none behind f k ms q).0
+frugal_crosses marks ends_none behind heap (Raising e) (f ∷ k) ms (inl q) inner none = inner
+frugal_crosses marks ends_none behind heap Exiting (f ∷ k) ms (inl q) inner none = inner
+frugal_crosses marks ends_none behind heap Returning (f ∷ k) ms (inl q) inner none = inner

@@ -1,6 +1,6 @@
 -- Frugal bodies (7.6, 13.11.2) that free no object with controlled parts, or may free some, as what is proved of them tells them apart.
 
-use Rattle.std.proofs.Common.{◌≡◌, ℕ, Bool, true, false, ◌&&◌, ◌||◌, List, refl}
+use Rattle.std.proofs.Common.{◌≡◌, ℕ, Bool, true, false, ◌&&◌, ◌||◌, List, refl, []}
 use Rattle.std.specs.Prelude.{not, is_some}
 use Rattle.std.specs.List.{slice_index_or}
 use Rattle.std.proofs.lemmas.Bool.{and_from, and_parts}
