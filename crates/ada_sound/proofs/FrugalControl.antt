@@ -20,7 +20,9 @@ use Rattle.ada_meaning.specs.Frame as frame
 use Rattle.ada_meaning.specs.State.{Master}
 use Rattle.ada_meaning.specs.Step.{operating, treating, halts, moves, tells, asks, picks}
 use Rattle.ada_meaning.specs.Named.{Object, State, Next, named, object_at}
+use Rattle.ada_meaning.specs.Run.{Event}
 use Rattle.ada_parts.specs.Task.{Task}
+use Rattle.ada_parts.specs.Part.{Part}
 use Rattle.ada_quiet.specs.Calm.{has_calm_objects}
 use Rattle.ada_quiet.specs.Frugal.{allocates_quietly, are_frugal_declarations}
 use Rattle.ada_typed.proofs.Control.{is_operation}
@@ -28,8 +30,6 @@ use Rattle.ada_typed.proofs.Kept.{is_treatment}
 use Rattle.ada_sound.proofs.Invariant.{Control, IsAwaited}
 use Rattle.ada_sound.proofs.Marks.{Marks, may_end, are_thrifty, are_thrifty_branches, are_thrifty_handlers, is_thrifty_body, thrifty_parts}
 use Rattle.ada_sound.proofs.Operating.{OwnVariables}
-use Rattle.ada_parts.specs.Part.{Part}
-use Rattle.ada_meaning.specs.Run.{Event}
 use Rattle.ada_sound.proofs.Alters.{Alters}
 
 -- An object ends that is freed (13.11.2).

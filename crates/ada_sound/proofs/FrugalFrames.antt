@@ -1,5 +1,5 @@
 -- A frugal body (7.6, 7.6.1, 13.11.2) comes to what is left of an expression, an assignment, an allocator, a Free, a call or a statement: nothing is treated next but
--- an object that is freed, and what is called is frugal, too (6.4).
+-- an object that is freed, or a new one that begins quietly (4.8), and what is called is frugal, too (6.4).
 
 use Rattle.std.proofs.Common.{◌≡◌, ℕ, Bool, true, false, List, [], ◌∷◌, ◌++◌, refl, inl, inr}
 use Rattle.std.specs.Prelude.{ℤ, Option, Some, None, drop, Result, Ok, Err, ◌&&◌, int_le, if◌then◌else◌}
@@ -13,10 +13,14 @@ use Rattle.ada_program.specs.declared.program.TypeDefinition.{TypeDefinition}
 use Rattle.ada_program.specs.Form.{RecordPathForm, ActualForm, in_value, in_null, in_access, in_record, in_out_path, in_out_access, in_out_component, in_out_record, ExpressionForm, integer, boolean, reads, is_null, applied_to, chained, LinksForm, no_more_links, a_link, ItemForm, null_item, item_of_path, item_of_value, item_of_record, RightForm, nothing, value_of, allocates, allocates_default, computes, StmtForm, skips, assigns, assigns_record, frees, gets, writes, writes_text, chooses, repeats, counts, exits, calls, returns, raises, encloses, StmtsForm, no_stmts, a_stmt, BranchesForm, otherwise, a_branch, HandlersForm, DeclarationForm, creates_pool, collects, declares, declares_record}
 use Rattle.ada_program.specs.ProgramForm.{BodyForm}
 use Rattle.ada_parts.specs.declared.tasks.Direction.TheVariants.{PartsFirst, WholeFirst}
+use Rattle.ada_parts.specs.Part.{Part}
+use Rattle.ada_parts.specs.Task.{Task}
 use Rattle.ada_meaning.specs.declared.event.Cause.{Cause}
 use Rattle.ada_meaning.specs.declared.event.Cause.TheVariants.{Freeing}
 use Rattle.ada_meaning.specs.declared.event.Halt.TheVariants.{Erroneous}
 use Rattle.ada_meaning.specs.declared.event.Why.TheVariants.{GivesElsewhere}
+use Rattle.ada_meaning.specs.declared.event.Birth.{Birth}
+use Rattle.ada_meaning.specs.declared.event.Birth.TheVariants.{Creation}
 use Rattle.ada_meaning.specs.declared.state.Place.{Place}
 use Rattle.ada_meaning.specs.declared.state.Value.{Value}
 use Rattle.ada_meaning.specs.declared.state.Value.TheVariants.{Null}
@@ -29,19 +33,15 @@ use Rattle.ada_meaning.specs.State.{Activation, Item, Master, Owned, declared, c
 use Rattle.ada_meaning.specs.Step.{first_or, older, places_of, operands_of, with_operands, begun, record_holder_next, referred_next, refers_next, open_next, opened_next, opens_next, storing, returned, computing, call_next, entered, all_tasks, halts, moves, same_pool, raised, jumping, computed, put, owned, at, reading, component_next, follow_next, path_next, selected, named_next, before_last, last_of, holder_next, expression_next, null_test_next, is_decided, link_next, links_next, outcome_next, place_in, record_in, item_next, items_next, copied_next, copies_next, answered, new_next, right_next, freeing, freeing_next, free_next, end_next, told_back, given_back, back_next, assign_next, target_next, stored_next, store_next, record_target_next, record_stored_next, newest_ones, store_record_next, record_assign_next, has_parts, frees_next, freed_next, free_component_next, free_in_next, branches_next, decided_next, turn_next, repeats_next, turned_next, count_turn_next, counts_next, ranges_next, gets_next, received_next, receive_next, exit_next, exited_next, stmt_next, line_next, declarations_next, leave_next, master_leave_next, item_leave_next, granted, new_cell, born_next, awaited_next}
 use Rattle.ada_meaning.specs.Named.{State, Next, named, whole, look, standing, create, created, new_object, bear, born_part}
 use Rattle.ada_quiet.specs.Frugal.{allocates_quietly, is_frugal_declaration, are_frugal_declarations}
-use Rattle.ada_sound.proofs.Marks.{Marks, may_end, is_thrifty_stmt, are_thrifty, are_thrifty_branches, are_thrifty_handlers, is_thrifty_body, marks_of, thrifty_parts}
+use Rattle.ada_sound.proofs.Marks.{Marks, may_end, is_thrifty_stmt, are_thrifty, are_thrifty_branches, are_thrifty_handlers, is_thrifty_body, thrifty_parts}
 use Rattle.ada_sound.proofs.Fits.{place_at}
 use Rattle.ada_sound.proofs.Invariant.{Control}
 use Rattle.ada_sound.proofs.OperationStarts.{apart}
 use Rattle.ada_sound.proofs.Operating.{IsVariable, AreVariables, OwnVariables}
 use Rattle.ada_sound.proofs.FrugalControl.{FrugalLeads, FrugalLeaves, Frugally, GoesFrugally, same_masters, treating_leads, BeginsQuietly, beginning_frugal, quietly_kept}
 use Rattle.ada_sound.proofs.FrugalFrees.{RecordIsBare, IsFreely, StmtIsFreely, bare_calm, IsNewly}
-use Rattle.ada_meaning.specs.declared.event.Birth.{Birth}
-use Rattle.ada_meaning.specs.declared.event.Birth.TheVariants.{Creation}
-use Rattle.ada_parts.specs.Part.{Part}
-use Rattle.ada_parts.specs.Task.{Task}
-use Rattle.ada_owners.proofs.Objects.{next_id, at_new}
 use Rattle.ada_sound.proofs.Treatments.{alters_treated}
+use Rattle.ada_owners.proofs.Objects.{next_id, at_new}
 
 module _ (marks : Marks) (lower : List Master) (behind : Control) (tds : List TypeDefinition) (bodies : List BodyForm) (s : State) where
   abbrev pub Fine : Next → Type 0

@@ -1,5 +1,5 @@
--- What a frugal body allocates has no controlled parts (4.8, 7.6), as the access types say that it names, nor has a record that it assigns (5.2): its allocators and its
--- assignments treat nothing. What it frees has none, either, or no operation of that object runs (7.6.1, 13.11.2).
+-- What a frugal body allocates has no controlled parts (4.8, 7.6), as the access types say that it names, or it begins quietly, and none of its operations runs behind
+-- that; nor has a record that it assigns some (5.2): its assignments treat nothing. What it frees has none, either, or no operation of that object runs (7.6.1, 13.11.2).
 
 use Rattle.std.proofs.Common.{◌≡◌, ℕ, zero, suc, Bool, true, false, ◌&&◌, if◌then◌else◌, List, [], ◌∷◌, refl, sym, ap, ◌∙◌, subst, ◌⊎◌, inl, inr}
 use Rattle.std.specs.Prelude.{Option, Some, None, is_some, not, ◌||◌}
@@ -19,6 +19,7 @@ use Rattle.ada_program.specs.ProgramForm.{TypeForm, record_of, access_to, object
 use Rattle.ada_program.specs.WellFormed.{is_access, is_this, finalization_of, kind_among, kind_fits, reached_components, components_in, components_reached, named_in, type_fits, access_of, path_access, variable_kind, selected_kind, selectors_kind}
 use Rattle.ada_program.specs.Freed.{statement_frees_own, statements_free_own}
 use Rattle.ada_quiet.specs.Bare.{has_bare_objects, is_bare_access}
+use Rattle.ada_quiet.specs.Calm.{has_calm_objects, is_calm_access, is_known_calm}
 use Rattle.ada_finalized.specs.Law.{NamesExisting, NoOperationRunsOn}
 use Rattle.ada_parts.specs.declared.tasks.Direction.{Direction}
 use Rattle.ada_parts.specs.declared.tasks.Direction.TheVariants.{WholeFirst, PartsFirst}
@@ -43,8 +44,7 @@ use Rattle.ada_typed.proofs.Runs.{typed_holds}
 use Rattle.ada_typed.proofs.Targets.{component_there}
 use Rattle.ada_typed.proofs.Values as typing
 use Rattle.ada_typed.proofs.Values.{OperandKind, of_kind, AreComputed}
-use Rattle.ada_quiet.specs.Frugal.{allocates_quietly, is_frugal_declaration, are_frugal_declarations}
-use Rattle.ada_sound.proofs.Marks.{Marks, may_end, is_thrifty_stmt, are_thrifty, are_thrifty_branches, are_thrifty_handlers, is_thrifty_body, marks_of, thrifty_parts}
+use Rattle.ada_sound.proofs.Marks.{Marks, may_end, are_thrifty}
 use Rattle.ada_sound.proofs.Assigned.{access_from, this_is}
 use Rattle.ada_sound.proofs.Calm.{ends_operation, operation_ends_there}
 use Rattle.ada_sound.proofs.Fits.{place_at}
@@ -52,7 +52,6 @@ use Rattle.ada_sound.proofs.FrugalControl.{Frugal, FrugalLeads}
 use Rattle.ada_sound.proofs.Invariant.{Control}
 use Rattle.ada_sound.proofs.OperationStarts.{apart}
 use Rattle.ada_sound.proofs.Standing.{FreesAmong}
-use Rattle.ada_quiet.specs.Calm.{has_calm_objects, is_calm_access, is_known_calm}
 use Rattle.ada_owners.proofs.Objects.{next_id, at_past}
 
 -- There is nothing to do for an object of an access type that designates a record type without controlled parts, neither to initialize nor to finalize it.
@@ -392,7 +391,7 @@ past_unborn : (heap : List Object) → NamesExisting heap (Names (next_id heap))
 past_unborn heap (o, is, x, found, stage) =
     let same : o ≡ next_id heap = cc is in
     let none = at_past heap in
-    cc (rw same at found, none)
+    cc (same, found, none)
 
 -- What such a body allocates is so.
 pub is_newly :

@@ -18,8 +18,7 @@ use Rattle.ada_meaning.specs.Named.{Object, object_at}
 use Rattle.ada_owners.specs.Places.{is_there}
 use Rattle.ada_scopes.specs.Scopes.{is_number_of, is_innermost}
 use Rattle.ada_tracked.specs.Law.{InnermostHousesNone, NewestHousesNone}
-use Rattle.ada_quiet.specs.Frugal.{allocates_quietly, is_frugal_declaration, are_frugal_declarations}
-use Rattle.ada_sound.proofs.Marks.{Marks, may_end, is_thrifty_stmt, are_thrifty, are_thrifty_branches, are_thrifty_handlers, is_thrifty_body, marks_of, thrifty_parts}
+use Rattle.ada_sound.proofs.Marks.{Marks}
 use Rattle.ada_sound.proofs.FrugalControl.{Frugal, FrugalLeads}
 use Rattle.ada_sound.proofs.Invariant.{Control, EndingBy, Known, LeavesTo, Parting, ReadyIn, Rooms, ThenBack, departs, departs_next, innermost, is_collection}
 use Rattle.ada_sound.proofs.Items.{Counted, HasItem, Houses, item_below}

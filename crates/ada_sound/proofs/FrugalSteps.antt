@@ -1,4 +1,5 @@
--- Any step of a frugal body (7.6, 7.6.1, 13.11.2) in front of its end leads on in it, or in one that it calls (6.4), or to the end of an object that it frees.
+-- Any step of a frugal body (7.6, 7.6.1, 13.11.2) in front of its end leads on in it, or in one that it calls (6.4), or to the end of an object that it frees, or to the
+-- beginning of one that it allocates (4.8).
 
 use Rattle.std.proofs.Common.{◌≡◌, ℕ, suc, Bool, true, false, if◌then◌else◌, List, [], ◌∷◌, ◌++◌, length, refl, sym, ap, ◌∙◌, subst, ◌⊎◌, inl, inr}
 use Rattle.std.specs.Prelude.{Option, Some, None, ◌||◌, ◌==◌}
@@ -8,10 +9,10 @@ use Rattle.ada_program.specs.declared.program.TypeDefinition.{TypeDefinition}
 use Rattle.ada_program.specs.Form.{ActualForm, StmtsForm, no_stmts, a_stmt, HandlersForm, no_handlers, a_handler}
 use Rattle.ada_program.specs.Handling.{handler_of, some_takes}
 use Rattle.ada_program.specs.ProgramForm.{BodyForm, ProgramForm, program_form, body_forms, seen_in}
-use Rattle.ada_parts.specs.declared.tasks.Direction.TheVariants.{PartsFirst}
 use Rattle.ada_parts.specs.declared.tasks.Next.{Next as NextTask}
 use Rattle.ada_parts.specs.declared.tasks.Next.TheVariants.{Done, Pick, Perform}
 use Rattle.ada_parts.specs.Task.{Task, performed, next as task_next}
+use Rattle.ada_parts.specs.Part.{Part}
 use Rattle.ada_program.specs.Controlled.{shapes_of, operations_of, procedure_number}
 use Rattle.ada_program.specs.Freed.{FreesItsOwn}
 use Rattle.ada_program.specs.Typed.{words_of, width_of}
@@ -19,6 +20,7 @@ use Rattle.ada_program.specs.declared.program.Program.{Program}
 use Rattle.ada_meaning.specs.declared.event.Cause.{Cause}
 use Rattle.ada_meaning.specs.declared.event.Halt.TheVariants.{Erroneous, Stuck}
 use Rattle.ada_meaning.specs.declared.event.Why.TheVariants.{FinalizesTwice}
+use Rattle.ada_meaning.specs.declared.event.Birth.{Birth}
 use Rattle.ada_meaning.specs.declared.state.Value.{Value}
 use Rattle.ada_meaning.specs.declared.state.Value.TheVariants.{Null}
 use Rattle.ada_meaning.specs.declared.state.Mode.{Mode}
@@ -35,8 +37,7 @@ use Rattle.ada_typed.proofs.Bodies.{own_bodies}
 use Rattle.ada_typed.proofs.Control as typed
 use Rattle.ada_typed.proofs.Control.{OwnBody}
 use Rattle.ada_typed.proofs.Kept.{Each, crosses as crosses_by, is_treatment}
-use Rattle.ada_quiet.specs.Frugal.{allocates_quietly, is_frugal_declaration, are_frugal_declarations}
-use Rattle.ada_sound.proofs.Marks.{Marks, may_end, is_thrifty_stmt, are_thrifty, are_thrifty_branches, are_thrifty_handlers, is_thrifty_body, marks_of, thrifty_parts, body_thrifty}
+use Rattle.ada_sound.proofs.Marks.{Marks, are_thrifty, are_thrifty_handlers, is_thrifty_body, marks_of, body_thrifty}
 use Rattle.ada_sound.specs.Agreement.{running_procedure}
 use Rattle.ada_sound.proofs.Calm.{ends_operation, operation_ends_there}
 use Rattle.ada_sound.proofs.Invariant.{Control, IsAwaited}
@@ -47,8 +48,6 @@ use Rattle.ada_sound.proofs.Standing.{FreesAmong}
 use Rattle.ada_sound.proofs.Steps.{crosses}
 use Rattle.ada_sound.proofs.FrugalFrees.{AccessIsBare, bare_by, RecordIsBare, records_bare_by, NextFreesOwn, next_own, ListedAlone, FrameIsFreely, NextIsFreely, next_freely, BeginsNone, Unborn, is_newly}
 use Rattle.ada_sound.proofs.FrugalFrames as frames
-use Rattle.ada_meaning.specs.declared.event.Birth.{Birth}
-use Rattle.ada_parts.specs.Part.{Part}
 use Rattle.ada_sound.proofs.Treatments.{alters_treated}
 
 -- The statements of the handler that takes an exception.
@@ -364,9 +363,9 @@ module _ (marks : Marks) (lower : List Master) (back : Control) (tds : List Type
         masters = f.masters;
         own = f.own;
         frugal = rw runs (
-          beginning_frugal marks back (bear s.heap v part (counted s.born)) v by (record { of = of; number = part } ∷ done) tasks k f.upper
-              (quietly_kept marks s.heap _ Quiet v by k (alters_treated (born_part (counted s.born)) part s.heap Quiet v) quiet) leads
-        );
+            beginning_frugal marks back (bear s.heap v part (counted s.born)) v by (record { of = of; number = part } ∷ done) tasks k f.upper
+            (quietly_kept marks s.heap _ Quiet v by k (alters_treated (born_part (counted s.born)) part s.heap Quiet v) quiet) leads
+            );
       })
 
       begun_on : (done : List Part) (of part : ℕ) (tasks : List Task) (operation : Option ℕ) (found : Option PartState) → GoesTreating (begun_next named bodies v by done of part tasks operation found (record s { control = k }))
