@@ -64,7 +64,7 @@ use Rattle.ada_sound.proofs.Steps as inside
 use Rattle.ada_sound.proofs.Stored.{IsUnder, Stored}
 use Rattle.ada_sound.proofs.StoredStates.{ready_stored}
 use Rattle.ada_sound.proofs.Trackers.{tracks_apart}
-use Rattle.ada_sound.proofs.TracksWell.{tracked_bare}
+use Rattle.ada_sound.proofs.TracksWell.{frees_bare_spared, tracked_bare}
 
 -- The body runs for the same copy in two states.
 pub record SameCopy (program : Program) (s after : State) (f : Adjusting program s) (g : Adjusting program after) : Type 0 where
@@ -196,9 +196,9 @@ module _
   none_is_under o x under found = let none : IsUnder [] o = subst (λ (all : List Id). IsUnder all o) f.settled under in absurd none
 
   -- No allocator copies a record with controlled parts, or makes an object with some from items.
-  bare_there : AllocatesBare known.program known.touches f.t.control
+  bare_there : AllocatesBare known.program known.implicit known.touches f.t.control
   bare_there =
-      tracked_bare program well (tracks_apart (program_form program) f.tracking) known.program types_are f.t (λ stand. f.apart)
+      tracked_bare program well (tracks_apart (program_form program) f.tracking) known.program types_are f.t (frees_bare_spared p known.program.types f.t.control freely) (λ stand. f.apart)
 
   places_on : AllSamePlaces s (next tds bodies s)
   places_on = places_stay tds bodies f.w.tracks.first s (within f.w.tracks.first s.control f.simple inner)

@@ -23,7 +23,8 @@ use Rattle.ada_meaning.specs.Step.{halts, moves, tells, asks, picks}
 use Rattle.ada_meaning.specs.Named.{State, Next, next}
 use Rattle.ada_meaning.specs.Run.{Event, Choice, settled, grants, takes, Leads, Run, here, there, Halts, first_state}
 use Rattle.ada_quiet.specs.InUse.{may_be_frugal, operations_are_in_use}
-use Rattle.ada_sound.specs.Always.{IsChecked, spare_holders, spare_own_types, SparesHolders, SparesOwn, Breaks, IsIllFormed, IsIllNested, FreesOthers, NotInUse, UsesOwn, InSomeRun, is_seen, IsFineAtEnds, HaltsAfter, HaltsSomewhere}
+use Rattle.ada_quiet.specs.Releases.{text_frees_inside}
+use Rattle.ada_sound.specs.Always.{IsChecked, reaches_holder, spare_own_types, starts_spare, SparesHolders, SparesOwn, SparesStarts, Breaks, IsIllFormed, IsIllNested, FreesOthers, NotInUse, UsesOwn, InSomeRun, is_seen, IsFineAtEnds, HaltsAfter, HaltsSomewhere}
 
 -- Events, and the state that they lead to.
 abbrev pub Came : Type 0
@@ -146,9 +147,20 @@ is_formed p =
 abbrev pub fits : ProgramForm → Bool
 fits p = list_all (components_lie p.types) p.types && (have_operations p.types (callable_in p) 0 p.types && is_formed p)
 
--- Whether what ends objects spares their own access types, and those in whose objects a component may lie that names what ends.
+-- There are no such spots.
+abbrev is_none : List Spot → Bool
+is_none [] = true
+is_none (spot ∷ spots) = false
+
+none_there : (spots : List Spot) → is_none spots ≡ true → spots ≡ []
+none_there [] none = refl
+none_there (spot ∷ spots) none = absurd (cc none)
+
+-- Whether what ends objects spares their own access types, and where a component of a record is freed those in whose objects such a component may lie; and whether what
+-- initializes objects spares their own access types.
 abbrev pub spares_types : ProgramForm → Bool
-spares_types p = spare_own_types (implicit_of p) 0 p.types && spare_holders (implicit_of p) p.types 0 p.types
+spares_types p =
+    spare_own_types (implicit_of p) 0 p.types && (is_none (text_frees_inside (reaches_holder (implicit_of p) p.types) p) && starts_spare (implicit_of p) 0 p.types)
 
 -- Whether what overrides its operations is in use, too, and spares these; whether its collections nest; and
 -- whether it frees by the instances for what it frees.
@@ -244,14 +256,23 @@ module _ (program : Program) (bodies : List BodyForm) (fs : StmtsForm) (hs : Han
   spares_in : spares_types (form_with program bodies fs hs) ≡ true → SparesOwn program
   spares_in e = spares_with true (and_parts _ _ e).0
 
-  -- And whether it spares those in which components may lie that name them.
+  -- And whether it spares those in which components may lie that are freed.
   spares_holders_in : spares_types (form_with program bodies fs hs) ≡ true → SparesHolders program
   spares_holders_in e may made =
-      subst (λ (p : ProgramForm). spare_holders (implicit_of p) p.types 0 p.types ≡ true) (sym form_is) (and_parts _ _ e).1
+      subst (λ (p : ProgramForm). text_frees_inside (reaches_holder (implicit_of p) p.types) p ≡ []) (sym form_is) (none_there _ (and_parts _ _ (and_parts _ _ e).1).0)
+
+  -- And whether the initializations of its objects spare their own access types.
+  spares_starts_in : spares_types (form_with program bodies fs hs) ≡ true → SparesStarts program
+  spares_starts_in e may made =
+      subst (λ (p : ProgramForm). starts_spare (implicit_of p) 0 p.types ≡ true) (sym form_is) (and_parts _ _ (and_parts _ _ e).1).1
 
   -- Nothing is asked of these where no Finalize may touch storage.
   pub never_frugal : may_be_frugal (form_with program bodies fs hs) ≡ false → SparesHolders program
   never_frugal never may made = absurd (cc (never, subst (λ (p : ProgramForm). may_be_frugal p ≡ true) form_is may))
+
+  -- Nor where no Initialize may.
+  pub never_frugal_starts : may_be_frugal (form_with program bodies fs hs) ≡ false → SparesStarts program
+  never_frugal_starts never may made = absurd (cc (never, subst (λ (p : ProgramForm). may_be_frugal p ≡ true) form_is may))
 
   nested_in : is_nested (form_with program bodies fs hs) ≡ true → CollectionsNest (program_form program)
   nested_in e = subst CollectionsNest (sym form_is) (nested_is (form_with program bodies fs hs) e)
@@ -271,6 +292,7 @@ module _ (program : Program) (bodies : List BodyForm) (fs : StmtsForm) (hs : Han
         frees_own = own_in both.1;
         spares_own = spares_in (spares_is (form_with program bodies fs hs) fine);
         spares_holders = spares_holders_in (spares_is (form_with program bodies fs hs) fine);
+        spares_starts = spares_starts_in (spares_is (form_with program bodies fs hs) fine);
         obeys = (normal, raising, flow_in (goes normal raising) e);
       }
 
@@ -285,6 +307,7 @@ module _ (program : Program) (bodies : List BodyForm) (fs : StmtsForm) (hs : Han
         frees_own = own_in both.1;
         spares_own = spares_in (spares_is (form_with program bodies fs hs) fine);
         spares_holders = spares_holders_in (spares_is (form_with program bodies fs hs) fine);
+        spares_starts = spares_starts_in (spares_is (form_with program bodies fs hs) fine);
         spot = spot;
         faults_there = flow_in (faults spot rule) e;
       }
@@ -382,6 +405,7 @@ module _ (program : Program) (fs : StmtsForm) (hs : HandlersForm) (is : stmt_for
     frees_own = own_in program (body_forms program) fs hs refl is has (and_parts _ _ kept).1;
     spares_own = spares_in program (body_forms program) fs hs refl is has spares;
     spares_holders = spares_holders_in program (body_forms program) fs hs refl is has spares;
+    spares_starts = spares_starts_in program (body_forms program) fs hs refl is has spares;
     obeys = (normal, raising, flow_in program (body_forms program) fs hs refl is has (goes normal raising) e);
   }
 
@@ -394,6 +418,7 @@ module _ (program : Program) (fs : StmtsForm) (hs : HandlersForm) (is : stmt_for
     frees_own = own_in program (body_forms program) fs hs refl is has own;
     spares_own = spares_in program (body_forms program) fs hs refl is has (spares_is whole fine);
     spares_holders = spares_holders_in program (body_forms program) fs hs refl is has (spares_is whole fine);
+    spares_starts = spares_starts_in program (body_forms program) fs hs refl is has (spares_is whole fine);
     obeys = (normal, raising, flow_in program (body_forms program) fs hs refl is has (goes normal raising) e);
   }
 
@@ -408,6 +433,7 @@ module _ (program : Program) (fs : StmtsForm) (hs : HandlersForm) (is : stmt_for
         cc (other, own);
     spares_own = spares_in program (body_forms program) fs hs refl is has (spares_is whole fine);
     spares_holders = spares_holders_in program (body_forms program) fs hs refl is has (spares_is whole fine);
+    spares_starts = spares_starts_in program (body_forms program) fs hs refl is has (spares_is whole fine);
     obeys = (normal, raising, flow_in program (body_forms program) fs hs refl is has (goes normal raising) e);
   }
 

@@ -94,9 +94,9 @@ frees_set known heap o x y found same holds well object at =
 
 pub named_set : (known : Known) (heap : List Object) (o : Id) (x y : Object) → object_at heap o ≡ Some x → y.cell.access ≡ x.cell.access → (v : Value) (c : ℕ) → v ≢ Names o → IsNamedIn known heap v c (Some o) → IsNamedIn known (slice_set heap o.0 y) v c (Some o)
 named_set known heap o x y found same Null c other named = absurd named
-named_set known heap o x y found same (Names h) c other (holder, object, at_h, at_o, is, names) =
+named_set known heap o x y found same (Names h) c other (holder, object, at_h, at_o, is, names, spared) =
     let one : object ≡ x = cc (at_o, found) in
-    (holder, y, at_other heap o h y (λ e. other (ap Names e)) ∙ at_h, set_here heap o.0 x y found, rw same (rw one at is), names)
+    (holder, y, at_other heap o h y (λ e. other (ap Names e)) ∙ at_h, set_here heap o.0 x y found, rw same (rw one at is), names, rw same (rw one at spared))
 named_set known heap o x y found same (Scalar n) c other named = absurd named
 named_set known heap o x y found same (Part p place) c other named = absurd named
 

@@ -151,12 +151,16 @@ pub mod Started
 pub mod Uncalled
 -- procedures that track stand apart in what is left to do
 pub mod CallsApart
--- no component of a record frees what may reach others in which such a component lies
-pub mod FreesInside
 -- whatever the next step is
 pub mod CallsApartSteps
 -- in whole runs: what tracks is never called
 pub mod CallsApartRuns
+-- no component of a record frees what may reach others in which such a component lies
+pub mod FreesInside
+-- whatever the next step is
+pub mod FreesInsideSteps
+-- in whole runs
+pub mod FreesInsideRuns
 -- the body of an operation begins and ends
 pub mod OperationCalls
 pub mod OperationStarts
@@ -187,6 +191,8 @@ pub mod SparesHolders
 pub mod FreesCovered
 -- what is finalized at an assignment
 pub mod AssignedParts
+-- the object in which such a component lies
+pub mod Holders
 -- what Free of a component does
 pub mod Releases
 -- record objects are declared

@@ -13,7 +13,7 @@ use Rattle.ada_program.specs.declared.program.VariableKind.{VariableKind}
 use Rattle.ada_program.specs.Form.{PathForm, StmtsForm}
 use Rattle.ada_effects.specs.Effects.{Implicit, path_raises}
 use Rattle.ada_program.specs.ProgramForm.{TypeForm, VariableForm}
-use Rattle.ada_program.specs.WellFormed.{is_access, access_of, variable_kind, selected_kind, selectors_kind, path_kind, path_access, is_this, is_freed_by}
+use Rattle.ada_program.specs.WellFormed.{is_access, access_of, variable_kind, selected_kind, selectors_kind, root_kind, path_kind, path_access, is_this, is_freed_by}
 use Rattle.ada_flow.specs.declared.rule.Hold.{Hold}
 use Rattle.ada_flow.specs.declared.rule.Hold.TheVariants as hold
 use Rattle.ada_flow.specs.Flow.{Holds, hold_at, Breach, lost_by, unless_broken, ends_with, behind_end, passes_type, passes_own, passes_reached, formal_reached, way_reached, freed_behind, released_behind, frees_seen}
@@ -28,6 +28,8 @@ use Rattle.ada_meaning.specs.Frame.{Does, FreesIn, Ends, GivesBack, ClearsIn, en
 use Rattle.ada_meaning.specs.State.{Activation, home_of, pool_freed_to}
 use Rattle.ada_meaning.specs.Step.{all_tasks, before_last, last_of, path_next, freed_next, free_component_next, free_in_next}
 use Rattle.ada_meaning.specs.Named.{store, Object, State, object_at, look, named, parted, inside}
+use Rattle.ada_quiet.specs.Releases.{lies_inside}
+use Rattle.ada_sound.specs.Always.{reaches_holder}
 use Rattle.ada_owners.specs.Keeping.{IsThere}
 use Rattle.ada_owners.specs.Places.{is_there, access_at}
 use Rattle.ada_owners.specs.Reliance.{IsOf}
@@ -38,7 +40,7 @@ use Rattle.ada_sound.proofs.Stored.{stored_part}
 use Rattle.ada_sound.proofs.Alters.{alters_set}
 use Rattle.ada_sound.proofs.Assigned.{this_is, freed_at}
 use Rattle.ada_sound.proofs.Homes.{HaveHomes, same_one, stands_there, freed_home}
-use Rattle.ada_sound.proofs.Invariant.{Spares, CoveredIn, begun, outers, Known, Control, Goes, To, Raised, RunsOn, PassesNone, EndsWellBy, FreesWell, Releasing, Working, Ending, Stepped, Fine, ways}
+use Rattle.ada_sound.proofs.Invariant.{Spares, CoveredIn, begun, outers, Known, Control, Goes, To, Raised, RunsOn, PassesNone, SparesHolder, EndsWellBy, FreesWell, Releasing, Working, Ending, Stepped, Fine, ways}
 use Rattle.ada_sound.proofs.Ready.{running, at_work, stays, runs_ready, jumps_less, treats_ready}
 use Rattle.ada_sound.proofs.Outcomes.{ends_goes}
 use Rattle.ada_sound.proofs.Roots.{access_leads, root_object, object_there, front_raises}
@@ -48,6 +50,7 @@ use Rattle.ada_sound.proofs.Walks.{selected_access, raises_less, finds_fine}
 use Rattle.ada_sound.proofs.Targets.{followed}
 use Rattle.ada_sound.proofs.Endings.{stored_elsewhere}
 use Rattle.ada_sound.proofs.Frees.{FreesTo}
+use Rattle.ada_sound.proofs.Holders.{holder_aside}
 
 -- The selectors of a path but the last one, and that one, are all.
 front_last : (c : ℕ) (cs : List ℕ) → before_last c cs ++ last_of c cs ∷ [] ≡ c ∷ cs
@@ -121,8 +124,8 @@ passes_root types outer heap kind v b c cs to (Some t) leads spares passes = by 
 
 module _ (known : Known) (a : Activation Value) (rest : List (Activation Value)) (s : State) where
   -- A Free of a component begins: its object is found first.
-  pub free_begins : (c : ℕ) (cs : List ℕ) (access : ℕ) (path : PathForm) (fs : StmtsForm) (k : Control) (among : Exception → Bool) → (path_raises path ≡ true → among ConstraintError ≡ true) → is_freed_by known.program.types access (path_access known.program.types known.program.variables path) ≡ true → is_this access (path_access known.program.types known.program.variables path) ≡ true → Spares known (λ t. is_this t (path_access known.program.types known.program.variables path)) → path.selectors ≡ c ∷ cs → Working known s.heap a.places s.masters (λ rooms holds. Goes (frees_seen known.program.types known.program.variables no_tracks false known.implicit (c ∷ cs) path holds) (To (FreesTo known access (Does fs ∷ k) rooms)) (Raised among (ways known k rooms))) → Fine known s.heap s.masters (path_next named (before_last (inside (place_at a.places path.root) c) cs) (begun a.places path) (running (FreesIn access (last_of (inside (place_at a.places path.root) c) cs) ∷ Does fs ∷ k) a rest s))
-  free_begins c cs access path fs k among may freed by_own spares is w =
+  pub free_begins : (c : ℕ) (cs : List ℕ) (access : ℕ) (path : PathForm) (fs : StmtsForm) (k : Control) (among : Exception → Bool) → (path_raises path ≡ true → among ConstraintError ≡ true) → is_freed_by known.program.types access (path_access known.program.types known.program.variables path) ≡ true → is_this access (path_access known.program.types known.program.variables path) ≡ true → Spares known (λ t. is_this t (path_access known.program.types known.program.variables path)) → path.selectors ≡ c ∷ cs → (known.touches access ≡ true → lies_inside path ≡ true → reaches_holder known.implicit known.program.types access ≡ false) → Working known s.heap a.places s.masters (λ rooms holds. Goes (frees_seen known.program.types known.program.variables no_tracks false known.implicit (c ∷ cs) path holds) (To (FreesTo known access (Does fs ∷ k) rooms)) (Raised among (ways known k rooms))) → Fine known s.heap s.masters (path_next named (before_last (inside (place_at a.places path.root) c) cs) (begun a.places path) (running (FreesIn access (last_of (inside (place_at a.places path.root) c) cs) ∷ Does fs ∷ k) a rest s))
+  free_begins c cs access path fs k among may freed by_own spares is outside w =
       let types = known.program.types in
       let variables = known.program.variables in
       let own = path_access types variables path in
@@ -133,6 +136,7 @@ module _ (known : Known) (a : Activation Value) (rest : List (Activation Value))
       let own_or_reached = passes_own types variables path own || passes_reached types variables known.implicit path own in
       let none_on_way = first_false own_or_reached (formal_reached types variables known.implicit path (hold_at w.holds path.root) own) kept.1 in
       let none_own = first_false (passes_own types variables path own) (passes_reached types variables known.implicit path own) none_on_way in
+      let none_reached = or_false (passes_own types variables path own) (passes_reached types variables known.implicit path own) none_on_way in
       let v = place_at a.places path.root in
       let b = root_at path.root path.spot kept.0 w.fit in
       let to = kind_named (selectors_kind types (variable_kind variables path.root) path.selectors) at.0 at.2 in
@@ -143,6 +147,7 @@ module _ (known : Known) (a : Activation Value) (rest : List (Activation Value))
       let is_own : (t : ℕ) → own ≡ Some t → is_access types t ≡ true = λ t same. (let one : at.0 ≡ t = let other = at.1 in cc (same, other) in rw (← one) at.3) in
       let of_own : own ≡ Some access = this_is access own by_own in
       let same_type : (t : ℕ) → own ≡ Some t → t ≡ access = λ t same. cc (same, of_own) in
+      let leads_on : selectors_kind types (root_kind path.of_record (variable_kind variables path.root)) (c ∷ cs) ≡ Some leads.0 = ap (λ (ds : List ℕ). selectors_kind types (root_kind path.of_record (variable_kind variables path.root)) ds) (sym is) ∙ leads.1 in
       finds_fine known a rest s a.operands (FreesIn access (last_of (inside v c) cs) ∷ Does fs ∷ k) (before_last (inside v c) cs) (begun a.places path)
       (at_work w (record {
         from = b.from;
@@ -157,6 +162,11 @@ module _ (known : Known) (a : Activation Value) (rest : List (Activation Value))
         raises = front_raises known (begun a.places path) (Does fs ∷ k) w.rooms (behind_end variables own w.holds) path.of_record c (inside v c) cs
             (λ whole. object_there path.root path.spot kept.0 (root_object types variables path leads.0 leads.1 whole) w.fit)
             (λ raises. (let follows : path_raises path ≡ true = rw is raises in g.2 follows ConstraintError (may follows)));
+        spared = λ t u same holder touches is_holder. (
+            let one = same_type t same in
+            holder_aside variables known.implicit path b c cs leads.0 own t u is leads_on same (ap access_of from_here ∙ (named_type ∙ same)) none_reached
+            (λ lies. rw one (outside (rw one at touches) lies)) holder
+            );
         runs = (g.1.0, g.1.1, (g.1.2.0, λ t same. rw (same_type t same) (g.1.2.1)));
       }))
       (root_follows path.root path.spot kept.0 w.fit)
@@ -204,6 +214,7 @@ module _ (known : Known) (a : Activation Value) (rest : List (Activation Value))
         let runs : To (λ less. RunsOn known k w.rooms less × EndsWellBy known t less) (behind_end known.program.variables (Some t) w.holds) = rw is_t at all_run in
         let home = freed_home access p there.object homes w.stored there.found exists (rw there.access (w.rest.own t is_t)) (there.access ∙ by_own) in
         let leads : component_access known.program.types object c ≡ Some there.object.cell.access = names_own o object found w ∙ (is_t ∙ ap Some (sym there.access)) in
+        let spared : SparesHolder known there.object.cell.access object.cell.access = rw there.access (w.rest.spared t object.cell.access is_t (w.rest.is_from o object refl found)) in
         let parts = set_here s.heap p.0 there.object (parted there.object) there.found in
         let well : FreesWell known (slice_set s.heap p.0 (parted there.object)) (Some p) runs.0 = λ other at. (
         let one : other ≡ parted there.object = cc (at, parts) in
@@ -222,7 +233,7 @@ module _ (known : Known) (a : Activation Value) (rest : List (Activation Value))
             (
               (object, elsewhere.0, held),
               (λ same. apart (cc same)),
-              (object, parted there.object, elsewhere.0, parts, leads, at),
+              (object, parted there.object, elsewhere.0, parts, leads, at, spared),
               record {
                 rooms = w.rooms;
                 holds = runs.0;

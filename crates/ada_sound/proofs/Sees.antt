@@ -3,6 +3,7 @@
 use Rattle.std.proofs.Common.{◌≡◌, ℕ, false, List, refl, sym, ap, ◌∙◌, subst}
 use Rattle.std.specs.Prelude.{Option, Some, None}
 use Rattle.ada_program.specs.Controlled.{number_in, number_of, number_reached, operations_of, procedure_number, shapes_of}
+use Rattle.ada_deeds.specs.Implicit.{implicit_of}
 use Rattle.ada_program.specs.declared.program.Operations.{Operations}
 use Rattle.ada_program.specs.declared.program.ProcedureNo.{ProcedureNo}
 use Rattle.ada_meaning.proofs.Places.{numbers_are_alone, types_have_their_operations}
@@ -22,6 +23,7 @@ use Rattle.ada_sound.specs.Untracked.{AdjustsNoOwners}
 use Rattle.ada_sound.proofs.Callers.{Suspension, known_in, rest_of}
 use Rattle.ada_sound.proofs.CallStatements.{MayCall}
 use Rattle.ada_sound.proofs.Defaults.{reached_same, Reaches}
+use Rattle.ada_sound.proofs.FreesInside.{FreesSpared}
 use Rattle.ada_sound.proofs.Gathered.{AllocatesApart, AllocatesBare, copies_nothing, allocates_none}
 use Rattle.ada_sound.proofs.Invariant.{Control}
 use Rattle.ada_sound.proofs.InsideRecords.{TasksInside, no_tasks, record_inside}
@@ -71,10 +73,11 @@ copies_in program procedure gs well none =
     subst CopiesWell (sym (same_types procedure p)) (copies_nothing p.types well.types_fit well.components_lie none)
 
 -- Nor do the records own anything that are items of an allocator that it evaluates next.
-pub allocates_in : (program : Program) (procedure : Option ℕ) (gs : List Suspension) (k : Control) → IsWellFormed (program_form program) → AdjustsNoOwners (program_form program).types → AllocatesApart (known_in program procedure gs).touches k
-    → AllocatesBare (known_in program procedure gs).program (known_in program procedure gs).touches k
-allocates_in program procedure gs k well none apart =
-    allocates_none (seen_in procedure (program_form program)) k (subst AdjustsNoOwners (sym (same_types procedure (program_form program))) none) apart
+pub allocates_in : (program : Program) (procedure : Option ℕ) (gs : List Suspension) (k : Control) → IsWellFormed (program_form program) → AdjustsNoOwners (program_form program).types
+    → FreesSpared (known_in program procedure gs).implicit (known_in program procedure gs).program.types (known_in program procedure gs).touches k → AllocatesApart (known_in program procedure gs).touches k
+    → AllocatesBare (known_in program procedure gs).program (known_in program procedure gs).implicit (known_in program procedure gs).touches k
+allocates_in program procedure gs k well none spared apart =
+    allocates_none (implicit_of (program_form program)) (seen_in procedure (program_form program)) k (subst AdjustsNoOwners (sym (same_types procedure (program_form program))) none) spared apart
 
 -- The Adjust that sees to what a record owns is overridden under the number of its type.
 pub adjust_overridden : (program : Program) (procedure : Option ℕ) → IsWellFormed (program_form program) → (r of : ℕ) → SeesToOwners (seen_in procedure (program_form program)).types r of → (number : ℕ) × (procedure_number (operations_of program.types.items of).adjust ≡ Some number)

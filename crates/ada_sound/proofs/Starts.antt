@@ -39,6 +39,7 @@ use Rattle.ada_sound.proofs.BodyRuns.{body_runs, none_suspended}
 use Rattle.ada_sound.proofs.Exits.{no_exits, no_exit_handlers}
 use Rattle.ada_sound.proofs.Invariant.{Ready}
 use Rattle.ada_sound.proofs.FreesInside.{FreesNoneInside}
+use Rattle.ada_sound.proofs.FreesInsideRuns.{first_inside}
 use Rattle.ada_sound.proofs.Callers.{known_in}
 use Rattle.ada_sound.proofs.Touching.{Touching}
 use Rattle.ada_sound.proofs.Departing.{Departing}
@@ -116,14 +117,15 @@ ready_first program input well obeys =
       },
     )
 
-pub sound_first : (program : Program) (input : List ℤ) → IsWellFormed (program_form program) → operations_are_in_use (program_form program) ≡ true → CollectionsNest (program_form program) → FreesItsOwn (program_form program) → SparesOwn program → SparesHolders program → ObeysRules program → Sound program (first_state program input)
-sound_first program input well uses nest own spares holders obeys = let obeys_so : Obeys program = (tracks_safely (program_form program) well uses, obeys) in record {
+pub sound_first : (program : Program) (input : List ℤ) → IsWellFormed (program_form program) → operations_are_in_use (program_form program) ≡ true → CollectionsNest (program_form program) → FreesItsOwn (program_form program) → SparesOwn program → SparesHolders program → SparesStarts program → ObeysRules program → Sound program (first_state program input)
+sound_first program input well uses nest own spares holders starts obeys = let obeys_so : Obeys program = (tracks_safely (program_form program) well uses, obeys) in record {
   reached = (input, [], here);
   well = well;
   in_use = uses;
   frees_own = own;
   spares_own = spares;
   spares_holders = holders;
+  spares_starts = starts;
   obeys = obeys_so;
   goes = inl (record {
     suspensions = [];
@@ -138,6 +140,7 @@ sound_first program input well uses nest own spares holders obeys = let obeys_so
       let bodies = calls_stand_apart (program_form program) stand in
       first_apart (program_form program).types (is_tracker (program_form program)) program bodies.1 bodies.0 input
       );
+  releases = λ may made. first_inside (reaches_holder (implicit_of (program_form program)) (program_form program).types) program (holders may made) input;
   typed = first_typed program input well;
   nested = first_nested program well nest input;
 }

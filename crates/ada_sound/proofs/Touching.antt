@@ -34,7 +34,7 @@ use Rattle.ada_sound.proofs.Callers.{Suspension, known_in, Stands, callers_of}
 use Rattle.ada_sound.proofs.Fits.{Fit, Outsiders, IsPlace, IsRelied, IsSaid, IsUnreferred, component_access, none_spared, outer_hold, outer_value, place_at, Reference, IsReferred}
 use Rattle.ada_sound.proofs.FrugalControl.{Frugally, FrugalLeads, IsFreed}
 use Rattle.ada_sound.proofs.Held.{FreeIf, holder_if}
-use Rattle.ada_sound.proofs.Invariant.{body_among, CoveredIn, Control, Rooms, Roomed, GoesTo, MayAwait, RoomFor, RunsOn, Known, IsNewest, Ready, Spares, StartsTo, Unaliased, departs, below, innermost, outers, BeginsWell, CameOut, To, By, ways, IsAwaited, under_in, AssignsWell, IsCopied, LiesAmong, AdjustedBehind, IsCovered, EndsWellBy}
+use Rattle.ada_sound.proofs.Invariant.{SparesHolder, body_among, CoveredIn, Control, Rooms, Roomed, GoesTo, MayAwait, RoomFor, RunsOn, Known, IsNewest, Ready, Spares, StartsTo, Unaliased, departs, below, innermost, outers, BeginsWell, CameOut, To, By, ways, IsAwaited, under_in, AssignsWell, IsCopied, LiesAmong, AdjustedBehind, IsCovered, EndsWellBy}
 use Rattle.ada_sound.proofs.Operating.{WaitsFor, IsCalm, lets_out, OwnVariables}
 use Rattle.ada_sound.proofs.Stored.{Stored}
 use Rattle.ada_sound.specs.Agreement.{running_procedure}
@@ -163,6 +163,7 @@ pub record Releases (known : Known) (watch : Option Watch) (object : Id) (access
   pub there : is_there w.is.stage ≡ true
   pub of_type : component_access known.program.types w.is c ≡ Some access
   pub names : slice_get w.is.cell.values c ≡ Some (Names object)
+  pub spared : SparesHolder known access w.is.cell.access
   pub runs : RunsOn known rest rooms holds
   pub well : EndsWellBy known access holds
   pub covered : IsCovered known.implicit known.program (Freeing number) access

@@ -44,7 +44,7 @@ use Rattle.ada_sound.proofs.Emptying.{null_again}
 use Rattle.ada_sound.proofs.Held.{fit_unheld, held_alone, holder_if, unnamed_hand, with_held}
 use Rattle.ada_sound.proofs.Touching.{AwaitsAmong, Departs, IsEnding, IsNamedNowhere, Pause, Empties, Resting, Rests, RestsAsOwned, RestsAtEnd, Starting, Naming, under_way, Undoes, origin, Overwrites, Releases, RestsBy, StoresInto, Watch, Watched}
 use Rattle.ada_sound.proofs.Fits.{Fit, Hand, hold_in, place_at, is_object, stacked, none_spared, plain_place, put_owner, sparing, outer_hold, outer_value_at, spare_fit, weaker_fit, IsReferred, Reference, component_access, component_value, referred_first, store_blank, store_owner}
-use Rattle.ada_sound.proofs.Invariant.{AllWait, Control, Known, Rooms, GoesOn, Working, Ending, EndsTo, ReadyIn, TreatsBy, innermost, outer_of, outers, IsLive, Beginning, StartsTo, BeginsWell, Ready, IsActive, AreSuspended, CopiesBehind, EndsBy, LiesIn, StoresBehind, FreesWell, IsCovered, EndsWellBy, AwaitsIn, GoesTo, HasRoom, IsHolder, IsMade, Making, NamesTo, RoomFor, To, RunsOn}
+use Rattle.ada_sound.proofs.Invariant.{SparesHolder, AllWait, Control, Known, Rooms, GoesOn, Working, Ending, EndsTo, ReadyIn, TreatsBy, innermost, outer_of, outers, IsLive, Beginning, StartsTo, BeginsWell, Ready, IsActive, AreSuspended, CopiesBehind, EndsBy, LiesIn, StoresBehind, FreesWell, IsCovered, EndsWellBy, AwaitsIn, GoesTo, HasRoom, IsHolder, IsMade, Making, NamesTo, RoomFor, To, RunsOn}
 use Rattle.ada_sound.proofs.Operating.{behind_operation, lets_out, WaitsFor}
 use Rattle.ada_sound.proofs.Waiting.{stands_behind}
 use Rattle.ada_sound.proofs.Returns.{CrossesTo, same_types}
@@ -356,6 +356,7 @@ module _ (program : Program) (well : IsWellFormed (program_form program)) (s : S
               f.found,
               r.of_type ∙ ap Some (sym f.of_access),
               r.names,
+              subst (λ (t : ℕ). SparesHolder own t r.w.is.cell.access) (sym f.of_access) r.spared,
             ),
             record {
               rooms = f.rooms;

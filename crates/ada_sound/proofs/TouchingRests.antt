@@ -34,7 +34,7 @@ use Rattle.ada_sound.proofs.FrugalUseEnds.{any_end}
 use Rattle.ada_sound.proofs.Held.{FreeIf, emptied_hand, lost_hand, owner_or_not, unnamed_hand}
 use Rattle.ada_effects.specs.Effects.{endings_free, Implicit, assignment_frees}
 use Rattle.ada_sound.proofs.Fits.{Fit, IsRelied, IsUnreferred, Outsiders, component_access, hold_in, none_spared, in_front, lies_nowhere, outer_hold, outer_value_at, respare, place_at, sparing, stacked, store_owner, IsReferred, Reference}
-use Rattle.ada_sound.proofs.Invariant.{Behind, CopiesBehind, Control, Ending, EndingBy, EndsTo, Freed, IsCopied, IsNewest, Known, LeavesTo, departs, Roomed, Rooms, RunsOn, ThenBack, TreatsBy, WillBeCovered, below, innermost, outers, Beginning, CameOut, ResumesTo, BeginsWell, To, By, ways, gone_in, LiesAmong, LiesIn, StoresBehind, ClearsTo, FreesWell, IsCovered, EndsWellBy, AwaitsIn, GoesTo, Making}
+use Rattle.ada_sound.proofs.Invariant.{SparesHolder, Behind, CopiesBehind, Control, Ending, EndingBy, EndsTo, Freed, IsCopied, IsNewest, Known, LeavesTo, departs, Roomed, Rooms, RunsOn, ThenBack, TreatsBy, WillBeCovered, below, innermost, outers, Beginning, CameOut, ResumesTo, BeginsWell, To, By, ways, gone_in, LiesAmong, LiesIn, StoresBehind, ClearsTo, FreesWell, IsCovered, EndsWellBy, AwaitsIn, GoesTo, Making}
 use Rattle.ada_sound.proofs.NoneHidden.{set_itself}
 use Rattle.ada_sound.proofs.Objects.{set_twice}
 use Rattle.ada_sound.proofs.Items.{Counted, HasItem, Houses, newest_is}
@@ -371,7 +371,7 @@ module _ (known : Known) (o : Id) (x : Object) (heap : List Object) (found : obj
     -- A component is freed that names it, of another object, which operations leave alone that touch storage: the component owns it still.
     module _ (number : ℕ) (p : Id) (c : ℕ) (k : Control) (covered : IsCovered known.implicit known.program (Freeing number) x.cell.access) (untreated : NothingBegins (Names o) k) (stored : Stored (o ∷ (outers known).under) heap masters)
         (other : p ≢ o) (holder : Object) (at : object_at heap p ≡ Some holder) (there : is_there holder.stage ≡ true) (of_type : component_access known.program.types holder c ≡ Some x.cell.access) (names : slice_get holder.cell.values c ≡ Some (Names o))
-        (r : Freed known (Some o) none_spared (store heap (Names p) c Null) places masters (λ rooms holds. RunsOn known k rooms holds × FreesWell known heap (Some o) holds)) where
+        (spared_holder : SparesHolder known x.cell.access holder.cell.access) (r : Freed known (Some o) none_spared (store heap (Names p) c Null) places masters (λ rooms holds. RunsOn known k rooms holds × FreesWell known heap (Some o) holds)) where
       -- What is left behind the end of the object.
       abbrev behind_release : Control
       behind_release = Ends (Names o) ∷ GivesBack (Names o) (Freeing number) x.cell.home.pool ∷ ClearsIn (Names p) c ∷ k
@@ -411,6 +411,7 @@ module _ (known : Known) (o : Id) (x : Object) (heap : List Object) (found : obj
         there = there;
         of_type = of_type;
         names = names;
+        spared = spared_holder;
         runs = r.rest.0;
         well = well_here;
         covered = covered;
@@ -435,7 +436,7 @@ module _ (known : Known) (o : Id) (x : Object) (heap : List Object) (found : obj
         held = false;
         hand = tt;
         watch = Some watched_here;
-        spared = (at, other, (c, of_type));
+        spared = (at, other, spared_holder touches);
         rests = rests_as_owned known way end false (Some watched_here) o x.cell.access x.cell.home places operands behind_release masters r.rooms r.holds (inr (inl releases_here));
         fit = fit_before;
         stored = stored_at_end way end o (outers known).under heap masters stored;
@@ -450,10 +451,10 @@ module _ (known : Known) (o : Id) (x : Object) (heap : List Object) (found : obj
     releasing : (number : ℕ) (v : Value) (c : ℕ) (k : Control) → IsCovered known.implicit known.program (Freeing number) x.cell.access → NothingBegins (Names o) k → Stored (o ∷ (outers known).under) heap masters → ClearsTo known (Some o) heap places masters (ClearsIn v c ∷ k)
         → Enters known (ends way) o x (Ends (Names o) ∷ GivesBack (Names o) (Freeing number) x.cell.home.pool ∷ ClearsIn v c ∷ k) heap places operands masters
     releasing number Null c k covered untreated stored r = absurd r.2
-    releasing number (Names p) c k covered untreated stored ((y, at_y, there), other, (holder, object, at, found', of_type, names), r) =
+    releasing number (Names p) c k covered untreated stored ((y, at_y, there), other, (holder, object, at, found', of_type, names, spared), r) =
         let same : y ≡ holder = cc (at_y, at) in
         let one : object ≡ x = cc (found', found) in
-        released_here number p c k covered untreated stored (λ is. other (ap Names is)) holder at (rw same at there) (rw one at of_type) names r
+        released_here number p c k covered untreated stored (λ is. other (ap Names is)) holder at (rw same at there) (rw one at of_type) names (rw one at spared) r
     releasing number (Scalar n) c k covered untreated stored r = absurd r.2
     releasing number (Part p place) c k covered untreated stored r = absurd r.2
 

@@ -194,6 +194,7 @@ module _ (known : Known) (heap : List Object) (places : List Value) where
         spares = f.spares;
         covered = f.covered;
         raises = raises_next known v w c cs k rooms (behind_end known.program.variables f.access holds) f.raises;
+        spared = f.spared;
         runs = f.runs;
       }
   finds_next (g ∷ k) v below c cs o object w rooms holds is found listed exists at fit f = absurd f

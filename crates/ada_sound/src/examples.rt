@@ -180,8 +180,8 @@ pub fn premises_are_met()
 ///
 /// And one is accepted in which a list is left whose nodes have such a Finalize (7.6.1): the newer node is taken first, and its
 /// Finalize frees its cell. So the older one names a node that has gone, where its own Finalize runs, which comes to null alone.
-/// Where three nodes are left, the newest one goes first, and then the oldest one, the one between them names what has gone
-/// while a Finalize frees: `flow_invariant` speaks of that, of a state that stands for the one that is there.
+/// Three nodes may be left, of which the newest one goes first, and then the oldest one. The one between them names what has gone
+/// then, while a Finalize frees: `flow_invariant` speaks of that, of a state that stands for the one that is there.
 ///
 /// And one is accepted whose Finalize frees an object with such a Finalize (7.6.1, 13.11.2): a record object owns an allocated one,
 /// which owns a cell. Where the main procedure is left, Finalize of the record object moves what it owns to a variable and
@@ -401,8 +401,8 @@ pub fn adjusted_records_are_copied()
 /// body changes a record that is gone, or a component that is gone is to get its value back. And no component that owns
 /// what it names is handed over: else it names what a procedure frees that an exception leaves, and the handler follows it.
 ///
-/// So are the other premises, but for `SparesHolders`, of which no program here shows it by itself. A variable relies on values of
-/// its own access type alone: of a program that is not well formed, one of another type names what goes with a block.
+/// So are the other premises, but for `SparesHolders` and `SparesStarts`, of which no program here shows it by themselves. A variable
+/// relies on values of its own access type alone: of a program that is not well formed, one of another type names what goes with a block.
 /// And components name what lasts as long as their objects: of a program whose collections do not nest, an object
 /// outlasts what its component names. And a Free is by the instance for the access type of what it frees (13.11.2): of
 /// a program with two declared pools where it is by that for another access type, the words of an object are to go
@@ -410,7 +410,7 @@ pub fn adjusted_records_are_copied()
 /// objects of a collection are finalized in any order (7.6.1), so a Finalize that frees what a component of its object
 /// names may find it gone, and finalizes it twice; that breaks S8, and not `SparesOwn` alone, but `SparesHolders`, too.
 /// And operations are in use: a newer collection goes before an older one, so a Finalize that only follows what a
-/// component of its object names there comes to an object that is gone; it keeps `SparesOwn` and `SparesHolders`.
+/// component of its object names there comes to an object that is gone; it keeps `SparesOwn`, `SparesHolders` and `SparesStarts`.
 pub fn rules_are_needed()
     ensures follows { (program : Program) × always.Breaks LostValue program × HaltsSomewhere (Erroneous FollowsGone) program }
     ensures ends { (program : Program) × always.Breaks LostValue program × HaltsSomewhere (Erroneous EndsTwice) program }
@@ -502,6 +502,6 @@ pub fn rules_are_needed()
     ensures follows_gone { (program : Program)
         × (operations_of program.types.items 0 ≡ operation_examples.node_operations)
         × (body_forms program ≡ operation_examples.following_finalize ∷ []) × (stmt_forms program ≡ operation_examples.node_and_cell)
-        × always.NotInUse program × always.SparesOwn program × always.SparesHolders program
+        × always.NotInUse program × always.SparesOwn program × always.SparesHolders program × always.SparesStarts program
         × always.HaltsAfter operation_examples.following_events (Erroneous FollowsGone) program }
 {}

@@ -116,8 +116,8 @@ pub fn rules_imply_safety()
     ensures { (program : Program) → IsChecked program → Safe program }
 {}
 
-/// The premise on holders, the objects in which components lie, says exactly this (7.6.1): of whatever type a component of the
-/// objects of another type is, the end of an object of the former follows and frees no value of the latter.
+/// Where a component of a record frees an object, the premise on holders, the objects in which components lie, asks exactly this of
+/// its access type (7.6.1): the end of the object follows and frees no value of a type whose objects have a component of the former.
 pub fn holders_are_told()
     ensures { always.HoldersAreTold }
 {}
