@@ -198,7 +198,8 @@ module _
   -- No allocator copies a record with controlled parts, or makes an object with some from items.
   bare_there : AllocatesBare known.program known.implicit known.touches f.t.control
   bare_there =
-      tracked_bare program well (tracks_apart (program_form program) f.tracking) known.program types_are f.t (frees_bare_spared p known.program.types f.t.control freely) (λ stand. f.apart)
+      tracked_bare program well (tracks_apart (program_form program) f.tracking) known.program types_are f.t
+      (frees_bare_spared p known.program.types f.t.control freely) (λ stand. f.apart)
 
   places_on : AllSamePlaces s (next tds bodies s)
   places_on = places_stay tds bodies f.w.tracks.first s (within f.w.tracks.first s.control f.simple inner)

@@ -156,11 +156,12 @@ none_there : (spots : List Spot) → is_none spots ≡ true → spots ≡ []
 none_there [] none = refl
 none_there (spot ∷ spots) none = absurd (cc none)
 
--- Whether what ends objects spares their own access types, and where a component of a record is freed those in whose objects such a component may lie; and whether what
--- initializes objects spares their own access types.
+-- Whether what ends objects spares their own access types, and where a component of a record is freed those in whose objects such a component may lie; and whether
+-- what initializes objects spares their own access types.
 abbrev pub spares_types : ProgramForm → Bool
 spares_types p =
-    spare_own_types (implicit_of p) 0 p.types && (is_none (text_frees_inside (reaches_holder (implicit_of p) p.types) p) && starts_spare (implicit_of p) 0 p.types)
+    spare_own_types (implicit_of p) 0 p.types
+    && (is_none (text_frees_inside (reaches_holder (implicit_of p) p.types) p) && starts_spare (implicit_of p) 0 p.types)
 
 -- Whether what overrides its operations is in use, too, and spares these; whether its collections nest; and
 -- whether it frees by the instances for what it frees.
@@ -259,7 +260,8 @@ module _ (program : Program) (bodies : List BodyForm) (fs : StmtsForm) (hs : Han
   -- And whether it spares those in which components may lie that are freed.
   spares_holders_in : spares_types (form_with program bodies fs hs) ≡ true → SparesHolders program
   spares_holders_in e may made =
-      subst (λ (p : ProgramForm). text_frees_inside (reaches_holder (implicit_of p) p.types) p ≡ []) (sym form_is) (none_there _ (and_parts _ _ (and_parts _ _ e).1).0)
+      subst (λ (p : ProgramForm). text_frees_inside (reaches_holder (implicit_of p) p.types) p ≡ []) (sym form_is)
+      (none_there _ (and_parts _ _ (and_parts _ _ e).1).0)
 
   -- And whether the initializations of its objects spare their own access types.
   spares_starts_in : spares_types (form_with program bodies fs hs) ≡ true → SparesStarts program

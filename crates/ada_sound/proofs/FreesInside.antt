@@ -46,8 +46,8 @@ module _ (asked : (access : ℕ) → Bool) where
   abbrev pub AllFreeNoneInside : Next → Type 0
   AllFreeNoneInside = AllFramesNext FrameFreesNoneInside
 
--- What is freed next by a component of a record, where an operation may be called for it that touches storage, is of a type the end of whose objects reaches none in
--- which such a component lies (7.6.1).
+-- What is freed next by a component of a record, where an operation may be called for it that touches storage, is of a type the end of whose objects reaches none
+-- in which such a component lies (7.6.1).
 abbrev pub FreesSpared : Implicit → List TypeForm → (touches : ℕ → Bool) → Control → Type 0
 FreesSpared implicit types touches k =
     (access : ℕ) (path : PathForm) (fs : StmtsForm) (behind : Control) → k ≡ frame.Does (a_stmt (frees access path) fs) ∷ behind → touches access ≡ true
@@ -64,7 +64,8 @@ pub spared_inside : (implicit : Implicit) (types : List TypeForm) (touches : ℕ
     → ((access : ℕ) → touches access ≡ true → FreesNoneInside (reaches_holder implicit types) k) → FreesSpared implicit types touches k
 spared_inside implicit types touches k none access path fs behind is touched inside =
     let first = rw is at (none access touched) in
-    let here = (neither (stmt_frees_inside (reaches_holder implicit types) (frees access path)) (stmts_free_inside (reaches_holder implicit types) fs) first.0).0 in
+    let asked = reaches_holder implicit types in
+    let here = (neither (stmt_frees_inside asked (frees access path)) (stmts_free_inside asked fs) first.0).0 in
     not_asked (lies_inside path) (reaches_holder implicit types access) path.spot here inside
 
 -- So it is where none is freed next for which such an operation may be called.

@@ -16,7 +16,8 @@ module _ (asked : (access : ℕ) → Bool) (program : Program) (none : text_free
   bodies_inside = neither (body_frees_inside asked (main_body (program_form program))) (bodies_free_inside asked (body_forms program)) none
 
   -- A step of the program keeps that.
-  pub step_inside : (s after : State) (choice : Choice) (e : Event) → FreesNoneInside asked s.control → Step program s choice e after → FreesNoneInside asked after.control
+  pub step_inside : (s after : State) (choice : Choice) (e : Event) → FreesNoneInside asked s.control → Step program s choice e after
+      → FreesNoneInside asked after.control
   step_inside s after choice e frees step =
       led_next (λ (coming : State). FreesNoneInside asked coming.control) (next program.types.items (body_forms program) s) choice e after
       (frees_stay_outside program.types.items (body_forms program) asked bodies_inside.1 s frees) step

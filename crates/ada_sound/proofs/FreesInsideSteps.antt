@@ -43,10 +43,12 @@ module _ (asked : (access : ℕ) → Bool) where
       let here = (neither (body_frees_inside asked c) (bodies_free_inside asked bodies) none).0 in
       let same : c ≡ b = cc there in
       rw same at here
-  body_at (c ∷ bodies) none (suc procedure) b there = body_at bodies (neither (body_frees_inside asked c) (bodies_free_inside asked bodies) none).1 procedure b there
+  body_at (c ∷ bodies) none (suc procedure) b there =
+      body_at bodies (neither (body_frees_inside asked c) (bodies_free_inside asked bodies) none).1 procedure b there
 
   -- So it is with the first statement, and those behind it (5.1).
-  first_inside : (f : StmtForm) (fs : StmtsForm) → stmts_free_inside asked (a_stmt f fs) ≡ [] → (stmt_frees_inside asked f ≡ []) × (stmts_free_inside asked fs ≡ [])
+  first_inside : (f : StmtForm) (fs : StmtsForm) → stmts_free_inside asked (a_stmt f fs) ≡ []
+      → (stmt_frees_inside asked f ≡ []) × (stmts_free_inside asked fs ≡ [])
   first_inside f fs none = neither (stmt_frees_inside asked f) (stmts_free_inside asked fs) none
 
   -- With branches (5.3).
@@ -55,14 +57,16 @@ module _ (asked : (access : ℕ) → Bool) where
   branches_inside (a_branch e fs branches) none = neither (stmts_free_inside asked fs) (branches_free_inside asked branches) none
 
   -- With the handler that takes an exception (11.2).
-  handler_inside : (e : Exception) (hs : HandlersForm) (fs : StmtsForm) → handlers_free_inside asked hs ≡ [] → handler_of e hs ≡ Some fs → stmts_free_inside asked fs ≡ []
+  handler_inside : (e : Exception) (hs : HandlersForm) (fs : StmtsForm) → handlers_free_inside asked hs ≡ [] → handler_of e hs ≡ Some fs
+      → stmts_free_inside asked fs ≡ []
   handler_inside e no_handlers fs none handled = absurd (cc handled)
   handler_inside e (a_handler choices gs hs) fs none handled =
       let both = neither (stmts_free_inside asked gs) (handlers_free_inside asked hs) none in
       handler_holds (λ ws. stmts_free_inside asked ws ≡ []) (some_takes e choices) gs fs (handler_of e hs) both.0 (handler_inside e hs fs both.1) handled
 
   -- What is left to do leads to no such Free, in a program whose bodies have none.
-  inside_closed : (types : List TypeDefinition) (bodies : List BodyForm) → bodies_free_inside asked bodies ≡ [] → IsClosed types bodies (FrameFreesNoneInside asked)
+  inside_closed : (types : List TypeDefinition) (bodies : List BodyForm) → bodies_free_inside asked bodies ≡ []
+      → IsClosed types bodies (FrameFreesNoneInside asked)
   inside_closed types bodies none = record {
     plain = λ plain. plain_inside _ plain;
     begins_body = λ procedure b there. body_inside b (body_at bodies none procedure b there);

@@ -37,12 +37,13 @@ BareItems types items = (spot : Spot) (target : Option PathForm) (holds : Holds)
 abbrev pub AllocatesApart : (touches : ℕ → Bool) → Control → Type 0
 AllocatesApart touches k = (access : ℕ) (items : List ItemForm) (behind : Control) → k ≡ Evaluates (allocates access items) ∷ behind → touches access ≡ false
 
--- What is freed next by a component of a record spares the objects in which such components lie, where an operation may be called that touches storage; records that are
--- items of an allocator that is evaluated next own nothing, and no such operation is called for its object.
+-- What is freed next by a component of a record spares the objects in which such components lie, where an operation may be called that touches storage; records that
+-- are items of an allocator that is evaluated next own nothing, and no such operation is called for its object.
 abbrev pub AllocatesBare : ProgramForm → Implicit → (touches : ℕ → Bool) → Control → Type 0
 AllocatesBare p implicit touches k =
     FreesSpared implicit p.types touches k
-    × ((access : ℕ) (items : List ItemForm) (behind : Control) → k ≡ Evaluates (allocates access items) ∷ behind → BareItems p.types items × (touches access ≡ false))
+    × ((access : ℕ) (items : List ItemForm) (behind : Control) → k ≡ Evaluates (allocates access items) ∷ behind
+    → BareItems p.types items × (touches access ≡ false))
 
 module _ (types : List TypeForm) (none : AdjustsNoOwners types) where
   -- A record that is copied as an item.
@@ -184,8 +185,8 @@ items_bare types none spot target holds earlier (i ∷ items) kept =
     (item_bare types none spot target holds earlier i two.0, items_bare types none spot target holds (named_by_item i ++ earlier) items two.1)
 
 -- Where no Adjust is of a type that declares components of access types, records that are items own nothing.
-pub allocates_none : (implicit : Implicit) {touches : ℕ → Bool} (p : ProgramForm) (k : Control) → AdjustsNoOwners p.types → FreesSpared implicit p.types touches k → AllocatesApart touches k
-    → AllocatesBare p implicit touches k
+pub allocates_none : (implicit : Implicit) {touches : ℕ → Bool} (p : ProgramForm) (k : Control) → AdjustsNoOwners p.types
+    → FreesSpared implicit p.types touches k → AllocatesApart touches k → AllocatesBare p implicit touches k
 allocates_none implicit p k none spared apart =
     (spared, λ access items behind is. ((λ spot target holds kept. items_bare p.types none spot target holds [] items kept), apart access items behind is))
 

@@ -1,5 +1,5 @@
--- The object in which a component lies that is freed (13.11.2): the end of what the component names reaches none of its type. Where the path follows an access value
--- (4.1), flow sees to it, of the value that is followed last; and else the premise on holders says it.
+-- The object in which a component lies that is freed (13.11.2): the end of what the component names reaches none of its type. Where the path follows an access
+-- value (4.1), flow sees to it, of the value that is followed last; and else the premise on holders says it.
 
 use Rattle.std.proofs.Common.{◌≡◌, ℕ, Bool, true, false, not, List, [], ◌∷◌, refl, sym, ap, ◌∙◌, ◌⊎◌, inl, inr}
 use Rattle.std.specs.Prelude.{Option, Some, None}
@@ -30,8 +30,9 @@ no_record types (Some (variable.Access access)) c to leads object = cc object
 no_record types (Some (variable.Record t)) c to leads object = cc leads
 
 -- The value that is followed last is of the kind that the path says, wherever the path begins.
-holder_kind : {types : List TypeForm} {referenced : List Reference} {heap : List Object} {kind : Option VariableKind} {v : Value} (b : Root types referenced heap kind v)
-    (of_record : Bool) (c : ℕ) (cs : List ℕ) (to : VariableKind) → selectors_kind types (root_kind of_record kind) (c ∷ cs) ≡ Some to → follows_value of_record (c ∷ cs) ≡ true
+holder_kind : {types : List TypeForm} {referenced : List Reference} {heap : List Object} {kind : Option VariableKind} {v : Value}
+    (b : Root types referenced heap kind v) (of_record : Bool) (c : ℕ) (cs : List ℕ) (to : VariableKind)
+    → selectors_kind types (root_kind of_record kind) (c ∷ cs) ≡ Some to → follows_value of_record (c ∷ cs) ≡ true
     → selectors_kind types b.from (before_last (inside v c) cs) ≡ selectors_kind types kind (before_last c cs)
 holder_kind b true c [] to leads follows = absurd (cc follows)
 holder_kind {types = types} {referenced = referenced} {kind = kind} {v = v} b false c [] to leads follows = by b.is
@@ -45,8 +46,8 @@ holder_kind {types = types} {kind = kind} {v = v} b of_record c (d ∷ ds) to le
     ap (λ (k : Option VariableKind). selectors_kind types k (before_last d ds)) same
 
 -- Where a path may follow no values of access types that the end of an object reaches, its end does not reach the type of the value that is followed last.
-passed_spared : (types : List TypeForm) (variables : List VariableForm) (implicit : Implicit) (path : PathForm) (c : ℕ) (cs : List ℕ) (access : Option ℕ) (t u : ℕ)
-    → path.selectors ≡ c ∷ cs → access ≡ Some t → passes_reached types variables implicit path access ≡ false
+passed_spared : (types : List TypeForm) (variables : List VariableForm) (implicit : Implicit) (path : PathForm) (c : ℕ) (cs : List ℕ) (access : Option ℕ)
+    (t u : ℕ) → path.selectors ≡ c ∷ cs → access ≡ Some t → passes_reached types variables implicit path access ≡ false
     → access_of (selectors_kind types (variable_kind variables path.root) (before_last c cs)) ≡ Some u → implicit.end_reaches t u ≡ false
 passed_spared types variables implicit path c cs None t u is same none of = absurd (cc same)
 passed_spared types variables implicit path c cs (Some own) t u is same none of =
@@ -62,8 +63,9 @@ stays_there true c [] none = (refl, refl)
 stays_there true c (d ∷ ds) none = absurd (cc none)
 
 -- So the end of what the component names reaches none of the type of the object in which it lies.
-pub holder_aside : {types : List TypeForm} (variables : List VariableForm) {referenced : List Reference} {heap : List Object} {v : Value} (implicit : Implicit) (path : PathForm)
-    (b : Root types referenced heap (variable_kind variables path.root) v) (c : ℕ) (cs : List ℕ) (to : VariableKind) (access : Option ℕ) (t u : ℕ) → path.selectors ≡ c ∷ cs
+pub holder_aside : {types : List TypeForm} (variables : List VariableForm) {referenced : List Reference} {heap : List Object} {v : Value}
+    (implicit : Implicit) (path : PathForm) (b : Root types referenced heap (variable_kind variables path.root) v) (c : ℕ) (cs : List ℕ) (to : VariableKind)
+    (access : Option ℕ) (t u : ℕ) → path.selectors ≡ c ∷ cs
     → selectors_kind types (root_kind path.of_record (variable_kind variables path.root)) (c ∷ cs) ≡ Some to → access ≡ Some t
     → access_of (selectors_kind types b.from (inside v c ∷ cs)) ≡ Some t → passes_reached types variables implicit path access ≡ false
     → (lies_inside path ≡ true → reaches_holder implicit types t ≡ false) → access_of (selectors_kind types b.from (before_last (inside v c) cs)) ≡ Some u
@@ -81,7 +83,8 @@ holder_aside {types = types} variables {v = v} implicit path b c cs to access t 
     by : (raises : Bool) → path_raises path ≡ raises → implicit.end_reaches t u ≡ false
     by true raises =
         let follows : follows_value path.of_record (c ∷ cs) ≡ true = rw is at raises in
-        passed_spared types variables implicit path c cs access t u is same none (ap access_of (sym (holder_kind b path.of_record c cs to leads follows)) ∙ holder)
+        passed_spared types variables implicit path c cs access t u is same none
+        (ap access_of (sym (holder_kind b path.of_record c cs to leads follows)) ∙ holder)
     by false raises =
         let stays = stays_there path.of_record c cs (rw is at raises) in
         inside_here cs refl stays.1 (apart (and_from path.of_record (not (path_raises path)) stays.0 (ap not raises)))

@@ -214,7 +214,8 @@ module _ (known : Known) (a : Activation Value) (rest : List (Activation Value))
         let runs : To (λ less. RunsOn known k w.rooms less × EndsWellBy known t less) (behind_end known.program.variables (Some t) w.holds) = rw is_t at all_run in
         let home = freed_home access p there.object homes w.stored there.found exists (rw there.access (w.rest.own t is_t)) (there.access ∙ by_own) in
         let leads : component_access known.program.types object c ≡ Some there.object.cell.access = names_own o object found w ∙ (is_t ∙ ap Some (sym there.access)) in
-        let spared : SparesHolder known there.object.cell.access object.cell.access = rw there.access (w.rest.spared t object.cell.access is_t (w.rest.is_from o object refl found)) in
+        let spared : SparesHolder known there.object.cell.access object.cell.access =
+        rw there.access (w.rest.spared t object.cell.access is_t (w.rest.is_from o object refl found)) in
         let parts = set_here s.heap p.0 there.object (parted there.object) there.found in
         let well : FreesWell known (slice_set s.heap p.0 (parted there.object)) (Some p) runs.0 = λ other at. (
         let one : other ≡ parted there.object = cc (at, parts) in

@@ -296,7 +296,9 @@ sound_step program s choice e after r step = record {
   idle = λ none. step_idle program none s after choice e (r.idle none) step;
   copies = λ none. step_adjusts_none program none s after choice e (r.copies none) step;
   apart = λ stand. step_apart (program_form program).types (is_tracker (program_form program)) program (calls_stand_apart (program_form program) stand).1 s after choice e (r.apart stand) step;
-  releases = λ may made. step_inside (reaches_holder (implicit_of (program_form program)) (program_form program).types) program (r.spares_holders may made) s after choice e (r.releases may made) step;
+  releases = λ may made.
+      step_inside (reaches_holder (implicit_of (program_form program)) (program_form program).types) program (r.spares_holders may made) s after choice e
+      (r.releases may made) step;
   typed = step_typed program r.well s after choice e r.typed step;
   nested = step_nested program s after choice e (λ treats. operations_nest (program_form program) r.well (treats_in_use program s (grounds program s r) s.control refl treats)) r.nested step;
 }

@@ -39,16 +39,18 @@ first_of_both true b none other = absurd (other none)
 first_of_both false b none other = refl
 
 -- What is so of no type is not so of the one of a number.
-reaches_at : (implicit : Implicit) (types : List TypeForm) (t from : ℕ) (rest : List TypeForm) → reaches_one implicit types t from rest ≡ false → (i n : ℕ) → n ≡ from + i
-    → (form : TypeForm) → slice_get rest i ≡ Some form → (implicit.end_reaches t n && hold_one t (components_reached types (named_in (Some form)))) ≡ false
+reaches_at : (implicit : Implicit) (types : List TypeForm) (t from : ℕ) (rest : List TypeForm) → reaches_one implicit types t from rest ≡ false
+    → (i n : ℕ) → n ≡ from + i → (form : TypeForm) → slice_get rest i ≡ Some form → (implicit.end_reaches t n && hold_one t (components_reached types (named_in (Some form)))) ≡ false
 reaches_at implicit types t from [] none i n is form at = absurd (cc at)
 reaches_at implicit types t from (u ∷ rest) none zero n is form at =
-    let here = (or_parts (implicit.end_reaches t from && hold_one t (components_reached types (named_in (Some u)))) (reaches_one implicit types t (suc from) rest) none).0 in
+    let holds = hold_one t (components_reached types (named_in (Some u))) in
+    let here = (or_parts (implicit.end_reaches t from && holds) (reaches_one implicit types t (suc from) rest) none).0 in
     let first : n ≡ from = omega (arith, is) in
     let same : u ≡ form = cc at in
     rw (first, ← same) here
 reaches_at implicit types t from (u ∷ rest) none (suc i) n is form at =
-    let behind = (or_parts (implicit.end_reaches t from && hold_one t (components_reached types (named_in (Some u)))) (reaches_one implicit types t (suc from) rest) none).1 in
+    let holds = hold_one t (components_reached types (named_in (Some u))) in
+    let behind = (or_parts (implicit.end_reaches t from && holds) (reaches_one implicit types t (suc from) rest) none).1 in
     reaches_at implicit types t (suc from) rest behind i n (omega (arith, is)) form at
 
 -- The end of an object whose type a component of an object of another type has reaches none of the latter.
@@ -75,15 +77,16 @@ names_none t (component.Access access ∷ ks) none =
     (names_none t ks (λ c is. none (suc c) is))
 
 -- What is so of the components of an object, if there are some.
-object_reaches_none : (reaches : Bool) (t : TypeNo) (components : Option (List ComponentKind)) → ((c : ℕ) → kind_among components c ≡ Some (variable.Access t) → reaches ≡ false)
+object_reaches_none : (reaches : Bool) (t : TypeNo) (components : Option (List ComponentKind))
+    → ((c : ℕ) → kind_among components c ≡ Some (variable.Access t) → reaches ≡ false)
     → (reaches && hold_one t.0 components) ≡ false
 object_reaches_none false t components each = refl
 object_reaches_none true t None each = refl
 object_reaches_none true t (Some components) each = names_none t components (λ c is. cc (each c is))
 
 -- What is so of the type of each number is so of all, from a number on.
-types_reach_none : (implicit : Implicit) (types : List TypeForm) (t : TypeNo) (from : ℕ) (rest : List TypeForm) → ((i : ℕ) → slice_get types (from + i) ≡ slice_get rest i)
-    → ((holder c : ℕ) → HoldsNames types holder c t → implicit.end_reaches t.0 holder ≡ false) → reaches_one implicit types t.0 from rest ≡ false
+types_reach_none : (implicit : Implicit) (types : List TypeForm) (t : TypeNo) (from : ℕ) (rest : List TypeForm)
+    → ((i : ℕ) → slice_get types (from + i) ≡ slice_get rest i) → ((holder c : ℕ) → HoldsNames types holder c t → implicit.end_reaches t.0 holder ≡ false) → reaches_one implicit types t.0 from rest ≡ false
 types_reach_none implicit types t from [] at each = refl
 types_reach_none implicit types t from (form ∷ rest) at each =
     let components = components_reached types (named_in (Some form)) in

@@ -371,7 +371,8 @@ module _ (known : Known) (o : Id) (x : Object) (heap : List Object) (found : obj
     -- A component is freed that names it, of another object, which operations leave alone that touch storage: the component owns it still.
     module _ (number : ℕ) (p : Id) (c : ℕ) (k : Control) (covered : IsCovered known.implicit known.program (Freeing number) x.cell.access) (untreated : NothingBegins (Names o) k) (stored : Stored (o ∷ (outers known).under) heap masters)
         (other : p ≢ o) (holder : Object) (at : object_at heap p ≡ Some holder) (there : is_there holder.stage ≡ true) (of_type : component_access known.program.types holder c ≡ Some x.cell.access) (names : slice_get holder.cell.values c ≡ Some (Names o))
-        (spared_holder : SparesHolder known x.cell.access holder.cell.access) (r : Freed known (Some o) none_spared (store heap (Names p) c Null) places masters (λ rooms holds. RunsOn known k rooms holds × FreesWell known heap (Some o) holds)) where
+        (spared_holder : SparesHolder known x.cell.access holder.cell.access)
+        (r : Freed known (Some o) none_spared (store heap (Names p) c Null) places masters (λ rooms holds. RunsOn known k rooms holds × FreesWell known heap (Some o) holds)) where
       -- What is left behind the end of the object.
       abbrev behind_release : Control
       behind_release = Ends (Names o) ∷ GivesBack (Names o) (Freeing number) x.cell.home.pool ∷ ClearsIn (Names p) c ∷ k
@@ -454,7 +455,8 @@ module _ (known : Known) (o : Id) (x : Object) (heap : List Object) (found : obj
     releasing number (Names p) c k covered untreated stored ((y, at_y, there), other, (holder, object, at, found', of_type, names, spared), r) =
         let same : y ≡ holder = cc (at_y, at) in
         let one : object ≡ x = cc (found', found) in
-        released_here number p c k covered untreated stored (λ is. other (ap Names is)) holder at (rw same at there) (rw one at of_type) names (rw one at spared) r
+        released_here number p c k covered untreated stored (λ is. other (ap Names is)) holder at (rw same at there) (rw one at of_type) names
+        (rw one at spared) r
     releasing number (Scalar n) c k covered untreated stored r = absurd r.2
     releasing number (Part p place) c k covered untreated stored r = absurd r.2
 

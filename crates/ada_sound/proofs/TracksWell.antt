@@ -75,10 +75,12 @@ makes_apart p s apart' access items behind is = by (may_be_frugal p) refl
   where
     by : (may : Bool) → may_be_frugal p ≡ may → ((may && makes_parts p) && not (are_calm_in p access)) ≡ false
     by false never = refl
-    by true may = and_right (makes_parts p) (not (are_calm_in p access)) (ap not (calm_if_bare p access (bare_next p s (apart_too p may) apart' access items behind is).0))
+    by true may =
+        and_right (makes_parts p) (not (are_calm_in p access))
+        (ap not (calm_if_bare p access (bare_next p s (apart_too p may) apart' access items behind is).0))
 
--- Where operations may touch storage, and something creates an object with controlled parts, no component of a record that is freed in what is left to do names an
--- object whose end reaches one in which such a component lies.
+-- Where operations may touch storage, and something creates an object with controlled parts, no component of a record that is freed in what is left to do names
+-- an object whose end reaches one in which such a component lies.
 abbrev pub StaysOutside : ProgramForm → Control → Type 0
 StaysOutside p k = may_be_frugal p ≡ true → makes_parts p ≡ true → FreesNoneInside (reaches_holder (implicit_of p) p.types) k
 
@@ -99,7 +101,8 @@ frees_outside_in program procedure k outside =
     subst (λ (types : List TypeForm). FreesSpared (implicit_of p) types (touches_in p) k) (sym (same_types procedure p)) (frees_outside p k outside)
 
 -- So it does where it has no controlled parts.
-pub frees_bare_spared : (p : ProgramForm) (types : List TypeForm) (k : Control) → FreesAmong (λ access. has_bare_objects p.types access) k → FreesSpared (implicit_of p) types (touches_in p) k
+pub frees_bare_spared : (p : ProgramForm) (types : List TypeForm) (k : Control) → FreesAmong (λ access. has_bare_objects p.types access) k
+    → FreesSpared (implicit_of p) types (touches_in p) k
 frees_bare_spared p types k among =
     spared_among (λ access. has_bare_objects p.types access) (implicit_of p) types (touches_in p) k
     (λ access bare. and_right (may_be_frugal p && makes_parts p) (not (are_calm_in p access)) (ap not (calm_if_bare p access bare))) among
@@ -107,7 +110,8 @@ frees_bare_spared p types k among =
 -- And the records among those items own nothing.
 pub tracked_bare :
     (program : Program) → IsWellFormed (program_form program) → TracksApart (program_form program) → (own : ProgramForm) → own.types ≡ (program_form program).types
-    → (s : State) → FreesSpared (implicit_of (program_form program)) own.types (touches_in (program_form program)) s.control → StaysApart (program_form program) s.control
+    → (s : State) → FreesSpared (implicit_of (program_form program)) own.types (touches_in (program_form program)) s.control
+    → StaysApart (program_form program) s.control
     → AllocatesBare own (implicit_of (program_form program)) (touches_in (program_form program)) s.control
 tracked_bare program well stand own same s spared apart' =
     let p = program_form program in
