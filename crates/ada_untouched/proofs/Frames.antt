@@ -29,7 +29,7 @@ use Rattle.ada_meaning.specs.Named.{Object, State, named, look, standing, reads_
 use Rattle.ada_untouched.specs.Alike.{HeapsAlike, StatesAlike, SparesGhosts, NextAlike}
 use Rattle.ada_untouched.specs.Untouched.{hides, IsInSight, IsReadable, LeadsOn, LeadsToHolder, MayBeSought, MayBeFreed, RightIsOpen, FreedIsOpen, StatementIsOpen, StatementsAreOpen, FrameIsOpen}
 use Rattle.ada_untouched.proofs.Heaps.{by_found, parted_alike, standing_alike, on_alike, create_alike, created_alike}
-use Rattle.ada_untouched.proofs.Treats.{treats_same}
+use Rattle.ada_untouched.proofs.Treats.{awaited_same, treats_same}
 use Rattle.ada_untouched.proofs.Forms.{over, alike, goes, told, Same, by_look, path_same, named_same, holder_same, record_holder_same, expression_same, null_test_same, links_same, outcome_same, items_same, copies_same, refers_same, opens_same, open_same, target_same, store_same, record_target_same, store_record_same, receive_same, end_same, back_same, line_same, leave_same}
 
 module _ (hidden : Id → (component : ℕ) → Bool) (ghosts : Id → Bool) (types : List TypeDefinition) (bodies : List BodyForm) where
@@ -283,7 +283,7 @@ module _ (hidden : Id → (component : ℕ) → Bool) (ghosts : Id → Bool) (ty
   frame_same (frame.DeclaresRecord x t) s k a clear =
       made_same x t Copy (newest_ones named (words_of types t) s) (without_newest named (words_of types t) s) k a
   frame_same (frame.Treats v treatment tasks) s k a clear = treats_same hidden ghosts types bodies v treatment tasks (task_next tasks) s k a clear
-  frame_same (frame.Awaits v by done of part tasks) s k a clear = absurd clear
+  frame_same (frame.Awaits v by done of part tasks) s k a clear = awaited_same hidden ghosts types bodies v by done of part tasks s k a clear
   frame_same frame.Confines s k a clear = on Quiet tt s k a
   frame_same (frame.Resumes mode) s k a clear = on Quiet tt (record s { mode = mode }) k a
   frame_same frame.Writes s k a clear = line_same hidden ghosts (reads_integer (newest named s)) (popped s) k a

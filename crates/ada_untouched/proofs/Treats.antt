@@ -21,7 +21,7 @@ use Rattle.ada_meaning.specs.Frame.{Treatment, begins, ends, Frame}
 use Rattle.ada_meaning.specs.Frame as frame
 use Rattle.ada_meaning.specs.Heap.{PartState}
 use Rattle.ada_meaning.specs.State.{counted}
-use Rattle.ada_meaning.specs.Step.{halts, picks, at, treating, treated_on, direction_of, picked_task, beginning, operating, operation_next, part_reference, born_next, begun_next, ended_next, finalized_next, performed_next, treats_next}
+use Rattle.ada_meaning.specs.Step.{halts, picks, at, treating, treated_on, direction_of, picked_task, beginning, operating, operation_next, part_reference, born_next, awaited_next, begun_next, ended_next, finalized_next, performed_next, treats_next}
 use Rattle.ada_meaning.specs.Named.{Object, State, named, look, bear, finalize, treated, born_part, finalized_part}
 use Rattle.ada_untouched.specs.Alike.{HeapsAlike, SparesGhosts, NextAlike}
 use Rattle.ada_untouched.specs.Untouched.{IsInSight}
@@ -43,6 +43,15 @@ module _ (hidden : Id → (component : ℕ) → Bool) (ghosts : Id → Bool) (ty
       (record s { born = counted s.born; heap = bear s.heap v part (counted s.born) }))
       (bear k v part (counted s.born))
       (on_alike hidden ghosts s.heap k a (treated (born_part (counted s.born)) part) (treated_alike (born_part (counted s.born)) part) v)
+
+  -- So it does once the operation has ended that begins it.
+  pub awaited_same : (v : Value) (by : Birth) (done : List Part) (of part : ℕ) (tasks : List Task) (s : State) (k : List Object) → HeapsAlike hidden ghosts s.heap k → IsInSight ghosts v → NextAlike hidden ghosts (awaited_next named v by done of part tasks (look s.heap v) s) (awaited_next named v by done of part tasks (look k v) (over k s))
+  awaited_same v by done of part tasks s k a clear =
+      by_look hidden ghosts v
+      (λ f g. NextAlike hidden ghosts (awaited_next named v by done of part tasks f s) (awaited_next named v by done of part tasks g (over k s)))
+      refl refl refl
+      (λ cell us both. born_same v by done of part tasks (slice_get cell.parts part) s k a)
+      s.heap k a clear
 
   -- The operation that begins a part is called (7.6), or does nothing.
   begun_same : (v : Value) (by : Birth) (done : List Part) (of part : ℕ) (tasks : List Task) (operation : Option ℕ) (found : Option PartState) → Same hidden ghosts (begun_next named bodies v by done of part tasks operation found)

@@ -121,8 +121,7 @@ module _ (hidden : Id → (component : ℕ) → Bool) (ghosts : Id → Bool) (s 
   StatementsAreOpen (a_stmt f fs) = StatementIsOpen f
 
   -- What a frame looks at, where no jump is on its way. Where a record is copied from an object, that hides no component. An object is treated whose components
-  -- may be hidden (7.6, 7.6.1). None waits for an operation that was to begin a part (7.6), or takes an object out of its collection where a master is left
-  -- (7.6.1).
+  -- may be hidden (7.6, 7.6.1), or a part of it comes to have a value. None takes an object out of its collection where a master is left (7.6.1).
   abbrev pub FrameIsOpen : Frame Value → Type 0
   FrameIsOpen (frame.Does fs) = StatementsAreOpen fs
   FrameIsOpen (frame.Leaves mode) = InnermostHousesNone s.masters
@@ -142,7 +141,7 @@ module _ (hidden : Id → (component : ℕ) → Bool) (ghosts : Id → Bool) (s 
   FrameIsOpen (frame.Receives c) = IsInSight ghosts (newest named s)
   FrameIsOpen (frame.FreesIn access c) = IsReadable hidden ghosts (newest named s) c × MayBeFreed ghosts c (look s.heap (newest named s))
   FrameIsOpen (frame.Treats v treatment tasks) = IsInSight ghosts v
-  FrameIsOpen (frame.Awaits v by done of part tasks) = ⊥
+  FrameIsOpen (frame.Awaits v by done of part tasks) = IsInSight ghosts v
   FrameIsOpen (frame.Ends v) = IsInSight ghosts v
   FrameIsOpen (frame.GivesBack v cause pool) = IsInSight ghosts v
   FrameIsOpen (frame.ClearsIn v c) = IsInSight ghosts v
