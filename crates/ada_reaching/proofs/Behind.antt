@@ -1,6 +1,6 @@
--- What is left behind an operation of an object that is freed (7.6.1, 13.11.2), where bodies that shun some access types wait for it.
+-- What is left behind an operation of an object that is freed (7.6.1, 13.11.2) or allocated (7.6, 4.8), where bodies that shun some access types wait for it.
 
-use Rattle.std.proofs.Common.{◌≡◌, ◌≤◌, ◌⊎◌, ℕ, suc, Bool, List, [], ◌∷◌, length, Option, arith, sym, ap, ◌∙◌, subst, inl, inr}
+use Rattle.std.proofs.Common.{◌≡◌, ◌≤◌, ◌⊎◌, ℕ, suc, Bool, true, not, List, [], ◌∷◌, length, Option, arith, refl, sym, ap, ◌∙◌, subst, inl, inr}
 use Rattle.ada_parts.specs.Task.{Task}
 use Rattle.ada_program.specs.ProgramForm.{TypeForm, BodyForm, ProgramForm}
 use Rattle.ada_meaning.specs.declared.event.Cause.{Cause}
@@ -14,23 +14,31 @@ use Rattle.ada_meaning.specs.Frame as frame
 use Rattle.ada_meaning.specs.State.{Activation}
 use Rattle.ada_meaning.specs.Step.{older, operands_of, operating, places_of, procedure_of, treating}
 use Rattle.ada_meaning.specs.Named.{Object, State, named}
+use Rattle.ada_typed.proofs.Control as typed
 use Rattle.ada_untouched.specs.Untouched.{IsInSight}
 use Rattle.ada_reaching.specs.Apart.{Apart}
 use Rattle.ada_reaching.specs.Law.{GhostsStay}
-use Rattle.ada_reaching.specs.Reaching.{AreElsewhere, IsGhost, IsInner, IsLast, IsReaching, LeftShuns, OperandSeeks}
+use Rattle.ada_reaching.specs.Reaching.{AreElsewhere, IsGhost, IsInner, IsLast, IsReaching, LeftShuns, OperandSeeks, Seeks}
 
--- Nothing is sought behind a Finalize.
-confined_seeks :
-    (types : List TypeForm) (shuns : ℕ → Bool) (apart : Apart) (ghosts : Id → Bool) (heap : List Object) (m : Mode) (k : List (Frame Value)) (vs : List Value)
-    → OperandSeeks types shuns apart ghosts heap m (frame.Confines ∷ k) vs
-confined_seeks types shuns apart ghosts heap Running k [] = tt
-confined_seeks types shuns apart ghosts heap Running k (Null ∷ vs) = tt
-confined_seeks types shuns apart ghosts heap Running k (Names o ∷ vs) = λ x at. tt
-confined_seeks types shuns apart ghosts heap Running k (Scalar v ∷ vs) = tt
-confined_seeks types shuns apart ghosts heap Running k (Part o place ∷ vs) = tt
-confined_seeks types shuns apart ghosts heap (Raising e) k vs = tt
-confined_seeks types shuns apart ghosts heap Exiting k vs = tt
-confined_seeks types shuns apart ghosts heap Returning k vs = tt
+module _ (types : List TypeForm) (shuns : ℕ → Bool) (apart : Apart) (ghosts : Id → Bool) where
+  -- From no object anything is sought behind an operation.
+  operation_seeks : (may : Bool) (access : ℕ) (f : Frame Value) (k : List (Frame Value)) → typed.is_operation f ≡ true → Seeks types shuns apart may access (f ∷ k)
+  operation_seeks may access (frame.Awaits v by done of part tasks) k is = tt
+  operation_seeks may access frame.Confines k is = tt
+  operation_seeks may access f k is = absurd (cc)
+
+  -- Nothing is sought there.
+  waiting_seeks :
+      (heap : List Object) (m : Mode) (f : Frame Value) (k : List (Frame Value)) (vs : List Value) → typed.is_operation f ≡ true
+      → OperandSeeks types shuns apart ghosts heap m (f ∷ k) vs
+  waiting_seeks heap Running f k [] is = tt
+  waiting_seeks heap Running f k (Null ∷ vs) is = tt
+  waiting_seeks heap Running f k (Names o ∷ vs) is = λ x at. operation_seeks (not (ghosts o)) x.cell.access f k is
+  waiting_seeks heap Running f k (Scalar v ∷ vs) is = tt
+  waiting_seeks heap Running f k (Part o place ∷ vs) is = tt
+  waiting_seeks heap (Raising e) f k vs is = tt
+  waiting_seeks heap Exiting f k vs is = tt
+  waiting_seeks heap Returning f k vs is = tt
 
 -- What is treated first makes what is left no shorter.
 treated_longer :
@@ -41,36 +49,44 @@ treated_longer v treatment (task ∷ tasks) k = omega arith
 module _ (p : ProgramForm) (shuns : ℕ → Bool) (apart : Apart) (ghosts unnamed : Id → Bool) (behind : List (Frame Value)) where
   -- The bodies that wait for an operation go on behind it, unless that is behind all of them.
   inner_bodies :
-      (k : List (Frame Value)) (suspended : List (Activation Value)) (left : Type 0) → (frame.Confines ∷ k ≡ behind → ⊥)
-      → IsLast behind (frame.Returns [] []) (frame.Confines ∷ k) ⊎ IsInner ghosts unnamed (frame.Returns [] []) (frame.Confines ∷ k) suspended left
-      → IsInner ghosts unnamed (frame.Returns [] []) (frame.Confines ∷ k) suspended left
-  inner_bodies k suspended left inside (inl last) = absurd (inside (ap older last))
-  inner_bodies k suspended left inside (inr inner) = inner
+      (f : Frame Value) (k : List (Frame Value)) (suspended : List (Activation Value)) (left : Type 0) → (f ∷ k ≡ behind → ⊥)
+      → IsLast behind (frame.Returns [] []) (f ∷ k) ⊎ IsInner ghosts unnamed (frame.Returns [] []) (f ∷ k) suspended left
+      → IsInner ghosts unnamed (frame.Returns [] []) (f ∷ k) suspended left
+  inner_bodies f k suspended left inside (inl last) = absurd (inside (ap older last))
+  inner_bodies f k suspended left inside (inr inner) = inner
 
   -- The body of an operation has begun inside such bodies: they go on behind it, unless that is behind all of them.
-  pub behind_reaches :
-      (procedure : ℕ) (b : BodyForm) (reference : Value) (k : List (Frame Value)) (s : State) → (frame.Confines ∷ k ≡ behind → ⊥)
-      → IsReaching p shuns apart ghosts unnamed behind (operating named procedure b reference (frame.Confines ∷ k) s)
-      → IsReaching p shuns apart ghosts unnamed behind (record s { control = frame.Confines ∷ k })
-  behind_reaches procedure b reference k s inside reaching =
+  pub waiting_reaches :
+      (procedure : ℕ) (b : BodyForm) (reference : Value) (f : Frame Value) (k : List (Frame Value)) (s : State) → typed.is_operation f ≡ true
+      → (f ∷ k ≡ behind → ⊥) → IsReaching p shuns apart ghosts unnamed behind (operating named procedure b reference (f ∷ k) s)
+      → IsReaching p shuns apart ghosts unnamed behind (record s { control = f ∷ k })
+  waiting_reaches procedure b reference f k s is inside reaching =
       let inner =
-      inner_bodies k s.activations
-      (LeftShuns p shuns apart ghosts unnamed behind (procedure_of s.activations) (frame.Confines ∷ k) (older s.activations)) inside reaching.control.2 in
+      inner_bodies f k s.activations (LeftShuns p shuns apart ghosts unnamed behind (procedure_of s.activations) (f ∷ k) (older s.activations)) inside
+      reaching.control.2 in
       record {
         ghosts_there = reaching.ghosts_there;
         are_ghosts = reaching.are_ghosts;
         places = inner.places;
         operands = inner.operands;
         control = inner.others;
-        seeks = confined_seeks p.types shuns apart ghosts s.heap s.mode k (operands_of s.activations);
+        seeks = waiting_seeks p.types shuns apart ghosts s.heap s.mode f k (operands_of s.activations) is;
       }
 
-  -- So they do, whatever happens meanwhile to other objects than the ghosts.
-  pub reaching_kept :
-      (k : List (Frame Value)) (s after : State) → s.control ≡ frame.Confines ∷ k → after.control ≡ s.control → after.activations ≡ s.activations
-      → GhostsStay ghosts s.heap after.heap → IsReaching p shuns apart ghosts unnamed behind s → IsReaching p shuns apart ghosts unnamed behind after
-  reaching_kept k s after first same active stay reaching = record {
-    ghosts_there = λ o is. subst (λ (found : Option Object). IsGhost p.types shuns (unnamed o) found) (sym (stay o is)) (reaching.ghosts_there o is);
+  -- So it is behind the body of a Finalize.
+  pub behind_reaches :
+      (procedure : ℕ) (b : BodyForm) (reference : Value) (k : List (Frame Value)) (s : State) → (frame.Confines ∷ k ≡ behind → ⊥)
+      → IsReaching p shuns apart ghosts unnamed behind (operating named procedure b reference (frame.Confines ∷ k) s)
+      → IsReaching p shuns apart ghosts unnamed behind (record s { control = frame.Confines ∷ k })
+  behind_reaches procedure b reference k s inside reaching = waiting_reaches procedure b reference frame.Confines k s refl inside reaching
+
+  -- They go on so, whatever happens meanwhile to other objects than the ghosts.
+  pub waiting_kept :
+      (f : Frame Value) (k : List (Frame Value)) (s after : State) → typed.is_operation f ≡ true → s.control ≡ f ∷ k → after.control ≡ s.control
+      → after.activations ≡ s.activations → GhostsStay ghosts s.heap after.heap → IsReaching p shuns apart ghosts unnamed behind s
+      → IsReaching p shuns apart ghosts unnamed behind after
+  waiting_kept f k s after is first same active stay reaching = record {
+    ghosts_there = λ o is_ghost. subst (λ (found : Option Object). IsGhost p.types shuns (unnamed o) found) (sym (stay o is_ghost)) (reaching.ghosts_there o is_ghost);
     are_ghosts = reaching.are_ghosts;
     places = subst (λ (acts : List (Activation Value)). AreElsewhere ghosts unnamed (places_of acts)) (sym active) reaching.places;
     operands = subst (λ (acts : List (Activation Value)). AreElsewhere ghosts unnamed (operands_of acts)) (sym active) reaching.operands;
@@ -82,8 +98,14 @@ module _ (p : ProgramForm) (shuns : ℕ → Bool) (apart : Apart) (ghosts unname
     seeks =
         subst (λ (left : List (Frame Value)). OperandSeeks p.types shuns apart ghosts after.heap after.mode left (operands_of after.activations))
         (sym (same ∙ first))
-        (confined_seeks p.types shuns apart ghosts after.heap after.mode k (operands_of after.activations));
+        (waiting_seeks p.types shuns apart ghosts after.heap after.mode f k (operands_of after.activations) is);
   }
+
+  -- So it is behind the body of a Finalize.
+  pub reaching_kept :
+      (k : List (Frame Value)) (s after : State) → s.control ≡ frame.Confines ∷ k → after.control ≡ s.control → after.activations ≡ s.activations
+      → GhostsStay ghosts s.heap after.heap → IsReaching p shuns apart ghosts unnamed behind s → IsReaching p shuns apart ghosts unnamed behind after
+  reaching_kept k s after first same active stay reaching = waiting_kept frame.Confines k s after refl first same active stay reaching
 
   -- An object of which a part is finalized, and which ends behind that, is no ghost.
   pub ends_other :
@@ -104,7 +126,16 @@ module _ (p : ProgramForm) (shuns : ℕ → Bool) (apart : Apart) (ghosts unname
       omega (arith, longer)
   left_longer procedure (f ∷ k) suspended left = let longer = left_longer procedure k suspended left.2 in omega (arith, longer)
 
-  -- So an operation of an object that they treat is not behind all of them.
+  -- So an operation for which they wait is not behind all of them.
+  pub waiting_inside :
+      (f : Frame Value) (procedure : Option ℕ) (k : List (Frame Value)) (suspended : List (Activation Value))
+      → LeftShuns p shuns apart ghosts unnamed behind procedure k suspended → f ∷ k ≡ behind → ⊥
+  waiting_inside f procedure k suspended left same =
+      let longer = left_longer procedure k suspended left in
+      let lengths = ap length same in
+      omega (arith, longer, lengths)
+
+  -- Nor is a Finalize of an object that they treat.
   pub treating_inside :
       (v : Value) (treatment : Treatment) (tasks : List Task) (procedure : Option ℕ) (k : List (Frame Value)) (suspended : List (Activation Value))
       → LeftShuns p shuns apart ghosts unnamed behind procedure k suspended → frame.Confines ∷ treating v treatment tasks k ≡ behind → ⊥

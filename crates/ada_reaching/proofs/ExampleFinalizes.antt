@@ -90,9 +90,14 @@ drops_well : IsWellFormed (program_form drops)
 unfolding expression_form stmt_form
 drops_well = well_by (program_form drops) refl refl
 
--- Drop and Finalize may be called, and objects of Owner be freed.
+-- Drop and Finalize may be called, and objects of Owner be freed, but not allocated.
 abbrev beside : Apart
-beside = record { calls = λ procedure. (procedure == 0) || (procedure == 2); ends = λ access. access == 3; definitions = box_types }
+beside = record {
+  calls = λ procedure. (procedure == 0) || (procedure == 2);
+  ends = λ access. access == 3;
+  starts = λ access. false;
+  definitions = box_types;
+}
 
 -- What holds of the first procedure and of the third one holds of those.
 of_both : (P : ℕ → Type 0) → P 0 → P 2 → (procedure : ℕ) → beside.calls procedure ≡ true → P procedure
@@ -120,7 +125,11 @@ both_apart shunned one other = record {
       of_both (λ n. slice_get (program_form drops).bodies n ≡ Some b → body_shuns (program_form drops).types shunned beside b ≡ true)
       (found_shuns (program_form drops) shunned beside (body_form drop_box) b (Some (body_form drop_box)) refl one)
       (found_shuns (program_form drops) shunned beside (body_form finalize_box) b (Some (body_form finalize_box)) refl other) procedure among;
-  operations = λ access of part number tasks ends left overrides. ap beside.calls (overrides_third of number overrides);
+  operations = record {
+    finalizes = λ access of part number tasks ends left overrides. ap beside.calls (overrides_third of number overrides);
+    initializes = λ access of part number starts begun overrides. absurd (cc starts);
+    undoes = λ access of part number starts begun overrides. absurd (cc starts);
+  };
 }
 
 -- They shun Near,
@@ -191,7 +200,7 @@ finalization_is_met = (
             places = (refl, tt);
             operands = tt;
             control = (
-              (refl, (3, refl, whole)),
+              (refl, (3, inl (refl, whole))),
               refl,
               (refl, refl, (refl, refl, (tt, refl, done_shun (program_form drops) beside ghosts none_unnamed _ _ _ _ (refl, (refl, tt))))),
             );

@@ -160,9 +160,9 @@ well_by p tables rest =
 abbrev pub shuns : ℕ → Bool
 shuns access = access == 1
 
--- They call the first procedure alone, and free no object with controlled parts,
+-- They call the first procedure alone, and free and allocate no object with controlled parts,
 abbrev pub apart : List TypeDefinition → Apart
-apart definitions = record { calls = λ procedure. procedure == 0; ends = λ access. false; definitions = definitions }
+apart definitions = record { calls = λ procedure. procedure == 0; ends = λ access. false; starts = λ access. false; definitions = definitions }
 
 -- What is found is the one body that does so,
 pub found_shuns :
@@ -181,7 +181,11 @@ calls_first p definitions own own_is shunned does = record {
   bodies = λ procedure b is found.
       found_shuns p shunned (apart definitions) own b (slice_get p.bodies 0) own_is does
       (subst (λ (n : ℕ). slice_get p.bodies n ≡ Some b) (eqb-true procedure 0 is) found);
-  operations = λ access of part number tasks ends left overrides. absurd (cc ends);
+  operations = record {
+    finalizes = λ access of part number tasks ends left overrides. absurd (cc ends);
+    initializes = λ access of part number starts begun overrides. absurd (cc starts);
+    undoes = λ access of part number starts begun overrides. absurd (cc starts);
+  };
 }
 
 -- A procedure does no deed that is not found in it and its calls.

@@ -1,8 +1,8 @@
 -- Forms of a body that shuns some access types: what is evaluated, and what is allocated.
 
-use Rattle.std.proofs.Common.{◌≡◌, ℕ, Bool, true, false, not, List, [], ◌∷◌, drop, map, Option, Some, None, Result, Ok, Err, refl, sym, ap, ◌∙◌, subst}
+use Rattle.std.proofs.Common.{◌≡◌, ℕ, Bool, true, false, not, ◌||◌, List, [], ◌∷◌, drop, map, Option, Some, None, Result, Ok, Err, refl, sym, ap, ◌∙◌, subst, inl, inr}
 use Rattle.std.specs.List.{list_all}
-use Rattle.std.proofs.lemmas.Bool.{and_parts}
+use Rattle.std.proofs.lemmas.Bool.{and_parts, or_cases}
 use Rattle.ada_values.specs.declared.operator.BinaryOperator.{BinaryOperator}
 use Rattle.ada_values.specs.declared.fault.OperatorFault.{OperatorFault}
 use Rattle.ada_values.specs.declared.fault.OperatorFault.TheVariants.{Overflow, DivisionByZero, WrongType}
@@ -18,20 +18,24 @@ use Rattle.ada_meaning.specs.declared.event.Birth.TheVariants.{Creation}
 use Rattle.ada_meaning.specs.declared.state.Mode.TheVariants.{Raising}
 use Rattle.ada_meaning.specs.declared.state.Value.{Value}
 use Rattle.ada_meaning.specs.declared.state.Value.TheVariants.{Null}
+use Rattle.ada_meaning.specs.Event.{Quiet}
 use Rattle.ada_meaning.specs.Frame.{Treatment, begins}
 use Rattle.ada_meaning.specs.Frame as frame
 use Rattle.ada_meaning.specs.Heap.{Cell, Found, on_null, on_gone, on_other, finds}
 use Rattle.ada_meaning.specs.State.{Destination, counted}
-use Rattle.ada_meaning.specs.Step.{with_operands, all_tasks, treating, at, operands, set_operands, in_front, newest, record_in, expression_next, null_test_next, is_decided, link_next, links_next, outcome_next, items_next, copied_next, copies_next, initial_values, initialized, new_cell, answered, new_next, right_next}
+use Rattle.ada_meaning.specs.Step.{moves, with_operands, all_tasks, treating, treated_on, at, operands, set_operands, in_front, newest, record_in, expression_next, null_test_next, is_decided, link_next, links_next, outcome_next, items_next, copied_next, copies_next, initial_values, initialized, new_cell, answered, new_next, right_next}
 use Rattle.ada_meaning.specs.Named.{State, named, look, an_integer, a_boolean, created, create, reads_boolean}
 use Rattle.ada_quiet.specs.Bare.{has_bare_objects}
+use Rattle.ada_untouched.specs.Untouched.{IsInSight}
+use Rattle.ada_reaching.specs.Apart.{IsLeftOf, whole}
 use Rattle.ada_reaching.specs.Reaching.{IsElsewhere, AreElsewhere, begins_anew}
-use Rattle.ada_reaching.specs.Forms.{may_follow, path_shuns, expression_shuns, links_shun, item_shuns, right_shuns}
+use Rattle.ada_reaching.specs.Forms.{may_follow, may_start, path_shuns, expression_shuns, links_shun, item_shuns, right_shuns}
 use Rattle.ada_reaching.proofs.Elsewhere.{elsewhere_drop, elsewhere_in_front, record_elsewhere, initial_elsewhere}
 use Rattle.ada_reaching.proofs.Going.{World, variables_in, Runs, Left, On, Goes, operands_run, created_run, stays, gives, jumps}
-use Rattle.ada_reaching.proofs.Paths.{found_there, new_elsewhere, values_elsewhere, Sound, Fine, named_goes, record_goes}
+use Rattle.ada_reaching.proofs.Paths.{found_there, new_elsewhere, new_in_sight, values_elsewhere, Sound, Fine, named_goes, record_goes}
 use Rattle.ada_reaching.proofs.Rooted.{ExpressionIsRooted, ItemsAreRooted, RightIsRooted}
 use Rattle.ada_reaching.proofs.Selections.{bare_tasks}
+use Rattle.ada_reaching.proofs.Treats.{treating_left}
 
 module _ (w : World) where
   -- The bodies go on as an expression is evaluated.
@@ -146,7 +150,7 @@ module _ (w : World) where
         named_goes w path.selectors path.root root.0 s sound root.1 shun r h anew
     right_goes (allocates access items) s sound shun root r h anew =
         let both = and_parts _ _ shun in
-        stays w (at (frame.Fills items ∷ frame.Creates access (words_of tds access) ∷ s.control) s) r (both.1, refl, (both.0, anew, h)) refl
+        stays w (at (frame.Fills items ∷ frame.Creates access (words_of tds access) ∷ s.control) s) r (both.1, refl, (ap (λ (bare : Bool). bare || w.apart.starts access) both.0, anew, h)) refl
     right_goes (allocates_default access) s sound shun root r h anew =
         stays w (at (frame.Creates access (words_of tds access) ∷ s.control) (initialized named tds access s))
         (operands_run w (in_front (initial_values named (reached_of tds access)) (operands s)) s.activations s.heap
@@ -162,27 +166,41 @@ module _ (w : World) where
   untreated v treatment [] s none avoiding = avoiding
   untreated v treatment (task ∷ tasks) s none avoiding = absurd (cc)
 
-  module _ (tds : List TypeDefinition) (known : map type_form tds ≡ w.p.types) where
+  module _ (tds : List TypeDefinition) (known : map type_form tds ≡ w.p.types) (own : w.apart.definitions ≡ tds) where
+    -- The bodies go on as an object is there that has no controlled parts, or is initialized next.
+    started_goes :
+        (access : ℕ) (v : Value) (s : State) → may_start w.p.types w.apart access ≡ true → IsInSight w.ghosts v
+        → Goes w s (moves Quiet (treated_on named v (begins Creation []) (all_tasks tds access PartsFirst) s))
+    started_goes access v s may sight r h anew =
+        elim (or_cases (has_bare_objects w.p.types access) (w.apart.starts access) may) [
+          | inl bare ↦ untreated v (begins Creation []) (all_tasks tds access PartsFirst) s (bare_tasks tds w.p.types access PartsFirst known bare) (stays w s r h anew)
+          | inr starts ↦
+            let all : IsLeftOf w.apart.definitions PartsFirst access (all_tasks tds access PartsFirst) =
+            subst (λ (ts : List TypeDefinition). IsLeftOf w.apart.definitions PartsFirst access (all_tasks ts access PartsFirst)) own whole in
+            let left = treating_left w v (begins Creation []) (all_tasks tds access PartsFirst) s.control sight
+            (record { access = access; may = starts; created = refl; left = all; begun = tt }) h anew in
+            stays w (treated_on named v (begins Creation []) (all_tasks tds access PartsFirst) s) r left.0 left.1
+        ]
+
     -- The bodies go on as the request for the words of an object is granted or refused.
     answered_goes :
-        (access count words : ℕ) (home : Destination) (s : State) → has_bare_objects w.p.types access ≡ true → Runs w s
+        (access count words : ℕ) (home : Destination) (s : State) → may_start w.p.types w.apart access ≡ true → Runs w s
         → Left w s.control → begins_anew s.control ≡ true → (given : Bool) → On w (answered named tds access count words home s given)
-    answered_goes access count words home s bare r h anew true =
+    answered_goes access count words home s may r h anew true =
         let v = created s.heap words in
         let vs = drop count (operands s) in
         let cell = new_cell named tds access count home s in
         let after = create s.heap words cell in
         let t = record (set_operands (v ∷ vs) s) { allocated = counted s.allocated; heap = after } in
-        untreated v (begins Creation []) (all_tasks tds access PartsFirst) t (bare_tasks tds w.p.types access PartsFirst known bare)
-        (stays w t
+        started_goes access v t may (new_in_sight w s.heap r.same words)
         (created_run w words cell (with_operands (v ∷ vs) s.activations) s.heap
         (operands_run w (v ∷ vs) s.activations s.heap
-        (new_elsewhere w s.heap r.same words, elsewhere_drop w.ghosts w.unnamed count (operands s) r.operands) r)) h anew)
-    answered_goes access count words home s bare r h anew false = jumps w (Raising StorageError) s r h
+        (new_elsewhere w s.heap r.same words, elsewhere_drop w.ghosts w.unnamed count (operands s) r.operands) r)) h anew
+    answered_goes access count words home s may r h anew false = jumps w (Raising StorageError) s r h
 
     -- The bodies go on as the words of an object are asked for.
     pub new_goes :
-        (access count words : ℕ) (home : Option Destination) (s : State) → has_bare_objects w.p.types access ≡ true
+        (access count words : ℕ) (home : Option Destination) (s : State) → may_start w.p.types w.apart access ≡ true
         → Goes w s (new_next named tds access count words home s)
-    new_goes access count words None s bare r h anew = jumps w (Raising StorageError) s r h
-    new_goes access count words (Some home) s bare r h anew = answered_goes access count words home s bare r h anew
+    new_goes access count words None s may r h anew = jumps w (Raising StorageError) s r h
+    new_goes access count words (Some home) s may r h anew = answered_goes access count words home s may r h anew

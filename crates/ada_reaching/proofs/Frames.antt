@@ -36,7 +36,7 @@ use Rattle.ada_reaching.proofs.Assigns.{put_goes, target_goes, store_goes, recor
 use Rattle.ada_reaching.proofs.Calls.{AreParts, refers_goes, open_goes, opens_goes, begun_goes, returned_goes}
 use Rattle.ada_reaching.proofs.Statements.{decided_goes, repeats_go, turned_goes, counting_goes, ranges_go, exited_goes, line_goes, stmts_go, declarations_go}
 use Rattle.ada_reaching.proofs.Rooted.{FrameIsRooted}
-use Rattle.ada_reaching.proofs.Treats.{treats_goes}
+use Rattle.ada_reaching.proofs.Treats.{awaited_goes, treats_goes}
 
 -- What is sought from the newest operand is sought from the value that it is.
 pub newest_seeks :
@@ -183,7 +183,7 @@ module _ (w : World) where
     frame_goes (frame.Copies c record_type) s sound on parts h none root seeks r =
         copies_go w (newest named s) c (width_of tds record_type) (popped s) sound.filled (popped_runs w s r) h.2 h.1
     frame_goes (frame.Creates access count) s sound on parts h none root seeks r =
-        new_goes w tds known access count (words_of tds access) (home_of access s.masters) s h.0 r h.2 h.1
+        new_goes w tds known are_apart.own access count (words_of tds access) (home_of access s.masters) s h.0 r h.2 h.1
     frame_goes (frame.Stores x) s sound on parts h none root seeks r =
         put_goes w x (newest named s) (popped s) (elsewhere_first w.ghosts w.unnamed (operands s) r.operands) (popped_runs w s r) h.2 h.1
     frame_goes (frame.Targets c right) s sound on parts h none root seeks r =
@@ -206,9 +206,10 @@ module _ (w : World) where
     frame_goes (frame.DeclaresRecord x record_type) s sound on parts h none root seeks r = absurd (h.0)
     frame_goes (frame.Treats v treatment tasks) s sound on parts h none root seeks r =
         treats_goes w tds are_apart v treatment tasks s h.0.0 h.0.1 r h.2 h.1
-    frame_goes (frame.Awaits v by done of part tasks) s sound on parts h none root seeks r = absurd (h.0)
+    frame_goes (frame.Awaits v by done of part tasks) s sound on parts h none root seeks r =
+        awaited_goes w v by done of part tasks (look s.heap v) s h.0.0 h.0.1 r h.2 h.1
     frame_goes frame.Confines s sound on parts h none root seeks r = stays w s r h.2 h.1
-    frame_goes (frame.Resumes mode) s sound on parts h none root seeks r = absurd (h.0)
+    frame_goes (frame.Resumes mode) s sound on parts h none root seeks r = stays w (record s { mode = mode }) r h.2 h.1
     frame_goes frame.Writes s sound on parts h none root seeks r =
         line_goes w (reads_integer (newest named s)) (popped s) (popped_runs w s r) h.2 h.1
     frame_goes (frame.Ends v) s sound on parts h none root seeks r = end_goes v (look s.heap v) s h.0 r h.2 h.1

@@ -1,6 +1,6 @@
 -- What a body frees that shuns some access types (13.11.2).
 
-use Rattle.std.proofs.Common.{◌≡◌, ℕ, Bool, true, false, not, ◌&&◌, if◌then◌else◌, List, [], ◌∷◌, Option, Some, None, refl, sym, ap, ◌∙◌, subst}
+use Rattle.std.proofs.Common.{◌≡◌, ℕ, Bool, true, false, not, ◌&&◌, if◌then◌else◌, List, [], ◌∷◌, Option, Some, None, refl, sym, ap, ◌∙◌, subst, inl}
 use Rattle.std.specs.List.{slice_get}
 use Rattle.ada_program.specs.declared.program.Exception.TheVariants.{ConstraintError}
 use Rattle.ada_program.specs.declared.program.TypeDefinition.{TypeDefinition}
@@ -25,7 +25,7 @@ use Rattle.ada_meaning.specs.Step.{halts, moves, all_tasks, same_pool, held, pla
 use Rattle.ada_meaning.specs.Named.{Object, State, named, object_at, look, standing, standing_by, all_alive, parted}
 use Rattle.ada_typed.specs.Holding.{HasKind, cells_of}
 use Rattle.ada_untouched.specs.Untouched.{IsInSight}
-use Rattle.ada_reaching.specs.Apart.{whole}
+use Rattle.ada_reaching.specs.Apart.{IsLeftOf, whole}
 use Rattle.ada_reaching.specs.Reaching.{IsElsewhere, begins_anew}
 use Rattle.ada_reaching.specs.Forms.{may_follow, may_end, selectors_shun}
 use Rattle.ada_reaching.specs.Law.{GhostsStay, AllGoOn}
@@ -104,7 +104,9 @@ module _ (w : World) where
     freeing_goes false access v cell clears e s sight may r h anew = tt
     freeing_goes true access v cell clears e s sight may r h anew =
         let behind = frame.Ends v ∷ frame.GivesBack v (Freeing s.next) (Some (pool_freed_to (home_of access s.masters))) ∷ clears ∷ s.control in
-        let left = treating_left w tds own v (Freeing s.next) (all_tasks tds cell.access WholeFirst) behind sight (cell.access, may, whole)
+        let all : IsLeftOf w.apart.definitions WholeFirst cell.access (all_tasks tds cell.access WholeFirst) =
+        subst (λ (ts : List TypeDefinition). IsLeftOf w.apart.definitions WholeFirst cell.access (all_tasks ts cell.access WholeFirst)) own whole in
+        let left = treating_left w v (frame.ends (Freeing s.next)) (all_tasks tds cell.access WholeFirst) behind sight (cell.access, inl (may, all))
         (sight, refl, (sight, anew, h)) refl in
         stays w (freeing named tds access v cell clears s) (changed_run w parted v s.activations s.heap sight r) left.0 left.1
 

@@ -1,6 +1,6 @@
 -- Jumps in a body that shuns some access types, and each of its steps.
 
-use Rattle.std.proofs.Common.{◌≡◌, Bool, true, false, List, [], ◌∷◌, map, Some, refl, inl, inr}
+use Rattle.std.proofs.Common.{◌≡◌, ℕ, Bool, true, false, List, [], ◌∷◌, map, Some, refl, inl, inr}
 use Rattle.std.specs.Prelude.{if◌then◌else◌}
 use Rattle.std.proofs.lemmas.Bool.{and_parts}
 use Rattle.ada_program.specs.declared.program.Exception.{Exception}
@@ -8,13 +8,18 @@ use Rattle.ada_program.specs.declared.program.TypeDefinition.{TypeDefinition}
 use Rattle.ada_program.specs.Form.{ActualForm, HandlersForm, no_handlers, a_handler, no_stmts, a_stmt}
 use Rattle.ada_program.specs.Handling.{some_takes, handler_of}
 use Rattle.ada_program.specs.ProgramForm.{TypeForm, VariableForm, type_form}
+use Rattle.ada_parts.specs.Part.{Part}
+use Rattle.ada_meaning.specs.declared.event.Birth.{Birth}
+use Rattle.ada_meaning.specs.declared.event.Birth.TheVariants.{Creation, Copy, Adjustment}
 use Rattle.ada_meaning.specs.declared.state.Mode.{Mode}
 use Rattle.ada_meaning.specs.declared.state.Mode.TheVariants.{Running, Raising, Exiting, Returning}
 use Rattle.ada_meaning.specs.declared.state.Value.{Value}
 use Rattle.ada_meaning.specs.Frame.{Frame, is_loop, is_return, is_master, Landing, passes_on, goes_behind, goes_in, breaks_off, escapes, operation_landing, handler_landing, exception_landing, landing}
 use Rattle.ada_meaning.specs.Frame as frame
-use Rattle.ada_meaning.specs.Step.{operands, landed, unwound, pass_next}
-use Rattle.ada_meaning.specs.Named.{Object, State, named, next}
+use Rattle.ada_meaning.specs.Step.{operands, broken_next, broken_off, landed, unwound, pass_next}
+use Rattle.ada_meaning.specs.Named.{Object, State, named, look, next}
+use Rattle.ada_untouched.specs.Untouched.{IsInSight}
+use Rattle.ada_reaching.specs.Apart.{AreBegunIn}
 use Rattle.ada_reaching.specs.Reaching.{IsLast, FrameShuns, references_at}
 use Rattle.ada_reaching.specs.Forms.{statements_shun, handlers_shun}
 use Rattle.ada_reaching.specs.Law.{AreApart, FirstTakesNone, AllGoOn}
@@ -23,6 +28,7 @@ use Rattle.ada_reaching.proofs.Paths.{Sound}
 use Rattle.ada_reaching.proofs.Calls.{AreParts, left_goes, returned_goes}
 use Rattle.ada_reaching.proofs.Frames.{newest_seeks, frame_goes}
 use Rattle.ada_reaching.proofs.Rooted.{FrameIsRooted}
+use Rattle.ada_reaching.proofs.Treats.{undone_goes}
 
 -- A jump is on its way in this mode.
 abbrev pub IsJump : Mode → Type 0
@@ -41,15 +47,16 @@ module _ (w : World) where
   abbrev OneShuns : Frame Value → Type 0
   OneShuns f = FrameShuns w.p.types w.shuns w.apart w.p.bodies w.ghosts (variables_in w) f
 
-  -- A jump lands in statements that shun the types, if it lands in any, and comes out of no operation.
+  -- A jump lands in statements that shun the types, if it lands in any, or comes out of an operation that begins a part of an object that may be allocated (7.6).
   abbrev pub LandsShunning : Landing Value → Type 0
   LandsShunning (goes_in fs) = statements_shun w.p.types w.shuns w.apart (variables_in w) fs ≡ true
-  LandsShunning (breaks_off v by done) = ⊥
+  LandsShunning (breaks_off v by done) =
+      IsInSight w.ghosts v × (access : ℕ) × (w.apart.starts access ≡ true) × AreBegunIn w.apart.definitions access done
   LandsShunning l = Unit {0}
 
-  -- A jump comes out of no operation.
+  -- A jump comes out of such an operation alone.
   operation_lands : (f : Frame Value) → OneShuns f → LandsShunning (operation_landing f)
-  operation_lands (frame.Awaits v by done of part tasks) shun = absurd shun
+  operation_lands (frame.Awaits v by done of part tasks) shun = (shun.0, shun.1.starts.access, shun.1.starts.may, shun.1.starts.begun)
   operation_lands f shun = tt
 
   -- A jump lands behind a frame, or where it would land else.
@@ -75,7 +82,7 @@ module _ (w : World) where
   -- An exception lands in statements that shun the types, if it lands in any.
   exception_lands : (e : Exception) (f : Frame Value) → OneShuns f → LandsShunning (exception_landing e f)
   exception_lands e (frame.Handles hs) shun = handler_lands e hs shun
-  exception_lands e (frame.Awaits v by done of part tasks) shun = absurd shun
+  exception_lands e (frame.Awaits v by done of part tasks) shun = (shun.0, shun.1.starts.access, shun.1.starts.may, shun.1.starts.begun)
   exception_lands e f shun = tt
 
   -- So it is with a jump in any mode.
@@ -92,6 +99,21 @@ module _ (w : World) where
   jump_seeks heap Exiting k vs is = tt
   jump_seeks heap Returning k vs is = tt
 
+  -- The bodies go on as an exception comes out of an operation: out of an Initialize (7.6.1), since that of an Adjust ends the run.
+  broken_goes :
+      (e : Exception) (v : Value) (by : Birth) (done : List Part) (s : State) → LandsShunning (breaks_off v by done) → Goes w s (broken_next named e v by done s)
+  broken_goes e v Creation done s shuns r h anew = undone_goes w e v shuns.1 done (look s.heap v) s shuns.0 shuns.2 shuns.3 r h anew
+  broken_goes e v Copy done s shuns r h anew = tt
+  broken_goes e v (Adjustment number) done s shuns r h anew = tt
+
+  -- So they do as a jump does: no other leaves an operation so.
+  broken_off_goes :
+      (m : Mode) (v : Value) (by : Birth) (done : List Part) (s : State) → LandsShunning (breaks_off v by done) → Goes w s (broken_off named m v by done s)
+  broken_off_goes Running v by done s shuns r h anew = tt
+  broken_off_goes (Raising e) v by done s shuns r h anew = broken_goes e v by done s shuns r h anew
+  broken_off_goes Exiting v by done s shuns r h anew = tt
+  broken_off_goes Returning v by done s shuns r h anew = tt
+
   -- The bodies go on as a jump lands.
   landed_goes : (l : Landing Value) (m : Mode) (s : State) → LandsShunning l → Goes w s (landed named l m s)
   landed_goes passes_on m s shuns r h anew = stays w s r h anew
@@ -99,7 +121,7 @@ module _ (w : World) where
   landed_goes (goes_in no_stmts) m s shuns r h anew = tt
   landed_goes (goes_in (a_stmt f fs)) m s shuns r h anew =
       stays w (record s { control = frame.Does (a_stmt f fs) ∷ s.control; mode = Running }) r (shuns, anew, h) refl
-  landed_goes (breaks_off v by done) m s shuns r h anew = absurd shuns
+  landed_goes (breaks_off v by done) m s shuns r h anew = broken_off_goes m v by done s shuns r h anew
   landed_goes escapes m s shuns r h anew = tt
 
   -- The bodies go on as a master stops a jump, or the jump lands.

@@ -10,12 +10,12 @@ pub mod Going
 pub mod Paths
 -- paths that lead somewhere
 pub mod Rooted
--- forms
-pub mod Forms
 -- where bodies begin
 pub mod Begins
--- finalizations
+-- initializations and finalizations
 pub mod Treats
+-- forms
+pub mod Forms
 -- frees
 pub mod Frees
 -- assignments, and what is read
@@ -44,3 +44,5 @@ pub mod Example
 pub mod ExampleCopies
 -- it is met where a freed object is finalized
 pub mod ExampleFinalizes
+-- and where one that is allocated is initialized
+pub mod ExampleInitializes

@@ -161,6 +161,16 @@ module _ (w : World) where
         let none : object_at heap o ≡ None = slice_get_past heap (length heap) (omega (arith)) in
         let there = ghost.there in absurd (cc (none, there)))
 
+    -- Nor is it a ghost.
+    pub new_in_sight : (words : ℕ) → IsInSight w.ghosts (created heap words)
+    new_in_sight words =
+        let o : Id = record { 0 = length heap } in
+        by_ghost o (w.ghosts o) refl
+        (λ is.
+        let ghost = object_there w heap same o is in
+        let none : object_at heap o ≡ None = slice_get_past heap (length heap) (omega (arith)) in
+        let there = ghost.1 in absurd (cc (none, there)))
+
     -- What a component of an object holds refers to no ghost.
     pub component_elsewhere :
         (kind : ComponentKind) (v : Value) → kind_fits w.p.types kind ≡ true → HasKind w.p.types (cells_of heap) (held_kind kind) v

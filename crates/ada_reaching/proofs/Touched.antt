@@ -172,15 +172,15 @@ module _ (w : World) (s : State) (sound : Sound w s) (r : Runs w s) where
     component_open (newest named s) c (look s.heap (newest named s)) refl (λ o x e at. (seeks o x e at).1),
   )
   frame_open (frame.Treats v treatment tasks) k h root seeks none = h.0.0
-  frame_open (frame.Awaits v by done of part tasks) k h root seeks none = absurd (h.0)
+  frame_open (frame.Awaits v by done of part tasks) k h root seeks none = h.0.0
   frame_open (frame.Ends v) k h root seeks none = h.0
   frame_open (frame.GivesBack v cause pool) k h root seeks none = h.0
   frame_open (frame.ClearsIn v c) k h root seeks none = h.0
   frame_open f k h root seeks none = tt
 
-  -- A jump looks at no object.
+  -- A jump looks at no ghost.
   jump_open : (f : Frame Value) (k : List (Frame Value)) → Left w (f ∷ k) → JumpIsOpen none_hidden w.ghosts s f
-  jump_open (frame.Awaits v by done of part tasks) k h = absurd (h.0)
+  jump_open (frame.Awaits v by done of part tasks) k h = h.0.0
   jump_open f k h = tt
 
   -- The first of what is left to do looks at no ghost, in any mode.

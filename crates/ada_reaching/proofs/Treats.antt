@@ -1,33 +1,41 @@
--- What is finalized of what a body frees that shuns some access types (7.6.1, 13.11.2): the operations of such objects have bodies that shun them, too.
+-- What is finalized of what a body frees that shuns some access types (7.6.1, 13.11.2), and what is initialized of what it allocates (7.6, 4.8): the operations of such
+-- objects have bodies that shun them, too.
 
-use Rattle.std.proofs.Common.{◌≡◌, ℕ, Bool, true, false, if◌then◌else◌, List, [], ◌∷◌, length, Option, Some, None, refl, sym, subst}
+use Rattle.std.proofs.Common.{◌≡◌, ℕ, Bool, true, false, if◌then◌else◌, List, [], ◌∷◌, length, map, Option, Some, None, refl, subst, inl, inr}
 use Rattle.std.specs.Prelude.{◌==◌}
 use Rattle.std.specs.List.{slice_get}
+use Rattle.ada_program.specs.declared.program.Exception.{Exception}
 use Rattle.ada_program.specs.declared.program.TypeDefinition.{TypeDefinition}
 use Rattle.ada_program.specs.Controlled.{operations_of, procedure_number, shapes_of}
 use Rattle.ada_program.specs.ProgramForm.{BodyForm}
-use Rattle.ada_parts.specs.declared.tasks.Direction.TheVariants.{WholeFirst}
+use Rattle.ada_parts.specs.declared.tasks.Component.{Component}
+use Rattle.ada_parts.specs.declared.tasks.Direction.TheVariants.{PartsFirst, WholeFirst}
+use Rattle.ada_parts.specs.Part as parts
 use Rattle.ada_parts.specs.Task.{Task, performs, treats, next as task_next}
+use Rattle.ada_meaning.specs.declared.event.Birth.{Birth}
 use Rattle.ada_meaning.specs.declared.event.Cause.{Cause}
+use Rattle.ada_meaning.specs.declared.event.Cause.TheVariants.{Undoing}
 use Rattle.ada_meaning.specs.declared.event.Halt.TheVariants.{Erroneous, Stuck}
 use Rattle.ada_meaning.specs.declared.event.Why.TheVariants.{FinalizesTwice}
 use Rattle.ada_meaning.specs.declared.state.Id.{Id}
+use Rattle.ada_meaning.specs.declared.state.Mode.TheVariants.{Raising}
 use Rattle.ada_meaning.specs.declared.state.Place.{Place}
 use Rattle.ada_meaning.specs.declared.state.Value.{Value}
 use Rattle.ada_meaning.specs.declared.state.Value.TheVariants.{Null, Names, Scalar, Part}
-use Rattle.ada_meaning.specs.Event.{Event, Finalized}
+use Rattle.ada_meaning.specs.Event.{Event, Finalized, Quiet}
 use Rattle.ada_meaning.specs.Frame.{Frame, Treatment, begins, ends}
 use Rattle.ada_meaning.specs.Frame as frame
 use Rattle.ada_meaning.specs.Heap.{Cell, Found, PartState, on_null, on_gone, on_other, finds}
-use Rattle.ada_meaning.specs.Step.{halts, picks, at, treating, treated_on, picked_task, operation_next, part_reference, ended_next, finalized_next, performed_next, treats_next}
-use Rattle.ada_meaning.specs.Named.{Object, State, named, look, refer, treated, finalized_part, finalize}
+use Rattle.ada_meaning.specs.State.{counted}
+use Rattle.ada_meaning.specs.Step.{halts, picks, at, treating, treated_on, picked_task, direction_of, beginning, with_operands, operation_next, part_reference, born_next, awaited_next, begun_next, undone, undo_next, ended_next, finalized_next, performed_next, treats_next}
+use Rattle.ada_meaning.specs.Named.{Object, State, named, look, refer, treated, born_part, finalized_part, bear, finalize, parted}
 use Rattle.ada_untouched.specs.Untouched.{IsInSight}
-use Rattle.ada_reaching.specs.Apart.{IsLeftOf, picked, called}
+use Rattle.ada_reaching.specs.Apart.{AreBegunIn, AreUndoneIn, IsBegunIn, IsLeftOf, picked, called}
 use Rattle.ada_reaching.specs.Forms.{body_shuns}
-use Rattle.ada_reaching.specs.Reaching.{EndsApart, IsElsewhere, begins_anew}
+use Rattle.ada_reaching.specs.Reaching.{AwaitsApart, EndsApart, IsElsewhere, StartsApart, TreatsApart, begins_anew}
 use Rattle.ada_reaching.specs.Law.{AreApart, AllGoOn}
 use Rattle.ada_reaching.proofs.Begins.{beginning_goes}
-use Rattle.ada_reaching.proofs.Going.{World, Runs, Left, On, Goes, changed_run, stays}
+use Rattle.ada_reaching.proofs.Going.{World, Runs, Left, On, Goes, changed_run, operands_run, stays}
 
 -- What refers to a part of an object that is found refers to no ghost, where the object is none.
 part_elsewhere :
@@ -44,27 +52,154 @@ module _ (w : World) where
       (procedure : ℕ) (found : Option BodyForm) (reference : Value) (k : List (Frame Value)) (e : Event Value) (s : State)
       → slice_get w.p.bodies procedure ≡ found → ((b : BodyForm) → found ≡ Some b → body_shuns w.p.types w.shuns w.apart b ≡ true)
       → IsElsewhere w.ghosts w.unnamed reference → Runs w s → Left w k → begins_anew k ≡ true
-      → AllGoOn (On w) (operation_next named procedure found reference (frame.Confines ∷ k) e s)
+      → AllGoOn (On w) (operation_next named procedure found reference k e s)
   operation_goes procedure None reference k e s is shun other r h anew = tt
   operation_goes procedure (Some b) reference k e s is shun other r h anew =
-      beginning_goes w procedure b (reference ∷ []) [] [] (frame.Confines ∷ k) s.activations s is (shun b refl) (other, tt) tt r (tt, anew, h) refl
+      beginning_goes w procedure b (reference ∷ []) [] [] k s.activations s is (shun b refl) (other, tt) tt r h anew
+
+  -- An object is initialized or finalized so in front of what shuns the types.
+  pub treating_left :
+      (v : Value) (treatment : Treatment) (tasks : List Task) (k : List (Frame Value)) → IsInSight w.ghosts v → TreatsApart w.apart treatment tasks → Left w k
+      → begins_anew k ≡ true → Left w (treating v treatment tasks k) × (begins_anew (treating v treatment tasks k) ≡ true)
+  treating_left v treatment [] k sight left h anew = (h, anew)
+  treating_left v treatment (task ∷ tasks) k sight left h anew = (((sight, left), anew, h), refl)
+
+  -- The bodies go on as a part comes to have a value (7.6).
+  born_goes :
+      (v : Value) (by : Birth) (done : List parts.Part) (of part : ℕ) (tasks : List Task) (found : Option PartState) (s : State) → IsInSight w.ghosts v
+      → AwaitsApart w.apart by done of part tasks → Goes w s (born_next named v by done of part tasks found s)
+  born_goes v by done of part tasks None s sight left r h anew = tt
+  born_goes v by done of part tasks (Some state) s sight left r h anew =
+      let more = record { of = of; number = part } ∷ done in
+      let starts : StartsApart w.apart by more tasks = record {
+        access = left.starts.access;
+        may = left.starts.may;
+        created = left.starts.created;
+        left = left.starts.left;
+        begun = (left.begins, left.starts.begun);
+      } in
+      let behind = treating_left v (begins by more) tasks s.control sight starts h anew in
+      stays w (treated_on named v (begins by more) tasks (record s { born = counted s.born; heap = bear s.heap v part (counted s.born) }))
+      (changed_run w (treated (born_part (counted s.born)) part) v s.activations s.heap sight r) behind.0 behind.1
+
+  -- So they do once the operation has ended that begins it.
+  pub awaited_goes :
+      (v : Value) (by : Birth) (done : List parts.Part) (of part : ℕ) (tasks : List Task) (found : Found (Cell Value)) (s : State) → IsInSight w.ghosts v
+      → AwaitsApart w.apart by done of part tasks → Goes w s (awaited_next named v by done of part tasks found s)
+  awaited_goes v by done of part tasks on_null s sight left r h anew = tt
+  awaited_goes v by done of part tasks on_gone s sight left r h anew = tt
+  awaited_goes v by done of part tasks on_other s sight left r h anew = tt
+  awaited_goes v by done of part tasks (finds cell) s sight left r h anew =
+      born_goes v by done of part tasks (slice_get cell.parts part) s sight left r h anew
+
+  -- The parts are left to be finalized that have begun (7.6.1).
+  undone_left :
+      (access : ℕ) (done : List parts.Part) → AreBegunIn w.apart.definitions access done
+      → AreUndoneIn w.apart.definitions access (map (λ (p : parts.Part). performs p.of p.number) done)
+  undone_left access [] begun = tt
+  undone_left access (p ∷ ps) begun = (begun.0, undone_left access ps begun.1)
+
+  -- The bodies go on as an exception comes out of an Initialize, by what is found of the object: what has begun of it is finalized, and the object ceases to exist.
+  pub undone_goes :
+      (e : Exception) (v : Value) (access : ℕ) (done : List parts.Part) (found : Found (Cell Value)) (s : State) → IsInSight w.ghosts v
+      → w.apart.starts access ≡ true → AreBegunIn w.apart.definitions access done → Goes w s (undo_next named e v done found s)
+  undone_goes e v access done on_null s sight may begun r h anew = tt
+  undone_goes e v access done on_gone s sight may begun r h anew = tt
+  undone_goes e v access done on_other s sight may begun r h anew = tt
+  undone_goes e v access done (finds cell) s sight may begun r h anew =
+      let behind = frame.Ends v ∷ frame.GivesBack v (Undoing s.next) cell.home.pool ∷ frame.Resumes (Raising e) ∷ s.control in
+      let left = treating_left v (ends (Undoing s.next)) (map (λ (p : parts.Part). performs p.of p.number) done) behind sight
+      (access, inr (may, undone_left access done begun)) (sight, refl, (sight, refl, (tt, anew, h))) refl in
+      stays w (undone named e v done cell s)
+      (changed_run w parted v (with_operands [] s.activations) s.heap sight (operands_run w [] s.activations s.heap tt r)) left.0 left.1
 
   module _ (tds : List TypeDefinition) (own : w.apart.definitions ≡ tds) where
-    -- What is left of an object is that of the finalization of one that the bodies may free.
-    abbrev pub AreLeft : List Task → Type 0
-    AreLeft tasks = (access : ℕ) × (w.apart.ends access ≡ true) × IsLeftOf tds access tasks
-
-    -- An object is finalized so in front of what shuns the types.
-    pub treating_left :
-        (v : Value) (cause : Cause) (tasks : List Task) (k : List (Frame Value)) → IsInSight w.ghosts v → AreLeft tasks → Left w k → begins_anew k ≡ true
-        → Left w (treating v (ends cause) tasks k) × (begins_anew (treating v (ends cause) tasks k) ≡ true)
-    treating_left v cause [] k sight left h anew = (h, anew)
-    treating_left v cause (task ∷ tasks) k sight left h anew = (
-      ((sight, (left.0, left.1, subst (λ (ts : List TypeDefinition). IsLeftOf ts left.0 (task ∷ tasks)) (sym own) left.2)), anew, h),
-      refl,
+    -- Once a component has been picked, what is left of a finalization is so.
+    ends_picked :
+        (components : List Component) (tasks : List Task) (i : ℕ) → EndsApart w.apart (treats components ∷ tasks)
+        → EndsApart w.apart (picked_task (shapes_of tds) WholeFirst (treats components ∷ tasks) i)
+    ends_picked components tasks i (access, inl (may, left)) = (
+      access,
+      inl (may,
+      subst (λ (ts : List TypeDefinition). IsLeftOf w.apart.definitions WholeFirst access (picked_task (shapes_of ts) WholeFirst (treats components ∷ tasks) i)) own
+      (picked i left)),
     )
+    ends_picked components tasks i (access, inr (may, undone)) = absurd undone
+
+    -- So is what is left of a treatment.
+    treats_picked :
+        (treatment : Treatment) (components : List Component) (tasks : List Task) (i : ℕ) → TreatsApart w.apart treatment (treats components ∷ tasks)
+        → TreatsApart w.apart treatment (picked_task (shapes_of tds) (direction_of treatment) (treats components ∷ tasks) i)
+    treats_picked (begins by done) components tasks i left = record {
+      access = left.access;
+      may = left.may;
+      created = left.created;
+      left =
+          subst
+          (λ (ts : List TypeDefinition). IsLeftOf w.apart.definitions PartsFirst left.access (picked_task (shapes_of ts) PartsFirst (treats components ∷ tasks) i))
+          own (picked i left.left);
+      begun = left.begun;
+    }
+    treats_picked (ends cause) components tasks i left = ends_picked components tasks i left
+
+    -- The bodies go on as one of so many components is picked.
+    picked_goes :
+        (none : Bool) (v : Value) (treatment : Treatment) (components : List Component) (tasks : List Task) (count : ℕ) (s : State) → IsInSight w.ghosts v
+        → TreatsApart w.apart treatment (treats components ∷ tasks)
+        → Goes w s (if none then halts Stuck
+        else picks count (λ i. treated_on named v treatment (picked_task (shapes_of tds) (direction_of treatment) (treats components ∷ tasks) i) s))
+    picked_goes true v treatment components tasks count s sight left r h anew = tt
+    picked_goes false v treatment components tasks count s sight left r h anew = λ i below.
+        let more = picked_task (shapes_of tds) (direction_of treatment) (treats components ∷ tasks) i in
+        let behind = treating_left v treatment more s.control sight (treats_picked treatment components tasks i left) h anew in
+        stays w (treated_on named v treatment more s) r behind.0 behind.1
+
+  -- Once a Finalize has been called, what is left is so.
+  ends_called : (of part : ℕ) (tasks : List Task) → EndsApart w.apart (performs of part ∷ tasks) → EndsApart w.apart tasks
+  ends_called of part tasks (access, inl (may, left)) = (access, inl (may, called left))
+  ends_called of part tasks (access, inr (may, undone)) = (access, inr (may, undone.1))
+
+  -- Behind an Initialize it is so, too.
+  starts_called :
+      (by : Birth) (done : List parts.Part) (of part : ℕ) (tasks : List Task) → StartsApart w.apart by done (performs of part ∷ tasks)
+      → AwaitsApart w.apart by done of part tasks
+  starts_called by done of part tasks left = record {
+    starts = record { access = left.access; may = left.may; created = left.created; left = called left.left; begun = left.begun };
+    begins = (tasks, left.left);
+  }
 
   module _ (tds : List TypeDefinition) (are_apart : AreApart w.p tds w.shuns w.apart) where
+    -- A Finalize that is called then shuns the types.
+    finalize_apart :
+        (of part number : ℕ) (tasks : List Task) → EndsApart w.apart (performs of part ∷ tasks)
+        → procedure_number (operations_of tds of).finalize ≡ Some number → w.apart.calls number ≡ true
+    finalize_apart of part number tasks (access, inl (may, left)) is =
+        are_apart.operations.finalizes access of part number tasks may
+        (subst (λ (ts : List TypeDefinition). IsLeftOf ts WholeFirst access (performs of part ∷ tasks)) are_apart.own left) is
+    finalize_apart of part number tasks (access, inr (may, undone)) is =
+        are_apart.operations.undoes access of part number may (subst (λ (ts : List TypeDefinition). IsBegunIn ts access of part) are_apart.own undone.0) is
+
+    -- So does an Initialize.
+    initialize_apart :
+        (by : Birth) (done : List parts.Part) (of part number : ℕ) (tasks : List Task) → StartsApart w.apart by done (performs of part ∷ tasks)
+        → beginning by (operations_of tds of) ≡ Some number → w.apart.calls number ≡ true
+    initialize_apart by done of part number tasks left is =
+        are_apart.operations.initializes left.access of part number left.may
+        (subst (λ (ts : List TypeDefinition). IsBegunIn ts left.access of part) are_apart.own (tasks, left.left))
+        (subst (λ (b : Birth). beginning b (operations_of tds of) ≡ Some number) left.created is)
+
+    -- The bodies go on as the Initialize of a part is called, or nothing is, where its type overrides none (7.6).
+    begun_goes :
+        (v : Value) (by : Birth) (done : List parts.Part) (of part : ℕ) (tasks : List Task) (operation : Option ℕ) (found : Option PartState) (cell : Cell Value)
+        (s : State) → look s.heap v ≡ finds cell → ((number : ℕ) → operation ≡ Some number → w.apart.calls number ≡ true) → IsInSight w.ghosts v
+        → AwaitsApart w.apart by done of part tasks → Goes w s (begun_next named w.p.bodies v by done of part tasks operation found s)
+    begun_goes v by done of part tasks operation None cell s there each sight left r h anew = tt
+    begun_goes v by done of part tasks None (Some state) cell s there each sight left r h anew = born_goes v by done of part tasks (Some state) s sight left r h anew
+    begun_goes v by done of part tasks (Some procedure) (Some state) cell s there each sight left r h anew =
+        operation_goes procedure (slice_get w.p.bodies procedure) (part_reference named v part state) (frame.Awaits v by done of part tasks ∷ s.control) Quiet s refl
+        (λ b is. are_apart.bodies procedure b (each procedure refl) is)
+        (part_elsewhere w.ghosts w.unnamed s.heap v (record { component = state.first; part = part }) cell there sight) r ((sight, left), anew, h) refl
+
     -- The bodies go on as the Finalize of a part is called, or nothing is, where its type overrides none (7.6.1).
     ended_goes :
         (v : Value) (part : ℕ) (state : PartState) (k : List (Frame Value)) (operation : Option ℕ) (e : Event Value) (s : State)
@@ -72,8 +207,8 @@ module _ (w : World) where
         → Runs w s → Left w k → begins_anew k ≡ true → AllGoOn (On w) (ended_next named w.p.bodies v part state k operation e s)
     ended_goes v part state k None e s each other r h anew = stays w (at k s) r h anew
     ended_goes v part state k (Some procedure) e s each other r h anew =
-        operation_goes procedure (slice_get w.p.bodies procedure) (part_reference named v part state) k e s refl
-        (λ b is. are_apart.bodies procedure b (each procedure refl) is) other r h anew
+        operation_goes procedure (slice_get w.p.bodies procedure) (part_reference named v part state) (frame.Confines ∷ k) e s refl
+        (λ b is. are_apart.bodies procedure b (each procedure refl) is) other r (tt, anew, h) refl
 
     -- The bodies go on as the value of a part is finalized, if it has one.
     valued_goes :
@@ -91,52 +226,34 @@ module _ (w : World) where
     finalized_goes :
         (v : Value) (cause : Cause) (of part : ℕ) (tasks : List Task) (operation : Option ℕ) (found : Option PartState) (cell : Cell Value) (s : State)
         → look s.heap v ≡ finds cell → ((number : ℕ) → operation ≡ Some number → w.apart.calls number ≡ true) → IsInSight w.ghosts v
-        → AreLeft tds are_apart.own tasks
-        → Goes w s (finalized_next named w.p.bodies v cause of part tasks operation found s)
+        → EndsApart w.apart tasks → Goes w s (finalized_next named w.p.bodies v cause of part tasks operation found s)
     finalized_goes v cause of part tasks operation None cell s there each sight left r h anew = tt
     finalized_goes v cause of part tasks operation (Some state) cell s there each sight left r h anew =
-        let behind = treating_left tds are_apart.own v cause tasks s.control sight left h anew in
+        let behind = treating_left v (ends cause) tasks s.control sight left h anew in
         valued_goes state.alive v part state (treating v (ends cause) tasks s.control) operation (Finalized v part state.turn of state.number cause) s each
         (part_elsewhere w.ghosts w.unnamed s.heap v (record { component = state.first; part = part }) cell there sight) sight r behind.0 behind.1
 
-    -- So they do, by what is found of the object.
+    -- So they do as an operation is called, by what is found of the object.
     performed_goes :
-        (v : Value) (cause : Cause) (of part : ℕ) (tasks : List Task) (found : Found (Cell Value)) (s : State) → look s.heap v ≡ found
-        → ((number : ℕ) → procedure_number (operations_of tds of).finalize ≡ Some number → w.apart.calls number ≡ true) → IsInSight w.ghosts v
-        → AreLeft tds are_apart.own tasks
-        → Goes w s (performed_next named tds w.p.bodies v (ends cause) of part tasks found s)
-    performed_goes v cause of part tasks on_null s is each sight left r h anew = tt
-    performed_goes v cause of part tasks on_gone s is each sight left r h anew = tt
-    performed_goes v cause of part tasks on_other s is each sight left r h anew = tt
-    performed_goes v cause of part tasks (finds cell) s is each sight left r h anew =
-        finalized_goes v cause of part tasks (procedure_number (operations_of tds of).finalize) (slice_get cell.parts part) cell s is each sight left r h anew
+        (v : Value) (treatment : Treatment) (of part : ℕ) (tasks : List Task) (found : Found (Cell Value)) (s : State) → look s.heap v ≡ found
+        → IsInSight w.ghosts v → TreatsApart w.apart treatment (performs of part ∷ tasks)
+        → Goes w s (performed_next named tds w.p.bodies v treatment of part tasks found s)
+    performed_goes v treatment of part tasks on_null s is sight left r h anew = tt
+    performed_goes v treatment of part tasks on_gone s is sight left r h anew = tt
+    performed_goes v treatment of part tasks on_other s is sight left r h anew = tt
+    performed_goes v (begins by done) of part tasks (finds cell) s is sight left r h anew =
+        begun_goes v by done of part tasks (beginning by (operations_of tds of)) (slice_get cell.parts part) cell s is
+        (λ number called_so. initialize_apart by done of part number tasks left called_so) sight (starts_called by done of part tasks left) r h anew
+    performed_goes v (ends cause) of part tasks (finds cell) s is sight left r h anew =
+        finalized_goes v cause of part tasks (procedure_number (operations_of tds of).finalize) (slice_get cell.parts part) cell s is
+        (λ number called_so. finalize_apart of part number tasks left called_so) sight (ends_called of part tasks left) r h anew
 
-    -- The bodies go on as one of so many components is picked.
-    picked_goes :
-        (none : Bool) (v : Value) (cause : Cause) (tasks : List Task) (count : ℕ) (s : State) → IsInSight w.ghosts v → AreLeft tds are_apart.own tasks
-        → Goes w s (if none then halts Stuck else picks count (λ i. treated_on named v (ends cause) (picked_task (shapes_of tds) WholeFirst tasks i) s))
-    picked_goes true v cause tasks count s sight left r h anew = tt
-    picked_goes false v cause tasks count s sight left r h anew = λ i below.
-        let more = picked_task (shapes_of tds) WholeFirst tasks i in
-        let behind = treating_left tds are_apart.own v cause more s.control sight (left.0, left.1, picked i left.2) h anew in
-        stays w (treated_on named v (ends cause) more s) r behind.0 behind.1
-
-    -- The bodies go on as an object is finalized that they may free.
-    finalizing_goes :
-        (v : Value) (cause : Cause) (tasks : List Task) (s : State) → IsInSight w.ghosts v → AreLeft tds are_apart.own tasks
-        → Goes w s (treats_next named tds w.p.bodies v (ends cause) tasks (task_next tasks) s)
-    finalizing_goes v cause [] s sight left r h anew = stays w s r h anew
-    finalizing_goes v cause (treats components ∷ tasks) s sight left r h anew =
-        picked_goes (length components == 0) v cause (treats components ∷ tasks) (length components) s sight left r h anew
-    finalizing_goes v cause (performs of part ∷ tasks) s sight left r h anew =
-        performed_goes v cause of part tasks (look s.heap v) s refl (λ number is. are_apart.operations left.0 of part number tasks left.1 left.2 is) sight
-        (left.0, left.1, called left.2) r h anew
-
-    -- The bodies go on as an object is treated: they finalize it.
+    -- The bodies go on as an object is treated: they initialize one that they may allocate, or finalize one that they may free.
     pub treats_goes :
-        (v : Value) (treatment : Treatment) (tasks : List Task) (s : State) → IsInSight w.ghosts v → EndsApart w.apart treatment tasks
+        (v : Value) (treatment : Treatment) (tasks : List Task) (s : State) → IsInSight w.ghosts v → TreatsApart w.apart treatment tasks
         → Goes w s (treats_next named tds w.p.bodies v treatment tasks (task_next tasks) s)
-    treats_goes v (begins by done) tasks s sight apart r h anew = absurd apart
-    treats_goes v (ends cause) tasks s sight apart r h anew =
-        finalizing_goes v cause tasks s sight
-        (apart.0, apart.1, subst (λ (ts : List TypeDefinition). IsLeftOf ts apart.0 tasks) are_apart.own apart.2) r h anew
+    treats_goes v treatment [] s sight left r h anew = stays w s r h anew
+    treats_goes v treatment (treats components ∷ tasks) s sight left r h anew =
+        picked_goes tds are_apart.own (length components == 0) v treatment components tasks (length components) s sight left r h anew
+    treats_goes v treatment (performs of part ∷ tasks) s sight left r h anew =
+        performed_goes v treatment of part tasks (look s.heap v) s refl sight left r h anew

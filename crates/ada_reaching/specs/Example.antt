@@ -1,7 +1,7 @@
 -- The premise is met: a body stores a value of an access type that it shuns, while the object is there, or copies a record that holds one, or frees another
--- object that is finalized. And it is needed: one that follows such a value changes the object.
+-- object that is finalized, or allocates one that is initialized. And it is needed: one that follows such a value changes the object.
 
-use Rattle.std.specs.Prelude.{◌≡◌, ◌≢◌, ℕ, ℤ, Bool, true, false, List, ◌∷◌, Some}
+use Rattle.std.specs.Prelude.{◌≡◌, ◌≢◌, ℕ, ℤ, Bool, true, false, List, [], ◌∷◌, Some}
 use Rattle.std.specs.List.{slice_get}
 use Rattle.ada_parts.specs.Task.{Task, performs}
 use Rattle.ada_program.specs.Controlled.{operations_of, procedure_number}
@@ -9,11 +9,12 @@ use Rattle.ada_program.specs.declared.program.Program.{Program}
 use Rattle.ada_program.specs.ProgramForm.{BodyForm, program_form, body_forms}
 use Rattle.ada_program.specs.Typed.{width_of}
 use Rattle.ada_program.specs.WellFormed.{IsWellFormed}
+use Rattle.ada_meaning.specs.declared.event.Birth.TheVariants.{Creation}
 use Rattle.ada_meaning.specs.declared.event.Cause.TheVariants.{Freeing}
 use Rattle.ada_meaning.specs.declared.state.Id.{Id}
 use Rattle.ada_meaning.specs.declared.state.Value.{Value}
 use Rattle.ada_meaning.specs.declared.state.Value.TheVariants.{Names}
-use Rattle.ada_meaning.specs.Frame.{Frame, ends}
+use Rattle.ada_meaning.specs.Frame.{Frame, begins, ends}
 use Rattle.ada_meaning.specs.Frame as frame
 use Rattle.ada_meaning.specs.Step.{moves, older, procedure_of}
 use Rattle.ada_meaning.specs.Named.{Object, State, object_at, next}
@@ -93,6 +94,26 @@ pub record FinalizesFreed (program : Program) (shuns : ℕ → Bool) (apart : Ap
   pub begins : procedure_of after.activations ≡ Some finalize
   pub waits : older after.activations ≡ s.activations
 
+-- Such a body allocates an object of another access type by default, as it may (4.8). The type of a part of it overrides Initialize (7.6): the body of Initialize
+-- begins, and it is one of those that may be called.
+pub record InitializesNew (program : Program) (shuns : ℕ → Bool) (apart : Apart) (ghosts unnamed : Id → Bool) (behind : List (Frame Value)) (b : BodyForm)
+    (s after : State) : Type 0 where
+  pub runs_beside : RunsBeside program shuns apart ghosts unnamed behind b s after
+  pub created : Id
+  pub object : Object
+  pub is_there : object_at s.heap created ≡ Some object
+  pub may_be_allocated : apart.starts object.cell.access ≡ true
+  pub of : ℕ
+  pub part : ℕ
+  pub tasks : List Task
+  pub later : List (Frame Value)
+  pub is_next : s.control ≡ frame.Treats (Names created) (begins Creation []) (performs of part ∷ tasks) ∷ later
+  pub initialize : ℕ
+  pub overrides : procedure_number (operations_of program.types.items of).initialize ≡ Some initialize
+  pub may_be_called : apart.calls initialize ≡ true
+  pub runs : procedure_of after.activations ≡ Some initialize
+  pub waits : older after.activations ≡ s.activations
+
 -- A body that does not shun these types follows a value of one: the step looks at the object that it names, and changes it.
 pub record FollowsGhost (program : Program) (shuns : ℕ → Bool) (apart : Apart) (ghosts : Id → Bool) (b : BodyForm) (s after : State) : Type 0 where
   pub runs_on : RunsOn program b s after
@@ -129,6 +150,15 @@ FinalizationIsMet =
     × ((shuns : (ℕ → Bool)) × (apart : Apart) × (ghosts : (Id → Bool)) × (unnamed : (Id → Bool)) × (behind : List (Frame Value))
     × (b : BodyForm) × (after : State)
     × FinalizesFreed program shuns apart ghosts unnamed behind b s after))
+
+-- so is the Initialize of what is allocated,
+abbrev pub InitializationIsMet : Type 0
+InitializationIsMet =
+    (program : Program) × IsWellFormed (program_form program)
+    × ((input : List ℤ) × (events : List Event) × (s : State) × Run program (first_state program input) events s
+    × ((shuns : (ℕ → Bool)) × (apart : Apart) × (ghosts : (Id → Bool)) × (unnamed : (Id → Bool)) × (behind : List (Frame Value))
+    × (b : BodyForm) × (after : State)
+    × InitializesNew program shuns apart ghosts unnamed behind b s after))
 
 -- and so is the other.
 abbrev pub PremiseIsNeeded : Type 0

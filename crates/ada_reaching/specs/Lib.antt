@@ -1,6 +1,6 @@
 -- Bodies that follow and free no value of some access types.
 
--- what they may call and free
+-- what they may call, free and allocate
 pub mod Apart
 -- their forms
 pub mod Forms

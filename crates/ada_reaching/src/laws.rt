@@ -2,13 +2,13 @@
 //! theorem.
 
 ghost use Rattle.ada_reaching.specs.Deeds.{UnusedObjectsAreUntouched};
-ghost use Rattle.ada_reaching.specs.Example.{CopyIsMet, FinalizationIsMet, PremiseIsMet, PremiseIsNeeded};
+ghost use Rattle.ada_reaching.specs.Example.{CopyIsMet, FinalizationIsMet, InitializationIsMet, PremiseIsMet, PremiseIsNeeded};
 ghost use Rattle.ada_reaching.specs.Law.{ShunnedObjectsAreUntouched};
 
-/// While bodies run that follow and free no value of some access types, and the operations of what they free, each object of these types
-/// stays as it is into which no reference of theirs to a record or a component leads, and so does a declared record object (3.3.1) of
-/// which that is so, too, and that no variable or operand of theirs names; and what is left of the bodies is so still. No step looks at
-/// one of these objects, nor does one that treats another object (7.6.1).
+/// While bodies run that follow and free no value of some access types, and the operations of what they free and allocate, each object of
+/// these types stays as it is into which no reference of theirs to a record or a component leads, and so does a declared record object
+/// (3.3.1) of which that is so, too, and that no variable or operand of theirs names; and what is left of the bodies is so still. No step
+/// looks at one of these objects, nor does one that treats another object (7.6, 7.6.1).
 pub fn shunned_objects_are_untouched()
     ensures { ShunnedObjectsAreUntouched }
 {}
@@ -37,6 +37,13 @@ pub fn records_are_copied()
 /// so does that Finalize.
 pub fn objects_are_finalized()
     ensures { FinalizationIsMet }
+{}
+
+/// So they are where an object is allocated that has a controlled part (4.8, 7.6): in a run of a well-formed program a procedure that such
+/// a body calls allocates it, and the Initialize of the part begins, while an object of an access type is there that both bodies shun, and
+/// so does that Initialize.
+pub fn objects_are_initialized()
+    ensures { InitializationIsMet }
 {}
 
 /// And the premise is needed: in a run of a well-formed program a body follows a value of such a type, and the step looks at the object and
