@@ -22,7 +22,8 @@ use Rattle.ada_reaching.specs.Reaching.{AreElsewhere, IsGhost, IsInner, IsLast, 
 
 module _ (types : List TypeForm) (shuns : ℕ → Bool) (apart : Apart) (ghosts : Id → Bool) where
   -- From no object anything is sought behind an operation.
-  operation_seeks : (may : Bool) (access : ℕ) (f : Frame Value) (k : List (Frame Value)) → typed.is_operation f ≡ true → Seeks types shuns apart may access (f ∷ k)
+  operation_seeks :
+      (may : Bool) (access : ℕ) (f : Frame Value) (k : List (Frame Value)) → typed.is_operation f ≡ true → Seeks types shuns apart may access (f ∷ k)
   operation_seeks may access (frame.Awaits v by done of part tasks) k is = tt
   operation_seeks may access frame.Confines k is = tt
   operation_seeks may access f k is = absurd (cc)
@@ -86,7 +87,7 @@ module _ (p : ProgramForm) (shuns : ℕ → Bool) (apart : Apart) (ghosts unname
       → after.activations ≡ s.activations → GhostsStay ghosts s.heap after.heap → IsReaching p shuns apart ghosts unnamed behind s
       → IsReaching p shuns apart ghosts unnamed behind after
   waiting_kept f k s after is first same active stay reaching = record {
-    ghosts_there = λ o is_ghost. subst (λ (found : Option Object). IsGhost p.types shuns (unnamed o) found) (sym (stay o is_ghost)) (reaching.ghosts_there o is_ghost);
+    ghosts_there = λ o ghost. subst (λ (found : Option Object). IsGhost p.types shuns (unnamed o) found) (sym (stay o ghost)) (reaching.ghosts_there o ghost);
     are_ghosts = reaching.are_ghosts;
     places = subst (λ (acts : List (Activation Value)). AreElsewhere ghosts unnamed (places_of acts)) (sym active) reaching.places;
     operands = subst (λ (acts : List (Activation Value)). AreElsewhere ghosts unnamed (operands_of acts)) (sym active) reaching.operands;

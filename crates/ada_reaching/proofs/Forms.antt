@@ -150,7 +150,8 @@ module _ (w : World) where
         named_goes w path.selectors path.root root.0 s sound root.1 shun r h anew
     right_goes (allocates access items) s sound shun root r h anew =
         let both = and_parts _ _ shun in
-        stays w (at (frame.Fills items ∷ frame.Creates access (words_of tds access) ∷ s.control) s) r (both.1, refl, (ap (λ (bare : Bool). bare || w.apart.starts access) both.0, anew, h)) refl
+        stays w (at (frame.Fills items ∷ frame.Creates access (words_of tds access) ∷ s.control) s) r
+        (both.1, refl, (ap (λ (bare : Bool). bare || w.apart.starts access) both.0, anew, h)) refl
     right_goes (allocates_default access) s sound shun root r h anew =
         stays w (at (frame.Creates access (words_of tds access) ∷ s.control) (initialized named tds access s))
         (operands_run w (in_front (initial_values named (reached_of tds access)) (operands s)) s.activations s.heap
@@ -173,13 +174,14 @@ module _ (w : World) where
         → Goes w s (moves Quiet (treated_on named v (begins Creation []) (all_tasks tds access PartsFirst) s))
     started_goes access v s may sight r h anew =
         elim (or_cases (has_bare_objects w.p.types access) (w.apart.starts access) may) [
-          | inl bare ↦ untreated v (begins Creation []) (all_tasks tds access PartsFirst) s (bare_tasks tds w.p.types access PartsFirst known bare) (stays w s r h anew)
+          | inl bare ↦
+              untreated v (begins Creation []) (all_tasks tds access PartsFirst) s (bare_tasks tds w.p.types access PartsFirst known bare) (stays w s r h anew)
           | inr starts ↦
-            let all : IsLeftOf w.apart.definitions PartsFirst access (all_tasks tds access PartsFirst) =
-            subst (λ (ts : List TypeDefinition). IsLeftOf w.apart.definitions PartsFirst access (all_tasks ts access PartsFirst)) own whole in
-            let left = treating_left w v (begins Creation []) (all_tasks tds access PartsFirst) s.control sight
-            (record { access = access; may = starts; created = refl; left = all; begun = tt }) h anew in
-            stays w (treated_on named v (begins Creation []) (all_tasks tds access PartsFirst) s) r left.0 left.1
+              let all : IsLeftOf w.apart.definitions PartsFirst access (all_tasks tds access PartsFirst) =
+              subst (λ (ts : List TypeDefinition). IsLeftOf w.apart.definitions PartsFirst access (all_tasks ts access PartsFirst)) own whole in
+              let left = treating_left w v (begins Creation []) (all_tasks tds access PartsFirst) s.control sight
+              (record { access = access; may = starts; created = refl; left = all; begun = tt }) h anew in
+              stays w (treated_on named v (begins Creation []) (all_tasks tds access PartsFirst) s) r left.0 left.1
         ]
 
     -- The bodies go on as the request for the words of an object is granted or refused.

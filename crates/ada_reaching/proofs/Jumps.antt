@@ -47,7 +47,7 @@ module _ (w : World) where
   abbrev OneShuns : Frame Value → Type 0
   OneShuns f = FrameShuns w.p.types w.shuns w.apart w.p.bodies w.ghosts (variables_in w) f
 
-  -- A jump lands in statements that shun the types, if it lands in any, or comes out of an operation that begins a part of an object that may be allocated (7.6).
+  -- A jump lands in statements that shun the types, if it lands in any, or comes out of an operation that begins a part of what may be allocated (7.6).
   abbrev pub LandsShunning : Landing Value → Type 0
   LandsShunning (goes_in fs) = statements_shun w.p.types w.shuns w.apart (variables_in w) fs ≡ true
   LandsShunning (breaks_off v by done) =
@@ -101,7 +101,8 @@ module _ (w : World) where
 
   -- The bodies go on as an exception comes out of an operation: out of an Initialize (7.6.1), since that of an Adjust ends the run.
   broken_goes :
-      (e : Exception) (v : Value) (by : Birth) (done : List Part) (s : State) → LandsShunning (breaks_off v by done) → Goes w s (broken_next named e v by done s)
+      (e : Exception) (v : Value) (by : Birth) (done : List Part) (s : State) → LandsShunning (breaks_off v by done)
+      → Goes w s (broken_next named e v by done s)
   broken_goes e v Creation done s shuns r h anew = undone_goes w e v shuns.1 done (look s.heap v) s shuns.0 shuns.2 shuns.3 r h anew
   broken_goes e v Copy done s shuns r h anew = tt
   broken_goes e v (Adjustment number) done s shuns r h anew = tt

@@ -1,5 +1,5 @@
--- What is finalized of what a body frees that shuns some access types (7.6.1, 13.11.2), and what is initialized of what it allocates (7.6, 4.8): the operations of such
--- objects have bodies that shun them, too.
+-- What is finalized of what a body frees that shuns some access types (7.6.1, 13.11.2), and initialized of what it allocates (7.6, 4.8): the operations of
+-- such objects have bodies that shun them, too.
 
 use Rattle.std.proofs.Common.{◌≡◌, ℕ, Bool, true, false, if◌then◌else◌, List, [], ◌∷◌, length, map, Option, Some, None, refl, subst, inl, inr}
 use Rattle.std.specs.Prelude.{◌==◌}
@@ -99,7 +99,7 @@ module _ (w : World) where
   undone_left access [] begun = tt
   undone_left access (p ∷ ps) begun = (begun.0, undone_left access ps begun.1)
 
-  -- The bodies go on as an exception comes out of an Initialize, by what is found of the object: what has begun of it is finalized, and the object ceases to exist.
+  -- The bodies go on as an exception comes out of an Initialize, by what is found of the object: what has begun of it is finalized, and it ceases to exist.
   pub undone_goes :
       (e : Exception) (v : Value) (access : ℕ) (done : List parts.Part) (found : Found (Cell Value)) (s : State) → IsInSight w.ghosts v
       → w.apart.starts access ≡ true → AreBegunIn w.apart.definitions access done → Goes w s (undo_next named e v done found s)
@@ -120,9 +120,11 @@ module _ (w : World) where
         → EndsApart w.apart (picked_task (shapes_of tds) WholeFirst (treats components ∷ tasks) i)
     ends_picked components tasks i (access, inl (may, left)) = (
       access,
-      inl (may,
-      subst (λ (ts : List TypeDefinition). IsLeftOf w.apart.definitions WholeFirst access (picked_task (shapes_of ts) WholeFirst (treats components ∷ tasks) i)) own
-      (picked i left)),
+      inl (
+        may,
+        subst (λ (ts : List TypeDefinition). IsLeftOf w.apart.definitions WholeFirst access (picked_task (shapes_of ts) WholeFirst (treats components ∷ tasks) i))
+            own (picked i left),
+      ),
     )
     ends_picked components tasks i (access, inr (may, undone)) = absurd undone
 
@@ -190,13 +192,15 @@ module _ (w : World) where
 
     -- The bodies go on as the Initialize of a part is called, or nothing is, where its type overrides none (7.6).
     begun_goes :
-        (v : Value) (by : Birth) (done : List parts.Part) (of part : ℕ) (tasks : List Task) (operation : Option ℕ) (found : Option PartState) (cell : Cell Value)
-        (s : State) → look s.heap v ≡ finds cell → ((number : ℕ) → operation ≡ Some number → w.apart.calls number ≡ true) → IsInSight w.ghosts v
+        (v : Value) (by : Birth) (done : List parts.Part) (of part : ℕ) (tasks : List Task) (operation : Option ℕ) (found : Option PartState)
+        (cell : Cell Value) (s : State) → look s.heap v ≡ finds cell → ((number : ℕ) → operation ≡ Some number → w.apart.calls number ≡ true) → IsInSight w.ghosts v
         → AwaitsApart w.apart by done of part tasks → Goes w s (begun_next named w.p.bodies v by done of part tasks operation found s)
     begun_goes v by done of part tasks operation None cell s there each sight left r h anew = tt
-    begun_goes v by done of part tasks None (Some state) cell s there each sight left r h anew = born_goes v by done of part tasks (Some state) s sight left r h anew
+    begun_goes v by done of part tasks None (Some state) cell s there each sight left r h anew =
+        born_goes v by done of part tasks (Some state) s sight left r h anew
     begun_goes v by done of part tasks (Some procedure) (Some state) cell s there each sight left r h anew =
-        operation_goes procedure (slice_get w.p.bodies procedure) (part_reference named v part state) (frame.Awaits v by done of part tasks ∷ s.control) Quiet s refl
+        operation_goes procedure (slice_get w.p.bodies procedure) (part_reference named v part state) (frame.Awaits v by done of part tasks ∷ s.control) Quiet s
+        refl
         (λ b is. are_apart.bodies procedure b (each procedure refl) is)
         (part_elsewhere w.ghosts w.unnamed s.heap v (record { component = state.first; part = part }) cell there sight) r ((sight, left), anew, h) refl
 

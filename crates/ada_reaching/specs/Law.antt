@@ -19,8 +19,8 @@ use Rattle.ada_reaching.specs.Apart.{Apart, CallsApart}
 use Rattle.ada_reaching.specs.Forms.{body_shuns}
 use Rattle.ada_reaching.specs.Reaching.{IsReaching}
 
--- The bodies of these procedures shun the types, and the finalization of what they may free calls such procedures alone, and so does the initialization of what they may
--- allocate.
+-- The bodies of these procedures shun the types, and the finalization of what they may free calls such procedures alone; so does the initialization of what
+-- they may allocate.
 pub record AreApart (p : ProgramForm) (definitions : List TypeDefinition) (shuns : ℕ → Bool) (apart : Apart) : Type 0 where
   pub own : apart.definitions ≡ definitions
   pub bodies : (procedure : ℕ) (b : BodyForm) → apart.calls procedure ≡ true → slice_get p.bodies procedure ≡ Some b → body_shuns p.types shuns apart b ≡ true
