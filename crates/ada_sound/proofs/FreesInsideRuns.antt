@@ -1,6 +1,6 @@
 -- What a run frees by a component of a record the text of its program does (13.11.2).
 
-use Rattle.std.proofs.Common.{◌≡◌, ℕ, ℤ, Bool, List, [], ◌∷◌, refl}
+use Rattle.std.proofs.Common.{◌≡◌, ℕ, ℤ, Bool, List, []}
 use Rattle.ada_program.specs.declared.program.Program.{Program}
 use Rattle.ada_program.specs.ProgramForm.{body_forms, main_body, program_form}
 use Rattle.ada_meaning.specs.Named.{State, next}
