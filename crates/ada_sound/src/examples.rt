@@ -401,8 +401,8 @@ pub fn adjusted_records_are_copied()
 /// body changes a record that is gone, or a component that is gone is to get its value back. And no component that owns
 /// what it names is handed over: else it names what a procedure frees that an exception leaves, and the handler follows it.
 ///
-/// So are the other premises, but for `SparesHolders` and `SparesStarts`, of which no program here shows it by themselves. A variable
-/// relies on values of its own access type alone: of a program that is not well formed, one of another type names what goes with a block.
+/// So are the other premises, but for `SparesHolders` and `SparesStarts`: no program here shows it of either by itself. A variable relies
+/// on values of its own access type alone: of a program that is not well formed, one of another type names what goes with a block.
 /// And components name what lasts as long as their objects: of a program whose collections do not nest, an object
 /// outlasts what its component names. And a Free is by the instance for the access type of what it frees (13.11.2): of
 /// a program with two declared pools where it is by that for another access type, the words of an object are to go
