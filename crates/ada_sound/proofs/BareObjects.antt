@@ -14,11 +14,11 @@ use Rattle.ada_program.specs.ProgramForm.{TypeForm, record_of, access_to, object
 use Rattle.ada_program.specs.WellFormed.{IsWellFormed, designated_in, finalization_in, finalization_of, is_access, named_in, object_named}
 use Rattle.ada_quiet.specs.Apart.{operations_stand_apart}
 use Rattle.ada_quiet.specs.Bare.{collections_in_order, has_bare_objects, is_bare_access}
-use Rattle.ada_quiet.specs.Frugal.{is_frugal_body, thrift_of}
 use Rattle.ada_quiet.specs.InUse.{designates_no_parts, allocates_no_parts, may_be_frugal}
 use Rattle.ada_sound.proofs.FrugalUseFrees.{covered_bare}
 use Rattle.ada_sound.proofs.FrugalUseParts.{some_parts, walked_parts}
 use Rattle.ada_sound.proofs.Invariant.{CoveredIn}
+use Rattle.ada_sound.proofs.Marks.{is_thrifty_body, simple_marks}
 use Rattle.ada_sound.proofs.OperationStarts.{apart}
 use Rattle.ada_typed.specs.Holding.{PartsLie, WalksTo}
 use Rattle.ada_typed.proofs.Inner.{lies_at}
@@ -63,9 +63,10 @@ module _ (program : Program) (well : IsWellFormed (program_form program)) where
   holder_is_not_bare t f is access first part lie =
       walked_bare p.types t first part (slice_get p.types access) (lie.1 (some_parts p.types well.types_fit t (slice_get p.types t) f refl is)) (ap (λ (o : Option Finalization). is_some o) is)
 
-  -- What a frugal body may free, or one that it calls, has none, where these may free nothing with some.
-  pub frugal_frees_bare : (number : ℕ) (b : BodyForm) → slice_get p.bodies number ≡ Some b → is_frugal_body (thrift_of p) b ≡ true → (t : ℕ) → CoveredIn (implicit_of p) (seen_in (Some number) p) t → has_bare_objects p.types t ≡ true
-  frugal_frees_bare number b there frugal t covered = covered_bare p well number b there frugal t covered
+  -- What a body may free that calls nothing, and frees and allocates no object with controlled parts, has none.
+  pub frugal_frees_bare : (number : ℕ) (b : BodyForm) → slice_get p.bodies number ≡ Some b → is_thrifty_body (simple_marks p.types) b ≡ true → (t : ℕ)
+      → CoveredIn (implicit_of p) (seen_in (Some number) p) t → has_bare_objects p.types t ≡ true
+  frugal_frees_bare number b there simple t covered = covered_bare p well number b there simple t covered
 
   -- Nothing has controlled parts that is allocated, where operations may be frugal and collections are not created in order.
   pub allocated_is_bare : may_be_frugal p ≡ true → collections_in_order p ≡ false → (access : ℕ) → is_access p.types access ≡ true → has_bare_objects p.types access ≡ true

@@ -1,5 +1,5 @@
--- What a frugal body may free (7.6, 7.6.1, 13.11.2), or one that it calls, has no controlled parts, where these may free nothing with some: a Free of it says so, and
--- implicitly it calls nothing, also where it assigns a record (5.2).
+-- What a body may free that calls nothing, and frees and allocates no object with controlled parts (7.6, 7.6.1, 13.11.2), has none: a Free of it says so, and implicitly it
+-- calls nothing, also where it assigns a record (5.2).
 
 use Rattle.std.proofs.Common.{◌≡◌, ℕ, zero, suc, Bool, true, false, ◌||◌, List, [], ◌∷◌, ◌++◌, map, take, refl, sym, ap, ◌∙◌, subst, inl, inr}
 use Rattle.std.proofs.lemmas.Bool.{eqb-true, or_cases}
@@ -13,11 +13,13 @@ use Rattle.ada_effects.specs.Effects.{Effect, Effects, assignment_frees, call_fr
 use Rattle.ada_program.specs.Form.{RecordPathForm, RightForm, nothing, value_of, allocates, allocates_default, computes, DeclarationForm, creates_pool, collects, declares, declares_record, StmtForm, skips, assigns, assigns_record, frees, gets, writes, writes_text, chooses, repeats, counts, exits, calls, returns, raises, encloses, StmtsForm, no_stmts, a_stmt, BranchesForm, otherwise, a_branch, HandlersForm, no_handlers, a_handler}
 use Rattle.ada_program.specs.ProgramForm.{TypeForm, record_of, access_to, object_of, VariableForm, BodyForm, ProgramForm, seen_in, seen_by}
 use Rattle.ada_program.specs.WellFormed.{IsWellFormed, Profile, profile_of, finalization_of, is_record_path, designated_in, is_freed_by, is_this, path_access, same_record, suits_profile, type_fits, statement_fits, stmts_fit, branches_fit, handlers_fit, body_fits, bodies_fit}
-use Rattle.ada_quiet.specs.Bare.{allocates_bare, has_bare_objects, is_bare_access}
-use Rattle.ada_quiet.specs.Frugal.{Thrift, thrift_of, are_frugal_declarations, is_frugal_stmt, are_frugal, are_frugal_branches, are_frugal_handlers, is_frugal_body, frugal_from, frugal_procedures}
+use Rattle.ada_quiet.specs.Bare.{has_bare_objects, is_bare_access}
+use Rattle.ada_quiet.specs.Frugal.{allocates_quietly, are_frugal_declarations}
+use Rattle.ada_sound.proofs.Marks.{simple_marks, is_thrifty_stmt, are_thrifty, are_thrifty_branches, are_thrifty_handlers, is_thrifty_body}
 use Rattle.ada_sound.proofs.Bodies.{seen_is}
+use Rattle.ada_sound.proofs.CalmTypes.{bare_if_calm}
 use Rattle.ada_sound.proofs.Copied.{record_there}
-use Rattle.ada_sound.proofs.FrugalUseLets.{bare_does_nothing, record_does_nothing, created_nothing, known_before}
+use Rattle.ada_sound.proofs.FrugalUseLets.{bare_does_nothing, record_does_nothing, created_nothing}
 use Rattle.ada_sound.proofs.Invariant.{CoveredIn}
 use Rattle.ada_sound.proofs.OperationStarts.{apart}
 use Rattle.ada_typed.proofs.Bodies.{body_at}
@@ -37,28 +39,28 @@ module _ (p : ProgramForm) (types_fit : list_all (type_fits p.types) p.types ≡
   IsBare t = has_bare_objects p.types t ≡ true
 
   module _ (t : ℕ) where
-    right_spares : (right : RightForm) → allocates_bare p.types right ≡ true → right_frees (implicit_of p) t right ≡ false
+    right_spares : (right : RightForm) → allocates_quietly p.types [] right ≡ true → right_frees (implicit_of p) t right ≡ false
     right_spares nothing is = refl
     right_spares (value_of path) is = refl
     right_spares (allocates access items) is = refl
-    right_spares (allocates_default access) is = created_nothing p types_fit (deed t) access is
+    right_spares (allocates_default access) is = created_nothing p types_fit (deed t) access (bare_if_calm p.types (slice_get p.types access) is)
     right_spares (computes e) is = refl
 
-    declarations_spare : (ds : List DeclarationForm) → are_frugal_declarations p.types ds ≡ true → declarations_free (implicit_of p) t ds ≡ false
+    declarations_spare : (ds : List DeclarationForm) → are_frugal_declarations p.types [] ds ≡ true → declarations_free (implicit_of p) t ds ≡ false
     declarations_spare [] is = refl
     declarations_spare (creates_pool pool ∷ ds) is = absurd (cc is)
     declarations_spare (collects access ∷ ds) is = absurd (cc is)
     declarations_spare (declares x right ∷ ds) is =
-        let both = apart (allocates_bare p.types right) (are_frugal_declarations p.types ds) is in
+        let both = apart (allocates_quietly p.types [] right) (are_frugal_declarations p.types [] ds) is in
         rw (right_spares right both.0, declarations_spare ds both.1) refl
     declarations_spare (declares_record x object initial ∷ ds) is = absurd (cc is)
 
     -- Where their master is left, no object with controlled parts ends: they declare variables alone (7.6.1).
-    leaving_spares : (ds : List DeclarationForm) → are_frugal_declarations p.types ds ≡ true → leaving_frees (implicit_of p) t ds ≡ false
+    leaving_spares : (ds : List DeclarationForm) → are_frugal_declarations p.types [] ds ≡ true → leaving_frees (implicit_of p) t ds ≡ false
     leaving_spares [] is = refl
     leaving_spares (creates_pool pool ∷ ds) is = absurd (cc is)
     leaving_spares (collects access ∷ ds) is = absurd (cc is)
-    leaving_spares (declares x right ∷ ds) is = leaving_spares ds (apart (allocates_bare p.types right) (are_frugal_declarations p.types ds) is).1
+    leaving_spares (declares x right ∷ ds) is = leaving_spares ds (apart (allocates_quietly p.types [] right) (are_frugal_declarations p.types [] ds) is).1
     leaving_spares (declares_record x object initial ∷ ds) is = absurd (cc is)
 
     -- What a Free frees is of the access type of what it is given, which designates what the instance's access type does; and its end calls nothing.
@@ -92,23 +94,14 @@ module _ (p : ProgramForm) (types_fit : list_all (type_fits p.types) p.types ≡
     not_so true none h = absurd (cc none)
     not_so false none h = absurd (cc h)
 
-    -- The procedures that it may call free nothing else, as far as they are frugal.
-    module _ (marks : List Bool) (known : List Effect) (callable : List Profile)
-        (called : (procedure : ℕ) (profile : Profile) → slice_get callable procedure ≡ Some profile → slice_index_or marks procedure false ≡ true → call_frees (slice_get known procedure) t ≡ true → IsBare t) where
+    -- It calls none, so whatever is known of procedures.
+    module _ (known : List Effect) (callable : List Profile) where
       abbrev effects : Effects
       effects = known_of (implicit_of p) known
 
-      abbrev thrift : Thrift
-      thrift = record { types = p.types; ends_parts = false; procedures = marks }
-
       module _ (variables : List VariableForm) where
-        called_bare : (procedure : ℕ) (o : Option Profile) (actuals : List _) → slice_get callable procedure ≡ o → suits_profile p.types variables o actuals ≡ true
-            → slice_index_or marks procedure false ≡ true → call_frees (slice_get known procedure) t ≡ true → IsBare t
-        called_bare procedure None actuals at fits is h = absurd (cc fits)
-        called_bare procedure (Some profile) actuals at fits is h = called procedure profile at is h
-
         -- A block, by its statements and handlers.
-        block_bare : (ds : List DeclarationForm) (fs : StmtsForm) (hs : HandlersForm) → are_frugal_declarations p.types ds ≡ true
+        block_bare : (ds : List DeclarationForm) (fs : StmtsForm) (hs : HandlersForm) → are_frugal_declarations p.types [] ds ≡ true
             → (stmts_free p.types variables effects t fs ≡ true → IsBare t) → (handlers_free p.types variables effects t hs ≡ true → IsBare t)
             → ((stmts_free p.types variables effects t fs || handlers_free p.types variables effects t hs) || (declarations_free (implicit_of p) t ds || leaving_frees (implicit_of p) t ds)) ≡ true → IsBare t
         block_bare ds fs hs is first behind h =
@@ -118,7 +111,7 @@ module _ (p : ProgramForm) (types_fit : list_all (type_fits p.types) p.types ≡
             (not_so (leaving_frees (implicit_of p) t ds) (leaving_spares ds is)) some) h
 
         mutual
-          stmt_bare : (inside : Bool) (f : StmtForm) → is_frugal_stmt thrift f ≡ true → statement_fits p.types variables p.texts p.exceptions callable inside f ≡ true
+          stmt_bare : (inside : Bool) (f : StmtForm) → is_thrifty_stmt (simple_marks p.types) f ≡ true → statement_fits p.types variables p.texts p.exceptions callable inside f ≡ true
               → stmt_frees p.types variables effects t f ≡ true → IsBare t
           stmt_bare inside skips is fits h = absurd (cc h)
           stmt_bare inside (assigns target right) is fits h = not_so (right_frees (implicit_of p) t right) (right_spares right is) h
@@ -132,7 +125,7 @@ module _ (p : ProgramForm) (types_fit : list_all (type_fits p.types) p.types ≡
           stmt_bare inside (repeats condition fs spot) is fits h = stmts_bare true fs is (apart _ _ fits).1 h
           stmt_bare inside (counts x low high fs spot) is fits h = stmts_bare true fs is (apart _ _ fits).1 h
           stmt_bare inside (exits condition spot) is fits h = absurd (cc h)
-          stmt_bare inside (calls procedure actuals) is fits h = called_bare procedure (slice_get callable procedure) actuals refl fits is h
+          stmt_bare inside (calls procedure actuals) is fits h = absurd (cc is)
           stmt_bare inside (returns spot) is fits h = absurd (cc h)
           stmt_bare inside (raises e) is fits h = absurd (cc h)
           stmt_bare inside (encloses ds fs hs) is fits h =
@@ -142,7 +135,7 @@ module _ (p : ProgramForm) (types_fit : list_all (type_fits p.types) p.types ≡
               let fits_three = apart _ _ fits_two.0 in
               block_bare ds fs hs three.0 (λ some. stmts_bare inside fs three.1 fits_three.1 some) (λ some. handlers_bare inside hs two.1 fits_two.1 some) h
 
-          stmts_bare : (inside : Bool) (fs : StmtsForm) → are_frugal thrift fs ≡ true → stmts_fit p.types variables p.texts p.exceptions callable inside fs ≡ true
+          stmts_bare : (inside : Bool) (fs : StmtsForm) → are_thrifty (simple_marks p.types) fs ≡ true → stmts_fit p.types variables p.texts p.exceptions callable inside fs ≡ true
               → stmts_free p.types variables effects t fs ≡ true → IsBare t
           stmts_bare inside no_stmts is fits h = absurd (cc h)
           stmts_bare inside (a_stmt f fs) is fits h =
@@ -150,7 +143,7 @@ module _ (p : ProgramForm) (types_fit : list_all (type_fits p.types) p.types ≡
               let two = apart _ _ fits in
               either (stmt_frees p.types variables effects t f) (stmts_free p.types variables effects t fs) (λ some. stmt_bare inside f both.0 two.0 some) (λ some. stmts_bare inside fs both.1 two.1 some) h
 
-          branches_bare : (inside : Bool) (branches : BranchesForm) → are_frugal_branches thrift branches ≡ true
+          branches_bare : (inside : Bool) (branches : BranchesForm) → are_thrifty_branches (simple_marks p.types) branches ≡ true
               → branches_fit p.types variables p.texts p.exceptions callable inside branches ≡ true → branches_free p.types variables effects t branches ≡ true → IsBare t
           branches_bare inside (otherwise fs) is fits h = stmts_bare inside fs is fits h
           branches_bare inside (a_branch e fs branches) is fits h =
@@ -160,7 +153,7 @@ module _ (p : ProgramForm) (types_fit : list_all (type_fits p.types) p.types ≡
               either (stmts_free p.types variables effects t fs) (branches_free p.types variables effects t branches) (λ some. stmts_bare inside fs both.0 three.1 some)
               (λ some. branches_bare inside branches both.1 two.1 some) h
 
-          handlers_bare : (inside : Bool) (hs : HandlersForm) → are_frugal_handlers thrift hs ≡ true
+          handlers_bare : (inside : Bool) (hs : HandlersForm) → are_thrifty_handlers (simple_marks p.types) hs ≡ true
               → handlers_fit p.types variables p.texts p.exceptions callable inside hs ≡ true → handlers_free p.types variables effects t hs ≡ true → IsBare t
           handlers_bare inside no_handlers is fits h = absurd (cc h)
           handlers_bare inside (a_handler choices fs hs) is fits h =
@@ -171,7 +164,7 @@ module _ (p : ProgramForm) (types_fit : list_all (type_fits p.types) p.types ≡
               (λ some. handlers_bare inside hs both.1 two.1 some) h
 
       -- So it is with a body.
-      body_bare : (b : BodyForm) → is_frugal_body thrift b ≡ true → body_fits p.types p.texts p.exceptions callable b ≡ true → body_frees p.types effects b t ≡ true → IsBare t
+      body_bare : (b : BodyForm) → is_thrifty_body (simple_marks p.types) b ≡ true → body_fits p.types p.texts p.exceptions callable b ≡ true → body_frees p.types effects b t ≡ true → IsBare t
       body_bare b is fits h =
           let two = apart _ _ is in
           let three = apart _ _ two.0 in
@@ -180,55 +173,12 @@ module _ (p : ProgramForm) (types_fit : list_all (type_fits p.types) p.types ≡
           block_bare b.variables b.declarations b.statements b.handlers three.0 (λ some. stmts_bare b.variables false b.statements three.1 four.1 some)
           (λ some. handlers_bare b.variables false b.handlers two.1 five.1 some) h
 
--- Of procedures it is known whether they are frugal, and what they free: a frugal one nothing that has controlled parts.
-abbrev FreeBare : List TypeForm → List Bool → List Effect → Type 0
-FreeBare types [] [] = Unit {0}
-FreeBare types (x ∷ marks) (a ∷ known) = (x ≡ true → (t : ℕ) → a.frees t ≡ true → has_bare_objects types t ≡ true) × FreeBare types marks known
-FreeBare types marks known = ⊥
-
-free_at : (types : List TypeForm) (marks : List Bool) (known : List Effect) → FreeBare types marks known → (i : ℕ) → slice_index_or marks i false ≡ true → (t : ℕ)
-    → call_frees (slice_get known i) t ≡ true → has_bare_objects types t ≡ true
-free_at types [] [] all i is t h = absurd (cc is)
-free_at types [] (a ∷ known) all i is t h = absurd all
-free_at types (x ∷ marks) [] all i is t h = absurd all
-free_at types (x ∷ marks) (a ∷ known) all zero is t h = all.0 is t h
-free_at types (x ∷ marks) (a ∷ known) all (suc i) is t h = free_at types marks known all.1 i is t h
-
-free_more : (types : List TypeForm) (marks : List Bool) (known : List Effect) → FreeBare types marks known → (x : Bool) (a : Effect)
-    → (x ≡ true → (t : ℕ) → a.frees t ≡ true → has_bare_objects types t ≡ true) → FreeBare types (marks ++ x ∷ []) (known ++ a ∷ [])
-free_more types [] [] all x a bare = (bare, tt)
-free_more types [] (c ∷ known) all x a bare = absurd all
-free_more types (y ∷ marks) [] all x a bare = absurd all
-free_more types (y ∷ marks) (c ∷ known) all x a bare = (all.0, free_more types marks known all.1 x a bare)
-
--- So it is with all procedures, each behind those before it.
-module _ (p : ProgramForm) (well : IsWellFormed p) where
-  all_free_bare : (bs : List BodyForm) (callable : List Profile) (marks : List Bool) (known : List Effect) → bodies_fit p.types p.texts p.exceptions callable bs ≡ true → FreeBare p.types marks known
-      → FreeBare p.types (frugal_from p.types false marks bs) (effects_from p.types (implicit_of p) known bs)
-  all_free_bare [] callable marks known fits all = all
-  all_free_bare (b ∷ bs) callable marks known fits all =
-      let frugal : Thrift = record { types = p.types; ends_parts = false; procedures = marks } in
-      let two = apart (body_fits p.types p.texts p.exceptions callable b) (bodies_fit p.types p.texts p.exceptions (callable ++ profile_of b ∷ []) bs) fits in
-      let one = effect_of p.types (known_of (implicit_of p) known) b in
-      all_free_bare bs (callable ++ profile_of b ∷ []) (marks ++ is_frugal_body frugal b ∷ []) (known ++ one ∷ []) two.1
-      (free_more p.types marks known all (is_frugal_body frugal b) one
-      (λ is t. body_bare p well.types_fit t marks known callable (λ procedure profile at told h. free_at p.types marks known all procedure told t h) b is two.0))
-
-  -- What calls of a frugal procedure may free has no controlled parts.
-  calls_free_bare : (i : ℕ) → slice_index_or (frugal_procedures p) i false ≡ true → (t : ℕ) → call_frees (slice_get (effects_of (implicit_of p) p).calls i) t ≡ true → has_bare_objects p.types t ≡ true
-  calls_free_bare = free_at p.types (frugal_procedures p) (effects_of (implicit_of p) p).calls (all_free_bare p.bodies [] [] [] well.bodies_fit tt)
-
-  pub covered_bare : (number : ℕ) (b : BodyForm) → slice_get p.bodies number ≡ Some b → is_frugal_body (thrift_of p) b ≡ true → (t : ℕ)
-      → CoveredIn (implicit_of p) (seen_in (Some number) p) t → has_bare_objects p.types t ≡ true
-  covered_bare number b there frugal t covered =
-      let callable = [] ++ map profile_of (take number p.bodies) in
-      let known = effects_from p.types (implicit_of p) [] (take number p.bodies) in
-      let fits = body_at p.types p.texts p.exceptions [] p.bodies number b well.bodies_fit there in
-      let freed : body_frees p.types (effects_of (implicit_of p) (seen_by number b p)) b t ≡ true = rw (seen_is p number b there) at covered in
-      let called : (procedure : ℕ) (profile : Profile) → slice_get callable procedure ≡ Some profile → slice_index_or (frugal_procedures p) procedure false ≡ true
-      → call_frees (slice_get known procedure) t ≡ true → has_bare_objects p.types t ≡ true =
-      λ procedure profile at is h.
-      calls_free_bare procedure is t
-      (ap (λ (o : Option Effect). call_frees o t)
-      (sym (known_before p well number procedure (slice_get (take number p.bodies) procedure) profile refl (sym (slice_get-map profile_of (take number p.bodies) procedure) ∙ at))) ∙ h) in
-      body_bare p well.types_fit t (frugal_procedures p) known callable called b frugal fits freed
+-- What is known of such a body says so.
+pub covered_bare : (p : ProgramForm) → IsWellFormed p → (number : ℕ) (b : BodyForm) → slice_get p.bodies number ≡ Some b → is_thrifty_body (simple_marks p.types) b ≡ true → (t : ℕ)
+    → CoveredIn (implicit_of p) (seen_in (Some number) p) t → has_bare_objects p.types t ≡ true
+covered_bare p well number b there simple t covered =
+    let callable = [] ++ map profile_of (take number p.bodies) in
+    let known = effects_from p.types (implicit_of p) [] (take number p.bodies) in
+    let fits = body_at p.types p.texts p.exceptions [] p.bodies number b well.bodies_fit there in
+    let freed : body_frees p.types (effects_of (implicit_of p) (seen_by number b p)) b t ≡ true = rw (seen_is p number b there) at covered in
+    body_bare p well.types_fit t known callable b simple fits freed

@@ -36,14 +36,17 @@ use Rattle.ada_program.specs.declared.program.ComponentKind.{ComponentKind}
 use Rattle.ada_program.specs.declared.program.Exception.{Exception}
 use Rattle.ada_program.specs.declared.program.Exception.TheVariants.{ConstraintError}
 use Rattle.ada_program.specs.declared.program.Program.{Program}
-use Rattle.ada_quiet.specs.Bare.{allocates_bare, has_bare_objects, is_bare_access}
-use Rattle.ada_quiet.specs.Frugal.{Thrift, thrift_of, is_frugal_stmt, are_frugal, are_frugal_branches, are_frugal_handlers, is_frugal_body, is_frugal_declaration, are_frugal_declarations, frugal_from, frugal_procedures, own_effects}
+use Rattle.ada_quiet.specs.Bare.{has_bare_objects, is_bare_access}
+use Rattle.ada_quiet.specs.Calm.{has_calm_objects, quietly_begun_types}
+use Rattle.ada_quiet.specs.Frugal.{Thrift, thrift_of, allocates_quietly, is_frugal_stmt, are_frugal, are_frugal_branches, are_frugal_handlers, is_frugal_body, is_frugal_declaration, are_frugal_declarations, frugal_from, frugal_procedures, own_effects}
 use Rattle.ada_sound.proofs.Bodies.{seen_is, effect_at, taken_before, taken_get}
+use Rattle.ada_sound.proofs.CalmTypes.{bare_if_calm}
+use Rattle.ada_sound.proofs.FrugalBodies.{calling_none}
 use Rattle.ada_sound.proofs.FrugalUseEnds.{done_lying}
 use Rattle.ada_sound.proofs.Invariant.{body_among}
 use Rattle.ada_sound.proofs.Operating.{IsCalled, lets_out}
 use Rattle.ada_sound.proofs.OperationStarts.{apart}
-use Rattle.ada_sound.proofs.QuietOperations.{MayTouch, LetsNone, ends_here}
+use Rattle.ada_sound.proofs.QuietOperations.{MayTouch, LetsNone}
 use Rattle.ada_typed.proofs.Bodies.{body_at}
 use Rattle.ada_typed.proofs.Lying.{IsOperable}
 
@@ -52,8 +55,12 @@ none_among : (test among : Exception → Bool) (xs : List Exception) → ((e : E
 none_among test among [] none = refl
 none_among test among (x ∷ xs) none = rw (none x) (none_among test among xs none)
 
--- A frugal body raises nothing by what it calls implicitly (4.8, 5.2, 7.6): what it allocates or assigns has no controlled parts, and where it frees an object with some,
--- no exception comes out of a Finalize (13.11.2). So what is known of implicit calls changes nothing of what it raises.
+-- Nothing comes out of the creation of objects that begin quietly (4.8, 7.6), by what is told of that.
+abbrev pub StartSilently : ProgramForm → (begun : List Bool) → Type 0
+StartSilently p begun = (e : Exception) (access : ℕ) → has_calm_objects p.types begun access ≡ true → creation_does (does_by p (Raises e)) (record_at p.types access) ≡ false
+
+-- A frugal body raises nothing by what it calls implicitly (4.8, 5.2, 7.6): what it allocates begins quietly, what it assigns has no controlled parts, and where it frees
+-- an object with some, no exception comes out of a Finalize (13.11.2). So what is known of implicit calls changes nothing of what it raises.
 module _ (p : ProgramForm) (types_fit : list_all (type_fits p.types) p.types ≡ true) where
   -- Nothing is done for a record without controlled parts.
   pub does_nothing : (d : Deed) (operation : Operation) (r : ℕ) → is_some (finalization_of p.types r) ≡ false → does_by p d (callee.Parts operation (record { 0 = r })) ≡ false
@@ -90,113 +97,118 @@ module _ (p : ProgramForm) (types_fit : list_all (type_fits p.types) p.types ≡
   starts_none among access is =
       none_among (λ e. creation_does (does_by p (Raises e)) (record_at p.types access)) among (exceptions_of p) (λ e. created_nothing (Raises e) access is)
 
-  starts_same : (among : Exception → Bool) (right : RightForm) → allocates_bare p.types right ≡ true → right_starts (implicit_of p) among right ≡ right_starts no_implicit among right
-  starts_same among nothing is = refl
-  starts_same among (value_of path) is = refl
-  starts_same among (allocates access items) is = starts_none among access is
-  starts_same among (allocates_default access) is = starts_none among access is
-  starts_same among (computes e) is = refl
+  module _ (begun : List Bool) (silently : StartSilently p begun) where
+    starts_quietly : (among : Exception → Bool) (access : ℕ) → has_calm_objects p.types begun access ≡ true → list_any among ((implicit_of p).start_raises access) ≡ false
+    starts_quietly among access is =
+        none_among (λ e. creation_does (does_by p (Raises e)) (record_at p.types access)) among (exceptions_of p) (λ e. silently e access is)
 
-  declaration_same : (among : Exception → Bool) (d : DeclarationForm) → is_frugal_declaration p.types d ≡ true
-      → declaration_raises (implicit_of p) among d ≡ declaration_raises no_implicit among d
-  declaration_same among (creates_pool pool) is = refl
-  declaration_same among (collects access) is = refl
-  declaration_same among (declares x right) is = ap (λ (b : Bool). right_raises among right || b) (starts_same among right is)
-  declaration_same among (declares_record x object initial) is = absurd (cc is)
+    starts_same : (among : Exception → Bool) (right : RightForm) → allocates_quietly p.types begun right ≡ true → right_starts (implicit_of p) among right ≡ right_starts no_implicit among right
+    starts_same among nothing is = refl
+    starts_same among (value_of path) is = refl
+    starts_same among (allocates access items) is = starts_none among access is
+    starts_same among (allocates_default access) is = starts_quietly among access is
+    starts_same among (computes e) is = refl
 
-  declarations_same : (among : Exception → Bool) (ds : List DeclarationForm) → are_frugal_declarations p.types ds ≡ true
-      → declarations_raise (implicit_of p) among ds ≡ declarations_raise no_implicit among ds
-  declarations_same among [] is = refl
-  declarations_same among (d ∷ ds) is = let both = apart _ _ is in rw (declaration_same among d both.0, declarations_same among ds both.1) refl
+    declaration_same : (among : Exception → Bool) (d : DeclarationForm) → is_frugal_declaration p.types begun d ≡ true
+        → declaration_raises (implicit_of p) among d ≡ declaration_raises no_implicit among d
+    declaration_same among (creates_pool pool) is = refl
+    declaration_same among (collects access) is = refl
+    declaration_same among (declares x right) is = ap (λ (b : Bool). right_raises among right || b) (starts_same among right is)
+    declaration_same among (declares_record x object initial) is = absurd (cc is)
 
-  -- The procedures that it may call are known to raise the same, as far as they are frugal: then it raises the same.
-  module _ (marks : List Bool) (first second : List Effect) (callable : List Profile)
-      (called : (procedure : ℕ) (profile : Profile) → slice_get callable procedure ≡ Some profile → slice_index_or marks procedure false ≡ true → (among : Exception → Bool)
-      → call_raises (slice_get first procedure) among ≡ call_raises (slice_get second procedure) among) where
-    abbrev before : Effects
-    before = known_of (implicit_of p) first
+    declarations_same : (among : Exception → Bool) (ds : List DeclarationForm) → are_frugal_declarations p.types begun ds ≡ true
+        → declarations_raise (implicit_of p) among ds ≡ declarations_raise no_implicit among ds
+    declarations_same among [] is = refl
+    declarations_same among (d ∷ ds) is = let both = apart _ _ is in rw (declaration_same among d both.0, declarations_same among ds both.1) refl
 
-    abbrev after : Effects
-    after = known_of no_implicit second
+    -- The procedures that it may call are known to raise the same, as far as they are frugal: then it raises the same.
+    module _ (marks : List Bool) (first second : List Effect) (callable : List Profile)
+        (called : (procedure : ℕ) (profile : Profile) → slice_get callable procedure ≡ Some profile → slice_index_or marks procedure false ≡ true → (among : Exception → Bool)
+        → call_raises (slice_get first procedure) among ≡ call_raises (slice_get second procedure) among) where
+      abbrev before : Effects
+      before = known_of (implicit_of p) first
 
-    abbrev thrift : Thrift
-    thrift = record { types = p.types; ends_parts = true; procedures = marks }
+      abbrev after : Effects
+      after = known_of no_implicit second
 
-    module _ (variables : List VariableForm) where
-      call_same : (among : Exception → Bool) (procedure : ℕ) (actuals : List ActualForm) (o : Option Profile) → slice_get callable procedure ≡ o → suits_profile p.types variables o actuals ≡ true
-          → slice_index_or marks procedure false ≡ true → call_raises (slice_get first procedure) among ≡ call_raises (slice_get second procedure) among
-      call_same among procedure actuals None at fits is = absurd (cc fits)
-      call_same among procedure actuals (Some profile) at fits is = called procedure profile at is among
+      abbrev thrift : Thrift
+      thrift = record { types = p.types; begun = begun; procedures = marks }
 
-      mutual
-        stmt_same : (inside : Bool) (f : StmtForm) (among : Exception → Bool) → is_frugal_stmt thrift f ≡ true → statement_fits p.types variables p.texts p.exceptions callable inside f ≡ true
-            → stmt_raises before among f ≡ stmt_raises after among f
-        stmt_same inside skips among is fits = refl
-        stmt_same inside (assigns target right) among is fits =
-            ap (λ (b : Bool). ((among ConstraintError && path_raises target) || right_raises among right) || b) (starts_same among right is)
-        stmt_same inside (assigns_record target items) among is fits = refl
-        stmt_same inside (frees access path) among is fits = refl
-        stmt_same inside (gets target) among is fits = refl
-        stmt_same inside (writes e) among is fits = refl
-        stmt_same inside (writes_text text) among is fits = refl
-        stmt_same inside (chooses branches) among is fits = branches_same inside branches among is fits
-        stmt_same inside (repeats condition fs spot) among is fits = let two = apart _ _ fits in rw (stmts_same true fs among is two.1) refl
-        stmt_same inside (counts x low high fs spot) among is fits = let two = apart _ _ fits in rw (stmts_same true fs among is two.1) refl
-        stmt_same inside (exits condition spot) among is fits = refl
-        stmt_same inside (calls procedure actuals) among is fits =
-            ap (λ (b : Bool). (among ConstraintError && actuals_raise actuals) || b) (call_same among procedure actuals (slice_get callable procedure) refl fits is)
-        stmt_same inside (returns spot) among is fits = refl
-        stmt_same inside (raises e) among is fits = refl
-        stmt_same inside (encloses ds fs hs) among is fits =
-            let two = apart _ _ is in
-            let three = apart _ _ two.0 in
-            let fits_two = apart _ _ fits in
-            let fits_three = apart _ _ fits_two.0 in
-            rw (
-              declarations_same among ds three.0,
-              stmts_same inside fs (untaken hs among) three.1 fits_three.1,
-              handlers_same inside hs among two.1 fits_two.1,
-            ) refl
+      module _ (variables : List VariableForm) where
+        call_same : (among : Exception → Bool) (procedure : ℕ) (actuals : List ActualForm) (o : Option Profile) → slice_get callable procedure ≡ o → suits_profile p.types variables o actuals ≡ true
+            → slice_index_or marks procedure false ≡ true → call_raises (slice_get first procedure) among ≡ call_raises (slice_get second procedure) among
+        call_same among procedure actuals None at fits is = absurd (cc fits)
+        call_same among procedure actuals (Some profile) at fits is = called procedure profile at is among
 
-        stmts_same : (inside : Bool) (fs : StmtsForm) (among : Exception → Bool) → are_frugal thrift fs ≡ true → stmts_fit p.types variables p.texts p.exceptions callable inside fs ≡ true
-            → stmts_raise before among fs ≡ stmts_raise after among fs
-        stmts_same inside no_stmts among is fits = refl
-        stmts_same inside (a_stmt f fs) among is fits =
-            let both = apart _ _ is in
-            let two = apart _ _ fits in
-            rw (stmt_same inside f among both.0 two.0, stmts_same inside fs among both.1 two.1) refl
+        mutual
+          stmt_same : (inside : Bool) (f : StmtForm) (among : Exception → Bool) → is_frugal_stmt thrift f ≡ true → statement_fits p.types variables p.texts p.exceptions callable inside f ≡ true
+              → stmt_raises before among f ≡ stmt_raises after among f
+          stmt_same inside skips among is fits = refl
+          stmt_same inside (assigns target right) among is fits =
+              ap (λ (b : Bool). ((among ConstraintError && path_raises target) || right_raises among right) || b) (starts_same among right is)
+          stmt_same inside (assigns_record target items) among is fits = refl
+          stmt_same inside (frees access path) among is fits = refl
+          stmt_same inside (gets target) among is fits = refl
+          stmt_same inside (writes e) among is fits = refl
+          stmt_same inside (writes_text text) among is fits = refl
+          stmt_same inside (chooses branches) among is fits = branches_same inside branches among is fits
+          stmt_same inside (repeats condition fs spot) among is fits = let two = apart _ _ fits in rw (stmts_same true fs among is two.1) refl
+          stmt_same inside (counts x low high fs spot) among is fits = let two = apart _ _ fits in rw (stmts_same true fs among is two.1) refl
+          stmt_same inside (exits condition spot) among is fits = refl
+          stmt_same inside (calls procedure actuals) among is fits =
+              ap (λ (b : Bool). (among ConstraintError && actuals_raise actuals) || b) (call_same among procedure actuals (slice_get callable procedure) refl fits is)
+          stmt_same inside (returns spot) among is fits = refl
+          stmt_same inside (raises e) among is fits = refl
+          stmt_same inside (encloses ds fs hs) among is fits =
+              let two = apart _ _ is in
+              let three = apart _ _ two.0 in
+              let fits_two = apart _ _ fits in
+              let fits_three = apart _ _ fits_two.0 in
+              rw (
+                declarations_same among ds three.0,
+                stmts_same inside fs (untaken hs among) three.1 fits_three.1,
+                handlers_same inside hs among two.1 fits_two.1,
+              ) refl
 
-        branches_same : (inside : Bool) (branches : BranchesForm) (among : Exception → Bool) → are_frugal_branches thrift branches ≡ true
-            → branches_fit p.types variables p.texts p.exceptions callable inside branches ≡ true → branches_raise before among branches ≡ branches_raise after among branches
-        branches_same inside (otherwise fs) among is fits = stmts_same inside fs among is fits
-        branches_same inside (a_branch e fs branches) among is fits =
-            let both = apart _ _ is in
-            let two = apart _ _ fits in
-            let three = apart _ _ two.0 in
-            rw (stmts_same inside fs among both.0 three.1, branches_same inside branches among both.1 two.1) refl
+          stmts_same : (inside : Bool) (fs : StmtsForm) (among : Exception → Bool) → are_frugal thrift fs ≡ true → stmts_fit p.types variables p.texts p.exceptions callable inside fs ≡ true
+              → stmts_raise before among fs ≡ stmts_raise after among fs
+          stmts_same inside no_stmts among is fits = refl
+          stmts_same inside (a_stmt f fs) among is fits =
+              let both = apart _ _ is in
+              let two = apart _ _ fits in
+              rw (stmt_same inside f among both.0 two.0, stmts_same inside fs among both.1 two.1) refl
 
-        handlers_same : (inside : Bool) (hs : HandlersForm) (among : Exception → Bool) → are_frugal_handlers thrift hs ≡ true
-            → handlers_fit p.types variables p.texts p.exceptions callable inside hs ≡ true → handlers_raise before among hs ≡ handlers_raise after among hs
-        handlers_same inside no_handlers among is fits = refl
-        handlers_same inside (a_handler choices fs hs) among is fits =
-            let both = apart _ _ is in
-            let two = apart _ _ fits in
-            let three = apart _ _ two.0 in
-            rw (stmts_same inside fs among both.0 three.1, handlers_same inside hs among both.1 two.1) refl
+          branches_same : (inside : Bool) (branches : BranchesForm) (among : Exception → Bool) → are_frugal_branches thrift branches ≡ true
+              → branches_fit p.types variables p.texts p.exceptions callable inside branches ≡ true → branches_raise before among branches ≡ branches_raise after among branches
+          branches_same inside (otherwise fs) among is fits = stmts_same inside fs among is fits
+          branches_same inside (a_branch e fs branches) among is fits =
+              let both = apart _ _ is in
+              let two = apart _ _ fits in
+              let three = apart _ _ two.0 in
+              rw (stmts_same inside fs among both.0 three.1, branches_same inside branches among both.1 two.1) refl
 
-    -- So it is with a body.
-    body_same : (b : BodyForm) → is_frugal_body thrift b ≡ true → body_fits p.types p.texts p.exceptions callable b ≡ true → (among : Exception → Bool)
-        → body_raises before b among ≡ body_raises after b among
-    body_same b is fits among =
-        let two = apart _ _ is in
-        let three = apart _ _ two.0 in
-        let five = apart _ _ fits in
-        let four = apart _ _ five.0 in
-        rw (
-          declarations_same among b.declarations three.0,
-          stmts_same b.variables false b.statements (untaken b.handlers among) three.1 four.1,
-          handlers_same b.variables false b.handlers among two.1 five.1,
-        ) refl
+          handlers_same : (inside : Bool) (hs : HandlersForm) (among : Exception → Bool) → are_frugal_handlers thrift hs ≡ true
+              → handlers_fit p.types variables p.texts p.exceptions callable inside hs ≡ true → handlers_raise before among hs ≡ handlers_raise after among hs
+          handlers_same inside no_handlers among is fits = refl
+          handlers_same inside (a_handler choices fs hs) among is fits =
+              let both = apart _ _ is in
+              let two = apart _ _ fits in
+              let three = apart _ _ two.0 in
+              rw (stmts_same inside fs among both.0 three.1, handlers_same inside hs among both.1 two.1) refl
+
+      -- So it is with a body.
+      body_same : (b : BodyForm) → is_frugal_body thrift b ≡ true → body_fits p.types p.texts p.exceptions callable b ≡ true → (among : Exception → Bool)
+          → body_raises before b among ≡ body_raises after b among
+      body_same b is fits among =
+          let two = apart _ _ is in
+          let three = apart _ _ two.0 in
+          let five = apart _ _ fits in
+          let four = apart _ _ five.0 in
+          rw (
+            declarations_same among b.declarations three.0,
+            stmts_same b.variables false b.statements (untaken b.handlers among) three.1 four.1,
+            handlers_same b.variables false b.handlers among two.1 five.1,
+          ) refl
 
 -- Of procedures it is known whether they are frugal, and what they raise by either knowledge: of a frugal one the same.
 abbrev Agree : List Bool → List Effect → List Effect → Type 0
@@ -225,22 +237,25 @@ agree_more (y ∷ marks) (c ∷ first) (d ∷ second) agree x a b same = (agree.
 
 -- So it is with all procedures, each behind those before it.
 module _ (p : ProgramForm) (well : IsWellFormed p) where
-  all_agree : (bs : List BodyForm) (callable : List Profile) (marks : List Bool) (first second : List Effect) → bodies_fit p.types p.texts p.exceptions callable bs ≡ true → Agree marks first second
-      → Agree (frugal_from p.types true marks bs) (effects_from p.types (implicit_of p) first bs) (effects_from p.types no_implicit second bs)
-  all_agree [] callable marks first second fits agree = agree
-  all_agree (b ∷ bs) callable marks first second fits agree =
-      let frugal : Thrift = record { types = p.types; ends_parts = true; procedures = marks } in
-      let two = apart (body_fits p.types p.texts p.exceptions callable b) (bodies_fit p.types p.texts p.exceptions (callable ++ profile_of b ∷ []) bs) fits in
-      let one = effect_of p.types (known_of (implicit_of p) first) b in
-      let other = effect_of p.types (known_of no_implicit second) b in
-      all_agree bs (callable ++ profile_of b ∷ []) (marks ++ is_frugal_body frugal b ∷ []) (first ++ one ∷ []) (second ++ other ∷ []) two.1
-      (agree_more marks first second agree (is_frugal_body frugal b) one other
-      (λ is among. body_same p well.types_fit marks first second callable (λ procedure profile at. agree_at marks first second agree procedure) b is two.0 among))
+  module _ (begun : List Bool) (silently : StartSilently p begun) where
+    all_agree : (bs : List BodyForm) (callable : List Profile) (marks : List Bool) (first second : List Effect) → bodies_fit p.types p.texts p.exceptions callable bs ≡ true → Agree marks first second
+        → Agree (frugal_from p.types begun marks bs) (effects_from p.types (implicit_of p) first bs) (effects_from p.types no_implicit second bs)
+    all_agree [] callable marks first second fits agree = agree
+    all_agree (b ∷ bs) callable marks first second fits agree =
+        let frugal : Thrift = record { types = p.types; begun = begun; procedures = marks } in
+        let two = apart (body_fits p.types p.texts p.exceptions callable b) (bodies_fit p.types p.texts p.exceptions (callable ++ profile_of b ∷ []) bs) fits in
+        let one = effect_of p.types (known_of (implicit_of p) first) b in
+        let other = effect_of p.types (known_of no_implicit second) b in
+        all_agree bs (callable ++ profile_of b ∷ []) (marks ++ is_frugal_body frugal b ∷ []) (first ++ one ∷ []) (second ++ other ∷ []) two.1
+        (agree_more marks first second agree (is_frugal_body frugal b) one other
+        (λ is among. body_same p well.types_fit begun silently marks first second callable (λ procedure profile at. agree_at marks first second agree procedure) b is two.0 among))
 
   -- What calls of a frugal procedure are known to raise, they are known to raise without what is called implicitly.
-  calls_agree : (i : ℕ) → slice_index_or (frugal_procedures p) i false ≡ true → (among : Exception → Bool)
+  calls_agree : StartSilently p (quietly_begun_types p) → (i : ℕ) → slice_index_or (frugal_procedures p) i false ≡ true → (among : Exception → Bool)
       → call_raises (slice_get (effects_of (implicit_of p) p).calls i) among ≡ call_raises (slice_get (own_effects p).calls i) among
-  calls_agree = agree_at (frugal_procedures p) (effects_of (implicit_of p) p).calls (own_effects p).calls (all_agree p.bodies [] [] [] [] well.bodies_fit tt)
+  calls_agree silently =
+      agree_at (frugal_procedures p) (effects_of (implicit_of p) p).calls (own_effects p).calls
+      (all_agree (quietly_begun_types p) silently p.bodies [] [] [] [] well.bodies_fit tt)
 
   -- A procedure before a body is known to that body as to all.
   pub known_before : (number procedure : ℕ) (o : Option BodyForm) (profile : Profile) → slice_get (take number p.bodies) procedure ≡ o → option_map profile_of o ≡ Some profile
@@ -270,23 +285,41 @@ never : (b : Bool) → b ≡ true → b ≡ false → ⊥
 never true is not_so = cc not_so
 never false is not_so = cc is
 
--- So no exception comes out of a silent one.
-pub silent_frugal : (p : ProgramForm) → IsWellFormed p → (number : ℕ) (b : BodyForm) → slice_get p.bodies number ≡ Some b → is_frugal_body (thrift_of p) b ≡ true
+-- So no exception comes out of a silent one, where the procedures that it may call are known to raise the same, as far as they are frugal.
+silent_so :
+    (p : ProgramForm) → IsWellFormed p → (begun : List Bool) → StartSilently p begun → (marks : List Bool)
+    → ((i : ℕ) → slice_index_or marks i false ≡ true → (among : Exception → Bool)
+    → call_raises (slice_get (effects_of (implicit_of p) p).calls i) among ≡ call_raises (slice_get (own_effects p).calls i) among)
+    → (number : ℕ) (b : BodyForm) → slice_get p.bodies number ≡ Some b → is_frugal_body (record { types = p.types; begun = begun; procedures = marks }) b ≡ true
     → body_raises (own_effects p) b (λ x. true) ≡ false → (e : Exception) → body_among (implicit_of p) (seen_in (Some number) p) e ≡ true → ⊥
-silent_frugal p well number b there frugal silent e among =
+silent_so p well begun silently marks agree number b there frugal silent e among =
     let callable = [] ++ map profile_of (take number p.bodies) in
     let first = effects_from p.types (implicit_of p) [] (take number p.bodies) in
     let second = (own_effects p).calls in
     let fits = body_at p.types p.texts p.exceptions [] p.bodies number b well.bodies_fit there in
     let raised : body_raises (known_of (implicit_of p) first) b (is_same e) ≡ true = rw (seen_is p number b there) at among in
-    let known : (procedure : ℕ) (profile : Profile) → slice_get callable procedure ≡ Some profile → slice_index_or (frugal_procedures p) procedure false ≡ true → (some : Exception → Bool)
+    let known : (procedure : ℕ) (profile : Profile) → slice_get callable procedure ≡ Some profile → slice_index_or marks procedure false ≡ true → (some : Exception → Bool)
     → call_raises (slice_get first procedure) some ≡ call_raises (slice_get second procedure) some =
     λ procedure profile at is some.
     ap (λ (o : Option Effect). call_raises o some)
     (known_before p well number procedure (slice_get (take number p.bodies) procedure) profile refl (sym (slice_get-map profile_of (take number p.bodies) procedure) ∙ at))
-    ∙ calls_agree p well procedure is some in
-    let own : body_raises (own_effects p) b (is_same e) ≡ true = sym (body_same p well.types_fit (frugal_procedures p) first second callable known b frugal fits (is_same e)) ∙ raised in
+    ∙ agree procedure is some in
+    let own : body_raises (own_effects p) b (is_same e) ≡ true =
+    sym (body_same p well.types_fit begun silently marks first second callable known b frugal fits (is_same e)) ∙ raised in
     never (body_raises (own_effects p) b (λ x. true)) (raises_more (own_effects p) (program_each no_implicit p) b (is_same e) (λ x. true) (λ x is. refl) own) silent
+
+-- So it is with a frugal one.
+pub silent_frugal : (p : ProgramForm) → IsWellFormed p → StartSilently p (quietly_begun_types p) → (number : ℕ) (b : BodyForm) → slice_get p.bodies number ≡ Some b
+    → is_frugal_body (thrift_of p) b ≡ true → body_raises (own_effects p) b (λ x. true) ≡ false → (e : Exception) → body_among (implicit_of p) (seen_in (Some number) p) e ≡ true → ⊥
+silent_frugal p well silently number b there frugal silent e among =
+    silent_so p well (quietly_begun_types p) silently (frugal_procedures p) (calls_agree p well silently) number b there frugal silent e among
+
+-- And with one that calls nothing, and allocates no object with controlled parts.
+pub silent_simple : (p : ProgramForm) → IsWellFormed p → (number : ℕ) (b : BodyForm) → slice_get p.bodies number ≡ Some b
+    → is_frugal_body (calling_none p.types) b ≡ true → body_raises (own_effects p) b (λ x. true) ≡ false → (e : Exception) → body_among (implicit_of p) (seen_in (Some number) p) e ≡ true → ⊥
+silent_simple p well number b there frugal silent e among =
+    silent_so p well [] (λ x access is. created_nothing p well.types_fit (Raises x) access (bare_if_calm p.types (slice_get p.types access) is)) []
+    (λ i is some. absurd (cc is)) number b there frugal silent e among
 
 -- What a body may raise, calls of its procedure are known to raise: so it comes out of its procedure.
 raised_done : (p : ProgramForm) → IsWellFormed p → (number : ℕ) (b : BodyForm) → slice_get p.bodies number ≡ Some b → (e : Exception) → body_among (implicit_of p) (seen_in (Some number) p) e ≡ true
@@ -319,10 +352,10 @@ starts_let program well access of part number b operable overrides there e among
 -- What comes out of the body of such an operation may come out of the treatment that calls it: of an Initialize what the creation of the object may raise, and of a
 -- Finalize nothing (7.6, 7.6.1).
 pub touches_let : (program : Program) → IsWellFormed (program_form program) → (access of part number : ℕ) (b : BodyForm) → IsOperable (program_form program).types access of part
-    → (treatment : Treatment) → MayTouch treatment → LetsNone (program_form program) treatment b → IsCalled (operations_of program.types.items of) treatment number → slice_get (body_forms program) number ≡ Some b → is_frugal_body (thrift_of (program_form program)) b ≡ true
+    → StartSilently (program_form program) (quietly_begun_types (program_form program)) → (treatment : Treatment) → MayTouch treatment → LetsNone (program_form program) treatment b → IsCalled (operations_of program.types.items of) treatment number → slice_get (body_forms program) number ≡ Some b → is_frugal_body (thrift_of (program_form program)) b ≡ true
     → (e : Exception) → body_among (implicit_of (program_form program)) (seen_in (Some number) (program_form program)) e ≡ true → lets_out (implicit_of (program_form program)) access treatment e ≡ true
-touches_let program well access of part number b operable (begins Creation done) touch lets called there frugal e among = starts_let program well access of part number b operable called there e among
-touches_let program well access of part number b operable (begins Copy done) touch lets called there frugal e among = absurd touch
-touches_let program well access of part number b operable (begins (Adjustment n) done) touch lets called there frugal e among = absurd touch
-touches_let program well access of part number b operable (ends cause) touch lets called there frugal e among =
-    absurd (silent_frugal (program_form program) well number b there frugal lets e among)
+touches_let program well access of part number b operable silently (begins Creation done) touch lets called there frugal e among = starts_let program well access of part number b operable called there e among
+touches_let program well access of part number b operable silently (begins Copy done) touch lets called there frugal e among = absurd touch
+touches_let program well access of part number b operable silently (begins (Adjustment n) done) touch lets called there frugal e among = absurd touch
+touches_let program well access of part number b operable silently (ends cause) touch lets called there frugal e among =
+    absurd (silent_frugal (program_form program) well silently number b there frugal lets e among)

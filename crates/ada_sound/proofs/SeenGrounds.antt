@@ -8,6 +8,7 @@ use Rattle.ada_program.specs.Form.{DeclarationForm, StmtsForm, HandlersForm}
 use Rattle.ada_program.specs.Nested.{Callees, callees_of}
 use Rattle.ada_program.specs.ProgramForm.{TypeForm, BodyForm, ProgramForm, program_form, body_forms, seen_in}
 use Rattle.ada_program.specs.WellFormed.{is_access}
+use Rattle.ada_deeds.specs.Implicit.{implicit_of}
 use Rattle.ada_finalized.proofs.Twice.{operated_exist}
 use Rattle.ada_finalized.specs.Law.{NamesExisting, NoOperationRuns, NoOperationRunsOn, NothingBegins}
 use Rattle.ada_idle.proofs.Idle.{ControlIsIdle}
@@ -46,6 +47,8 @@ use Rattle.ada_untouched.specs.Alike.{NextAlike, is_ghost}
 use Rattle.ada_untouched.specs.Untouched.{Untouched}
 use Rattle.ada_sound.proofs.CallsApart.{CallApart}
 use Rattle.ada_sound.proofs.Departing.{IsLeft, Seen, next_member, treated, confined, ended, revived}
+use Rattle.ada_sound.specs.Always.{reaches_holder}
+use Rattle.ada_sound.proofs.FreesInside.{FreesNoneInside}
 use Rattle.ada_sound.proofs.Grounds.{Grounds, IsReached, may_free}
 use Rattle.ada_sound.proofs.Invariant.{Control}
 use Rattle.ada_sound.proofs.Operating.{IsCalm}
@@ -288,6 +291,20 @@ module _ (program : Program) {access item : ℕ} {pool : Option ℕ} {ghosts : I
             let never : Gone ≡ Existing = sym gone ∙ exists in
             cc never
 
+    -- No operation runs of an object that does not exist there.
+    unborn_so : (o : Id) → (NamesExisting v.heap (Names o) → ⊥) → NoOperationRunsOn (Names o) v.control
+    unborn_so o none = subst (NoOperationRunsOn (Names o)) (sym (seen_control seen)) (by (ghosts o) refl)
+      where
+        by : (b : Bool) → ghosts o ≡ b → NoOperationRunsOn (Names o) s.control
+        by true ghost = none_of_ghost o ghost
+        by false plain = grounds.unborn o (λ there. none (existing_so there))
+          where
+            existing_so : NamesExisting s.heap (Names o) → NamesExisting v.heap (Names o)
+            existing_so (p, is, x, found, exists) =
+                let same : o ≡ p = cc is in
+                let same_there : ghosts p ≡ false = rw (← same) plain in
+                (p, is, x, seen_at seen p same_there ∙ found, exists)
+
     -- No operation runs of an object that is in its collection there, where nothing of it begins.
     unrun_so : (o : Id) (x : Object) → object_at v.heap o ≡ Some x → x.listed ≡ true → NothingBegins (Names o) v.control → NoOperationRunsOn (Names o) v.control
     unrun_so o x found listed none = subst (NoOperationRunsOn (Names o)) (sym (seen_control seen)) (by (ghosts o) refl)
@@ -325,7 +342,7 @@ module _ (program : Program) {access item : ℕ} {pool : Option ℕ} {ghosts : I
         in_use = grounds.in_use;
         frees_own = grounds.frees_own;
         spares_own = grounds.spares_own;
-        spares_holders = grounds.spares_holders;
+        spares_starts = grounds.spares_starts;
         obeys = grounds.obeys;
         idle = λ none. record {
           control = subst (ControlIsIdle forms) (sym (seen_control seen)) ((grounds.idle none).control);
@@ -333,9 +350,11 @@ module _ (program : Program) {access item : ℕ} {pool : Option ℕ} {ghosts : I
         };
         copies = λ none. subst (AdjustsNone forms) (sym (seen_control seen)) (grounds.copies none);
         apart = λ stand. subst (CallApart forms (is_tracker (program_form program))) (sym (seen_control seen)) (grounds.apart stand);
+        releases = λ may made. subst (FreesNoneInside (reaches_holder (implicit_of (program_form program)) forms)) (sym (seen_control seen)) (grounds.releases may made);
         typed = seen_typed seen (program_form program) grounds.typed;
         nested = seen_scoped seen (program_form program) home grounds.nested;
         finalizes = finalizes;
+        unborn = λ o none. unborn_so o none;
         unrun = λ o x found listed none. unrun_so o x found listed none;
         stands = λ runs o x found listed none may. stands_so runs o x found listed none may;
         exist = λ w treatment tasks k is alone twice.

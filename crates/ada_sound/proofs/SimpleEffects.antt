@@ -12,9 +12,10 @@ use Rattle.ada_program.specs.declared.program.Exception.{Exception}
 use Rattle.ada_program.specs.declared.program.Program.{Program}
 use Rattle.ada_program.specs.ProgramForm.{BodyForm, program_form, seen_in}
 use Rattle.ada_program.specs.WellFormed.{IsWellFormed}
-use Rattle.ada_quiet.specs.Frugal.{own_effects, thrift_of}
+use Rattle.ada_quiet.specs.Frugal.{own_effects}
 use Rattle.ada_quiet.specs.Simple.{is_simple_body}
-use Rattle.ada_sound.proofs.FrugalUseLets.{silent_frugal}
+use Rattle.ada_sound.proofs.FrugalBodies.{calling_none}
+use Rattle.ada_sound.proofs.FrugalUseLets.{silent_simple}
 use Rattle.ada_sound.proofs.Invariant.{body_among}
 use Rattle.ada_sound.proofs.Judged.{known_judged}
 use Rattle.ada_sound.proofs.JudgedForms.{judged_among, orderly_seen, tracks_seen}
@@ -30,4 +31,4 @@ simple_silent program well number b there is silent tracks components orderly e 
     let p = program_form program in
     let seen = seen_in (Some number) p in
     let same = judged_among seen tracks (tracks_seen p number b tracks there components) (orderly_seen p number b tracks there orderly) (implicit_of p) e in
-    silent_frugal p well number b there (simple_frugal (thrift_of p) b is) silent e (sym same ∙ among)
+    silent_simple p well number b there (simple_frugal (calling_none p.types) b is) silent e (sym same ∙ among)

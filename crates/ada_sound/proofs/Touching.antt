@@ -342,9 +342,9 @@ abbrev pub IsEnding : Treatment → Type 0
 IsEnding (begins by done) = ⊥
 IsEnding (ends cause) = Unit {0}
 
--- What the body of such an operation may free, the initialization of its object may, or the end of that.
+-- What the body of such an operation may free: for an object that is initialized, none of its own access type; for one that is finalized, what its end may free.
 abbrev pub CoversBy : ProgramForm → Treatment → (access freed : ℕ) → Type 0
-CoversBy p (begins by done) access t = (implicit_of p).start_frees access t ≡ true
+CoversBy p (begins by done) access t = is_access p.types t ≡ true → access ≢ t
 CoversBy p (ends cause) access t = (implicit_of p).end_frees access t ≡ true
 
 -- The body of such an operation runs, or one that it has called, or the operation of an object that one of these frees: `depth` activations wait for these since then, and

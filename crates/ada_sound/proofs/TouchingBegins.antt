@@ -15,7 +15,6 @@ use Rattle.ada_program.specs.declared.program.TypeNo.{TypeNo}
 use Rattle.ada_program.specs.declared.program.VariableKind.TheVariants as variable_kinds
 use Rattle.ada_program.specs.ProgramForm.{TypeForm, VariableForm, BodyForm, ProgramForm, program_form, body_forms, main_body, seen_in, seen_by}
 use Rattle.ada_program.specs.WellFormed.{IsWellFormed, formal_kinds, is_access, variable_kind}
-use Rattle.ada_quiet.specs.Bare.{has_bare_objects}
 use Rattle.ada_quiet.specs.Frugal.{is_frugal_body, thrift_of}
 use Rattle.ada_flow.specs.declared.rule.Hold.TheVariants as hold
 use Rattle.ada_flow.specs.declared.rule.Region.TheVariants.{Whole}
@@ -41,7 +40,6 @@ use Rattle.ada_sound.proofs.BodyRuns.{body_runs}
 use Rattle.ada_sound.proofs.Calls.{home_low, relied_says}
 use Rattle.ada_sound.proofs.Callers.{Suspension, caller_of, known_in, Stands}
 use Rattle.ada_sound.proofs.Touching.{CoversBy, Enters, Pause, under_way, Watched, holding, origin}
-use Rattle.ada_sound.proofs.QuietOperations.{ends_here}
 use Rattle.ada_sound.proofs.SparesOwn.{spares_end}
 use Rattle.ada_sound.specs.Agreement.{running_procedure}
 use Rattle.ada_sound.specs.Always.{SparesOwn}
@@ -166,15 +164,12 @@ module _ (program : Program) (well : IsWellFormed (program_form program)) (obeys
       let now : Fit (seen_by number b p).types (seen_by number b p).variables (outers body) none_spared heap begins first = rw same at begun_fit in
       rw (seen_as p number b there) now
 
-  -- What the body may free, the treatment of the object may. It may not free the object itself: one that is initialized has controlled parts, and what its body frees has
-  -- none; and the end of an object frees none of its own type.
+  -- What the body may free, the treatment of the object may. It may not free the object itself: neither the initialization of an object nor its end frees one of its own
+  -- type.
   module _ (frees : (t : ℕ) → CoveredIn (implicit_of p) own t → at.may t ≡ true) (covers_by : (t : ℕ) → CoveredIn (implicit_of p) own t → CoversBy p treatment x.cell.access t) (lets : (e : Exception) → body_among (implicit_of p) own e ≡ true → lets_out (implicit_of p) x.cell.access treatment e ≡ true) where
     -- An object of this type is not what is treated.
     other_type : (by : Treatment) (t : ℕ) → CoversBy p by x.cell.access t → is_access known.program.types t ≡ true → x.cell.access ≡ t → ⊥
-    other_type (frame.begins how done) t bare access same =
-        let parted : has_bare_objects p.types x.cell.access ≡ false = subst (λ (types : List TypeForm). has_bare_objects types x.cell.access ≡ false) (same_types a.procedure p) at.waits.parted in
-        let free : has_bare_objects p.types x.cell.access ≡ true = rw same bare in
-        cc (parted, free)
+    other_type (frame.begins how done) t other access same = other (subst (λ (types : List TypeForm). is_access types t ≡ true) (same_types a.procedure p) access) same
     other_type (frame.ends cause) t ended access same =
         let accessed : is_access p.types t ≡ true = subst (λ (types : List TypeForm). is_access types t ≡ true) (same_types a.procedure p) access in
         let spared = (spares_end p spares_own t accessed).0 in

@@ -9,7 +9,6 @@ use Rattle.ada_program.specs.declared.program.TypeDefinition.{TypeDefinition}
 use Rattle.ada_program.specs.ProgramForm.{TypeForm, BodyForm, ProgramForm, program_form, body_forms, seen_in}
 use Rattle.ada_program.specs.WellFormed.{is_access}
 use Rattle.ada_flow.specs.Flow.{Holds}
-use Rattle.ada_quiet.specs.Bare.{has_bare_objects}
 use Rattle.ada_parts.specs.Task.{Task}
 use Rattle.ada_finalized.specs.Law.{NothingBegins, NoOperationRuns, NoOperationRunsOn, finalized_before}
 use Rattle.ada_meaning.specs.declared.event.Cause.TheVariants.{Leaving, Freeing, Assigning, Undoing}
@@ -37,7 +36,7 @@ use Rattle.ada_sound.proofs.Below.{either_one}
 use Rattle.ada_sound.proofs.Callers.{Suspension, callers_of, known_in, Stands}
 use Rattle.ada_sound.proofs.Fits.{Reference}
 use Rattle.ada_sound.proofs.FreesCovered.{frees_among}
-use Rattle.ada_sound.proofs.FrugalControl.{EndsFreed, Frugal, FrugalLeads, IsFreed}
+use Rattle.ada_sound.proofs.FrugalControl.{Frugal, FrugalLeads, begins_first}
 use Rattle.ada_sound.proofs.Grounds.{Grounds, may_free}
 use Rattle.ada_sound.proofs.Homes.{NoneIsUnder}
 use Rattle.ada_sound.proofs.Invariant.{AllWait, Control, CoveredIn, Known, Ready, Rooms, under_in, waits_covers}
@@ -67,12 +66,17 @@ module _ (frugal : Marks) where
   leads_begin v behind (f ∷ k) ms none q = leads_begin v behind k ms none q.1
 
   frugal_begin :
-      (v : Value) (behind : Control) (mode : Mode) (k : Control) (ms : List Master) → NothingBegins v behind → Frugal frugal behind mode k ms → NothingBegins v k
-  frugal_begin v behind mode k ms none (inl q) = leads_begin v behind k ms none q
-  frugal_begin v behind mode [] ms none (inr (runs, leaving)) = absurd leaving
-  frugal_begin v behind mode (frame.Leaves left ∷ k) [] none (inr (runs, leaving)) = absurd leaving
-  frugal_begin v behind mode (frame.Leaves left ∷ k) (m ∷ ms) none (inr (runs, leaving)) = leads_begin v behind k ms none leaving
-  frugal_begin v behind mode (f ∷ k) ms none (inr (runs, leaving)) = absurd leaving
+      (v : Value) (behind : Control) (heap : List Object) (mode : Mode) (k : Control) (ms : List Master) → begins_first k ≡ false → NothingBegins v behind → Frugal frugal behind heap mode k ms
+      → NothingBegins v k
+  frugal_begin v behind heap mode k ms other none (inl q) = leads_begin v behind k ms none q
+  frugal_begin v behind heap mode [] ms other none (inr (runs, inl leaving)) = absurd leaving
+  frugal_begin v behind heap mode (frame.Leaves left ∷ k) [] other none (inr (runs, inl leaving)) = absurd leaving
+  frugal_begin v behind heap mode (frame.Leaves left ∷ k) (m ∷ ms) other none (inr (runs, inl leaving)) = leads_begin v behind k ms none leaving
+  frugal_begin v behind heap mode (f ∷ k) ms other none (inr (runs, inl leaving)) = absurd leaving
+  frugal_begin v behind heap mode [] ms other none (inr (runs, inr starting)) = absurd starting
+  frugal_begin v behind heap mode (frame.Treats w (begins by done) tasks ∷ k) ms other none (inr (runs, inr starting)) = absurd (cc other)
+  frugal_begin v behind heap mode (frame.Awaits w by done of part tasks ∷ k) ms other none (inr (runs, inr starting)) = absurd (cc other)
+  frugal_begin v behind heap mode (f ∷ k) ms other none (inr (runs, inr starting)) = absurd starting
 
   -- Where no operation of an object runs, none does behind that end.
   leads_alone : (v : Value) (behind k : Control) (ms : List Master) → NoOperationRunsOn v k → FrugalLeads frugal behind k ms → NoOperationRunsOn v behind
@@ -114,12 +118,16 @@ module _ (frugal : Marks) where
   calm_behind behind (frame.Declares x ∷ k) (m ∷ ms) calm q = calm_behind behind k (m ∷ ms) calm q.1
   calm_behind behind (f ∷ k) ms calm q = calm_behind behind k ms calm q.1
 
-  pub frugal_calm : (behind : Control) (mode : Mode) (k : Control) (ms : List Master) → IsCalm (behind_call k) → Frugal frugal behind mode k ms → NoOperationRuns behind
-  frugal_calm behind mode k ms calm (inl q) = calm_behind behind k ms calm q
-  frugal_calm behind mode [] ms calm (inr (runs, leaving)) = absurd leaving
-  frugal_calm behind mode (frame.Leaves left ∷ k) [] calm (inr (runs, leaving)) = absurd leaving
-  frugal_calm behind mode (frame.Leaves left ∷ k) (m ∷ ms) calm (inr (runs, leaving)) = calm_behind behind k ms calm leaving
-  frugal_calm behind mode (f ∷ k) ms calm (inr (runs, leaving)) = absurd leaving
+  pub frugal_calm : (behind : Control) (heap : List Object) (mode : Mode) (k : Control) (ms : List Master) → IsCalm (behind_call k) → Frugal frugal behind heap mode k ms → NoOperationRuns behind
+  frugal_calm behind heap mode k ms calm (inl q) = calm_behind behind k ms calm q
+  frugal_calm behind heap mode [] ms calm (inr (runs, inl leaving)) = absurd leaving
+  frugal_calm behind heap mode (frame.Leaves left ∷ k) [] calm (inr (runs, inl leaving)) = absurd leaving
+  frugal_calm behind heap mode (frame.Leaves left ∷ k) (m ∷ ms) calm (inr (runs, inl leaving)) = calm_behind behind k ms calm leaving
+  frugal_calm behind heap mode (f ∷ k) ms calm (inr (runs, inl leaving)) = absurd leaving
+  frugal_calm behind heap mode [] ms calm (inr (runs, inr starting)) = absurd starting
+  frugal_calm behind heap mode (frame.Treats w (begins by done) tasks ∷ k) ms calm (inr (runs, inr starting)) = calm_behind behind k ms calm starting.1
+  frugal_calm behind heap mode (frame.Awaits w by done of part tasks ∷ k) ms calm (inr (runs, inr starting)) = calm_behind behind k ms calm starting.1
+  frugal_calm behind heap mode (f ∷ k) ms calm (inr (runs, inr starting)) = absurd starting
 
 -- Nor does anything begin where an object is finalized.
 treating_begin : (v w : Value) (cause : Cause) (tasks : List Task) (k : Control) → NothingBegins v k → NothingBegins v (treating w (ends cause) tasks k)
@@ -198,10 +206,7 @@ module _ (program : Program) (spares : SparesOwn program) (s : State) where
   frees_other depth f t covered of same = by f.treatment (f.covers t covered)
     where
       by : (treatment : Treatment) → CoversBy p treatment f.access t → ⊥
-      by (begins birth done) bare =
-          let parted = f.waits.parted in
-          let not_bare : has_bare_objects p.types f.access ≡ false = rw (same_types f.procedure p) at parted in
-          cc (not_bare, same, bare)
+      by (begins birth done) other = other of (sym same)
       by (ends cause) may =
           let none = (spares_end p spares t of).0 in
           cc (none, same, may)
@@ -293,24 +298,26 @@ module _ (program : Program) (s : State) (grounds : Grounds program s) (gs : Lis
   waits_begin v ne (begins by done) (part, is) = subst (NothingBegins v) (sym is) ((λ same. ne (sym same)), w.untreated v ne)
   waits_begin v ne (ends cause) (is, inside) = subst (NothingBegins v) (sym is) (treating_begin v (Names outermost.object) cause outermost.tasks outermost.after (w.untreated v ne))
 
-  -- What is left to do initializes and adjusts no other object.
-  pub begins_nothing : (v : Value) → (v ≢ Names outermost.object) → NothingBegins v s.control
-  begins_nothing v ne = frugal_begin (marks_of (program_form program)) v outermost.behind s.mode s.control w.frugal.upper (waits_begin v ne outermost.treatment outermost.awaited) w.frugal.frugal
+  -- What is left to do initializes and adjusts no other object, if none begins first.
+  pub begins_nothing : begins_first s.control ≡ false → (v : Value) → (v ≢ Names outermost.object) → NothingBegins v s.control
+  begins_nothing other v ne =
+      frugal_begin (marks_of (program_form program)) v outermost.behind s.heap s.mode s.control w.frugal.upper other (waits_begin v ne outermost.treatment outermost.awaited) w.frugal.frugal
 
   -- So it is of an object that is treated next, behind its treatment.
   pub treated_begin : (v : Value) (treatment : Treatment) (tasks : List Task) (k : Control) → s.control ≡ frame.Treats v treatment tasks ∷ k → NothingBegins v k
-  treated_begin v treatment tasks k is = by w.frugal.upper (subst (λ (all : Control). Frugal (marks_of (program_form program)) outermost.behind s.mode all w.frugal.upper) is w.frugal.frugal)
+  treated_begin v treatment tasks k is =
+      by treatment w.frugal.upper (subst (λ (all : Control). Frugal (marks_of (program_form program)) outermost.behind s.heap s.mode all w.frugal.upper) is w.frugal.frugal)
     where
-      other : (ms : List Master) → EndsFreed (marks_of (program_form program)) v treatment k × FrugalLeads (marks_of (program_form program)) outermost.behind k ms → v ≢ Names outermost.object
-      other ms q = other_treated program (length w.inner) s outermost v (leads_alone (marks_of (program_form program)) v outermost.behind k ms q.0.3 q.1)
+      behind : (ms : List Master) → NoOperationRunsOn v k → FrugalLeads (marks_of (program_form program)) outermost.behind k ms → NothingBegins v k
+      behind ms alone q =
+          let other = other_treated program (length w.inner) s outermost v (leads_alone (marks_of (program_form program)) v outermost.behind k ms alone q) in
+          leads_begin (marks_of (program_form program)) v outermost.behind k ms (waits_begin v other outermost.treatment outermost.awaited) q
 
-      behind : (way : Treatment) → IsFreed way → NothingBegins v (frame.Treats v way tasks ∷ k) → NothingBegins v k
-      behind (begins birth done) freed none = absurd freed
-      behind (ends cause) freed none = none
-
-      by : (ms : List Master) → Frugal (marks_of (program_form program)) outermost.behind s.mode (frame.Treats v treatment tasks ∷ k) ms → NothingBegins v k
-      by ms (inl q) = behind treatment q.0.0 (subst (NothingBegins v) is (begins_nothing v (other ms q)))
-      by ms (inr (runs, leaving)) = absurd leaving
+      by : (way : Treatment) (ms : List Master) → Frugal (marks_of (program_form program)) outermost.behind s.heap s.mode (frame.Treats v way tasks ∷ k) ms → NothingBegins v k
+      by way ms (inl q) = behind ms q.0.3 q.1
+      by way ms (inr (runs, inl leaving)) = absurd leaving
+      by (begins birth done) ms (inr (runs, inr starting)) = behind ms starting.0.1 starting.1
+      by (ends cause) ms (inr (runs, inr starting)) = absurd starting
 
   -- The object of the outermost operation is none that the running body may free.
   other_object : (o : Id) (x : Object) → object_at s.heap o ≡ Some x → may_free program s x.cell.access ≡ true → Names o ≡ Names outermost.object → ⊥
@@ -320,12 +327,12 @@ module _ (program : Program) (s : State) (grounds : Grounds program s) (gs : Lis
       frees_not program grounds.spares_own s (length w.inner) outermost o x found (cc same) covered so.0
 
   -- Nothing begins of an object that the running body may free.
-  pub freed_begin : (o : Id) (x : Object) → object_at s.heap o ≡ Some x → may_free program s x.cell.access ≡ true → NothingBegins (Names o) s.control
-  freed_begin o x found may = begins_nothing (Names o) (other_object o x found may)
+  pub freed_begin : begins_first s.control ≡ false → (o : Id) (x : Object) → object_at s.heap o ≡ Some x → may_free program s x.cell.access ≡ true → NothingBegins (Names o) s.control
+  freed_begin first o x found may = begins_nothing first (Names o) (other_object o x found may)
 
   -- So no operation of it runs, where it is in its collection.
-  pub listed_alone : (o : Id) (x : Object) → object_at s.heap o ≡ Some x → x.listed ≡ true → may_free program s x.cell.access ≡ true → NoOperationRunsOn (Names o) s.control
-  listed_alone o x found listed may = grounds.unrun o x found listed (freed_begin o x found may)
+  pub listed_alone : begins_first s.control ≡ false → (o : Id) (x : Object) → object_at s.heap o ≡ Some x → x.listed ≡ true → may_free program s x.cell.access ≡ true → NoOperationRunsOn (Names o) s.control
+  listed_alone first o x found listed may = grounds.unrun o x found listed (freed_begin first o x found may)
 
   -- An operation runs behind the call of the running body: the outermost one.
   waits_operated : (treatment : Treatment) → WaitsFor form.types outermost.object outermost.of treatment outermost.tasks outermost.after outermost.behind → NoOperationRuns outermost.behind → ⊥
@@ -333,11 +340,11 @@ module _ (program : Program) (s : State) (grounds : Grounds program s) (gs : Lis
   waits_operated (ends cause) (is, inside) none = let waits = (subst NoOperationRuns is none).0 in cc waits
 
   pub touching_runs : IsCalm (behind_call s.control) → ⊥
-  touching_runs calm = waits_operated outermost.treatment outermost.awaited (frugal_calm (marks_of (program_form program)) outermost.behind s.mode s.control w.frugal.upper calm w.frugal.frugal)
+  touching_runs calm = waits_operated outermost.treatment outermost.awaited (frugal_calm (marks_of (program_form program)) outermost.behind s.heap s.mode s.control w.frugal.upper calm w.frugal.frugal)
 
   -- Each object that may be freed stands.
-  stand : (forms : List TypeForm) → AllStand (may_free program s) forms s.heap
-  stand forms o x found listed of may = grounds.stands touching_runs o x found listed (freed_begin o x found may) may
+  stand : begins_first s.control ≡ false → (forms : List TypeForm) → AllStand (may_free program s) forms s.heap
+  stand first forms o x found listed of may = grounds.stands touching_runs o x found listed (freed_begin first o x found may) may
 
   -- A state with these parts.
   state_is : (mode : Mode) (k : Control) → s.mode ≡ mode → s.control ≡ k → s ≡ record s { mode = mode; control = k }
@@ -354,15 +361,17 @@ module _ (program : Program) (s : State) (grounds : Grounds program s) (gs : Lis
       (subst (λ (t : State). Halts program t (Erroneous FinalizesTwice)) (sym (state_is Running (frame.Treats v treatment tasks ∷ k) runs is)) twice)
 
   by_frame :
-      (g : Frame Value) (k : Control) (ms : List Master) → s.mode ≡ Running → s.control ≡ g ∷ k → Frugal (marks_of (program_form program)) outermost.behind Running (g ∷ k) ms → (forms : List TypeForm)
+      (g : Frame Value) (k : Control) (ms : List Master) → s.mode ≡ Running → s.control ≡ g ∷ k → Frugal (marks_of (program_form program)) outermost.behind s.heap Running (g ∷ k) ms → (forms : List TypeForm)
       → FinalizesBy (may_free program s) forms types bodies g (record s { mode = Running; control = k })
-  by_frame (frame.Does fs) k ms runs is q forms = stand forms
-  by_frame (frame.FreesIn access c) k ms runs is q forms = stand forms
+  by_frame (frame.Does fs) k ms runs is q forms = stand (ap begins_first is) forms
+  by_frame (frame.FreesIn access c) k ms runs is q forms = stand (ap begins_first is) forms
   by_frame (frame.Treats v treatment tasks) k ms runs is (inl q) forms = treated v treatment tasks k runs is q.0.3 forms
-  by_frame (frame.Treats v treatment tasks) k ms runs is (inr (now, leaving)) forms = absurd leaving
+  by_frame (frame.Treats v treatment tasks) k ms runs is (inr (now, inl leaving)) forms = absurd leaving
+  by_frame (frame.Treats v (begins birth done) tasks) k ms runs is (inr (now, inr starting)) forms = treated v (begins birth done) tasks k runs is starting.0.1 forms
+  by_frame (frame.Treats v (ends cause) tasks) k ms runs is (inr (now, inr starting)) forms = absurd starting
   by_frame g k ms runs is q forms = tt
 
-  by_mode : (mode : Mode) (k : Control) (ms : List Master) → s.mode ≡ mode → s.control ≡ k → Frugal (marks_of (program_form program)) outermost.behind mode k ms → (forms : List TypeForm) → FinalizesIn (may_free program s) forms types bodies mode k s
+  by_mode : (mode : Mode) (k : Control) (ms : List Master) → s.mode ≡ mode → s.control ≡ k → Frugal (marks_of (program_form program)) outermost.behind s.heap mode k ms → (forms : List TypeForm) → FinalizesIn (may_free program s) forms types bodies mode k s
   by_mode Running [] ms runs is q forms = tt
   by_mode Running (g ∷ k) ms runs is q forms = by_frame g k ms runs is q forms
   by_mode (Raising e) k ms runs is q forms = tt

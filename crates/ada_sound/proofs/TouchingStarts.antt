@@ -42,30 +42,31 @@ use Rattle.ada_typed.proofs.Bodies.{seen_as}
 use Rattle.ada_typed.proofs.Control as typed
 use Rattle.ada_typed.proofs.Kept.{behind_call}
 use Rattle.ada_typed.proofs.Overridings.{OperationFor, beginning_for, ending_for}
-use Rattle.ada_sound.proofs.Marks.{marks_of}
+use Rattle.ada_sound.proofs.Marks.{body_thrifty, marks_of}
 use Rattle.ada_sound.proofs.Alters.{Alters}
 use Rattle.ada_sound.proofs.Callers.{Suspension, known_in, Stands, callers_of}
 use Rattle.ada_sound.proofs.FrugalControl.{Frugally, IsFreed, frugal_starts}
-use Rattle.ada_sound.proofs.Touching.{CoversBy, Enters, GoesBy, IsEnding, Touching, origin}
+use Rattle.ada_sound.proofs.Touching.{CoversBy, Enters, Touching, origin}
 use Rattle.ada_sound.proofs.Trackers.{touches_apart}
 use Rattle.ada_sound.proofs.TouchingBegins.{Begun, IsAlone, alone, touching_begins}
 use Rattle.ada_sound.proofs.TouchingRests.{IsEnd, assigns_by, at_start, ends_by}
 use Rattle.ada_sound.proofs.Fits.{IsWithin, access_is}
 use Rattle.ada_sound.proofs.AssignedParts.{treated_frees_of, IsAssignedBehind}
-use Rattle.ada_sound.proofs.BareObjects.{allocated_is_bare, frugal_frees_bare, operable_is_not_bare}
-use Rattle.ada_sound.proofs.QuietOperations.{LetsNone, MayTouch, TouchesStorage, ends_here}
+use Rattle.ada_sound.proofs.BareObjects.{allocated_is_bare, operable_is_not_bare}
+use Rattle.ada_sound.proofs.QuietOperations.{LetsNone, MayTouch, TouchesStorage}
 use Rattle.ada_sound.proofs.CalmObjects.{calm_finalize, calm_initialize}
 use Rattle.ada_quiet.specs.Calm.{are_calm_in}
 use Rattle.ada_sound.proofs.Items.{Houses}
-use Rattle.ada_sound.proofs.FrugalUseEnds.{ends_free, ends_in_starts}
+use Rattle.ada_sound.proofs.FrugalUseEnds.{ends_free, ends_in_starts, starts_free}
 use Rattle.ada_sound.proofs.FrugalUseLets.{touches_let}
+use Rattle.ada_sound.proofs.FrugalUseSilent.{starts_silently}
 use Rattle.ada_sound.proofs.Invariant.{Control, CopiesBehind, CoveredIn, EndsTo, IsCopied, Known, TreatsBy, body_among, under_in, LiesAmong}
 use Rattle.ada_sound.proofs.Operated.{OperatedAs}
 use Rattle.ada_sound.proofs.Operating.{IsCalled, IsCalm, lets_out, WaitsFor}
 use Rattle.ada_sound.proofs.OperationBegins.{formal_holds, formal_within}
 use Rattle.ada_sound.proofs.OperationStarts.{calm_behind, is_awaited, live_there}
 use Rattle.ada_sound.proofs.Returns.{same_types}
-use Rattle.ada_sound.proofs.SparesOwn.{assigned_spares}
+use Rattle.ada_sound.proofs.SparesOwn.{assigned_spares, spares_start}
 use Rattle.ada_sound.proofs.Grounds.{Grounds, treats_made}
 use Rattle.ada_sound.proofs.Treating.{treats_in_use}
 use Rattle.ada_sound.proofs.Treatments.{Begins}
@@ -157,7 +158,7 @@ module _ (program : Program) (a : Activation Value) (rest : List (Activation Val
         subst (λ (types : List TypeForm). ItemsFit types (items_of s.masters)) (sym (same_types a.procedure p)) (rw same at fits)
 
     -- What waits for it, by what is treated.
-    module _ (may : may_be_frugal p ≡ true) (o : Id) (x : Object) (heap : List Object) (named : v ≡ Names o) (found : object_at heap o ≡ Some x) (is_of : access_at heap o ≡ Some x.cell.access) (not_bare : has_bare_objects known.program.types x.cell.access ≡ false) (not_calm : are_calm_in p x.cell.access ≡ false) where
+    module _ (may : may_be_frugal p ≡ true) (made : makes_parts p ≡ true) (o : Id) (x : Object) (heap : List Object) (named : v ≡ Names o) (found : object_at heap o ≡ Some x) (is_of : access_at heap o ≡ Some x.cell.access) (not_bare : has_bare_objects known.program.types x.cell.access ≡ false) (not_calm : are_calm_in p x.cell.access ≡ false) where
       -- The home of the object is an item for whose objects an operation may be called that touches storage.
       goes_ahead : (owned : Owned) → Houses owned x.cell.access x.cell.home.pool → OwnedFits known.program.types owned → known.ahead owned ≡ true
       goes_ahead (declared y) houses fits = absurd houses
@@ -182,7 +183,7 @@ module _ (program : Program) (a : Activation Value) (rest : List (Activation Val
 
       -- An operation may be called for it that touches storage.
       touches : known.touches x.cell.access ≡ true
-      touches = rw (may, not_calm) refl
+      touches = rw (may, made, not_calm) refl
 
       ends_for : (cause : Cause) → IsEnd cause → IsLoneEnd v k → EndsTo known (Names o) k heap a.places s.masters → Enters known (ends cause) o x k heap a.places a.operands s.masters
       ends_for cause end alone treats =
@@ -215,11 +216,17 @@ module _ (program : Program) (a : Activation Value) (rest : List (Activation Val
         go true is_calm (ends cause) may' called' touches' =
             let quiet = calm_finalize program grounds.well access of part number b operable is_calm called' there in absurd (cc (quiet, touches'))
 
-    -- What the body may free has no controlled parts, or the end of the object may free it.
-    covers_by : (access of part number : ℕ) (b : BodyForm) (by : Treatment) → IsOperable p.types access of part → IsCalled (operations_of program.types.items of) by number → slice_get (body_forms program) number ≡ Some b
-        → is_frugal_body (thrift_of p) b ≡ true → (t : ℕ) → CoveredIn (implicit_of p) (seen_in (Some number) p) t → CoversBy p by access t
-    covers_by access of part number b (begins by done) operable called there frugal t covered = frugal_frees_bare program grounds.well number b there frugal t covered
-    covers_by access of part number b (ends cause) operable called there frugal t covered = ends_free program grounds.well access of part number b operable called there t covered
+    -- What the body may free is of another access type than the object, or the end of the object may free it.
+    covers_by : may_be_frugal p ≡ true → makes_parts p ≡ true → (access of part number : ℕ) (b : BodyForm) (by : Treatment) → IsOperable p.types access of part → MayTouch by
+        → IsCalled (operations_of program.types.items of) by number → slice_get (body_forms program) number ≡ Some b → (t : ℕ) → CoveredIn (implicit_of p) (seen_in (Some number) p) t
+        → CoversBy p by access t
+    covers_by may made access of part number b (begins Creation done) operable may' called there t covered = λ accessed same.
+        let frees = starts_free program grounds.well access of part number b operable called there t covered in
+        let spares = spares_start p (grounds.spares_starts may made) t accessed in
+        cc (frees, spares, same)
+    covers_by may made access of part number b (begins Copy done) operable may' called there t covered = absurd may'
+    covers_by may made access of part number b (begins (Adjustment n) done) operable may' called there t covered = absurd may'
+    covers_by may made access of part number b (ends cause) operable may' called there t covered = ends_free program grounds.well access of part number b operable called there t covered
 
     -- So the body begins, for this object, in front of what is behind its treatment.
     begins_so : operations_may_be_called p ≡ true → makes_parts p ≡ true → (e : Event) (after : State) (c : Begins known a rest s program.types.items (body_forms program) k IsOperated e after) → MayTouch c.treatment → may_be_frugal p ≡ true → LetsNone p c.treatment c.b → is_frugal_body (thrift_of p) c.b ≡ true → TouchesStorage p c.treatment c.b
@@ -231,7 +238,7 @@ module _ (program : Program) (a : Activation Value) (rest : List (Activation Val
         let parted : has_bare_objects p.types c.x.cell.access ≡ false = rw of_type (operable_is_not_bare program grounds.well operated.0 c.of operated.1 operated.3) in
         let not_calm : are_calm_in p c.x.cell.access ≡ false = rw of_type (other_object operated.0 c.of operated.1 c.number c.b c.treatment operated.3 touches c.called c.there stores) in
         let at : Enters known c.treatment c.o c.x k c.heap a.places a.operands s.masters =
-        enters may c.o c.x c.heap c.operated.3 c.found (access_is c.heap c.o c.x c.found (live_there c.x.stage c.live)) (subst (λ (types : List TypeForm). has_bare_objects types c.x.cell.access ≡ false) (sym (same_types a.procedure p)) parted) not_calm c.treatment c.tasks (rw c.operated.0 lone) touches c.treats in
+        enters may made c.o c.x c.heap c.operated.3 c.found (access_is c.heap c.o c.x c.found (live_there c.x.stage c.live)) (subst (λ (types : List TypeForm). has_bare_objects types c.x.cell.access ≡ false) (sym (same_types a.procedure p)) parted) not_calm c.treatment c.tasks (rw c.operated.0 lone) touches c.treats in
         let operation = operation_for program grounds.well c.of c.number c.treatment touches c.called in
         let body : operation.body ≡ c.b = let found = operation.there in let there = c.there in cc (found, there) in
         let single : IsAlone c.b = alone c.b operation.object (rw body at operation.formals) in
@@ -245,10 +252,10 @@ module _ (program : Program) (a : Activation Value) (rest : List (Activation Val
         let frees : (t : ℕ) → CoveredIn (implicit_of p) (seen_in (Some c.number) p) t → at.may t ≡ true =
         λ t covered. at.includes t (treated_frees_of program grounds.well c.x.cell.access c.of operated.1 c.number c.b operable c.treatment k (rw (c.operated.0) (c.operated.2)) (copied_behind (Names c.o) c.treatment c.tasks k c.heap c.treats) touches c.called c.there t covered) in
         let lets : (raised : Exception) → body_among (implicit_of p) (seen_in (Some c.number) p) raised ≡ true → lets_out (implicit_of p) c.x.cell.access c.treatment raised ≡ true =
-        touches_let program grounds.well c.x.cell.access c.of operated.1 c.number c.b operable c.treatment touches silent c.called c.there frugal in
+        touches_let program grounds.well c.x.cell.access c.of operated.1 c.number c.b operable (starts_silently program grounds.well uses) c.treatment touches silent c.called c.there frugal in
         rw c.is (touching_begins program grounds.well grounds.obeys c.number (touches_apart program grounds.obeys.0 c.of c.number c.treatment touches c.called) c.b c.there single a rest gs s k c.o c.x c.heap c.found (live_there c.x.stage c.live) c.place within c.treatment frugal grounds.spares_own at c.behind frees
-        (covers_by c.x.cell.access c.of operated.1 c.number c.b c.treatment operable c.called c.there frugal) lets e c.of c.tasks c.alters waits (is_awaited p.types c.o c.of c.treatment c.tasks k c.behind waits) stands
-        (watched_begins program grounds.well uses a rest gs s c.treatment at.watch c.o c.x.cell.access c.of operated.1 c.number c.b c.place c.behind c.heap operable c.called c.there frugal (grounds.spares_holders may made) at.spared))
+        (covers_by may made c.x.cell.access c.of operated.1 c.number c.b c.treatment operable touches c.called c.there) lets e c.of c.tasks c.alters waits (is_awaited p.types c.o c.of c.treatment c.tasks k c.behind waits) stands
+        (watched_begins program grounds.well uses a rest gs s c.treatment at.watch c.o c.x.cell.access c.of operated.1 c.number c.b c.place c.behind c.heap operable c.called c.there frugal at.spared))
 
     -- That is known of it, whatever runs behind it.
     pub touching_starts : operations_may_be_called p ≡ true → makes_parts p ≡ true → (e : Event) (after : State) (c : Begins known a rest s program.types.items (body_forms program) k IsOperated e after) → MayTouch c.treatment → may_be_frugal p ≡ true → LetsNone p c.treatment c.b → is_frugal_body (thrift_of p) c.b ≡ true → TouchesStorage p c.treatment c.b
@@ -317,18 +324,13 @@ module _ (program : Program) (a : Activation Value) (rest : List (Activation Val
           others_by c.heap a.places a.operands s.masters u (λ is. other (is ∙ c.operated.3)) c.treatment c.tasks c.operated.0 touches
           (subst (λ (w : Value). TreatsBy known w c.treatment c.tasks k c.heap a.places a.operands s.masters) (sym c.operated.3) c.treats)
 
-      -- What bodies go by then.
-      goes_so : (by by' : Treatment) → by' ≡ by → GoesBy p by' (thrift_of p)
-      goes_so (begins how done) by' is = inl refl
-      goes_so (ends cause) by' is = inr (refl, subst IsEnding (sym is) tt)
-
       -- Its body runs, as the outermost one.
       pub touching_outermost : may_be_frugal p ≡ true → LetsNone p c.treatment c.b → is_frugal_body (thrift_of p) c.b ≡ true → TouchesStorage p c.treatment c.b → typed.Typed p after → Touching program after
       touching_outermost may silent frugal stores typing =
           let started = begins_so whole same grounds lone_outermost stands (treats_in_use program whole grounds (Treats v treatment tasks ∷ k) is tt) (treats_made program whole grounds v treatment tasks k is) e after c touches may silent frugal stores typing in
           let begun = started.0 in
           let waits : WaitsFor p.types c.o c.of c.treatment c.tasks k c.behind = subst (λ (types : List TypeForm). WaitsFor types c.o c.of c.treatment c.tasks k c.behind) (same_types a.procedure p) c.waits in
-          let runs : Frugally (marks_of p) s.masters c.behind after = rw c.is (frugal_starts (thrift_of p) c.number c.b frugal (Part c.o c.place) c.behind (record s { activations = a ∷ rest; heap = c.heap; mode = Running; control = k })) in
+          let runs : Frugally (marks_of p) s.masters c.behind after = rw c.is (frugal_starts (marks_of p) c.number c.b (body_thrifty p c.b frugal) (Part c.o c.place) c.behind (record s { activations = a ∷ rest; heap = c.heap; mode = Running; control = k })) in
           record {
             suspensions = origin program 0 after begun.pause ∷ gs;
             ready = begun.ready;

@@ -1,7 +1,7 @@
 -- The body of a Finalize begins while an object is freed (7.6.1, 13.11.2): what is watched, the object in which a component lies that names the freed one, is
 -- left alone by that body, by those that it calls, and by the operations of what they free.
 
-use Rattle.std.proofs.Common.{◌≡◌, ℕ, Bool, true, false, not, ◌==◌, ◌&&◌, List, ◌∷◌, refl, subst}
+use Rattle.std.proofs.Common.{◌≡◌, ℕ, Bool, true, false, not, ◌==◌, ◌&&◌, List, ◌∷◌, refl, subst, sym}
 use Rattle.std.specs.Prelude.{Option, Some, None}
 use Rattle.std.specs.List.{slice_get}
 use Rattle.std.proofs.lemmas.Bool.{and_parts}
@@ -30,15 +30,11 @@ use Rattle.ada_reaching.specs.Law.{AreApart}
 use Rattle.ada_reaching.specs.Reaching.{IsGhost, IsReaching}
 use Rattle.ada_tracked.proofs.Lists.{apart_is, is_same}
 use Rattle.ada_typed.proofs.Lying.{IsOperable}
-use Rattle.ada_sound.specs.Always.{spare_holders}
 use Rattle.ada_sound.proofs.Callers.{Suspension, known_in}
-use Rattle.ada_sound.proofs.Fits.{component_access}
 use Rattle.ada_sound.proofs.Invariant.{Control, Known}
 use Rattle.ada_sound.proofs.Operating.{IsCalled}
-use Rattle.ada_sound.proofs.QuietOperations.{ends_here}
 use Rattle.ada_sound.proofs.Returns.{same_types}
 use Rattle.ada_sound.proofs.ShunningEnds.{body_is_shaped, finalize_shuns}
-use Rattle.ada_sound.proofs.SparesHolders.{holder_spared}
 use Rattle.ada_sound.proofs.Touching.{IsSpared, Watch, Watched, is_unnamed, is_watched, watches}
 
 module _
@@ -54,30 +50,28 @@ module _
   pub watched_begins :
       (by : Treatment) (watch : Option Watch) (o : Id) (access of part number : ℕ) (b : BodyForm) (place : Place) (behind : Control) (heap : List Object)
       → IsOperable p.types access of part → IsCalled (operations_of program.types.items of) by number → slice_get (body_forms program) number ≡ Some b
-      → is_frugal_body (thrift_of p) b ≡ true → spare_holders (implicit_of p) p.types 0 p.types ≡ true → IsSpared known by o access heap watch
+      → is_frugal_body (thrift_of p) b ≡ true → IsSpared known by o access heap watch
       → Watched program watch behind (operating named number b (Part o place) behind (record s { activations = a ∷ rest; heap = heap; mode = Running }))
-  watched_begins by None o access of part number b place behind heap operable called there frugal spares spared = tt
-  watched_begins (begins by done) (Some w) o access of part number b place behind heap operable called there frugal spares spared = absurd spared
-  watched_begins (ends cause) (Some w) o access of part number b place behind heap operable called there frugal spares (at, other, (c, holds)) =
+  watched_begins by None o access of part number b place behind heap operable called there frugal spared = tt
+  watched_begins (begins by done) (Some w) o access of part number b place behind heap operable called there frugal spared = absurd spared
+  watched_begins (ends cause) (Some w) o access of part number b place behind heap operable called there frugal (at, other, spared) =
       (at, (shunned.0, shunned.1, reaching))
     where
-      -- The end of the object reaches none of the type of what is watched, in which a component lies that names it.
-      apart : (implicit_of p).end_reaches access w.is.cell.access ≡ false
-      apart =
-          holder_spared (implicit_of p) p.types spares w.is.cell.access c access
-          (subst (λ (types : List TypeForm). component_access types w.is c ≡ Some access) (same_types a.procedure p) holds)
+      -- The end of the object reaches none of the type of what is watched, if that is an access type.
+      apart : is_access p.types w.is.cell.access ≡ true → (implicit_of p).end_reaches access w.is.cell.access ≡ false
+      apart is = spared (subst (λ (types : List TypeForm). is_access types w.is.cell.access ≡ true) (sym (same_types a.procedure p)) is)
 
       -- The procedures that it calls are among some whose bodies neither follow nor free values of that type, if it is an access type, and neither do the
       -- operations of what they free.
       shunned_by :
-          (accessed : Bool) → (among : Apart) × AreApart p program.types.items (λ t. accessed && (w.is.cell.access == t)) among
+          (accessed : Bool) → is_access p.types w.is.cell.access ≡ accessed → (among : Apart) × AreApart p program.types.items (λ t. accessed && (w.is.cell.access == t)) among
           × (body_shuns p.types (λ t. accessed && (w.is.cell.access == t)) among b ≡ true)
-      shunned_by true = finalize_shuns program well uses access of part number w.is.cell.access b operable called there apart
-      shunned_by false = body_is_shaped program well uses number b there frugal
+      shunned_by true is = finalize_shuns program well uses access of part number w.is.cell.access b operable called there (apart is)
+      shunned_by false is = body_is_shaped program well uses number b there frugal
 
       shunned :
           (among : Apart) × AreApart p program.types.items (watches p.types (Some w)) among × (body_shuns p.types (watches p.types (Some w)) among b ≡ true)
-      shunned = shunned_by (is_access p.types w.is.cell.access)
+      shunned = shunned_by (is_access p.types w.is.cell.access) refl
 
       -- What is watched is there: it is of that type, or a record object that is declared.
       ghost_by :
