@@ -202,7 +202,7 @@ module _ (own : TypeForm → Bool) (types : List TypeForm) where
         }
 
     -- So it is known to be calm exactly where it is so by what is known of all types.
-    known_at : (t : ℕ) (name : List ℕ) (ps : List PartForm) (components : List ComponentKind) (f : Finalization)
+    pub known_at : (t : ℕ) (name : List ℕ) (ps : List PartForm) (components : List ComponentKind) (f : Finalization)
         → slice_get types t ≡ Some (record_of name ps components (Some f))
         → slice_index_or all f.number.0 false ≡ (own (record_of name ps components (Some f)) && list_all (λ c. is_calm_part types all c.kind) ps)
     known_at t name ps components f at =

@@ -24,7 +24,7 @@ use Rattle.ada_deeds.specs.declared.deed.Operation.{Operation}
 use Rattle.ada_effects.proofs.Calls.{AllEach, Within, either}
 use Rattle.ada_effects.proofs.Programs.{program_each}
 use Rattle.ada_effects.proofs.Raising.{within_untaken, declarations_stay, stmts_stay, handlers_stay}
-use Rattle.ada_effects.specs.Effects.{Effect, Effects, actuals_raise, path_raises, right_raises, right_starts, declaration_raises, declarations_raise, call_raises, stmt_raises, untaken, stmts_raise, branches_raise, handlers_raise, body_raises, no_implicit, effect_of, known_of, effects_from, effects_of}
+use Rattle.ada_effects.specs.Effects.{Effect, Effects, Implicit, actuals_raise, path_raises, right_raises, right_starts, declaration_raises, declarations_raise, call_raises, stmt_raises, untaken, stmts_raise, branches_raise, handlers_raise, body_raises, no_implicit, effect_of, known_of, effects_from, effects_of}
 use Rattle.ada_meaning.specs.Frame.{Treatment, begins, ends}
 use Rattle.ada_meaning.specs.declared.event.Birth.TheVariants.{Creation, Copy, Adjustment}
 use Rattle.ada_program.specs.Controlled.{procedure_number, operations_of}
@@ -40,7 +40,7 @@ use Rattle.ada_quiet.specs.Bare.{has_bare_objects, is_bare_access}
 use Rattle.ada_quiet.specs.Calm.{has_calm_objects, quietly_begun_types}
 use Rattle.ada_quiet.specs.Frugal.{Thrift, thrift_of, allocates_quietly, is_frugal_stmt, are_frugal, are_frugal_branches, are_frugal_handlers, is_frugal_body, is_frugal_declaration, are_frugal_declarations, frugal_from, frugal_procedures, own_effects}
 use Rattle.ada_sound.proofs.Bodies.{seen_is, effect_at, taken_before, taken_get}
-use Rattle.ada_sound.proofs.CalmTypes.{bare_if_calm}
+use Rattle.ada_sound.proofs.CalmTypes.{bare_calm, bare_if_calm}
 use Rattle.ada_sound.proofs.FrugalBodies.{calling_none}
 use Rattle.ada_sound.proofs.FrugalUseEnds.{done_lying}
 use Rattle.ada_sound.proofs.Invariant.{body_among}
@@ -59,8 +59,6 @@ none_among test among (x ∷ xs) none = rw (none x) (none_among test among xs no
 abbrev pub StartSilently : ProgramForm → (begun : List Bool) → Type 0
 StartSilently p begun = (e : Exception) (access : ℕ) → has_calm_objects p.types begun access ≡ true → creation_does (does_by p (Raises e)) (record_at p.types access) ≡ false
 
--- A frugal body raises nothing by what it calls implicitly (4.8, 5.2, 7.6): what it allocates begins quietly, what it assigns has no controlled parts, and where it frees
--- an object with some, no exception comes out of a Finalize (13.11.2). So what is known of implicit calls changes nothing of what it raises.
 module _ (p : ProgramForm) (types_fit : list_all (type_fits p.types) p.types ≡ true) where
   -- Nothing is done for a record without controlled parts.
   pub does_nothing : (d : Deed) (operation : Operation) (r : ℕ) → is_some (finalization_of p.types r) ≡ false → does_by p d (callee.Parts operation (record { 0 = r })) ≡ false
@@ -93,31 +91,35 @@ module _ (p : ProgramForm) (types_fit : list_all (type_fits p.types) p.types ≡
       let o = slice_get p.types access in
       rw (bare_does_nothing d Initialize access o is, bare_does_nothing d Finalize access o is) refl
 
-  starts_none : (among : Exception → Bool) (access : ℕ) → has_bare_objects p.types access ≡ true → list_any among ((implicit_of p).start_raises access) ≡ false
-  starts_none among access is =
-      none_among (λ e. creation_does (does_by p (Raises e)) (record_at p.types access)) among (exceptions_of p) (λ e. created_nothing (Raises e) access is)
+-- Nothing comes out of the creation of objects that begin quietly, by what is known of implicit calls.
+abbrev pub StartNone : List TypeForm → (begun : List Bool) → Implicit → Type 0
+StartNone types begun implicit = (among : Exception → Bool) (access : ℕ) → has_calm_objects types begun access ≡ true → list_any among (implicit.start_raises access) ≡ false
 
-  module _ (begun : List Bool) (silently : StartSilently p begun) where
-    starts_quietly : (among : Exception → Bool) (access : ℕ) → has_calm_objects p.types begun access ≡ true → list_any among ((implicit_of p).start_raises access) ≡ false
-    starts_quietly among access is =
-        none_among (λ e. creation_does (does_by p (Raises e)) (record_at p.types access)) among (exceptions_of p) (λ e. silently e access is)
+-- By what is done it is so.
+start_none : (p : ProgramForm) (begun : List Bool) → StartSilently p begun → StartNone p.types begun (implicit_of p)
+start_none p begun silently among access is =
+    none_among (λ e. creation_does (does_by p (Raises e)) (record_at p.types access)) among (exceptions_of p) (λ e. silently e access is)
 
-    starts_same : (among : Exception → Bool) (right : RightForm) → allocates_quietly p.types begun right ≡ true → right_starts (implicit_of p) among right ≡ right_starts no_implicit among right
+-- A frugal body raises nothing by what it calls implicitly (4.8, 5.2, 7.6): what it allocates begins quietly, what it assigns has no controlled parts, and where it frees
+-- an object with some, no exception comes out of a Finalize (13.11.2). So what is known of implicit calls changes nothing of what it raises.
+module _ (p : ProgramForm) (types_fit : list_all (type_fits p.types) p.types ≡ true) where
+  module _ (implicit : Implicit) (begun : List Bool) (quietly : StartNone p.types begun implicit) where
+    starts_same : (among : Exception → Bool) (right : RightForm) → allocates_quietly p.types begun right ≡ true → right_starts implicit among right ≡ right_starts no_implicit among right
     starts_same among nothing is = refl
     starts_same among (value_of path) is = refl
-    starts_same among (allocates access items) is = starts_none among access is
-    starts_same among (allocates_default access) is = starts_quietly among access is
+    starts_same among (allocates access items) is = quietly among access (bare_calm p.types begun (slice_get p.types access) is)
+    starts_same among (allocates_default access) is = quietly among access is
     starts_same among (computes e) is = refl
 
     declaration_same : (among : Exception → Bool) (d : DeclarationForm) → is_frugal_declaration p.types begun d ≡ true
-        → declaration_raises (implicit_of p) among d ≡ declaration_raises no_implicit among d
+        → declaration_raises implicit among d ≡ declaration_raises no_implicit among d
     declaration_same among (creates_pool pool) is = refl
     declaration_same among (collects access) is = refl
     declaration_same among (declares x right) is = ap (λ (b : Bool). right_raises among right || b) (starts_same among right is)
     declaration_same among (declares_record x object initial) is = absurd (cc is)
 
     declarations_same : (among : Exception → Bool) (ds : List DeclarationForm) → are_frugal_declarations p.types begun ds ≡ true
-        → declarations_raise (implicit_of p) among ds ≡ declarations_raise no_implicit among ds
+        → declarations_raise implicit among ds ≡ declarations_raise no_implicit among ds
     declarations_same among [] is = refl
     declarations_same among (d ∷ ds) is = let both = apart _ _ is in rw (declaration_same among d both.0, declarations_same among ds both.1) refl
 
@@ -126,7 +128,7 @@ module _ (p : ProgramForm) (types_fit : list_all (type_fits p.types) p.types ≡
         (called : (procedure : ℕ) (profile : Profile) → slice_get callable procedure ≡ Some profile → slice_index_or marks procedure false ≡ true → (among : Exception → Bool)
         → call_raises (slice_get first procedure) among ≡ call_raises (slice_get second procedure) among) where
       abbrev before : Effects
-      before = known_of (implicit_of p) first
+      before = known_of implicit first
 
       abbrev after : Effects
       after = known_of no_implicit second
@@ -237,7 +239,7 @@ agree_more (y ∷ marks) (c ∷ first) (d ∷ second) agree x a b same = (agree.
 
 -- So it is with all procedures, each behind those before it.
 module _ (p : ProgramForm) (well : IsWellFormed p) where
-  module _ (begun : List Bool) (silently : StartSilently p begun) where
+  module _ (begun : List Bool) (quietly : StartNone p.types begun (implicit_of p)) where
     all_agree : (bs : List BodyForm) (callable : List Profile) (marks : List Bool) (first second : List Effect) → bodies_fit p.types p.texts p.exceptions callable bs ≡ true → Agree marks first second
         → Agree (frugal_from p.types begun marks bs) (effects_from p.types (implicit_of p) first bs) (effects_from p.types no_implicit second bs)
     all_agree [] callable marks first second fits agree = agree
@@ -248,21 +250,20 @@ module _ (p : ProgramForm) (well : IsWellFormed p) where
         let other = effect_of p.types (known_of no_implicit second) b in
         all_agree bs (callable ++ profile_of b ∷ []) (marks ++ is_frugal_body frugal b ∷ []) (first ++ one ∷ []) (second ++ other ∷ []) two.1
         (agree_more marks first second agree (is_frugal_body frugal b) one other
-        (λ is among. body_same p well.types_fit begun silently marks first second callable (λ procedure profile at. agree_at marks first second agree procedure) b is two.0 among))
+        (λ is among. body_same p well.types_fit (implicit_of p) begun quietly marks first second callable (λ procedure profile at. agree_at marks first second agree procedure) b is two.0 among))
 
   -- What calls of a frugal procedure are known to raise, they are known to raise without what is called implicitly.
   calls_agree : StartSilently p (quietly_begun_types p) → (i : ℕ) → slice_index_or (frugal_procedures p) i false ≡ true → (among : Exception → Bool)
       → call_raises (slice_get (effects_of (implicit_of p) p).calls i) among ≡ call_raises (slice_get (own_effects p).calls i) among
   calls_agree silently =
       agree_at (frugal_procedures p) (effects_of (implicit_of p) p).calls (own_effects p).calls
-      (all_agree (quietly_begun_types p) silently p.bodies [] [] [] [] well.bodies_fit tt)
+      (all_agree (quietly_begun_types p) (start_none p (quietly_begun_types p) silently) p.bodies [] [] [] [] well.bodies_fit tt)
 
   -- A procedure before a body is known to that body as to all.
-  pub known_before : (number procedure : ℕ) (o : Option BodyForm) (profile : Profile) → slice_get (take number p.bodies) procedure ≡ o → option_map profile_of o ≡ Some profile
-      → slice_get (effects_from p.types (implicit_of p) [] (take number p.bodies)) procedure ≡ slice_get (effects_of (implicit_of p) p).calls procedure
-  known_before number procedure None profile at is = absurd (cc is)
-  known_before number procedure (Some c) profile at is =
-      let implicit = implicit_of p in
+  pub known_before : (implicit : Implicit) (number procedure : ℕ) (o : Option BodyForm) (profile : Profile) → slice_get (take number p.bodies) procedure ≡ o → option_map profile_of o ≡ Some profile
+      → slice_get (effects_from p.types implicit [] (take number p.bodies)) procedure ≡ slice_get (effects_of implicit p).calls procedure
+  known_before implicit number procedure None profile at is = absurd (cc is)
+  known_before implicit number procedure (Some c) profile at is =
       let there = taken_get number p.bodies procedure c at in
       let here = effect_at p.types implicit (take number p.bodies) procedure c at in
       let whole = effect_at p.types implicit p.bodies procedure c there in
@@ -285,41 +286,48 @@ never : (b : Bool) → b ≡ true → b ≡ false → ⊥
 never true is not_so = cc not_so
 never false is not_so = cc is
 
--- So no exception comes out of a silent one, where the procedures that it may call are known to raise the same, as far as they are frugal.
-silent_so :
-    (p : ProgramForm) → IsWellFormed p → (begun : List Bool) → StartSilently p begun → (marks : List Bool)
-    → ((i : ℕ) → slice_index_or marks i false ≡ true → (among : Exception → Bool)
-    → call_raises (slice_get (effects_of (implicit_of p) p).calls i) among ≡ call_raises (slice_get (own_effects p).calls i) among)
+-- So no exception comes out of a silent one, by what is known of implicit calls, where the procedures that it may call are known to raise the same, as far as they are
+-- frugal.
+pub silent_so :
+    (p : ProgramForm) → IsWellFormed p → (implicit : Implicit) (begun : List Bool) → StartNone p.types begun implicit → (marks : List Bool)
+    → ((i : ℕ) → slice_index_or marks i false ≡ true → (among : Exception → Bool) → call_raises (slice_get (effects_of implicit p).calls i) among ≡ call_raises (slice_get (own_effects p).calls i) among)
     → (number : ℕ) (b : BodyForm) → slice_get p.bodies number ≡ Some b → is_frugal_body (record { types = p.types; begun = begun; procedures = marks }) b ≡ true
-    → body_raises (own_effects p) b (λ x. true) ≡ false → (e : Exception) → body_among (implicit_of p) (seen_in (Some number) p) e ≡ true → ⊥
-silent_so p well begun silently marks agree number b there frugal silent e among =
+    → body_raises (own_effects p) b (λ x. true) ≡ false → (e : Exception)
+    → body_raises (known_of implicit (effects_from p.types implicit [] (take number p.bodies))) b (is_same e) ≡ true → ⊥
+silent_so p well implicit begun quietly marks agree number b there frugal silent e raised =
     let callable = [] ++ map profile_of (take number p.bodies) in
-    let first = effects_from p.types (implicit_of p) [] (take number p.bodies) in
+    let first = effects_from p.types implicit [] (take number p.bodies) in
     let second = (own_effects p).calls in
     let fits = body_at p.types p.texts p.exceptions [] p.bodies number b well.bodies_fit there in
-    let raised : body_raises (known_of (implicit_of p) first) b (is_same e) ≡ true = rw (seen_is p number b there) at among in
     let known : (procedure : ℕ) (profile : Profile) → slice_get callable procedure ≡ Some profile → slice_index_or marks procedure false ≡ true → (some : Exception → Bool)
     → call_raises (slice_get first procedure) some ≡ call_raises (slice_get second procedure) some =
     λ procedure profile at is some.
     ap (λ (o : Option Effect). call_raises o some)
-    (known_before p well number procedure (slice_get (take number p.bodies) procedure) profile refl (sym (slice_get-map profile_of (take number p.bodies) procedure) ∙ at))
+    (known_before p well implicit number procedure (slice_get (take number p.bodies) procedure) profile refl (sym (slice_get-map profile_of (take number p.bodies) procedure) ∙ at))
     ∙ agree procedure is some in
     let own : body_raises (own_effects p) b (is_same e) ≡ true =
-    sym (body_same p well.types_fit begun silently marks first second callable known b frugal fits (is_same e)) ∙ raised in
+    sym (body_same p well.types_fit implicit begun quietly marks first second callable known b frugal fits (is_same e)) ∙ raised in
     never (body_raises (own_effects p) b (λ x. true)) (raises_more (own_effects p) (program_each no_implicit p) b (is_same e) (λ x. true) (λ x is. refl) own) silent
+
+-- What a body may raise, it raises by what is known of the procedures before it.
+among_raised : (p : ProgramForm) (number : ℕ) (b : BodyForm) → slice_get p.bodies number ≡ Some b → (e : Exception) → body_among (implicit_of p) (seen_in (Some number) p) e ≡ true
+    → body_raises (known_of (implicit_of p) (effects_from p.types (implicit_of p) [] (take number p.bodies))) b (is_same e) ≡ true
+among_raised p number b there e among = rw (seen_is p number b there) at among
 
 -- So it is with a frugal one.
 pub silent_frugal : (p : ProgramForm) → IsWellFormed p → StartSilently p (quietly_begun_types p) → (number : ℕ) (b : BodyForm) → slice_get p.bodies number ≡ Some b
     → is_frugal_body (thrift_of p) b ≡ true → body_raises (own_effects p) b (λ x. true) ≡ false → (e : Exception) → body_among (implicit_of p) (seen_in (Some number) p) e ≡ true → ⊥
 silent_frugal p well silently number b there frugal silent e among =
-    silent_so p well (quietly_begun_types p) silently (frugal_procedures p) (calls_agree p well silently) number b there frugal silent e among
+    silent_so p well (implicit_of p) (quietly_begun_types p) (start_none p (quietly_begun_types p) silently) (frugal_procedures p) (calls_agree p well silently) number b there frugal silent e
+    (among_raised p number b there e among)
 
 -- And with one that calls nothing, and allocates no object with controlled parts.
 pub silent_simple : (p : ProgramForm) → IsWellFormed p → (number : ℕ) (b : BodyForm) → slice_get p.bodies number ≡ Some b
     → is_frugal_body (calling_none p.types) b ≡ true → body_raises (own_effects p) b (λ x. true) ≡ false → (e : Exception) → body_among (implicit_of p) (seen_in (Some number) p) e ≡ true → ⊥
 silent_simple p well number b there frugal silent e among =
-    silent_so p well [] (λ x access is. created_nothing p well.types_fit (Raises x) access (bare_if_calm p.types (slice_get p.types access) is)) []
-    (λ i is some. absurd (cc is)) number b there frugal silent e among
+    silent_so p well (implicit_of p) []
+    (start_none p [] (λ x access is. created_nothing p well.types_fit (Raises x) access (bare_if_calm p.types (slice_get p.types access) is))) [] (λ i is some. absurd (cc is))
+    number b there frugal silent e (among_raised p number b there e among)
 
 -- What a body may raise, calls of its procedure are known to raise: so it comes out of its procedure.
 raised_done : (p : ProgramForm) → IsWellFormed p → (number : ℕ) (b : BodyForm) → slice_get p.bodies number ≡ Some b → (e : Exception) → body_among (implicit_of p) (seen_in (Some number) p) e ≡ true

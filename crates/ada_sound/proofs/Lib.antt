@@ -183,6 +183,7 @@ pub mod FrugalUseParts
 pub mod FrugalUseEnds
 pub mod FrugalUseLets
 mod FrugalUseFrees
+mod FrugalDeeds
 mod FrugalUseSilent
 -- no object of its own access type is freed where an object ends, or is adjusted
 pub mod SparesOwn
