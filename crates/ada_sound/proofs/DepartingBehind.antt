@@ -18,12 +18,12 @@ use Rattle.ada_meaning.specs.declared.state.Value.{Value}
 use Rattle.ada_meaning.specs.declared.state.Value.TheVariants.{Names}
 use Rattle.ada_meaning.specs.Event.{Quiet}
 use Rattle.ada_meaning.specs.Frame as frame
-use Rattle.ada_meaning.specs.Frame.{Treatment, ends, Leaves, Returns}
+use Rattle.ada_meaning.specs.Frame.{Treatment, begins, ends, Leaves, Returns}
 use Rattle.ada_meaning.specs.Law.{items_of}
 use Rattle.ada_meaning.specs.Named.{Object, State, object_at, next}
 use Rattle.ada_meaning.specs.State.{Activation, Item, Master, Owned, declared, collection, record_object, storage_pool}
 use Rattle.ada_meaning.specs.Step.{moves, older, operands, places, procedure_of, treating}
-use Rattle.ada_sound.proofs.Marks.{Marks, marks_of}
+use Rattle.ada_sound.proofs.Marks.{Marks}
 use Rattle.ada_reaching.specs.Apart.{Apart}
 use Rattle.ada_reaching.specs.Law.{none_hidden}
 use Rattle.ada_reaching.specs.Reaching.{IsReaching, LeftShuns, none_unnamed}
@@ -72,7 +72,7 @@ module _ (p : ProgramForm) (shuns : ℕ → Bool) (apart : Apart) (ghosts : Id �
   left_operated v procedure [] suspended left none = absurd left
   left_operated v procedure (Returns actuals references ∷ k) suspended (inl last) none = let same : k ≡ behind = cc last in subst (NoOperationRunsOn v) same none
   left_operated v procedure (Returns actuals references ∷ k) suspended (inr inner) none = left_operated v (procedure_of suspended) k (older suspended) inner.others none
-  left_operated v procedure (frame.Awaits w by done of part tasks ∷ k) suspended left none = absurd left.0
+  left_operated v procedure (frame.Awaits w by done of part tasks ∷ k) suspended left none = left_operated v procedure k suspended left.2 none.1
   left_operated v procedure (frame.Confines ∷ k) suspended left none = left_operated v procedure k suspended left.2 none.1
   left_operated v procedure (f ∷ k) suspended left none = left_operated v procedure k suspended left.2 none
 
@@ -105,7 +105,7 @@ module _ (p : ProgramForm) (shuns : ℕ → Bool) (apart : Apart) (ghosts : Id �
         absurd (left_not_calm waits (procedure_of suspended) k (older suspended) inner.others (subst (λ (j : Control). IsCalm (behind_call j)) (sym q.2) back_calm))
     leads_same (Returns actuals references ∷ k) ms procedure suspended (inr q) (inl last) =
         let same : k ≡ behind = cc last in
-        absurd (back_waits (frugal_calm marks back Running k ms (subst (λ (j : Control). IsCalm (behind_call j)) (sym same) calm) (inl q)))
+        absurd (back_waits (frugal_calm marks back [] Running k ms (subst (λ (j : Control). IsCalm (behind_call j)) (sym same) calm) (inl q)))
     leads_same (Returns actuals references ∷ k) ms procedure suspended (inr q) (inr inner) = leads_same k ms (procedure_of suspended) (older suspended) q inner.others
     leads_same (frame.Elaborates ds fs hs ∷ k) [] procedure suspended q left = absurd q
     leads_same (frame.Elaborates ds fs hs ∷ k) (m ∷ ms) procedure suspended q left = leads_same k ms procedure suspended q.1 left.2
@@ -116,12 +116,16 @@ module _ (p : ProgramForm) (shuns : ℕ → Bool) (apart : Apart) (ghosts : Id �
     leads_same (f ∷ k) ms procedure suspended q left = leads_same k ms procedure suspended q.1 left.2
 
     -- Wherever they are.
-    pub same_end : (mode : Mode) (k : Control) (ms : List Master) (procedure : Option ℕ) (suspended : List (Activation Value)) → Frugal marks back mode k ms → Left procedure k suspended → back ≡ behind
-    same_end mode k ms procedure suspended (inl q) left = leads_same k ms procedure suspended q left
-    same_end mode [] ms procedure suspended (inr (runs, leaving)) left = absurd leaving
-    same_end mode (Leaves exit ∷ k) [] procedure suspended (inr (runs, leaving)) left = absurd leaving
-    same_end mode (Leaves exit ∷ k) (m ∷ ms) procedure suspended (inr (runs, leaving)) left = leads_same k ms procedure suspended leaving left.2
-    same_end mode (f ∷ k) ms procedure suspended (inr (runs, leaving)) left = absurd leaving
+    pub same_end : (heap : List Object) (mode : Mode) (k : Control) (ms : List Master) (procedure : Option ℕ) (suspended : List (Activation Value)) → Frugal marks back heap mode k ms → Left procedure k suspended → back ≡ behind
+    same_end heap mode k ms procedure suspended (inl q) left = leads_same k ms procedure suspended q left
+    same_end heap mode [] ms procedure suspended (inr (runs, inl leaving)) left = absurd leaving
+    same_end heap mode (Leaves exit ∷ k) [] procedure suspended (inr (runs, inl leaving)) left = absurd leaving
+    same_end heap mode (Leaves exit ∷ k) (m ∷ ms) procedure suspended (inr (runs, inl leaving)) left = leads_same k ms procedure suspended leaving left.2
+    same_end heap mode (f ∷ k) ms procedure suspended (inr (runs, inl leaving)) left = absurd leaving
+    same_end heap mode [] ms procedure suspended (inr (runs, inr beginning)) left = absurd beginning
+    same_end heap mode (frame.Treats v (begins by done) tasks ∷ k) ms procedure suspended (inr (runs, inr beginning)) left = leads_same k ms procedure suspended beginning.1 left.2
+    same_end heap mode (frame.Awaits v by done of part tasks ∷ k) ms procedure suspended (inr (runs, inr beginning)) left = leads_same k ms procedure suspended beginning.1 left.2
+    same_end heap mode (f ∷ k) ms procedure suspended (inr (runs, inr beginning)) left = absurd beginning
 
 -- Items that are variables are the home of no objects, so it is among those behind them; and so it is with masters that own variables alone.
 home_behind : (n access : ℕ) (pool : Option ℕ) (is js : List Item) → AreVariables is → HasItem n access pool (is ++ js) → HasItem n access pool js
@@ -221,11 +225,12 @@ confines_running known Exiting k heap places operands masters ready = absurd (re
 confines_running known Returning k heap places operands masters ready = absurd (ready.rest)
 
 -- No body runs in front of the end of a member.
-pub none_frugal : (marks : Marks) (back : Control) (mode m : Mode) (object : Id) (master item : ℕ) (pool : Option ℕ) (tasks : List Task) (k : Control) (ms : List Master)
-    → Frugal marks back mode (frame.Confines ∷ treating (Names object) (ends (Leaving master item)) tasks (ending object master item pool m k)) ms → ⊥
-none_frugal marks back mode m object master item pool [] k ms (inl q) = q.1.1.1.0
-none_frugal marks back mode m object master item pool (task ∷ tasks) k ms (inl q) = q.1.0.0
-none_frugal marks back mode m object master item pool tasks k ms (inr (runs, leaving)) = leaving
+pub none_frugal : (marks : Marks) (back : Control) (heap : List Object) (mode m : Mode) (object : Id) (master item : ℕ) (pool : Option ℕ) (tasks : List Task) (k : Control) (ms : List Master)
+    → Frugal marks back heap mode (frame.Confines ∷ treating (Names object) (ends (Leaving master item)) tasks (ending object master item pool m k)) ms → ⊥
+none_frugal marks back heap mode m object master item pool [] k ms (inl q) = q.1.1.1.0
+none_frugal marks back heap mode m object master item pool (task ∷ tasks) k ms (inl q) = q.1.0.0
+none_frugal marks back heap mode m object master item pool tasks k ms (inr (runs, inl leaving)) = leaving
+none_frugal marks back heap mode m object master item pool tasks k ms (inr (runs, inr beginning)) = beginning
 
 -- Nor does one that touches no storage.
 pub none_quiet : (sight : Sight) (back : Control) (ms : List Master) (mode : Mode) (k : Control) (operands : List Value) → Comes sight back ms mode (frame.Confines ∷ k) operands → ⊥

@@ -38,7 +38,6 @@ use Rattle.ada_typed.proofs.Kept.{behind_call}
 use Rattle.ada_untouched.proofs.Law.{steps_alike}
 use Rattle.ada_untouched.specs.Alike.{NextAlike, SparesGhosts, StatesAlike}
 use Rattle.ada_untouched.specs.Untouched.{Untouched}
-use Rattle.ada_quiet.specs.Frugal.{thrift_of}
 use Rattle.ada_sound.proofs.Marks.{marks_of}
 use Rattle.ada_sound.specs.Agreement.{running_procedure}
 use Rattle.ada_sound.specs.Callees.{IsCovered}
@@ -153,7 +152,7 @@ module _ (program : Program) (s : State) (sound : Sound program s) (w : Within p
     -- The outermost one is the operation of the object.
     back_is : outermost.behind ≡ w.behind
     back_is =
-        same_end p shuns w.apart w.ghosts w.behind waits w.calm (marks_of (program_form program)) outermost.behind (waits_behind outermost.treatment outermost.awaited) f.within.calm v.mode v.control f.within.frugal.upper
+        same_end p shuns w.apart w.ghosts w.behind waits w.calm (marks_of (program_form program)) outermost.behind (waits_behind outermost.treatment outermost.awaited) f.within.calm v.heap v.mode v.control f.within.frugal.upper
         (procedure_of v.activations) (older v.activations) f.within.frugal.frugal reaching_too.control
 
     -- Its object is finalized behind that.
@@ -193,13 +192,14 @@ module _ (program : Program) (s : State) (sound : Sound program s) (w : Within p
 
     -- The home of its type is behind the masters of the bodies.
     own_first :
-        (mode : Mode) (c : Control) (upper : List Master) → Frugal (marks_of (program_form program)) outermost.behind mode c upper → (ds : List DeclarationForm) (fs : StmtsForm) (hs : HandlersForm) (k : Control)
+        (mode : Mode) (c : Control) (upper : List Master) → Frugal (marks_of (program_form program)) outermost.behind v.heap mode c upper → (ds : List DeclarationForm) (fs : StmtsForm) (hs : HandlersForm) (k : Control)
         → c ≡ frame.Elaborates ds fs hs ∷ k → (m : Master) × (ms : List Master) × (upper ≡ m ∷ ms)
-    own_first mode c upper frugal ds fs hs k is = by upper (subst (λ (j : Control). Frugal (marks_of (program_form program)) outermost.behind mode j upper) is frugal)
+    own_first mode c upper frugal ds fs hs k is = by upper (subst (λ (j : Control). Frugal (marks_of (program_form program)) outermost.behind v.heap mode j upper) is frugal)
       where
-        by : (ms : List Master) → Frugal (marks_of (program_form program)) outermost.behind mode (frame.Elaborates ds fs hs ∷ k) ms → (m : Master) × (rest : List Master) × (ms ≡ m ∷ rest)
+        by : (ms : List Master) → Frugal (marks_of (program_form program)) outermost.behind v.heap mode (frame.Elaborates ds fs hs ∷ k) ms → (m : Master) × (rest : List Master) × (ms ≡ m ∷ rest)
         by [] (inl q) = absurd q
-        by [] (inr (runs, leaving)) = absurd leaving
+        by [] (inr (runs, inl leaving)) = absurd leaving
+        by [] (inr (runs, inr beginning)) = absurd beginning
         by (m ∷ rest) q = (m, rest, refl)
 
     -- So the grounds of the real state say.
@@ -403,8 +403,8 @@ module _ (program : Program) (s : State) (sound : Sound program s) (w : Within p
     went_behind : Went program v.heap Quiet view → InDeparting program s.heap Quiet after
     went_behind (inl c) =
         let f = c.body in
-        absurd (none_frugal (marks_of (program_form program)) f.within.outermost.behind view.mode w.mode w.object w.master w.item w.pool w.tasks w.k f.within.frugal.upper
-        (subst (λ (k : Control). Frugal (marks_of (program_form program)) f.within.outermost.behind view.mode k f.within.frugal.upper) control_behind f.within.frugal.frugal))
+        absurd (none_frugal (marks_of (program_form program)) f.within.outermost.behind view.heap view.mode w.mode w.object w.master w.item w.pool w.tasks w.k f.within.frugal.upper
+        (subst (λ (k : Control). Frugal (marks_of (program_form program)) f.within.outermost.behind view.heap view.mode k f.within.frugal.upper) control_behind f.within.frugal.frugal))
     went_behind (inr (inl c)) =
         let o = c.operates in
         let sight : Sight = record { program = seen_in (Some o.procedure) p; object = o.object; access = o.access } in

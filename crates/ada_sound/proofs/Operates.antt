@@ -6,7 +6,7 @@ use Rattle.std.specs.Prelude.{Some}
 use Rattle.ada_program.specs.declared.program.Exception.{Exception}
 use Rattle.ada_program.specs.declared.program.Program.{Program}
 use Rattle.ada_program.specs.Handling.{is_same}
-use Rattle.ada_program.specs.ProgramForm.{ProgramForm, main_body, program_form, seen_in}
+use Rattle.ada_program.specs.ProgramForm.{ProgramForm, BodyForm, main_body, program_form, seen_in}
 use Rattle.ada_effects.specs.Effects.{Implicit, no_calls, body_raises}
 use Rattle.ada_deeds.specs.Implicit.{implicit_of}
 use Rattle.ada_meaning.specs.declared.state.Id.{Id}
@@ -38,6 +38,22 @@ AroundTreated program treatment gs s =
 abbrev pub IsAmidst : {Calm Inside : Type 0} → Calm ⊎ Inside → Type 0
 IsAmidst (inl calm) = ⊥
 IsAmidst (inr within) = Unit {0}
+
+-- So it is where the body begins; and inside one that touches storage it lets no exception out.
+abbrev pub AroundSilently : (program : Program) → Treatment → BodyForm → List Suspension → State → Type 0
+AroundSilently program treatment b gs s =
+    (IsCalm (behind_call s.control) × (under_in (callers_of program gs) ≡ []))
+    ⊎ ((IsInside treatment × Within program gs s) × ((e : Exception) → body_raises no_calls b (is_same e) ≡ false))
+
+-- What is around it.
+abbrev pub around_it : {Calm Inside Silent : Type 0} → Calm ⊎ (Inside × Silent) → Calm ⊎ Inside
+around_it (inl calm) = inl calm
+around_it (inr both) = inr both.0
+
+-- Inside one that touches storage this is known.
+pub silent_there : {Calm Inside Silent : Type 0} → (around : Calm ⊎ (Inside × Silent)) → IsAmidst (around_it around) → Silent
+silent_there (inl calm) amidst = absurd amidst
+silent_there (inr both) amidst = both.1
 
 -- The object that an operation is called for is treated; and what waits for it goes on behind that, whatever the body does.
 pub record Suspended (program : Program) (object : Id) (treatment : Treatment) (caller : Activation Value) (rest : List (Activation Value)) (behind : Control) (lower : List Master) (s : State) : Type 0 where

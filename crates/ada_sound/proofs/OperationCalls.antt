@@ -7,7 +7,6 @@ use Rattle.ada_parts.specs.Task.{Task}
 use Rattle.ada_program.specs.declared.program.Exception.{Exception}
 use Rattle.ada_program.specs.declared.program.Program.{Program}
 use Rattle.ada_program.specs.ProgramForm.{program_form, TypeForm}
-use Rattle.ada_effects.specs.Effects.{Implicit}
 use Rattle.ada_deeds.specs.Implicit.{implicit_of}
 use Rattle.ada_meaning.specs.declared.event.Birth.TheVariants.{Creation, Copy, Adjustment}
 use Rattle.ada_meaning.specs.declared.event.Cause.TheVariants.{Leaving, Freeing, Assigning, Undoing}
@@ -24,7 +23,7 @@ use Rattle.ada_owners.proofs.Objects.{id_is}
 use Rattle.ada_sound.proofs.Alters.{Alters, alters_same, alters_set}
 use Rattle.ada_sound.proofs.Invariant.{Known, Control, EndsTo, IsLive, TreatsBy, ReadyIn}
 use Rattle.ada_sound.proofs.Callers.{known_in}
-use Rattle.ada_sound.proofs.FrugalControl.{IsFreed}
+use Rattle.ada_sound.proofs.FrugalControl.{IsInside}
 use Rattle.ada_sound.proofs.Objects.{set_other}
 use Rattle.ada_sound.proofs.Ready.{stays}
 use Rattle.ada_sound.proofs.Returns.{CrossesTo, same_types}
@@ -32,8 +31,8 @@ use Rattle.ada_sound.proofs.Waiting.{stands_kept}
 use Rattle.ada_sound.proofs.Written.{treats_written}
 use Rattle.ada_sound.proofs.OperationStarts.{found_by}
 use Rattle.ada_sound.proofs.Operating.{StaysLive, WaitsFor, lets_out, behind_operation}
-use Rattle.ada_sound.proofs.Operates.{AroundTreated, Suspended}
-use Rattle.ada_sound.proofs.Pauses.{EndsBehind, OthersStay, within_kept}
+use Rattle.ada_sound.proofs.Operates.{AroundTreated, IsAmidst, Suspended}
+use Rattle.ada_sound.proofs.Pauses.{EndsBehind, GoesOnBehind, OthersStay, within_kept}
 use Rattle.ada_sound.proofs.Touching.{Around}
 
 pub is_live : (heap : List Object) (o : Id) (x : Object) → object_at heap o ≡ Some x → StaysLive x.stage → IsLive heap (Names o)
@@ -53,19 +52,17 @@ ready_raising known o of (begins Copy done) access tasks k behind heap places op
 ready_raising known o of (begins (Adjustment number) done) access tasks k behind heap places operands ms e x found same live waits out r = absurd (cc out)
 ready_raising known o of (ends cause) access tasks k behind heap places operands ms e x found same live waits out r = absurd (cc out)
 
--- Where an object is freed, no exception comes out of the body.
-none_let_out : (implicit : Implicit) (access : ℕ) (treatment : Treatment) (e : Exception) → IsFreed treatment → lets_out implicit access treatment e ≡ true → ⊥
-none_let_out implicit access (begins by done) e freed out = freed
-none_let_out implicit access (ends cause) e freed out = cc out
-
--- It ends behind that.
+-- Where an object is freed, it ends behind that; where it is allocated, what is left of it begins.
 freed_ends :
     (known : Known) (types : List TypeForm) (o : Id) (of : ℕ) (treatment : Treatment) (tasks : List Task) (k behind : Control) (heap : List Object)
-    (places operands : List Value) (ms : List Master) → IsFreed treatment
-    → WaitsFor types o of treatment tasks k behind → TreatsBy known (Names o) treatment tasks k heap places operands ms → EndsBehind o behind
-freed_ends known types o of (begins by done) tasks k behind heap places operands ms freed waits treats = absurd freed
+    (places operands : List Value) (ms : List Master) → IsInside treatment
+    → WaitsFor types o of treatment tasks k behind → TreatsBy known (Names o) treatment tasks k heap places operands ms → GoesOnBehind o behind
+freed_ends known types o of (begins Creation done) tasks k behind heap places operands ms freed (part, is) treats =
+    inr (record { done = done; of = of; part = part; tasks = tasks; rest = k; is = is })
+freed_ends known types o of (begins Copy done) tasks k behind heap places operands ms freed waits treats = absurd freed
+freed_ends known types o of (begins (Adjustment number) done) tasks k behind heap places operands ms freed waits treats = absurd freed
 freed_ends known types o of (ends (Leaving m item)) tasks k behind heap places operands ms freed waits treats = absurd freed
-freed_ends known types o of (ends (Freeing number)) tasks k behind heap places operands ms freed (is, inside) treats = by k is treats
+freed_ends known types o of (ends (Freeing number)) tasks k behind heap places operands ms freed (is, inside) treats = inl (by k is treats)
   where
     by : (k : Control) → behind ≡ Confines ∷ treating (Names o) (ends (Freeing number)) tasks k → EndsTo known (Names o) k heap places ms → EndsBehind o behind
     by [] is none = absurd none
@@ -103,12 +100,15 @@ module _ (program : Program) (o : Id) (treatment : Treatment) (caller : Activati
       → Around program w.suspensions (behind_operation (caller ∷ rest) behind lower s)
   around_behind s w = elim w.around [ inl none ↦ inl none | inr (freed, within) ↦ inr within ]
 
-  -- What is around it is so behind an exception: that comes out of an operation that begins a part of an object, and none is called where one that touches storage
-  -- is under way.
-  pub around_raising : (s : State) (access : ℕ) (e : Exception) → lets_out (implicit_of (program_form program)) access treatment e ≡ true → (w : Suspended program o treatment caller rest behind lower s)
+  -- What is around it is so behind an exception: that comes out of no operation that is called where one that touches storage is under way.
+  pub around_raising : (s : State) (e : Exception) (w : Suspended program o treatment caller rest behind lower s) → (IsAmidst w.around → ⊥)
       → Around program w.suspensions (record (behind_operation (caller ∷ rest) behind lower s) { mode = Raising e })
-  around_raising s access e out w =
-      elim w.around [ inl none ↦ inl none | inr (freed, within) ↦ absurd (none_let_out (implicit_of (program_form program)) access treatment e freed out) ]
+  around_raising s e w silent = by w.around silent
+    where
+      by : (around : AroundTreated program treatment w.suspensions (behind_operation (caller ∷ rest) behind lower s)) → (IsAmidst around → ⊥)
+          → Around program w.suspensions (record (behind_operation (caller ∷ rest) behind lower s) { mode = Raising e })
+      by (inl none) amidst = inl none
+      by (inr both) amidst = absurd (amidst tt)
 
   -- What is around it stays so, whatever the body does to the object.
   module _ (s after : State) (alters : Alters s.heap Quiet after.heap) (others : OthersStay o s.heap after.heap)
@@ -116,46 +116,54 @@ module _ (program : Program) (o : Id) (treatment : Treatment) (caller : Activati
     abbrev behind_in : State → State
     behind_in t = behind_operation (caller ∷ rest) behind lower t
 
-    ends_next : IsFreed treatment → EndsBehind o behind
+    ends_next : IsInside treatment → GoesOnBehind o behind
     ends_next freed =
         freed_ends (known_in program caller.procedure w.suspensions) (program_form program).types o w.of treatment w.tasks w.after behind s.heap
         caller.places caller.operands lower freed w.waits w.treats
 
-    around_still : AroundTreated program treatment w.suspensions (behind_in after)
+    -- One that touches storage is around it then, if one was.
+    around_still : (around : AroundTreated program treatment w.suspensions (behind_in after)) × (IsAmidst around → IsAmidst w.around)
     around_still = by w.around
       where
-        by : AroundTreated program treatment w.suspensions (behind_in s) → AroundTreated program treatment w.suspensions (behind_in after)
-        by (inl none) = inl none
-        by (inr (freed, within)) =
-            inr (freed, within_kept program (behind_in s) (behind_in after) o (ends_next freed) others refl refl w.suspensions Quiet within refl refl alters)
+        by : (now : AroundTreated program treatment w.suspensions (behind_in s)) → (around : AroundTreated program treatment w.suspensions (behind_in after)) × (IsAmidst around → IsAmidst now)
+        by (inl none) = (inl none, λ amidst. amidst)
+        by (inr (inside, within)) = (
+          inr (inside, within_kept program (behind_in s) (behind_in after) o (ends_next inside) others refl refl w.suspensions Quiet within refl refl alters),
+          λ amidst. tt,
+        )
+
+    -- What waits for it waits still.
+    abbrev StillWaits : Type 0
+    StillWaits = (waits : Suspended program o treatment caller rest behind lower after) × (IsAmidst waits.around → IsAmidst w.around)
+
+    waits_still :
+        TreatsBy (known_in program caller.procedure w.suspensions) (Names o) treatment w.tasks w.after after.heap caller.places caller.operands lower → StillWaits
+    waits_still treats =
+        let around = around_still in (
+          record {
+            suspensions = w.suspensions;
+            after = w.after;
+            of = w.of;
+            tasks = w.tasks;
+            waits = w.waits;
+            treats = treats;
+            stands = stands_kept program (behind_in s) (behind_in after) w.suspensions w.stands Quiet (record { procedure = refl; suspended = refl }) alters;
+            around = around.0;
+          },
+          around.1,
+        )
 
   -- The body writes an Integer or a Boolean into the object: what waits for it waits still.
-  pub waits_written : (s after : State) (x : Object) (c : ℕ) (v : Value) → object_at s.heap o ≡ Some x → ((p : Id) → v ≡ Names p → ⊥) → after.heap ≡ slice_set s.heap o.0 (filled c v x) → Suspended program o treatment caller rest behind lower s → Suspended program o treatment caller rest behind lower after
-  waits_written s after x c v found nameless heap w = record {
-    suspensions = w.suspensions;
-    after = w.after;
-    of = w.of;
-    tasks = w.tasks;
-    waits = w.waits;
-    treats = rw heap (treats_written c v nameless (known_in program caller.procedure w.suspensions) lower s.heap o x found treatment w.tasks caller.places caller.operands w.after w.treats);
-    stands = stands_kept program (behind_operation (caller ∷ rest) behind lower s) (behind_operation (caller ∷ rest) behind lower after) w.suspensions w.stands Quiet
-        (record { procedure = refl; suspended = refl })
-        (rw heap (alters_set s.heap Quiet o x (filled c v x) found (refl, refl, refl) (λ h. h) (λ h. inl h)));
-    around =
-        around_still s after (rw heap (alters_set s.heap Quiet o x (filled c v x) found (refl, refl, refl) (λ h. h) (λ h. inl h)))
-        (λ q other. rw heap (set_other s.heap o.0 q.0 (filled c v x) (λ same. other (id_is q o same)))) w;
-  }
+  pub waits_written :
+      (s after : State) (x : Object) (c : ℕ) (v : Value) → object_at s.heap o ≡ Some x → ((p : Id) → v ≡ Names p → ⊥) → after.heap ≡ slice_set s.heap o.0 (filled c v x)
+      → (w : Suspended program o treatment caller rest behind lower s) → (waits : Suspended program o treatment caller rest behind lower after) × (IsAmidst waits.around → IsAmidst w.around)
+  waits_written s after x c v found nameless heap w =
+      waits_still s after (rw heap (alters_set s.heap Quiet o x (filled c v x) found (refl, refl, refl) (λ h. h) (λ h. inl h)))
+      (λ q other. rw heap (set_other s.heap o.0 q.0 (filled c v x) (λ same. other (id_is q o same)))) w
+      (rw heap (treats_written c v nameless (known_in program caller.procedure w.suspensions) lower s.heap o x found treatment w.tasks caller.places caller.operands w.after w.treats))
 
   -- It writes nothing.
-  pub waits_on : (s after : State) → after.heap ≡ s.heap → Suspended program o treatment caller rest behind lower s → Suspended program o treatment caller rest behind lower after
-  waits_on s after heap w = record {
-    suspensions = w.suspensions;
-    after = w.after;
-    of = w.of;
-    tasks = w.tasks;
-    waits = w.waits;
-    treats = rw heap w.treats;
-    stands = stands_kept program (behind_operation (caller ∷ rest) behind lower s) (behind_operation (caller ∷ rest) behind lower after) w.suspensions w.stands Quiet
-        (record { procedure = refl; suspended = refl }) (rw heap (alters_same s.heap Quiet));
-    around = around_still s after (rw heap (alters_same s.heap Quiet)) (λ q other. rw heap refl) w;
-  }
+  pub waits_on :
+      (s after : State) → after.heap ≡ s.heap → (w : Suspended program o treatment caller rest behind lower s)
+      → (waits : Suspended program o treatment caller rest behind lower after) × (IsAmidst waits.around → IsAmidst w.around)
+  waits_on s after heap w = waits_still s after (rw heap (alters_same s.heap Quiet)) (λ q other. rw heap refl) w (rw heap w.treats)

@@ -13,7 +13,6 @@ use Rattle.ada_meaning.specs.Step.{halts, moves, tells, asks, picks, older, oper
 use Rattle.ada_meaning.specs.Named.{Object, State, Next, next}
 use Rattle.ada_meaning.specs.Run.{Event}
 use Rattle.ada_typed.proofs.Kept.{behind_call, Each}
-use Rattle.ada_quiet.specs.Frugal.{thrift_of}
 use Rattle.ada_sound.proofs.Marks.{marks_of}
 use Rattle.ada_sound.specs.Agreement.{running_procedure}
 use Rattle.ada_sound.proofs.Alters.{Alters}

@@ -10,7 +10,6 @@ use Rattle.ada_meaning.specs.Frame.{Leaves}
 use Rattle.ada_meaning.specs.Named.{State}
 use Rattle.ada_meaning.specs.State.{Master, Item, Owned, declared, collection, record_object, storage_pool}
 use Rattle.ada_meaning.specs.Step.{places_of, operands_of}
-use Rattle.ada_quiet.specs.Frugal.{thrift_of}
 use Rattle.ada_sound.proofs.Marks.{marks_of}
 use Rattle.ada_sound.proofs.Callers.{known_in}
 use Rattle.ada_sound.proofs.Touching.{Touching}
@@ -39,7 +38,7 @@ variables_in_order ahead types (i ∷ is) own =
 pub leaves_variables : (program : Program) (s : State) (f : Touching program s) (left : Mode) (k : Control) → s.control ≡ Leaves left ∷ k → AreVariables (innermost s.masters)
 leaves_variables program s f left k leaves =
     let w = f.within in
-    let inner = leaves_own (marks_of (program_form program)) w.outermost.behind s.mode left k w.frugal.upper w.outermost.lower (rw leaves at w.frugal.frugal) w.frugal.own in
+    let inner = leaves_own (marks_of (program_form program)) w.outermost.behind s.heap s.mode left k w.frugal.upper w.outermost.lower (rw leaves at w.frugal.frugal) w.frugal.own in
     rw w.frugal.masters inner
 
 -- So its items go in order.

@@ -23,7 +23,7 @@ use Rattle.ada_meaning.specs.Frame as frame
 use Rattle.ada_meaning.specs.Frame.{Treatment, begins, ends, Returns}
 use Rattle.ada_meaning.specs.State.{Activation, Master}
 use Rattle.ada_meaning.specs.Step.{moves, procedure_of, storing, treating, operands_of}
-use Rattle.ada_meaning.specs.Named.{State, named, next}
+use Rattle.ada_meaning.specs.Named.{Object, State, named, next}
 use Rattle.ada_typed.specs.Holding.{Cells, cells_of}
 use Rattle.ada_typed.proofs.Control as typed
 use Rattle.ada_typed.proofs.Kept.{behind_call, Each}
@@ -51,11 +51,13 @@ storing_leads frugal behind [] k ms q = q
 storing_leads frugal behind (v ∷ vs) k ms q = (tt, storing_leads frugal behind vs k ms q)
 
 -- Behind the end of a body that was called, the body goes on that called it.
-back_frugal : (frugal : Marks) (behind : Control) (mode : Mode) (references : List Value) (k : Control) (ms : List Master) → FrugalLeads frugal behind k ms → Frugal frugal behind (behind_mode mode) (behind_frames mode references k) ms
-back_frugal frugal behind Running references k ms q = inl (storing_leads frugal behind references k ms q)
-back_frugal frugal behind (Raising e) references k ms q = inl q
-back_frugal frugal behind Exiting references k ms q = inl q
-back_frugal frugal behind Returning references k ms q = inl (storing_leads frugal behind references k ms q)
+back_frugal :
+    (frugal : Marks) (behind : Control) (heap : List Object) (mode : Mode) (references : List Value) (k : Control) (ms : List Master) → FrugalLeads frugal behind k ms
+    → Frugal frugal behind heap (behind_mode mode) (behind_frames mode references k) ms
+back_frugal frugal behind heap Running references k ms q = inl (storing_leads frugal behind references k ms q)
+back_frugal frugal behind heap (Raising e) references k ms q = inl q
+back_frugal frugal behind heap Exiting references k ms q = inl q
+back_frugal frugal behind heap Returning references k ms q = inl (storing_leads frugal behind references k ms q)
 
 -- The activation that goes on behind a body is of the procedure that it was of.
 back_runs : (mode : Mode) (actuals : List ActualForm) (values : List Value) (b : Activation Value) (rest : List (Activation Value)) → procedure_of (behind_body mode actuals values (b ∷ rest)) ≡ b.procedure
@@ -307,7 +309,7 @@ module _ (program : Program) (a : Activation Value) (k : Control) (s : State) (m
           let awaits = is_awaited form.types operation.object operation.of operation.treatment operation.tasks operation.after operation.behind operation.awaited in
           let placed = placed_in (seen_in a.procedure form) a (b ∷ rest) ending refl grounds.typed.inside in
           let watched = inner_watched g.procedure (suc 0) gs more (none_end program ending f grounds on g.procedure (suc 0) (Some operation.number) waiting gs more) in
-          let leads = frugal_returns (marks_of (program_form program)) operation.behind mode actuals references k f.within.frugal.upper awaits none f.within.frugal.frugal in
+          let leads = frugal_returns (marks_of (program_form program)) operation.behind s.heap mode actuals references k f.within.frugal.upper awaits none f.within.frugal.frugal in
           let c = left_to program a actuals references k s mode b rest g (gs ++ waiting) (restand (b ∷ rest) (g ∷ gs ++ waiting) stands) none placed w in
           let are = inner_on program ending (marks_of (program_form program)) operation.behind operation.lower back Quiet g.procedure (suc 0) 0 (Some operation.number) waiting gs more c.stepped.alters
           (λ n. back_operands (0 + n) mode actuals a.places b rest ∙ operands_deeper n rest a b) watched in
@@ -318,7 +320,7 @@ module _ (program : Program) (a : Activation Value) (k : Control) (s : State) (m
             upper = f.within.frugal.upper;
             masters = f.within.frugal.masters;
             own = f.within.frugal.own;
-            frugal = back_frugal (marks_of (program_form program)) operation.behind mode references k f.within.frugal.upper leads;
+            frugal = back_frugal (marks_of (program_form program)) operation.behind s.heap mode references k f.within.frugal.upper leads;
           })
           (outermost_watched (on operation.behind awaits))
           c
@@ -337,7 +339,7 @@ module _ (program : Program) (a : Activation Value) (k : Control) (s : State) (m
       own_ends none w =
           let pause = pause_on program (length f.within.inner) 0 ending ending Quiet operation (alters_same s.heap Quiet) (ap (λ (all : List Suspension). operands_of (drop (suc (length all)) (a ∷ b ∷ rest))) (sym none)) operation.still in
           let control : k ≡ operation.behind = same_control program a.procedure (origin program (length f.within.inner) ending operation) operation.suspensions mode actuals references k w.rooms w.holds w.rest in
-          let end = frugal_ends (marks_of (program_form program)) operation.behind mode actuals references k f.within.frugal.upper control f.within.frugal.frugal in
+          let end = frugal_ends (marks_of (program_form program)) operation.behind s.heap mode actuals references k f.within.frugal.upper control f.within.frugal.frugal in
           let next_is : ending.control ≡ Returns [] [] ∷ operation.behind = last_end actuals references k operation.behind end.0 end.1 control in
           let masters_are : ending.masters ≡ operation.lower = f.within.frugal.masters ∙ ap (λ (upper : List Master). upper ++ operation.lower) end.2 in
           let all_are : f.suspensions ≡ waiting = f.within.are ∙ ap (λ (inner : List Suspension). inner ++ waiting) none in

@@ -1,7 +1,7 @@
 -- Each step while an operation that touches storage is under way: of its body, or of one that it has called, or of the operation of an object that one of these frees; their
 -- ends included (7.6, 7.6.1, 13.11.2).
 
-use Rattle.std.proofs.Common.{◌≡◌, ℕ, Bool, true, false, List, [], ◌∷◌, refl, sym, ap, subst, ◌∙◌, inl, inr, suc}
+use Rattle.std.proofs.Common.{◌≡◌, ℕ, true, false, List, [], ◌∷◌, refl, sym, ap, subst, ◌∙◌, inl, inr, suc}
 use Rattle.std.specs.Prelude.{Some}
 use Rattle.ada_program.specs.declared.program.Exception.{Exception}
 use Rattle.ada_program.specs.declared.program.Program.{Program}
@@ -13,10 +13,10 @@ use Rattle.ada_meaning.specs.declared.state.Mode.TheVariants.{Running, Raising, 
 use Rattle.ada_meaning.specs.declared.state.Value.{Value}
 use Rattle.ada_meaning.specs.Event.{Quiet}
 use Rattle.ada_meaning.specs.Frame as frame
-use Rattle.ada_meaning.specs.Frame.{Frame, Treatment, Calls, Returns, Treats, is_return, is_master, landing}
+use Rattle.ada_meaning.specs.Frame.{Frame, Calls, Returns, Treats, is_return, is_master, landing}
 use Rattle.ada_meaning.specs.State.{Activation, Master}
 use Rattle.ada_meaning.specs.Step.{halts, moves, tells, asks, picks, older, procedure_of, frame_next, pass_next, jump_next, mode_next}
-use Rattle.ada_meaning.specs.Named.{State, Next, named, next}
+use Rattle.ada_meaning.specs.Named.{Object, State, Next, named, next}
 use Rattle.ada_scopes.proofs.Components.{collect_two}
 use Rattle.ada_typed.proofs.Bodies.{own_bodies}
 use Rattle.ada_typed.proofs.Kept.{crosses, is_treatment, Each, Keeps}
@@ -26,7 +26,7 @@ use Rattle.ada_sound.specs.Agreement.{running_procedure}
 use Rattle.ada_sound.proofs.CallBegins.{runs_called}
 use Rattle.ada_sound.proofs.Callers.{Suspension, known_in, Stands}
 use Rattle.ada_sound.proofs.Calls.{calls_to, waiting}
-use Rattle.ada_sound.proofs.FrugalControl.{Frugal, Frugally, GoesFrugally, is_return_first}
+use Rattle.ada_sound.proofs.FrugalControl.{Frugal, GoesFrugally, is_return_first}
 use Rattle.ada_sound.proofs.FrugalSteps.{TreatsNothing, frugal_goes}
 use Rattle.ada_sound.proofs.Invariant.{CallsOn, Control, IsAwaited, Known, Rooms, RunsOn, Working}
 use Rattle.ada_sound.proofs.Pauses.{inner_on}
@@ -35,7 +35,7 @@ use Rattle.ada_sound.proofs.Returns.{CrossesTo}
 use Rattle.ada_sound.proofs.Sees.{reaches_in, may_call}
 use Rattle.ada_sound.proofs.Grounds.{Grounds, may_free}
 use Rattle.ada_sound.proofs.Steps as inside
-use Rattle.ada_sound.proofs.Touching.{GoesBy, Touching}
+use Rattle.ada_sound.proofs.Touching.{Touching}
 use Rattle.ada_sound.proofs.TouchingGoes.{GoesTouching, behind_it, operands_deeper, stays_next, still_on, touching_on, with_parts}
 pub use Rattle.ada_sound.proofs.TouchingGoes.{InTouching, Went, GoesTouching}
 use Rattle.ada_sound.proofs.TouchingLeaves.{leaves_in_order, touching_leaves, touching_stays}
@@ -44,11 +44,6 @@ use Rattle.ada_sound.proofs.TouchingStands.{listed_alone, none_is_under, touchin
 use Rattle.ada_sound.proofs.TouchingTreats.{treats_step}
 use Rattle.ada_sound.proofs.TracksWell.{copies_at, allocates_at, called_apart}
 use Rattle.ada_sound.proofs.Waiting.{SameBody}
-
--- What bodies go by while an operation is under way.
-goes_by_one : (p : ProgramForm) (treatment : Treatment) (marks : Marks) → GoesBy p treatment marks → (ends : Bool) × (marks ≡ marks_of p ends)
-goes_by_one p treatment marks (inl is) = (false, is)
-goes_by_one p treatment marks (inr (is, ending)) = (true, is)
 
 -- Behind a call no operation waits.
 runs_unawaited : (known : Known) (k : Control) (rooms : Rooms) (holds : _) → RunsOn known k rooms holds → IsAwaited k → ⊥
@@ -68,13 +63,10 @@ module _ (program : Program) (s : State) (f : Touching program s) (grounds : Gro
   goes_on : (s.mode ≡ Running → TreatsNothing s.control) → GoesFrugally (marks_of (program_form program)) f.within.outermost.lower f.within.outermost.behind coming
   goes_on plain =
       let w = f.within in
-      let by = goes_by_one p w.outermost.treatment (marks_of (program_form program)) w.goes_by in
-      subst (λ (marks : Marks). GoesFrugally marks w.outermost.lower w.outermost.behind coming) (sym by.1)
-      (frugal_goes program grounds.frees_own by.0 w.outermost.lower w.outermost.behind s
-      (subst (λ (marks : Marks). Frugally marks w.outermost.lower w.outermost.behind s) by.1 w.frugal)
+      frugal_goes program grounds.frees_own w.outermost.lower w.outermost.behind s w.frugal
       (λ actuals references k is. absurd (let end = not_end in cc (rw is at end))) plain grounds.typed.inside
       (may_free program s) (touching_frees program s grounds f.suspensions f.ready)
-      (λ o x found listed may ends. listed_alone program s grounds f.suspensions w f.stands o x found listed may))
+      (λ first o x found listed may. listed_alone program s grounds f.suspensions w f.stands first o x found listed may) grounds.unborn
 
   -- The end of no body is next.
   no_end : (k : Control) → IsAwaited k → s.control ≡ Returns [] [] ∷ k → ⊥
@@ -202,14 +194,15 @@ module _ (program : Program) (a : Activation Value) (k : Control) (s : State) (r
   returning_step g grounds f = passed_on Returning (λ runs. cc runs) g refl refl _ refl refl grounds f
 
 -- Nothing is left to do of no body.
-nothing_left : (frugal : Marks) (behind : Control) (mode : Mode) (ms : List Master) → Frugal frugal behind mode [] ms → ⊥
-nothing_left frugal behind mode ms (inl q) = q
-nothing_left frugal behind mode ms (inr (runs, leaving)) = leaving
+nothing_left : (frugal : Marks) (behind : Control) (heap : List Object) (mode : Mode) (ms : List Master) → Frugal frugal behind heap mode [] ms → ⊥
+nothing_left frugal behind heap mode ms (inl q) = q
+nothing_left frugal behind heap mode ms (inr (runs, inl leaving)) = leaving
+nothing_left frugal behind heap mode ms (inr (runs, inr beginning)) = beginning
 
 -- Any step while such an operation is under way.
 step_by : (program : Program) (mode : Mode) (k : Control) (all : List (Activation Value)) (s : State) → (grounds : Grounds program (with_parts mode k all s)) (f : Touching program (with_parts mode k all s)) → GoesTouching program (with_parts mode k all s) (mode_next named program.types.items (body_forms program) mode (with_parts mode k all s))
 step_by program mode k [] s grounds f = absurd f.ready.0
-step_by program mode [] (a ∷ rest) s grounds f = absurd (nothing_left (marks_of (program_form program)) f.within.outermost.behind mode f.within.frugal.upper f.within.frugal.frugal)
+step_by program mode [] (a ∷ rest) s grounds f = absurd (nothing_left (marks_of (program_form program)) f.within.outermost.behind s.heap mode f.within.frugal.upper f.within.frugal.frugal)
 step_by program Running (g ∷ k) (a ∷ rest) s grounds f = running_step program a k s rest g grounds f
 step_by program (Raising e) (g ∷ k) (a ∷ rest) s grounds f = raising_step program a k s rest e g grounds f
 step_by program Exiting (g ∷ k) (a ∷ rest) s grounds f = exiting_step program a k s rest g grounds f

@@ -1,20 +1,32 @@
--- An object that is freed is finalized while an operation that touches storage is under way (7.6.1, 13.11.2): its Finalize begins, inside the other one, or what is left
--- goes on.
+-- An object that is freed is finalized while an operation that touches storage is under way (7.6.1, 13.11.2), and one that is allocated begins (4.8): its operation begins,
+-- inside the other one, or what is left goes on.
 
-use Rattle.std.proofs.Common.{◌≡◌, ℕ, true, false, List, [], ◌∷◌, refl, sym, ap, subst, ◌∙◌, inl, inr, ◌+◌, arith, drop, length, suc}
+use Rattle.std.proofs.Common.{◌≡◌, ℕ, true, false, not, List, [], ◌∷◌, refl, sym, ap, subst, ◌∙◌, inl, inr, ◌+◌, arith, drop, length, suc}
 use Rattle.std.specs.Prelude.{Option, Some, None}
 use Rattle.ada_parts.specs.Task.{Task}
 use Rattle.ada_program.specs.declared.program.Program.{Program}
-use Rattle.ada_program.specs.ProgramForm.{ProgramForm, TypeForm, program_form, body_forms}
+use Rattle.ada_program.specs.ProgramForm.{ProgramForm, TypeForm, BodyForm, program_form, body_forms}
+use Rattle.ada_program.specs.Controlled.{operations_of}
+use Rattle.ada_program.specs.Handling.{is_same}
+use Rattle.ada_program.specs.declared.program.Exception.{Exception}
+use Rattle.ada_effects.specs.Effects.{no_calls, body_raises}
+use Rattle.ada_parts.specs.Part as parts
+use Rattle.ada_quiet.specs.Calm.{has_calm_objects, quietly_begun_types}
+use Rattle.ada_quiet.specs.Quiet.{is_plain_body, is_quiet_body}
+use Rattle.std.proofs.lemmas.Bool.{and_parts, false_from_ne_true}
+use Rattle.ada_meaning.specs.declared.event.Birth.{Birth}
+use Rattle.ada_meaning.specs.declared.event.Birth.TheVariants.{Creation, Copy, Adjustment}
+use Rattle.ada_meaning.specs.Heap.{Cell}
+use Rattle.ada_typed.proofs.Evaluations.{cell_at}
 use Rattle.ada_meaning.specs.declared.state.Id.{Id}
 use Rattle.ada_meaning.specs.declared.state.Mode.TheVariants.{Running}
 use Rattle.ada_meaning.specs.declared.state.Value.{Value}
 use Rattle.ada_meaning.specs.declared.state.Value.TheVariants.{Names, Part}
 use Rattle.ada_meaning.specs.Event.{Quiet}
-use Rattle.ada_meaning.specs.Frame.{Treatment, begins, ends, Confines, Treats}
+use Rattle.ada_meaning.specs.Frame.{Treatment, begins, ends, Awaits, Confines, Treats}
 use Rattle.ada_meaning.specs.State.{Activation, Master}
 use Rattle.ada_meaning.specs.Step.{halts, moves, tells, asks, picks, older, operating, procedure_of, operands_of, frame_next, treating}
-use Rattle.ada_meaning.specs.Named.{State, Next, named, next}
+use Rattle.ada_meaning.specs.Named.{State, Next, named, next, object_at}
 use Rattle.ada_meaning.specs.Run.{Event, settled}
 use Rattle.ada_quiet.specs.Frugal.{is_frugal_body, thrift_of}
 use Rattle.ada_quiet.specs.InUse.{may_be_frugal}
@@ -24,21 +36,24 @@ use Rattle.ada_reaching.specs.Reaching.{IsReaching}
 use Rattle.ada_typed.proofs.Control as typed
 use Rattle.ada_typed.proofs.Kept.{Each}
 use Rattle.ada_typed.proofs.Runs.{step_typed}
-use Rattle.ada_sound.proofs.Marks.{Marks, marks_of}
+use Rattle.ada_sound.proofs.Marks.{Marks, body_thrifty, is_thrifty_body, marks_of}
 use Rattle.ada_sound.specs.Agreement.{running_procedure}
 use Rattle.ada_sound.proofs.Alters.{Alters}
 use Rattle.ada_sound.proofs.Callers.{Suspension, known_in, Stands, AreOf}
-use Rattle.ada_sound.proofs.FrugalControl.{EndsFreed, Frugal, Frugally, FrugalLeads, IsFreed, ends_leads, frugal_starts_inside}
+use Rattle.ada_sound.proofs.FrugalControl.{BeginsQuietly, EndsFreed, Frugal, Frugally, FrugalLeads, IsFreed, IsInside, ends_leads, frugal_starts_inside, quietly_kept}
 use Rattle.ada_sound.proofs.FrugalSteps.{GoesOrBegins, treats_frugally}
 use Rattle.ada_sound.proofs.Invariant.{Control, Known, Stepped}
-use Rattle.ada_sound.proofs.Operating.{PlainBody, WaitsFor, behind_operation}
+use Rattle.ada_sound.proofs.Operating.{IsCalled, PlainBody, WaitsFor, behind_operation}
 use Rattle.ada_sound.proofs.OperationBegins.{begins_operation}
-use Rattle.ada_sound.proofs.Pauses.{AllWatched, inner_on}
-use Rattle.ada_sound.proofs.QuietOperations.{AdjustsCopy, IsUsedAs, LetsNone, LetsNothingOut, MayTouch, TouchesStorage, ends_here, used_as}
+use Rattle.ada_sound.proofs.Pauses.{AllWatched, begun_inside, begun_reaches, inner_on}
+use Rattle.ada_sound.proofs.QuietOperations.{AdjustsCopy, IsUsedAs, LetsNone, LetsNothingOut, MayTouch, TouchesStorage, used_as}
+use Rattle.ada_sound.proofs.QuietBegins.{quiet_initialize}
+use Rattle.ada_sound.proofs.Raising.{body_more}
+use Rattle.ada_sound.proofs.CopiedOwners.{BeginsCopy}
 use Rattle.ada_sound.proofs.Ready.{running}
 use Rattle.ada_sound.proofs.Returns.{CrossesTo, same_types}
 use Rattle.ada_sound.proofs.Grounds.{Grounds, treats_made}
-use Rattle.ada_sound.proofs.Touching.{AreInner, GoesBy, Pause, Touching, Watch, Watched, Within, is_unnamed, is_watched, origin, watches}
+use Rattle.ada_sound.proofs.Touching.{AreInner, Pause, Touching, Watch, Watched, Within, is_unnamed, is_watched, origin, watches}
 use Rattle.ada_sound.proofs.TouchingBegins.{Begun}
 use Rattle.ada_sound.proofs.TouchingGoes.{GoesTouching, InTouching, Still, Went, behind_it, inner_stays, outermost, stays_on, still_on, touching_on, with_parts, within_on}
 use Rattle.ada_sound.proofs.TouchingStands.{touching_stands, treated_begin}
@@ -47,20 +62,31 @@ use Rattle.ada_sound.proofs.Treating.{IsOperated, told_covered, told_says, treat
 use Rattle.ada_sound.proofs.Treatments.{Begins, StaysHere, TreatedIn}
 use Rattle.ada_sound.proofs.Waiting.{SameBody}
 
--- Where bodies may free objects with controlled parts, they go by that.
-ends_thrift : (p : ProgramForm) (treatment : Treatment) (marks : Marks) → GoesBy p treatment marks → marks.ends_parts ≡ true → marks ≡ thrift_of p
-ends_thrift p treatment marks (inl is) may = let none : marks.ends_parts ≡ false = ap (λ (t : Marks). t.ends_parts) is in absurd (cc (none, may))
-ends_thrift p treatment marks (inr (is, ending)) may = is
+-- No copy is adjusted where an object is freed or allocated.
+inside_adjusts : (treatment : Treatment) → IsInside treatment → AdjustsCopy treatment → ⊥
+inside_adjusts (begins Creation done) inside copies = copies
+inside_adjusts (begins Copy done) inside copies = inside
+inside_adjusts (begins (Adjustment number) done) inside copies = inside
+inside_adjusts (ends cause) inside copies = copies
 
--- The body of a Finalize may do so.
-freed_here : (treatment : Treatment) → IsFreed treatment → ends_here treatment ≡ true
-freed_here (begins by done) freed = absurd freed
-freed_here (ends cause) freed = refl
+copies_outside : (by : Birth) (done : List parts.Part) → BeginsCopy by → IsInside (begins by done) → ⊥
+copies_outside Creation done copies inside = copies
+copies_outside Copy done copies inside = inside
+copies_outside (Adjustment number) done copies inside = inside
 
--- No copy is adjusted where an object is freed.
-freed_adjusts : (treatment : Treatment) → IsFreed treatment → AdjustsCopy treatment → ⊥
-freed_adjusts (begins by done) freed copies = freed
-freed_adjusts (ends cause) freed copies = copies
+-- A quiet body is plain, and no exception comes out of it.
+quiet_parts : (types : List TypeForm) (b : BodyForm) → is_quiet_body types b ≡ true → (is_plain_body types b ≡ true) × (body_raises no_calls b (λ e. true) ≡ false)
+quiet_parts types b quiet =
+    let both = and_parts (is_plain_body types b) (not (body_raises no_calls b (λ e. true))) quiet in
+    (both.0, false_from_ne_true (body_raises no_calls b (λ e. true)) (λ may. let none = both.1 in cc (rw may at none)))
+
+-- So none of any kind does.
+none_raised : (types : List TypeForm) (b : BodyForm) → body_raises no_calls b (λ e. true) ≡ false → (e : Exception) → body_raises no_calls b (is_same e) ≡ false
+none_raised types b none e =
+    false_from_ne_true (body_raises no_calls b (is_same e))
+    (λ may.
+    let more : body_raises no_calls b (λ f. true) ≡ true = body_more no_calls tt types b (is_same e) (λ f. true) (λ f same. refl) may in
+    cc (none, more))
 
 -- What is behind its Finalize is left to do in such bodies.
 freed_leads :
@@ -104,15 +130,30 @@ module _ (program : Program) (a : Activation Value) (rest : List (Activation Val
       standing = record { suspended = f.stands.standing.suspended; waiting = f.stands.standing.waiting; low = f.stands.standing.low };
     }
 
-    -- The object is freed, and no operation of it runs behind.
-    freed : EndsFreed marks v treatment k × FrugalLeads marks operation.behind k f.within.frugal.upper
-    freed = by f.within.frugal.frugal
-      where
-        by : Frugal marks operation.behind Running (Treats v treatment tasks ∷ k) f.within.frugal.upper → EndsFreed marks v treatment k × FrugalLeads marks operation.behind k f.within.frugal.upper
-        by (inl leads) = leads
-        by (inr (runs, leaving)) = absurd leaving
+    -- The object is freed, or begins quietly, and no operation of it runs behind.
+    abbrev IsTreated : Treatment → Type 0
+    IsTreated (begins by done) = BeginsQuietly marks s.heap v by k
+    IsTreated (ends cause) = EndsFreed marks v (ends cause) k
 
-    -- It goes on in the body that frees it.
+    treated_here : IsTreated treatment × FrugalLeads marks operation.behind k f.within.frugal.upper
+    treated_here = by treatment f.within.frugal.frugal
+      where
+        by : (way : Treatment) → Frugal marks operation.behind s.heap Running (Treats v way tasks ∷ k) f.within.frugal.upper → IsTreated way × FrugalLeads marks operation.behind k f.within.frugal.upper
+        by (begins how done) (inl leads) = absurd leads.0.0
+        by (begins how done) (inr (runs, inl leaving)) = absurd leaving
+        by (begins how done) (inr (runs, inr beginning)) = beginning
+        by (ends cause) (inl leads) = leads
+        by (ends cause) (inr (runs, inl leaving)) = absurd leaving
+        by (ends cause) (inr (runs, inr beginning)) = absurd beginning
+
+    -- So it is one that may be treated inside another operation.
+    inside_so : (way : Treatment) → IsTreated way → IsInside way
+    inside_so (begins Creation done) quietly = tt
+    inside_so (begins Copy done) quietly = let created = quietly.0 in absurd (cc created)
+    inside_so (begins (Adjustment number) done) quietly = let created = quietly.0 in absurd (cc created)
+    inside_so (ends cause) ending = ending.0
+
+    -- It goes on in the body that frees or allocates it.
     goes_here : (e : Event) (after : State) → Stepped treater s.heap e after × StaysHere treater a rest s program.types.items (body_forms program) k Operated after → GoesOrBegins marks operation.lower operation.behind program.types.items (body_forms program) whole after → Still program whole f after → InTouching program s.heap e after
     goes_here e after (st, (acts, behind)) goes still =
         stays_on program whole f e after (record { procedure = ap procedure_of acts; suspended = ap older acts }) st (by goes) still
@@ -124,26 +165,43 @@ module _ (program : Program) (a : Activation Value) (rest : List (Activation Val
             absurd (omega (arith, same, more))
 
     module _ (e : Event) (after : State) (c : BeginsHere e after) (still : Still program whole f after) where
-      ends_it : IsFreed c.treatment
-      ends_it = subst IsFreed (sym c.operated.0) freed.0.0
+      is_treated : IsTreated c.treatment
+      is_treated = subst IsTreated (sym c.operated.0) treated_here.0
+
+      inside_it : IsInside c.treatment
+      inside_it = inside_so c.treatment is_treated
 
       waits_here : WaitsFor p.types c.o c.of c.treatment c.tasks k c.behind
       waits_here = subst (λ (types : List TypeForm). WaitsFor types c.o c.of c.treatment c.tasks k c.behind) (same_types a.procedure p) c.waits
 
-      leads_behind : FrugalLeads marks operation.behind c.behind f.within.frugal.upper
-      leads_behind =
-          let of_treatment : EndsFreed marks v c.treatment k = subst (λ (by : Treatment). EndsFreed marks v by k) (sym c.operated.0) freed.0 in
-          freed_leads p.types marks operation.behind c.o c.of c.treatment c.tasks k c.behind f.within.frugal.upper
-          (subst (λ (u : Value). EndsFreed marks u c.treatment k) c.operated.3 of_treatment) freed.1 waits_here
-
       alters_here : Alters s.heap e after.heap
       alters_here = rw c.is c.alters
 
-      -- What is behind its Finalize.
+      leads_behind : IsFreed c.treatment → FrugalLeads marks operation.behind c.behind f.within.frugal.upper
+      leads_behind freed = by c.treatment freed is_treated waits_here
+        where
+          by : (way : Treatment) → IsFreed way → IsTreated way → WaitsFor p.types c.o c.of way c.tasks k c.behind → FrugalLeads marks operation.behind c.behind f.within.frugal.upper
+          by (begins how done) freed' quietly waits = absurd freed'
+          by (ends cause) freed' ending waits =
+              freed_leads p.types marks operation.behind c.o c.of (ends cause) c.tasks k c.behind f.within.frugal.upper
+              (subst (λ (u : Value). EndsFreed marks u (ends cause) k) c.operated.3 ending) treated_here.1 waits
+
+      frugal_behind : Frugal marks operation.behind after.heap Running c.behind f.within.frugal.upper
+      frugal_behind = by c.treatment is_treated waits_here
+        where
+          by : (way : Treatment) → IsTreated way → WaitsFor p.types c.o c.of way c.tasks k c.behind → Frugal marks operation.behind after.heap Running c.behind f.within.frugal.upper
+          by (begins how done) quietly (part, is) =
+              let begun = subst (λ (u : Value). BeginsQuietly marks after.heap u how k) c.operated.3 (quietly_kept marks s.heap after.heap e v how k alters_here quietly) in
+              subst (λ (j : Control). Frugal marks operation.behind after.heap Running j f.within.frugal.upper) (sym is) (inr (refl, inr (begun, treated_here.1)))
+          by (ends cause) ending waits =
+              inl (freed_leads p.types marks operation.behind c.o c.of (ends cause) c.tasks k c.behind f.within.frugal.upper
+              (subst (λ (u : Value). EndsFreed marks u (ends cause) k) c.operated.3 ending) treated_here.1 waits)
+
+      -- What is behind its operation.
       abbrev behind_it_all : State
       behind_it_all = behind_operation (a ∷ rest) c.behind s.masters after
 
-      -- The Finalize begins here.
+      -- The operation begins here.
       abbrev started : State
       started = record (running k a rest s) { heap = c.heap }
 
@@ -152,12 +210,32 @@ module _ (program : Program) (a : Activation Value) (rest : List (Activation Val
         abbrev Reaches : Apart → State → Type 0
         Reaches apart t = IsReaching p (watches p.types (Some w)) apart (is_watched (Some w)) (is_unnamed p.types (Some w)) behind t
 
-        -- Where they treat the object, they go on behind its Finalize, if that begins so.
+        -- Where they treat the object, they go on behind its operation, if that begins so.
         reaches_behind : (before apart : Apart) → Reaches before whole → Reaches apart after → Reaches apart behind_it_all
-        reaches_behind before apart treats begun = by c.treatment ends_it waits_here
+        reaches_behind before apart treats begun = by c.treatment inside_it waits_here
           where
-            by : (ending : Treatment) → IsFreed ending → WaitsFor p.types c.o c.of ending c.tasks k c.behind → Reaches apart behind_it_all
-            by (begins how done) freed' waits = absurd freed'
+            by : (way : Treatment) → IsInside way → WaitsFor p.types c.o c.of way c.tasks k c.behind → Reaches apart behind_it_all
+            by (begins Creation done) inside' (part, is) =
+                let left : Control = Awaits (Names c.o) Creation done c.of part c.tasks ∷ k in
+                let first : Reaches apart (operating named c.number c.b (Part c.o c.place) c.behind started) = rw c.is at begun in
+                let there : Reaches apart (operating named c.number c.b (Part c.o c.place) left started) =
+                subst (λ (j : Control). Reaches apart (operating named c.number c.b (Part c.o c.place) j started)) is first in
+                let within =
+                begun_inside p (watches p.types (Some w)) before (is_watched (Some w)) (is_unnamed p.types (Some w)) behind (Names c.o) Creation done c.of part c.tasks
+                a.procedure k rest treats.control.2 in
+                let reaching =
+                begun_reaches p (watches p.types (Some w)) apart (is_watched (Some w)) (is_unnamed p.types (Some w)) behind (Names c.o) Creation done c.of part c.tasks
+                c.number c.b (Part c.o c.place) k started within there in
+                rw (c.is, is) (record {
+                  ghosts_there = reaching.ghosts_there;
+                  are_ghosts = reaching.are_ghosts;
+                  places = reaching.places;
+                  operands = reaching.operands;
+                  control = reaching.control;
+                  seeks = reaching.seeks;
+                })
+            by (begins Copy done) inside' waits = absurd inside'
+            by (begins (Adjustment number) done) inside' waits = absurd inside'
             by (ends cause) freed' (is, inside) =
                 let left : Control = treating (Names c.o) (ends cause) c.tasks k in
                 let first : Reaches apart (operating named c.number c.b (Part c.o c.place) c.behind started) = rw c.is at begun in
@@ -178,7 +256,7 @@ module _ (program : Program) (a : Activation Value) (rest : List (Activation Val
                   seeks = reaching.seeks;
                 })
 
-      -- What is watched where the Finalize begins is so behind it, too.
+      -- What is watched where the operation begins is so behind it, too.
       watched_behind :
           (watch : Option Watch) (behind : Control) → Watched program watch behind whole → Watched program watch behind after
           → Watched program watch behind behind_it_all
@@ -215,7 +293,7 @@ module _ (program : Program) (a : Activation Value) (rest : List (Activation Val
             upper = f.within.frugal.upper;
             masters = f.within.frugal.masters;
             own = f.within.frugal.own;
-            frugal = inl leads_behind;
+            frugal = frugal_behind;
           })
           still_behind.0
           alters_here)
@@ -224,18 +302,43 @@ module _ (program : Program) (a : Activation Value) (rest : List (Activation Val
         typed_after : typed.Typed p after
         typed_after = step_typed program grounds.well whole after settled e grounds.typed (rw is (refl, refl))
 
+        -- Where the object begins quietly, it is quiet.
+        quiet_begins : (done : List parts.Part) → IsTreated (begins Creation done) → IsCalled (operations_of program.types.items c.of) (begins Creation done) c.number → is_quiet_body p.types c.b ≡ true
+        quiet_begins done quietly called =
+            let operated = c.operated.1 in
+            let begun = quietly.2 in
+            let x = begun.2 in
+            let same : begun.0 ≡ c.o = let one = begun.1 in let other = c.operated.3 in cc (one, other) in
+            let cell : operated.2.0 ≡ x.cell = some_same (sym operated.2.1 ∙ cell_at s.heap c.o.0 x (subst (λ (q : Id). object_at s.heap q ≡ Some x) same begun.3)) in
+            let access : x.cell.access ≡ operated.0 = ap (λ (d : Cell Value). d.access) (sym cell) ∙ operated.2.2 in
+            quiet_initialize program grounds.well operated.0 c.of operated.1 c.number c.b operated.3
+            (subst (λ (t : ℕ). has_calm_objects p.types (quietly_begun_types p) t ≡ true) access begun.4) called c.there
+          where
+            some_same : {d d' : Cell Value} → Some d ≡ Some d' → d ≡ d'
+            some_same same = cc same
+
+        -- So no exception comes out of it, and none comes out of what finalizes the object.
+        silent_here : LetsNothingOut c.treatment c.b → (raised : Exception) → body_raises no_calls c.b (is_same raised) ≡ false
+        silent_here lets = by c.treatment is_treated c.called lets
+          where
+            by : (way : Treatment) → IsTreated way → IsCalled (operations_of program.types.items c.of) way c.number → LetsNothingOut way c.b → (raised : Exception) → body_raises no_calls c.b (is_same raised) ≡ false
+            by (begins Creation done) quietly called lets' = none_raised p.types c.b (quiet_parts p.types c.b (quiet_begins done quietly called)).1
+            by (begins Copy done) quietly called lets' = none_raised p.types c.b lets'
+            by (begins (Adjustment number) done) quietly called lets' = none_raised p.types c.b lets'
+            by (ends cause) ending called lets' = none_raised p.types c.b lets'
+
         -- One begins that touches no storage.
         begins_quiet : PlainBody p.types c.b × LetsNothingOut c.treatment c.b → Went program s.heap e after
         begins_quiet plain = inr (inl (record {
           operates =
-              begins_operation program grounds.well a rest f.suspensions s k Operated e after stands_here typed_after c (inr (ends_it, within_behind)) plain;
+              begins_operation program grounds.well a rest f.suspensions s k Operated e after stands_here typed_after c (inr ((inside_it, within_behind), silent_here plain.1)) plain;
           alters = alters_here;
           says = told_says e s.heap after c.tells;
           covered = told_covered program e c.tells;
         }))
 
         -- One begins that touches storage.
-        module _ (begun : Begun program f.suspensions c.treatment c.behind s.masters after) (frugal : is_frugal_body (thrift_of p) c.b ≡ true) where
+        module _ (begun : Begun program f.suspensions c.treatment c.behind s.masters after) (frugal : is_frugal_body (thrift_of p) c.b ≡ true) (ends_it : IsFreed c.treatment) where
           abbrev waits_for : Suspension
           waits_for = origin program 0 after begun.pause
 
@@ -266,7 +369,7 @@ module _ (program : Program) (a : Activation Value) (rest : List (Activation Val
               upper = f.within.frugal.upper;
               masters = begun.is_lower ∙ f.within.frugal.masters;
               own = f.within.frugal.own;
-              leads = subst (λ (j : Control). FrugalLeads marks operation.behind j f.within.frugal.upper) (sym begun.is_behind) leads_behind;
+              leads = subst (λ (j : Control). FrugalLeads marks operation.behind j f.within.frugal.upper) (sym begun.is_behind) (leads_behind ends_it);
             }),
             subst (λ (procedure : Option ℕ). AreInner program after marks operation.behind operation.lower procedure (suc 0) (Some operation.number) waiting f.within.inner) of_body
                 (inner_on program whole marks operation.behind operation.lower after e a.procedure 0 (suc 0) (Some operation.number) waiting f.within.inner f.within.within alters_here deeper still.1),
@@ -275,10 +378,9 @@ module _ (program : Program) (a : Activation Value) (rest : List (Activation Val
           -- Its body is frugal as the others are.
           runs_begun : Frugally marks operation.lower operation.behind after
           runs_begun =
-              let same = ends_thrift p operation.treatment marks f.within.goes_by freed.0.1 in
-              let body : is_frugal_body marks c.b ≡ true = rw same (rw (freed_here c.treatment ends_it) at frugal) in
+              let body : is_thrifty_body marks c.b ≡ true = body_thrifty p c.b frugal in
               subst (λ (t : State). Frugally marks operation.lower operation.behind t) (sym c.is)
-              (frugal_starts_inside marks operation.behind f.within.frugal.upper operation.lower c.number c.b body (Part c.o c.place) c.behind (record (running k a rest s) { heap = c.heap }) f.within.frugal.masters f.within.frugal.own leads_behind)
+              (frugal_starts_inside marks operation.behind f.within.frugal.upper operation.lower c.number c.b body (Part c.o c.place) c.behind (record (running k a rest s) { heap = c.heap }) f.within.frugal.masters f.within.frugal.own (leads_behind ends_it))
 
           begins_inside : InTouching program s.heap e after
           begins_inside =
@@ -292,20 +394,32 @@ module _ (program : Program) (a : Activation Value) (rest : List (Activation Val
                 stands = begun.stands;
               }))
 
-        begins_frugal : MayTouch c.treatment → may_be_frugal p ≡ true → LetsNone p c.treatment c.b → is_frugal_body (thrift_of p) c.b ≡ true → TouchesStorage p c.treatment c.b → Went program s.heap e after
-        begins_frugal touches may silent frugal stores =
+        begins_frugal : IsFreed c.treatment → MayTouch c.treatment → may_be_frugal p ≡ true → LetsNone p c.treatment c.b → is_frugal_body (thrift_of p) c.b ≡ true → TouchesStorage p c.treatment c.b → Went program s.heap e after
+        begins_frugal ends_it touches may silent frugal stores =
             let uses = treats_in_use program whole grounds whole.control refl tt in
-            let lone = lone_freed v treatment k freed.0.0 (treated_begin program whole grounds f.suspensions f.within f.stands v treatment tasks k refl) in
-            inl (begins_inside (touching_starts program a rest s k v treatment tasks f.suspensions whole refl grounds lone stands_here uses (treats_made program whole grounds v treatment tasks k refl) e after c touches may silent frugal stores typed_after) frugal)
+            let freed : IsFreed treatment = subst IsFreed c.operated.0 ends_it in
+            let lone = lone_freed v treatment k freed (treated_begin program whole grounds f.suspensions f.within f.stands v treatment tasks k refl) in
+            inl (begins_inside (touching_starts program a rest s k v treatment tasks f.suspensions whole refl grounds lone stands_here uses (treats_made program whole grounds v treatment tasks k refl) e after c touches may silent frugal stores typed_after) frugal ends_it)
+
+        -- Where the object begins quietly, none touches storage.
+        begins_stored : MayTouch c.treatment → may_be_frugal p ≡ true → LetsNone p c.treatment c.b → is_frugal_body (thrift_of p) c.b ≡ true → TouchesStorage p c.treatment c.b → Went program s.heap e after
+        begins_stored touches may silent frugal stores = by c.treatment is_treated inside_it c.called stores (λ freed. begins_frugal freed touches may silent frugal stores)
+          where
+            by : (way : Treatment) → IsTreated way → IsInside way → IsCalled (operations_of program.types.items c.of) way c.number → TouchesStorage p way c.b → (IsFreed way → Went program s.heap e after)
+                → Went program s.heap e after
+            by (begins Creation done) quietly inside called stores' on = let plain = (quiet_parts p.types c.b (quiet_begins done quietly called)).0 in absurd (cc (stores', plain))
+            by (begins Copy done) quietly inside called stores' on = absurd inside
+            by (begins (Adjustment number) done) quietly inside called stores' on = absurd inside
+            by (ends cause) ending inside called stores' on = on ending.0
 
         begins_as : IsUsedAs p c.of c.number c.treatment c.b → Went program s.heap e after
         begins_as (inl plain) = begins_quiet plain
-        begins_as (inr (inl (touches, may, frugal, silent, stores))) = begins_frugal touches may silent frugal stores
-        begins_as (inr (inr (copies, tracks, own))) = absurd (freed_adjusts c.treatment ends_it copies)
+        begins_as (inr (inl (touches, may, frugal, silent, stores))) = begins_stored touches may silent frugal stores
+        begins_as (inr (inr (copies, tracks, own))) = absurd (inside_adjusts c.treatment inside_it copies)
 
         begins_there : Went program s.heap e after
         begins_there =
-            begins_as (used_as program (treats_in_use program whole grounds whole.control refl tt) grounds.well c.of c.number c.b c.there c.treatment (λ copies. absurd (freed_adjusts c.treatment ends_it copies)) c.called)
+            begins_as (used_as program (treats_in_use program whole grounds whole.control refl tt) grounds.well c.of c.number c.b c.there c.treatment (λ copies. absurd (inside_adjusts c.treatment inside_it copies)) c.called)
 
     -- Whatever comes next.
     treated_went : (n : Next) → next program.types.items (body_forms program) whole ≡ n → TreatedIn treater a rest s program.types.items (body_forms program) k Operated v n
@@ -313,7 +427,7 @@ module _ (program : Program) (a : Activation Value) (rest : List (Activation Val
     treated_went (halts halt) is t goes still = t
     treated_went (moves e after) is (inl st) goes still = inl (goes_here e after st goes still)
     treated_went (moves e after) is (inr (inl c)) goes still = begins_there e after c still is
-    treated_went (moves e after) is (inr (inr c)) goes still = absurd (subst IsFreed (sym c.operated.0) freed.0.0)
+    treated_went (moves e after) is (inr (inr c)) goes still = absurd (copies_outside c.by c.done c.copies (subst IsInside (sym c.operated.0) (inside_so treatment treated_here.0)))
     treated_went (tells request e after) is t goes still = absurd t
     treated_went (asks request answered) is t goes still = absurd t
     treated_went (picks n taken) is t goes still = λ i lt. inl (goes_here Quiet (taken i) (t i lt) (goes i lt) (still i lt))

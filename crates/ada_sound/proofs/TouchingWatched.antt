@@ -74,7 +74,7 @@ module _ (program : Program) (gs : List Suspension) (s : State) (w : Within prog
   pub takes_none : (k : Control) → s.control ≡ k → FirstTakesNone k s.masters
   takes_none [] is = tt
   takes_none (Leaves left ∷ k) is =
-      let inner = leaves_own (marks_of (program_form program)) w.outermost.behind s.mode left k w.frugal.upper w.outermost.lower (rw is at w.frugal.frugal) w.frugal.own in
+      let inner = leaves_own (marks_of (program_form program)) w.outermost.behind s.heap s.mode left k w.frugal.upper w.outermost.lower (rw is at w.frugal.frugal) w.frugal.own in
       rw w.frugal.masters (innermost_so (w.frugal.upper ++ w.outermost.lower) (innermost_houses_none (w.frugal.upper ++ w.outermost.lower) inner))
   takes_none (g ∷ k) is = tt
 
