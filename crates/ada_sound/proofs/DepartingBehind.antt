@@ -116,15 +116,19 @@ module _ (p : ProgramForm) (shuns : ℕ → Bool) (apart : Apart) (ghosts : Id �
     leads_same (f ∷ k) ms procedure suspended q left = leads_same k ms procedure suspended q.1 left.2
 
     -- Wherever they are.
-    pub same_end : (heap : List Object) (mode : Mode) (k : Control) (ms : List Master) (procedure : Option ℕ) (suspended : List (Activation Value)) → Frugal marks back heap mode k ms → Left procedure k suspended → back ≡ behind
+    pub same_end :
+        (heap : List Object) (mode : Mode) (k : Control) (ms : List Master) (procedure : Option ℕ) (suspended : List (Activation Value))
+        → Frugal marks back heap mode k ms → Left procedure k suspended → back ≡ behind
     same_end heap mode k ms procedure suspended (inl q) left = leads_same k ms procedure suspended q left
     same_end heap mode [] ms procedure suspended (inr (runs, inl leaving)) left = absurd leaving
     same_end heap mode (Leaves exit ∷ k) [] procedure suspended (inr (runs, inl leaving)) left = absurd leaving
     same_end heap mode (Leaves exit ∷ k) (m ∷ ms) procedure suspended (inr (runs, inl leaving)) left = leads_same k ms procedure suspended leaving left.2
     same_end heap mode (f ∷ k) ms procedure suspended (inr (runs, inl leaving)) left = absurd leaving
     same_end heap mode [] ms procedure suspended (inr (runs, inr beginning)) left = absurd beginning
-    same_end heap mode (frame.Treats v (begins by done) tasks ∷ k) ms procedure suspended (inr (runs, inr beginning)) left = leads_same k ms procedure suspended beginning.1 left.2
-    same_end heap mode (frame.Awaits v by done of part tasks ∷ k) ms procedure suspended (inr (runs, inr beginning)) left = leads_same k ms procedure suspended beginning.1 left.2
+    same_end heap mode (frame.Treats v (begins by done) tasks ∷ k) ms procedure suspended (inr (runs, inr beginning)) left =
+        leads_same k ms procedure suspended beginning.1 left.2
+    same_end heap mode (frame.Awaits v by done of part tasks ∷ k) ms procedure suspended (inr (runs, inr beginning)) left =
+        leads_same k ms procedure suspended beginning.1 left.2
     same_end heap mode (f ∷ k) ms procedure suspended (inr (runs, inr beginning)) left = absurd beginning
 
 -- Items that are variables are the home of no objects, so it is among those behind them; and so it is with masters that own variables alone.
@@ -225,7 +229,9 @@ confines_running known Exiting k heap places operands masters ready = absurd (re
 confines_running known Returning k heap places operands masters ready = absurd (ready.rest)
 
 -- No body runs in front of the end of a member.
-pub none_frugal : (marks : Marks) (back : Control) (heap : List Object) (mode m : Mode) (object : Id) (master item : ℕ) (pool : Option ℕ) (tasks : List Task) (k : Control) (ms : List Master)
+pub none_frugal :
+    (marks : Marks) (back : Control) (heap : List Object) (mode m : Mode) (object : Id) (master item : ℕ) (pool : Option ℕ) (tasks : List Task) (k : Control)
+    (ms : List Master)
     → Frugal marks back heap mode (frame.Confines ∷ treating (Names object) (ends (Leaving master item)) tasks (ending object master item pool m k)) ms → ⊥
 none_frugal marks back heap mode m object master item pool [] k ms (inl q) = q.1.1.1.0
 none_frugal marks back heap mode m object master item pool (task ∷ tasks) k ms (inl q) = q.1.0.0

@@ -125,7 +125,8 @@ module _ (program : Program) (o : Id) (treatment : Treatment) (caller : Activati
     around_still : (around : AroundTreated program treatment w.suspensions (behind_in after)) × (IsAmidst around → IsAmidst w.around)
     around_still = by w.around
       where
-        by : (now : AroundTreated program treatment w.suspensions (behind_in s)) → (around : AroundTreated program treatment w.suspensions (behind_in after)) × (IsAmidst around → IsAmidst now)
+        by : (now : AroundTreated program treatment w.suspensions (behind_in s))
+            → (around : AroundTreated program treatment w.suspensions (behind_in after)) × (IsAmidst around → IsAmidst now)
         by (inl none) = (inl none, λ amidst. amidst)
         by (inr (inside, within)) = (
           inr (inside, within_kept program (behind_in s) (behind_in after) o (ends_next inside) others refl refl w.suspensions Quiet within refl refl alters),
@@ -137,7 +138,8 @@ module _ (program : Program) (o : Id) (treatment : Treatment) (caller : Activati
     StillWaits = (waits : Suspended program o treatment caller rest behind lower after) × (IsAmidst waits.around → IsAmidst w.around)
 
     waits_still :
-        TreatsBy (known_in program caller.procedure w.suspensions) (Names o) treatment w.tasks w.after after.heap caller.places caller.operands lower → StillWaits
+        TreatsBy (known_in program caller.procedure w.suspensions) (Names o) treatment w.tasks w.after after.heap caller.places caller.operands lower
+        → StillWaits
     waits_still treats =
         let around = around_still in (
           record {
@@ -155,12 +157,14 @@ module _ (program : Program) (o : Id) (treatment : Treatment) (caller : Activati
 
   -- The body writes an Integer or a Boolean into the object: what waits for it waits still.
   pub waits_written :
-      (s after : State) (x : Object) (c : ℕ) (v : Value) → object_at s.heap o ≡ Some x → ((p : Id) → v ≡ Names p → ⊥) → after.heap ≡ slice_set s.heap o.0 (filled c v x)
-      → (w : Suspended program o treatment caller rest behind lower s) → (waits : Suspended program o treatment caller rest behind lower after) × (IsAmidst waits.around → IsAmidst w.around)
+      (s after : State) (x : Object) (c : ℕ) (v : Value) → object_at s.heap o ≡ Some x → ((p : Id) → v ≡ Names p → ⊥)
+      → after.heap ≡ slice_set s.heap o.0 (filled c v x) → (w : Suspended program o treatment caller rest behind lower s)
+      → (waits : Suspended program o treatment caller rest behind lower after) × (IsAmidst waits.around → IsAmidst w.around)
   waits_written s after x c v found nameless heap w =
       waits_still s after (rw heap (alters_set s.heap Quiet o x (filled c v x) found (refl, refl, refl) (λ h. h) (λ h. inl h)))
       (λ q other. rw heap (set_other s.heap o.0 q.0 (filled c v x) (λ same. other (id_is q o same)))) w
-      (rw heap (treats_written c v nameless (known_in program caller.procedure w.suspensions) lower s.heap o x found treatment w.tasks caller.places caller.operands w.after w.treats))
+      (rw heap (treats_written c v nameless (known_in program caller.procedure w.suspensions) lower s.heap o x found treatment w.tasks
+      caller.places caller.operands w.after w.treats))
 
   -- It writes nothing.
   pub waits_on :

@@ -1,35 +1,31 @@
--- What waits for operations that touch storage stays as it is known, whatever the bodies in front of it do (7.6, 7.6.1): each object stays the object that it was, and
--- each activation that waits keeps the operands that it had. Where a part of an object has been finalized that ends behind, or begun of one that begins, what is watched
--- is another object.
+-- What waits for operations that touch storage stays as it is known, whatever the bodies in front of it do (7.6, 7.6.1): each object stays the object that it
+-- was, and each activation that waits keeps the operands that it had. Where a part of an object has been finalized that ends behind, or has been begun of one that
+-- begins, what is watched is another object.
 
-use Rattle.std.proofs.Common.{◌≡◌, ◌≢◌, ℕ, zero, suc, Bool, false, List, [], ◌∷◌, length, drop, sym, ap, ◌∙◌, subst, ◌⊎◌, inl, inr, arith}
+use Rattle.std.proofs.Common.{◌≡◌, ◌≢◌, ℕ, zero, suc, false, List, [], ◌∷◌, length, drop, refl, sym, ap, ◌∙◌, subst, ◌⊎◌, inl, inr, arith}
 use Rattle.std.proofs.Math.Nat.{add-zero}
 use Rattle.std.specs.Prelude.{◌+◌, ◌==◌, Option, Some, None}
 use Rattle.ada_parts.specs.Task.{Task}
 use Rattle.ada_program.specs.declared.program.Program.{Program}
-use Rattle.ada_program.specs.ProgramForm.{TypeForm, BodyForm, ProgramForm, program_form}
+use Rattle.ada_program.specs.ProgramForm.{ProgramForm, program_form}
 use Rattle.ada_parts.specs.Part as parts
-use Rattle.ada_meaning.specs.declared.event.Birth.{Birth}
 use Rattle.ada_meaning.specs.declared.event.Birth.TheVariants.{Creation}
-use Rattle.ada_meaning.specs.declared.state.Mode.{Mode}
-use Rattle.ada_meaning.specs.declared.state.Mode.TheVariants.{Running, Raising, Exiting, Returning}
 use Rattle.ada_meaning.specs.declared.event.Cause.{Cause}
 use Rattle.ada_meaning.specs.declared.state.Id.{Id}
 use Rattle.ada_meaning.specs.declared.state.Value.{Value}
-use Rattle.ada_meaning.specs.declared.state.Value.TheVariants.{Null, Names, Scalar, Part}
+use Rattle.ada_meaning.specs.declared.state.Value.TheVariants.{Names}
 use Rattle.ada_meaning.specs.Frame.{ends}
 use Rattle.ada_meaning.specs.Frame as frame
-use Rattle.ada_meaning.specs.Named.{Object, State, named, object_at}
+use Rattle.ada_meaning.specs.Named.{Object, State, object_at}
 use Rattle.ada_meaning.specs.Run.{Event}
 use Rattle.ada_meaning.specs.State.{Activation, Master}
-use Rattle.ada_meaning.specs.Step.{older, operands_of, operating, places_of, procedure_of, treating}
+use Rattle.ada_meaning.specs.Step.{older, operands_of, procedure_of, treating}
 use Rattle.ada_owners.proofs.Objects.{id_is}
 use Rattle.ada_reaching.specs.Apart.{Apart}
 use Rattle.ada_reaching.specs.Law.{GhostsStay}
-use Rattle.ada_reaching.specs.Reaching.{AreElsewhere, IsGhost, IsInner, IsLast, IsReaching, LeftShuns, OperandSeeks}
-use Rattle.ada_reaching.proofs.Behind.{ends_other, left_longer, reaching_kept}
+use Rattle.ada_reaching.specs.Reaching.{IsReaching, LeftShuns}
+use Rattle.ada_reaching.proofs.Behind.{ends_other, reaching_kept, waiting_kept}
 use Rattle.ada_tracked.proofs.Lists.{is_apart, is_same}
-use Rattle.ada_untouched.specs.Untouched.{IsInSight}
 use Rattle.ada_sound.proofs.FrugalControl.{frugal_kept}
 use Rattle.ada_sound.proofs.Marks.{Marks, marks_of}
 use Rattle.ada_sound.specs.Agreement.{running_procedure}
@@ -146,76 +142,6 @@ pub record BeginsBehind (o : Id) (k : Control) : Type 0 where
 abbrev pub GoesOnBehind : Id → Control → Type 0
 GoesOnBehind o k = EndsBehind o k ⊎ BeginsBehind o k
 
--- Nothing is sought where an operation has come to its end that begins a part.
-awaiting_seeks :
-    (types : List TypeForm) (shuns : ℕ → Bool) (apart : Apart) (ghosts : Id → Bool) (heap : List Object) (m : Mode) (v : Value) (by : Birth) (done : List parts.Part) (of part : ℕ) (tasks : List Task)
-    (k : Control) (vs : List Value) → OperandSeeks types shuns apart ghosts heap m (frame.Awaits v by done of part tasks ∷ k) vs
-awaiting_seeks types shuns apart ghosts heap Running v by done of part tasks k [] = tt
-awaiting_seeks types shuns apart ghosts heap Running v by done of part tasks k (Null ∷ vs) = tt
-awaiting_seeks types shuns apart ghosts heap Running v by done of part tasks k (Names o ∷ vs) = λ x at. tt
-awaiting_seeks types shuns apart ghosts heap Running v by done of part tasks k (Scalar n ∷ vs) = tt
-awaiting_seeks types shuns apart ghosts heap Running v by done of part tasks k (Part o place ∷ vs) = tt
-awaiting_seeks types shuns apart ghosts heap (Raising e) v by done of part tasks k vs = tt
-awaiting_seeks types shuns apart ghosts heap Exiting v by done of part tasks k vs = tt
-awaiting_seeks types shuns apart ghosts heap Returning v by done of part tasks k vs = tt
-
-module _ (p : ProgramForm) (shuns : ℕ → Bool) (apart : Apart) (ghosts unnamed : Id → Bool) (behind : Control) (v : Value) (by : Birth) (done : List parts.Part) (of part : ℕ) (tasks : List Task) where
-  -- Bodies that shun some access types wait for such an operation: they go on behind it, unless that is behind all of them.
-  pub begun_reaches :
-      (procedure : ℕ) (b : BodyForm) (reference : Value) (k : Control) (s : State) → (frame.Awaits v by done of part tasks ∷ k ≡ behind → ⊥)
-      → IsReaching p shuns apart ghosts unnamed behind (operating named procedure b reference (frame.Awaits v by done of part tasks ∷ k) s)
-      → IsReaching p shuns apart ghosts unnamed behind (record s { control = frame.Awaits v by done of part tasks ∷ k })
-  begun_reaches procedure b reference k s inside reaching =
-      let inner = go reaching.control.2 in
-      record {
-        ghosts_there = reaching.ghosts_there;
-        are_ghosts = reaching.are_ghosts;
-        places = inner.places;
-        operands = inner.operands;
-        control = inner.others;
-        seeks = awaiting_seeks p.types shuns apart ghosts s.heap s.mode v by done of part tasks k (operands_of s.activations);
-      }
-    where
-      go : IsLast behind (frame.Returns [] []) (frame.Awaits v by done of part tasks ∷ k)
-          ⊎ IsInner ghosts unnamed (frame.Returns [] []) (frame.Awaits v by done of part tasks ∷ k) s.activations
-          (LeftShuns p shuns apart ghosts unnamed behind (procedure_of s.activations) (frame.Awaits v by done of part tasks ∷ k) (older s.activations))
-          → IsInner ghosts unnamed (frame.Returns [] []) (frame.Awaits v by done of part tasks ∷ k) s.activations
-          (LeftShuns p shuns apart ghosts unnamed behind (procedure_of s.activations) (frame.Awaits v by done of part tasks ∷ k) (older s.activations))
-      go (inl last) = absurd (inside (ap older last))
-      go (inr inner) = inner
-
-  -- So they do, whatever happens meanwhile to other objects than the ghosts.
-  begun_kept :
-      (k : Control) (s after : State) → s.control ≡ frame.Awaits v by done of part tasks ∷ k → after.control ≡ s.control → after.activations ≡ s.activations
-      → GhostsStay ghosts s.heap after.heap → IsReaching p shuns apart ghosts unnamed behind s → IsReaching p shuns apart ghosts unnamed behind after
-  begun_kept k s after first same active stay reaching = record {
-    ghosts_there = λ o is. subst (λ (found : Option Object). IsGhost p.types shuns (unnamed o) found) (sym (stay o is)) (reaching.ghosts_there o is);
-    are_ghosts = reaching.are_ghosts;
-    places = subst (λ (acts : List (Activation Value)). AreElsewhere ghosts unnamed (places_of acts)) (sym active) reaching.places;
-    operands = subst (λ (acts : List (Activation Value)). AreElsewhere ghosts unnamed (operands_of acts)) (sym active) reaching.operands;
-    control =
-        subst (λ (left : Control). LeftShuns p shuns apart ghosts unnamed behind (procedure_of after.activations) left (older after.activations)) (sym same)
-        (subst (λ (acts : List (Activation Value)). LeftShuns p shuns apart ghosts unnamed behind (procedure_of acts) s.control (older acts)) (sym active) reaching.control);
-    seeks =
-        subst (λ (left : Control). OperandSeeks p.types shuns apart ghosts after.heap after.mode left (operands_of after.activations)) (sym (same ∙ first))
-        (awaiting_seeks p.types shuns apart ghosts after.heap after.mode v by done of part tasks k (operands_of after.activations));
-  }
-
-  -- The object of which a part begins is no ghost.
-  begun_other :
-      (k : Control) (procedure : Option ℕ) (suspended : List (Activation Value))
-      → LeftShuns p shuns apart ghosts unnamed behind procedure (frame.Awaits v by done of part tasks ∷ k) suspended → IsInSight ghosts v
-  begun_other k procedure suspended left = left.0.0
-
-  -- The operation is not behind all of them.
-  pub begun_inside :
-      (procedure : Option ℕ) (k : Control) (suspended : List (Activation Value))
-      → LeftShuns p shuns apart ghosts unnamed behind procedure k suspended → frame.Awaits v by done of part tasks ∷ k ≡ behind → ⊥
-  begun_inside procedure k suspended left same =
-      let longer = left_longer p shuns apart ghosts unnamed behind procedure k suspended left in
-      let lengths = ap length same in
-      omega (arith, longer, lengths)
-
 -- All objects but one stay as they are.
 abbrev pub OthersStay : Id → (before after : List Object) → Type 0
 OthersStay o before after = (q : Id) → q ≢ o → object_at after q ≡ object_at before q
@@ -235,11 +161,13 @@ module _ (program : Program) (s after : State) (o : Id) (going : GoesOnBehind o 
       where
         by : GoesOnBehind o s.control → (w.holder.0 == o.0) ≡ false
         by (inl ending) =
-            ends_other p (watches p.types (Some w)) apart (is_watched (Some w)) (is_unnamed p.types (Some w)) behind (Names o) ending.cause ending.tasks ending.rest
-            (procedure_of s.activations) (older s.activations) (rw ending.is at reaching.control)
+            ends_other p (watches p.types (Some w)) apart (is_watched (Some w)) (is_unnamed p.types (Some w)) behind (Names o) ending.cause ending.tasks
+            ending.rest (procedure_of s.activations) (older s.activations) (rw ending.is at reaching.control)
         by (inr begun) =
-            begun_other p (watches p.types (Some w)) apart (is_watched (Some w)) (is_unnamed p.types (Some w)) behind (Names o) Creation begun.done begun.of begun.part begun.tasks begun.rest
-            (procedure_of s.activations) (older s.activations) (rw begun.is at reaching.control)
+            let left : LeftShuns p (watches p.types (Some w)) apart (is_watched (Some w)) (is_unnamed p.types (Some w)) behind (procedure_of s.activations)
+            (frame.Awaits (Names o) Creation begun.done begun.of begun.part begun.tasks ∷ begun.rest) (older s.activations) =
+            rw begun.is at reaching.control in
+            left.0.0
 
     ghosts_stay : GhostsStay (is_watched (Some w)) s.heap after.heap
     ghosts_stay q is = others q (λ same. holder_other (id_is w.holder q (is_same w.holder.0 q.0 is) ∙ same))
@@ -252,8 +180,8 @@ module _ (program : Program) (s after : State) (o : Id) (going : GoesOnBehind o 
             reaching_kept p (watches p.types (Some w)) apart (is_watched (Some w)) (is_unnamed p.types (Some w)) behind
             (treating (Names o) (ends ending.cause) ending.tasks (frame.Ends (Names o) ∷ ending.rest)) s after ending.is control active ghosts_stay reaching
         by (inr begun) =
-            begun_kept p (watches p.types (Some w)) apart (is_watched (Some w)) (is_unnamed p.types (Some w)) behind (Names o) Creation begun.done begun.of begun.part begun.tasks begun.rest
-            s after begun.is control active ghosts_stay reaching
+            waiting_kept p (watches p.types (Some w)) apart (is_watched (Some w)) (is_unnamed p.types (Some w)) behind
+            (frame.Awaits (Names o) Creation begun.done begun.of begun.part begun.tasks) begun.rest s after refl begun.is control active ghosts_stay reaching
 
   watched_on : (watch : Option Watch) (behind : Control) → Watched program watch behind s → Watched program watch behind after
   watched_on None behind still = tt

@@ -19,8 +19,9 @@ use Rattle.ada_typed.proofs.Inner.{lies_at}
 use Rattle.ada_typed.proofs.Lying.{IsOperable}
 
 -- The body that overrides an operation is quiet where the operation is.
-quiet_there : (p : ProgramForm) (o : Option ProcedureNo) (number : ℕ) (b : BodyForm) → is_quiet_operation p o ≡ true → procedure_number o ≡ Some number → slice_get p.bodies number ≡ Some b
-    → is_quiet_body p.types b ≡ true
+quiet_there :
+    (p : ProgramForm) (o : Option ProcedureNo) (number : ℕ) (b : BodyForm) → is_quiet_operation p o ≡ true → procedure_number o ≡ Some number
+    → slice_get p.bodies number ≡ Some b → is_quiet_body p.types b ≡ true
 quiet_there p o number b quiet overrides there =
     let one = numbered_one o number overrides in
     let at : slice_get p.bodies one.0.0 ≡ Some b = ap (slice_get p.bodies) one.2 ∙ there in
@@ -29,9 +30,10 @@ quiet_there p o number b quiet overrides there =
 
 -- The type of a part of such an object is known by its number, and its Initialize is quiet.
 pub quiet_initialize :
-    (program : Program) → IsWellFormed (program_form program) → (access of part number : ℕ) (b : BodyForm) → IsOperable (program_form program).types access of part
-    → has_calm_objects (program_form program).types (quietly_begun_types (program_form program)) access ≡ true → procedure_number (operations_of program.types.items of).initialize ≡ Some number
-    → slice_get (body_forms program) number ≡ Some b → is_quiet_body (program_form program).types b ≡ true
+    (program : Program) → IsWellFormed (program_form program) → (access of part number : ℕ) (b : BodyForm)
+    → IsOperable (program_form program).types access of part
+    → has_calm_objects (program_form program).types (quietly_begun_types (program_form program)) access ≡ true
+    → procedure_number (operations_of program.types.items of).initialize ≡ Some number → slice_get (body_forms program) number ≡ Some b → is_quiet_body (program_form program).types b ≡ true
 quiet_initialize program well access of part number b operable calm overrides there =
     let p = program_form program in
     let own : TypeForm → Bool = λ t. begins_quietly p (finalization_in (Some t)) in
@@ -40,7 +42,8 @@ quiet_initialize program well access of part number b operable calm overrides th
     let d = is_declared program r of l.numbered in
     let alone : (u : ℕ) → number_of program.types.items (Some u) ≡ Some d.f.number.0 → u ≡ r =
     λ u is. numbers_are_alone program u r of well (is ∙ ap (λ (n : ℕ). Some n) d.numbered) l.numbered in
-    let operations : operations_of program.types.items of ≡ d.f.operations = ap (operations_of program.types.items) (sym d.numbered) ∙ types_have_their_operations program r d.ps d.f d.declares alone in
+    let operations : operations_of program.types.items of ≡ d.f.operations =
+    ap (operations_of program.types.items) (sym d.numbered) ∙ types_have_their_operations program r d.ps d.f d.declares alone in
     let quiet : is_quiet_operation p d.f.operations.initialize ≡ true =
     lying_own p own well r l.first part (slice_get p.types access) (record_of d.declares.0 d.ps d.declares.1 (Some d.f)) calm
     (operable_is_not_bare program well access of part operable) l.walk d.declares.2 in

@@ -52,8 +52,8 @@ storing_leads frugal behind (v ∷ vs) k ms q = (tt, storing_leads frugal behind
 
 -- Behind the end of a body that was called, the body goes on that called it.
 back_frugal :
-    (frugal : Marks) (behind : Control) (heap : List Object) (mode : Mode) (references : List Value) (k : Control) (ms : List Master) → FrugalLeads frugal behind k ms
-    → Frugal frugal behind heap (behind_mode mode) (behind_frames mode references k) ms
+    (frugal : Marks) (behind : Control) (heap : List Object) (mode : Mode) (references : List Value) (k : Control) (ms : List Master)
+    → FrugalLeads frugal behind k ms → Frugal frugal behind heap (behind_mode mode) (behind_frames mode references k) ms
 back_frugal frugal behind heap Running references k ms q = inl (storing_leads frugal behind references k ms q)
 back_frugal frugal behind heap (Raising e) references k ms q = inl q
 back_frugal frugal behind heap Exiting references k ms q = inl q

@@ -1,5 +1,5 @@
--- An object that is freed is finalized while an operation that touches storage is under way (7.6.1, 13.11.2), and one that is allocated begins (4.8): its operation begins,
--- inside the other one, or what is left goes on.
+-- An object that is freed is finalized while an operation that touches storage is under way (7.6.1, 13.11.2), and one that is allocated begins (4.8): its
+-- operation begins, inside the other one, or what is left goes on.
 
 use Rattle.std.proofs.Common.{◌≡◌, ℕ, true, false, not, List, [], ◌∷◌, refl, sym, ap, subst, ◌∙◌, inl, inr, ◌+◌, arith, drop, length, suc}
 use Rattle.std.specs.Prelude.{Option, Some, None}
@@ -30,7 +30,7 @@ use Rattle.ada_meaning.specs.Named.{State, Next, named, next, object_at}
 use Rattle.ada_meaning.specs.Run.{Event, settled}
 use Rattle.ada_quiet.specs.Frugal.{is_frugal_body, thrift_of}
 use Rattle.ada_quiet.specs.InUse.{may_be_frugal}
-use Rattle.ada_reaching.proofs.Behind.{behind_reaches, treating_inside}
+use Rattle.ada_reaching.proofs.Behind.{behind_reaches, treating_inside, waiting_inside, waiting_reaches}
 use Rattle.ada_reaching.specs.Apart.{Apart}
 use Rattle.ada_reaching.specs.Reaching.{IsReaching}
 use Rattle.ada_typed.proofs.Control as typed
@@ -45,7 +45,7 @@ use Rattle.ada_sound.proofs.FrugalSteps.{GoesOrBegins, treats_frugally}
 use Rattle.ada_sound.proofs.Invariant.{Control, Known, Stepped}
 use Rattle.ada_sound.proofs.Operating.{IsCalled, PlainBody, WaitsFor, behind_operation}
 use Rattle.ada_sound.proofs.OperationBegins.{begins_operation}
-use Rattle.ada_sound.proofs.Pauses.{AllWatched, begun_inside, begun_reaches, inner_on}
+use Rattle.ada_sound.proofs.Pauses.{AllWatched, inner_on}
 use Rattle.ada_sound.proofs.QuietOperations.{AdjustsCopy, IsUsedAs, LetsNone, LetsNothingOut, MayTouch, TouchesStorage, used_as}
 use Rattle.ada_sound.proofs.QuietBegins.{quiet_initialize}
 use Rattle.ada_sound.proofs.Raising.{body_more}
@@ -69,13 +69,15 @@ inside_adjusts (begins Copy done) inside copies = inside
 inside_adjusts (begins (Adjustment number) done) inside copies = inside
 inside_adjusts (ends cause) inside copies = copies
 
+-- No copy begins there.
 copies_outside : (by : Birth) (done : List parts.Part) → BeginsCopy by → IsInside (begins by done) → ⊥
 copies_outside Creation done copies inside = copies
 copies_outside Copy done copies inside = inside
 copies_outside (Adjustment number) done copies inside = inside
 
 -- A quiet body is plain, and no exception comes out of it.
-quiet_parts : (types : List TypeForm) (b : BodyForm) → is_quiet_body types b ≡ true → (is_plain_body types b ≡ true) × (body_raises no_calls b (λ e. true) ≡ false)
+quiet_parts : (types : List TypeForm) (b : BodyForm) → is_quiet_body types b ≡ true
+    → (is_plain_body types b ≡ true) × (body_raises no_calls b (λ e. true) ≡ false)
 quiet_parts types b quiet =
     let both = and_parts (is_plain_body types b) (not (body_raises no_calls b (λ e. true))) quiet in
     (both.0, false_from_ne_true (body_raises no_calls b (λ e. true)) (λ may. let none = both.1 in cc (rw may at none)))
@@ -138,7 +140,8 @@ module _ (program : Program) (a : Activation Value) (rest : List (Activation Val
     treated_here : IsTreated treatment × FrugalLeads marks operation.behind k f.within.frugal.upper
     treated_here = by treatment f.within.frugal.frugal
       where
-        by : (way : Treatment) → Frugal marks operation.behind s.heap Running (Treats v way tasks ∷ k) f.within.frugal.upper → IsTreated way × FrugalLeads marks operation.behind k f.within.frugal.upper
+        by : (way : Treatment) → Frugal marks operation.behind s.heap Running (Treats v way tasks ∷ k) f.within.frugal.upper
+            → IsTreated way × FrugalLeads marks operation.behind k f.within.frugal.upper
         by (begins how done) (inl leads) = absurd leads.0.0
         by (begins how done) (inr (runs, inl leaving)) = absurd leaving
         by (begins how done) (inr (runs, inr beginning)) = beginning
@@ -165,6 +168,7 @@ module _ (program : Program) (a : Activation Value) (rest : List (Activation Val
             absurd (omega (arith, same, more))
 
     module _ (e : Event) (after : State) (c : BeginsHere e after) (still : Still program whole f after) where
+      -- So it is where the operation begins.
       is_treated : IsTreated c.treatment
       is_treated = subst IsTreated (sym c.operated.0) treated_here.0
 
@@ -177,22 +181,28 @@ module _ (program : Program) (a : Activation Value) (rest : List (Activation Val
       alters_here : Alters s.heap e after.heap
       alters_here = rw c.is c.alters
 
+      -- Where the object is freed, what is behind its Finalize is left to do.
       leads_behind : IsFreed c.treatment → FrugalLeads marks operation.behind c.behind f.within.frugal.upper
       leads_behind freed = by c.treatment freed is_treated waits_here
         where
-          by : (way : Treatment) → IsFreed way → IsTreated way → WaitsFor p.types c.o c.of way c.tasks k c.behind → FrugalLeads marks operation.behind c.behind f.within.frugal.upper
+          by : (way : Treatment) → IsFreed way → IsTreated way → WaitsFor p.types c.o c.of way c.tasks k c.behind
+              → FrugalLeads marks operation.behind c.behind f.within.frugal.upper
           by (begins how done) freed' quietly waits = absurd freed'
           by (ends cause) freed' ending waits =
               freed_leads p.types marks operation.behind c.o c.of (ends cause) c.tasks k c.behind f.within.frugal.upper
               (subst (λ (u : Value). EndsFreed marks u (ends cause) k) c.operated.3 ending) treated_here.1 waits
 
+      -- So it is where the object begins.
       frugal_behind : Frugal marks operation.behind after.heap Running c.behind f.within.frugal.upper
       frugal_behind = by c.treatment is_treated waits_here
         where
-          by : (way : Treatment) → IsTreated way → WaitsFor p.types c.o c.of way c.tasks k c.behind → Frugal marks operation.behind after.heap Running c.behind f.within.frugal.upper
+          by : (way : Treatment) → IsTreated way → WaitsFor p.types c.o c.of way c.tasks k c.behind
+              → Frugal marks operation.behind after.heap Running c.behind f.within.frugal.upper
           by (begins how done) quietly (part, is) =
-              let begun = subst (λ (u : Value). BeginsQuietly marks after.heap u how k) c.operated.3 (quietly_kept marks s.heap after.heap e v how k alters_here quietly) in
-              subst (λ (j : Control). Frugal marks operation.behind after.heap Running j f.within.frugal.upper) (sym is) (inr (refl, inr (begun, treated_here.1)))
+              let kept = quietly_kept marks s.heap after.heap e v how k alters_here quietly in
+              let begun = subst (λ (u : Value). BeginsQuietly marks after.heap u how k) c.operated.3 kept in
+              subst (λ (j : Control). Frugal marks operation.behind after.heap Running j f.within.frugal.upper) (sym is)
+              (inr (refl, inr (begun, treated_here.1)))
           by (ends cause) ending waits =
               inl (freed_leads p.types marks operation.behind c.o c.of (ends cause) c.tasks k c.behind f.within.frugal.upper
               (subst (λ (u : Value). EndsFreed marks u (ends cause) k) c.operated.3 ending) treated_here.1 waits)
@@ -221,11 +231,11 @@ module _ (program : Program) (a : Activation Value) (rest : List (Activation Val
                 let there : Reaches apart (operating named c.number c.b (Part c.o c.place) left started) =
                 subst (λ (j : Control). Reaches apart (operating named c.number c.b (Part c.o c.place) j started)) is first in
                 let within =
-                begun_inside p (watches p.types (Some w)) before (is_watched (Some w)) (is_unnamed p.types (Some w)) behind (Names c.o) Creation done c.of part c.tasks
-                a.procedure k rest treats.control.2 in
+                waiting_inside p (watches p.types (Some w)) before (is_watched (Some w)) (is_unnamed p.types (Some w)) behind
+                (Awaits (Names c.o) Creation done c.of part c.tasks) a.procedure k rest treats.control.2 in
                 let reaching =
-                begun_reaches p (watches p.types (Some w)) apart (is_watched (Some w)) (is_unnamed p.types (Some w)) behind (Names c.o) Creation done c.of part c.tasks
-                c.number c.b (Part c.o c.place) k started within there in
+                waiting_reaches p (watches p.types (Some w)) apart (is_watched (Some w)) (is_unnamed p.types (Some w)) behind c.number c.b (Part c.o c.place)
+                (Awaits (Names c.o) Creation done c.of part c.tasks) k started refl within there in
                 rw (c.is, is) (record {
                   ghosts_there = reaching.ghosts_there;
                   are_ghosts = reaching.are_ghosts;
@@ -303,13 +313,15 @@ module _ (program : Program) (a : Activation Value) (rest : List (Activation Val
         typed_after = step_typed program grounds.well whole after settled e grounds.typed (rw is (refl, refl))
 
         -- Where the object begins quietly, it is quiet.
-        quiet_begins : (done : List parts.Part) → IsTreated (begins Creation done) → IsCalled (operations_of program.types.items c.of) (begins Creation done) c.number → is_quiet_body p.types c.b ≡ true
+        quiet_begins : (done : List parts.Part) → IsTreated (begins Creation done) → IsCalled (operations_of program.types.items c.of) (begins Creation done) c.number
+            → is_quiet_body p.types c.b ≡ true
         quiet_begins done quietly called =
             let operated = c.operated.1 in
             let begun = quietly.2 in
             let x = begun.2 in
             let same : begun.0 ≡ c.o = let one = begun.1 in let other = c.operated.3 in cc (one, other) in
-            let cell : operated.2.0 ≡ x.cell = some_same (sym operated.2.1 ∙ cell_at s.heap c.o.0 x (subst (λ (q : Id). object_at s.heap q ≡ Some x) same begun.3)) in
+            let there = subst (λ (q : Id). object_at s.heap q ≡ Some x) same begun.3 in
+            let cell : operated.2.0 ≡ x.cell = some_same (sym operated.2.1 ∙ cell_at s.heap c.o.0 x there) in
             let access : x.cell.access ≡ operated.0 = ap (λ (d : Cell Value). d.access) (sym cell) ∙ operated.2.2 in
             quiet_initialize program grounds.well operated.0 c.of operated.1 c.number c.b operated.3
             (subst (λ (t : ℕ). has_calm_objects p.types (quietly_begun_types p) t ≡ true) access begun.4) called c.there
@@ -321,7 +333,8 @@ module _ (program : Program) (a : Activation Value) (rest : List (Activation Val
         silent_here : LetsNothingOut c.treatment c.b → (raised : Exception) → body_raises no_calls c.b (is_same raised) ≡ false
         silent_here lets = by c.treatment is_treated c.called lets
           where
-            by : (way : Treatment) → IsTreated way → IsCalled (operations_of program.types.items c.of) way c.number → LetsNothingOut way c.b → (raised : Exception) → body_raises no_calls c.b (is_same raised) ≡ false
+            by : (way : Treatment) → IsTreated way → IsCalled (operations_of program.types.items c.of) way c.number → LetsNothingOut way c.b → (raised : Exception)
+                → body_raises no_calls c.b (is_same raised) ≡ false
             by (begins Creation done) quietly called lets' = none_raised p.types c.b (quiet_parts p.types c.b (quiet_begins done quietly called)).1
             by (begins Copy done) quietly called lets' = none_raised p.types c.b lets'
             by (begins (Adjustment number) done) quietly called lets' = none_raised p.types c.b lets'
@@ -331,7 +344,8 @@ module _ (program : Program) (a : Activation Value) (rest : List (Activation Val
         begins_quiet : PlainBody p.types c.b × LetsNothingOut c.treatment c.b → Went program s.heap e after
         begins_quiet plain = inr (inl (record {
           operates =
-              begins_operation program grounds.well a rest f.suspensions s k Operated e after stands_here typed_after c (inr ((inside_it, within_behind), silent_here plain.1)) plain;
+              begins_operation program grounds.well a rest f.suspensions s k Operated e after stands_here typed_after c
+              (inr ((inside_it, within_behind), silent_here plain.1)) plain;
           alters = alters_here;
           says = told_says e s.heap after c.tells;
           covered = told_covered program e c.tells;
@@ -394,7 +408,9 @@ module _ (program : Program) (a : Activation Value) (rest : List (Activation Val
                 stands = begun.stands;
               }))
 
-        begins_frugal : IsFreed c.treatment → MayTouch c.treatment → may_be_frugal p ≡ true → LetsNone p c.treatment c.b → is_frugal_body (thrift_of p) c.b ≡ true → TouchesStorage p c.treatment c.b → Went program s.heap e after
+        -- One begins that touches storage, where the object is freed.
+        begins_frugal : IsFreed c.treatment → MayTouch c.treatment → may_be_frugal p ≡ true → LetsNone p c.treatment c.b → is_frugal_body (thrift_of p) c.b ≡ true
+            → TouchesStorage p c.treatment c.b → Went program s.heap e after
         begins_frugal ends_it touches may silent frugal stores =
             let uses = treats_in_use program whole grounds whole.control refl tt in
             let freed : IsFreed treatment = subst IsFreed c.operated.0 ends_it in
@@ -402,12 +418,15 @@ module _ (program : Program) (a : Activation Value) (rest : List (Activation Val
             inl (begins_inside (touching_starts program a rest s k v treatment tasks f.suspensions whole refl grounds lone stands_here uses (treats_made program whole grounds v treatment tasks k refl) e after c touches may silent frugal stores typed_after) frugal ends_it)
 
         -- Where the object begins quietly, none touches storage.
-        begins_stored : MayTouch c.treatment → may_be_frugal p ≡ true → LetsNone p c.treatment c.b → is_frugal_body (thrift_of p) c.b ≡ true → TouchesStorage p c.treatment c.b → Went program s.heap e after
-        begins_stored touches may silent frugal stores = by c.treatment is_treated inside_it c.called stores (λ freed. begins_frugal freed touches may silent frugal stores)
+        begins_stored : MayTouch c.treatment → may_be_frugal p ≡ true → LetsNone p c.treatment c.b → is_frugal_body (thrift_of p) c.b ≡ true
+            → TouchesStorage p c.treatment c.b → Went program s.heap e after
+        begins_stored touches may silent frugal stores =
+            by c.treatment is_treated inside_it c.called stores (λ freed. begins_frugal freed touches may silent frugal stores)
           where
-            by : (way : Treatment) → IsTreated way → IsInside way → IsCalled (operations_of program.types.items c.of) way c.number → TouchesStorage p way c.b → (IsFreed way → Went program s.heap e after)
-                → Went program s.heap e after
-            by (begins Creation done) quietly inside called stores' on = let plain = (quiet_parts p.types c.b (quiet_begins done quietly called)).0 in absurd (cc (stores', plain))
+            by : (way : Treatment) → IsTreated way → IsInside way → IsCalled (operations_of program.types.items c.of) way c.number → TouchesStorage p way c.b
+                → (IsFreed way → Went program s.heap e after) → Went program s.heap e after
+            by (begins Creation done) quietly inside called stores' on =
+                let plain = (quiet_parts p.types c.b (quiet_begins done quietly called)).0 in absurd (cc (stores', plain))
             by (begins Copy done) quietly inside called stores' on = absurd inside
             by (begins (Adjustment number) done) quietly inside called stores' on = absurd inside
             by (ends cause) ending inside called stores' on = on ending.0
@@ -419,7 +438,8 @@ module _ (program : Program) (a : Activation Value) (rest : List (Activation Val
 
         begins_there : Went program s.heap e after
         begins_there =
-            begins_as (used_as program (treats_in_use program whole grounds whole.control refl tt) grounds.well c.of c.number c.b c.there c.treatment (λ copies. absurd (inside_adjusts c.treatment inside_it copies)) c.called)
+            begins_as (used_as program (treats_in_use program whole grounds whole.control refl tt) grounds.well c.of c.number c.b c.there c.treatment
+            (λ copies. absurd (inside_adjusts c.treatment inside_it copies)) c.called)
 
     -- Whatever comes next.
     treated_went : (n : Next) → next program.types.items (body_forms program) whole ≡ n → TreatedIn treater a rest s program.types.items (body_forms program) k Operated v n
@@ -427,7 +447,8 @@ module _ (program : Program) (a : Activation Value) (rest : List (Activation Val
     treated_went (halts halt) is t goes still = t
     treated_went (moves e after) is (inl st) goes still = inl (goes_here e after st goes still)
     treated_went (moves e after) is (inr (inl c)) goes still = begins_there e after c still is
-    treated_went (moves e after) is (inr (inr c)) goes still = absurd (copies_outside c.by c.done c.copies (subst IsInside (sym c.operated.0) (inside_so treatment treated_here.0)))
+    treated_went (moves e after) is (inr (inr c)) goes still =
+        absurd (copies_outside c.by c.done c.copies (subst IsInside (sym c.operated.0) (inside_so treatment treated_here.0)))
     treated_went (tells request e after) is t goes still = absurd t
     treated_went (asks request answered) is t goes still = absurd t
     treated_went (picks n taken) is t goes still = λ i lt. inl (goes_here Quiet (taken i) (t i lt) (goes i lt) (still i lt))
