@@ -170,8 +170,8 @@ module _ (program : Program) (well : IsWellFormed (program_form program)) (of nu
   comes_out a rest o heap x found (begins (Adjustment n) done) tasks k behind quiet called types waits waiting e may = absurd (none_out quiet e may)
   comes_out a rest o heap x found (ends cause) tasks k behind quiet called types waits waiting e may = absurd (none_out quiet e may)
 
--- The operation of a part of an object begins: what waits for it is behind the treatment of the object, and no other operation runs there, or one does that touches
--- storage, in which the object is freed.
+-- The operation of a part of an object begins: what waits for it is behind the treatment of the object, and no other operation runs there, or one does that
+-- touches storage, in which the object is freed or allocated; then no exception comes out of the body.
 module _ (program : Program) (number : ℕ) (b : BodyForm) (there : slice_get (body_forms program) number ≡ Some b) (plain : PlainBody (program_form program).types b) (caller : Activation Value) (rest : List (Activation Value)) (gs : List Suspension) (s : State) (stands : Stands program gs (record s { activations = caller ∷ rest })) (o : Id) (of : ℕ) (treatment : Treatment) (tasks : List Task) (k behind : Control) (reference : Value) where
   abbrev pub looking : Object → Sight
   looking x = record { program = seen_by number b (program_form program); object = o; access = x.cell.access }

@@ -53,23 +53,23 @@ ready_raising known o of (begins (Adjustment number) done) access tasks k behind
 ready_raising known o of (ends cause) access tasks k behind heap places operands ms e x found same live waits out r = absurd (cc out)
 
 -- Where an object is freed, it ends behind that; where it is allocated, what is left of it begins.
-freed_ends :
+inside_goes :
     (known : Known) (types : List TypeForm) (o : Id) (of : ℕ) (treatment : Treatment) (tasks : List Task) (k behind : Control) (heap : List Object)
     (places operands : List Value) (ms : List Master) → IsInside treatment
     → WaitsFor types o of treatment tasks k behind → TreatsBy known (Names o) treatment tasks k heap places operands ms → GoesOnBehind o behind
-freed_ends known types o of (begins Creation done) tasks k behind heap places operands ms freed (part, is) treats =
+inside_goes known types o of (begins Creation done) tasks k behind heap places operands ms freed (part, is) treats =
     inr (record { done = done; of = of; part = part; tasks = tasks; rest = k; is = is })
-freed_ends known types o of (begins Copy done) tasks k behind heap places operands ms freed waits treats = absurd freed
-freed_ends known types o of (begins (Adjustment number) done) tasks k behind heap places operands ms freed waits treats = absurd freed
-freed_ends known types o of (ends (Leaving m item)) tasks k behind heap places operands ms freed waits treats = absurd freed
-freed_ends known types o of (ends (Freeing number)) tasks k behind heap places operands ms freed (is, inside) treats = inl (by k is treats)
+inside_goes known types o of (begins Copy done) tasks k behind heap places operands ms freed waits treats = absurd freed
+inside_goes known types o of (begins (Adjustment number) done) tasks k behind heap places operands ms freed waits treats = absurd freed
+inside_goes known types o of (ends (Leaving m item)) tasks k behind heap places operands ms freed waits treats = absurd freed
+inside_goes known types o of (ends (Freeing number)) tasks k behind heap places operands ms freed (is, inside) treats = inl (by k is treats)
   where
     by : (k : Control) → behind ≡ Confines ∷ treating (Names o) (ends (Freeing number)) tasks k → EndsTo known (Names o) k heap places ms → EndsBehind o behind
     by [] is none = absurd none
     by (Ends w ∷ k) is (same, ending) = record { cause = Freeing number; tasks = tasks; rest = k; is = rw same at is }
     by (f ∷ k) is none = absurd none
-freed_ends known types o of (ends (Assigning number)) tasks k behind heap places operands ms freed waits treats = absurd freed
-freed_ends known types o of (ends (Undoing number)) tasks k behind heap places operands ms freed waits treats = absurd freed
+inside_goes known types o of (ends (Assigning number)) tasks k behind heap places operands ms freed waits treats = absurd freed
+inside_goes known types o of (ends (Undoing number)) tasks k behind heap places operands ms freed waits treats = absurd freed
 
 module _ (program : Program) (o : Id) (treatment : Treatment) (caller : Activation Value) (rest : List (Activation Value)) (behind : Control) (lower : List Master) where
   -- The types are those that the caller sees.
@@ -118,7 +118,7 @@ module _ (program : Program) (o : Id) (treatment : Treatment) (caller : Activati
 
     ends_next : IsInside treatment → GoesOnBehind o behind
     ends_next freed =
-        freed_ends (known_in program caller.procedure w.suspensions) (program_form program).types o w.of treatment w.tasks w.after behind s.heap
+        inside_goes (known_in program caller.procedure w.suspensions) (program_form program).types o w.of treatment w.tasks w.after behind s.heap
         caller.places caller.operands lower freed w.waits w.treats
 
     -- One that touches storage is around it then, if one was.
