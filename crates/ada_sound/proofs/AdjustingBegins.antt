@@ -17,8 +17,8 @@ use Rattle.ada_program.specs.declared.program.VariableKind.TheVariants as variab
 use Rattle.ada_program.specs.Form.{RightForm, nothing, value_of, allocates, allocates_default, computes, StmtForm, skips, assigns, assigns_record, frees, gets, writes, writes_text, chooses, repeats, counts, exits, calls, returns, raises, encloses, StmtsForm, no_stmts, a_stmt, BranchesForm, otherwise, a_branch, HandlersForm, no_handlers, a_handler, DeclarationForm, creates_pool, collects, declares, declares_record}
 use Rattle.ada_program.specs.ProgramForm.{TypeForm, VariableForm, BodyForm, ProgramForm, program_form, main_body, seen_in, seen_by}
 use Rattle.ada_program.specs.WellFormed.{access_of, is_access, selected_kind, variable_kind}
-use Rattle.ada_quiet.specs.Bare.{has_bare_objects, allocates_bare}
-use Rattle.ada_quiet.specs.Frugal.{Thrift, are_frugal_declarations, is_frugal_stmt, are_frugal, are_frugal_branches, are_frugal_handlers, is_frugal_body}
+use Rattle.ada_quiet.specs.Bare.{has_bare_objects}
+use Rattle.ada_quiet.specs.Frugal.{allocates_quietly, are_frugal_declarations}
 use Rattle.ada_quiet.specs.InUse.{may_be_frugal, may_track}
 use Rattle.ada_finalized.specs.Law.{NothingBegins}
 use Rattle.ada_flow.specs.declared.rule.Hold.TheVariants as hold
@@ -64,22 +64,22 @@ use Rattle.ada_sound.proofs.Operating.{IsCalm, WaitsFor, behind_operation}
 use Rattle.ada_sound.proofs.OperationStarts.{apart}
 use Rattle.ada_sound.proofs.Orderings.{as_good}
 use Rattle.ada_sound.proofs.Returns.{same_types}
-use Rattle.ada_sound.proofs.Marks.{simple_marks}
+use Rattle.ada_sound.proofs.Marks.{Marks, is_thrifty_stmt, are_thrifty, are_thrifty_branches, are_thrifty_handlers, is_thrifty_body, simple_marks}
 use Rattle.ada_sound.proofs.Stored.{stored_entered}
 use Rattle.ada_sound.proofs.Touching.{resting}
 use Rattle.ada_sound.proofs.TouchingBegins.{IsAlone}
 use Rattle.ada_sound.proofs.Waiting.{stands_kept}
 
 -- A body is frugal as it is judged, where it is.
-module _ (marks : Thrift) (tracks : Tracks) where
-  right_same : (right : RightForm) → allocates_bare marks.types (seen_right tracks right) ≡ allocates_bare marks.types right
+module _ (marks : Marks) (tracks : Tracks) where
+  right_same : (right : RightForm) → allocates_quietly marks.types marks.begun (seen_right tracks right) ≡ allocates_quietly marks.types marks.begun right
   right_same nothing = refl
   right_same (value_of path) = refl
   right_same (allocates access items) = refl
   right_same (allocates_default access) = refl
   right_same (computes e) = refl
 
-  declarations_same : (ds : List DeclarationForm) → are_frugal_declarations marks.types (seen_declarations tracks ds) ≡ are_frugal_declarations marks.types ds
+  declarations_same : (ds : List DeclarationForm) → are_frugal_declarations marks.types marks.begun (seen_declarations tracks ds) ≡ are_frugal_declarations marks.types marks.begun ds
   declarations_same [] = refl
   declarations_same (creates_pool p ∷ ds) = refl
   declarations_same (collects access ∷ ds) = refl
@@ -87,7 +87,7 @@ module _ (marks : Thrift) (tracks : Tracks) where
   declarations_same (declares_record x t initial ∷ ds) = refl
 
   mutual
-    stmt_same : (f : StmtForm) → is_frugal_stmt marks (seen_stmt tracks f) ≡ is_frugal_stmt marks f
+    stmt_same : (f : StmtForm) → is_thrifty_stmt marks (seen_stmt tracks f) ≡ is_thrifty_stmt marks f
     stmt_same skips = refl
     stmt_same (assigns target right) = right_same right
     stmt_same (assigns_record target items) = refl
@@ -104,21 +104,21 @@ module _ (marks : Thrift) (tracks : Tracks) where
     stmt_same (raises e) = refl
     stmt_same (encloses ds fs hs) = rw (declarations_same ds, stmts_same fs, handlers_same hs) refl
 
-    stmts_same : (fs : StmtsForm) → are_frugal marks (seen_stmts tracks fs) ≡ are_frugal marks fs
+    stmts_same : (fs : StmtsForm) → are_thrifty marks (seen_stmts tracks fs) ≡ are_thrifty marks fs
     stmts_same no_stmts = refl
     stmts_same (a_stmt f fs) = rw (stmt_same f, stmts_same fs) refl
 
-    branches_same : (branches : BranchesForm) → are_frugal_branches marks (seen_branches tracks branches) ≡ are_frugal_branches marks branches
+    branches_same : (branches : BranchesForm) → are_thrifty_branches marks (seen_branches tracks branches) ≡ are_thrifty_branches marks branches
     branches_same (otherwise fs) = stmts_same fs
     branches_same (a_branch e fs branches) = rw (stmts_same fs, branches_same branches) refl
 
-    handlers_same : (hs : HandlersForm) → are_frugal_handlers marks (seen_handlers tracks hs) ≡ are_frugal_handlers marks hs
+    handlers_same : (hs : HandlersForm) → are_thrifty_handlers marks (seen_handlers tracks hs) ≡ are_thrifty_handlers marks hs
     handlers_same no_handlers = refl
     handlers_same (a_handler choices fs hs) = rw (stmts_same fs, handlers_same hs) refl
 
-  pub frugal_as_judged : (b : BodyForm) → is_frugal_body marks b ≡ true
-      → (are_frugal_declarations marks.types (seen_declarations tracks b.declarations) ≡ true) × (are_frugal marks (seen_stmts tracks b.statements) ≡ true) × (are_frugal_handlers marks (seen_handlers tracks b.handlers) ≡ true)
-  frugal_as_judged b is =
+  pub thrifty_as_judged : (b : BodyForm) → is_thrifty_body marks b ≡ true
+      → (are_frugal_declarations marks.types marks.begun (seen_declarations tracks b.declarations) ≡ true) × (are_thrifty marks (seen_stmts tracks b.statements) ≡ true) × (are_thrifty_handlers marks (seen_handlers tracks b.handlers) ≡ true)
+  thrifty_as_judged b is =
       let three = apart _ _ is in
       let two = apart _ _ three.0 in
       (declarations_same b.declarations ∙ two.0, stmts_same b.statements ∙ two.1, handlers_same b.handlers ∙ three.1)
@@ -326,7 +326,7 @@ module _ (program : Program) (number : ℕ) (b : BodyForm) (there : slice_get (p
     referred_low q t (inr other) = absurd other
 
     -- The body begins.
-    pub adjusting_begins : IsOfCopy by → tracks_of p.types number b ≡ w.tracks → is_tracker p number ≡ true → BodyIsOrderly w.tracks b → hold_bare p.types (drop 1 b.variables) ≡ true → may_track p ≡ true → are_calmly_copied_in p x.cell.access ≡ false → may_be_frugal p ≡ true → is_frugal_body (simple_marks p.types) b ≡ true → FrameIsSimple w.tracks.first (Elaborates b.declarations b.statements b.handlers)
+    pub adjusting_begins : IsOfCopy by → tracks_of p.types number b ≡ w.tracks → is_tracker p number ≡ true → BodyIsOrderly w.tracks b → hold_bare p.types (drop 1 b.variables) ≡ true → may_track p ≡ true → are_calmly_copied_in p x.cell.access ≡ false → may_be_frugal p ≡ true → is_thrifty_body (simple_marks p.types) b ≡ true → FrameIsSimple w.tracks.first (Elaborates b.declarations b.statements b.handlers)
         → ((e : Exception) → body_among (implicit_of p) (known_judged program number w.tracks []).program e ≡ true → ⊥)
         → CallApart p.types (is_tracker p) (seen_state w begun).control → RunsAsJudged → BeginsAsJudged → TypedAsJudged
         → (e : Event) (of : ℕ) → Alters s.heap e heap → WaitsFor p.types o of (begins by done) tasks k behind → Stands program gs (record s { activations = a ∷ rest }) → IsCalm (behind_call behind) → under_in (callers_of program gs) ≡ []
@@ -380,7 +380,7 @@ module _ (program : Program) (number : ℕ) (b : BodyForm) (there : slice_get (p
             upper = record { number = s.next; items = [] } ∷ [];
             masters = refl;
             own = (tt, tt);
-            frugal = inl (frugal_as_judged (simple_marks p.types) w.tracks b frugal, inl ((refl, refl), refl, refl));
+            frugal = inl (thrifty_as_judged (simple_marks p.types) w.tracks b frugal, inl ((refl, refl), refl, refl));
           };
           waits = record {
             parted = at.parted;

@@ -15,7 +15,7 @@ use Rattle.ada_meaning.specs.Frame as frame
 use Rattle.ada_meaning.specs.Frame.{Frame, Calls, Does, Elaborates, Follows, Leaves, Returns, is_master, is_return, landing}
 use Rattle.ada_meaning.specs.State.{Activation, Master}
 use Rattle.ada_meaning.specs.Step.{halts, moves, tells, asks, picks, older, procedure_of, pass_next, with_operands, with_places}
-use Rattle.ada_meaning.specs.Named.{State, Next, named, next}
+use Rattle.ada_meaning.specs.Named.{Object, State, Next, named, next}
 use Rattle.ada_finalized.specs.Law.{NothingBegins}
 use Rattle.ada_tracked.specs.Frames.{View, blanked, number_in, seen_control, standing, standing_activations, stored_as, cleared_as, tracked_values}
 use Rattle.ada_tracked.specs.Law.{InnermostHousesNone, NextIsSimple}
@@ -24,9 +24,8 @@ use Rattle.ada_tracked.specs.Simple.{FrameIsSimple}
 use Rattle.ada_tracked.specs.Staying.{BodyIsSimple, IsWithinBody, StaysSimple, at_once, behind_treatment}
 use Rattle.ada_typed.proofs.Kept.{behind_call, crosses as crosses_by, Behind, Each, is_treatment, Keeps}
 use Rattle.ada_typed.proofs.KeptSteps.{pass_keeps, step_keeps}
-use Rattle.ada_sound.proofs.Marks.{Marks, marks_of}
-use Rattle.ada_sound.proofs.Marks.{simple_marks}
-use Rattle.ada_sound.proofs.FrugalControl.{Frugal, FrugalLeads, FrugalLeaves, is_return_first}
+use Rattle.ada_sound.proofs.Marks.{Marks, simple_marks}
+use Rattle.ada_sound.proofs.FrugalControl.{Frugal, FrugalBegins, FrugalLeads, FrugalLeaves, is_return_first}
 use Rattle.ada_sound.proofs.FrugalSteps.{is_call_first, treats_none}
 use Rattle.ada_sound.proofs.Invariant.{Control}
 use Rattle.ada_sound.proofs.Steps as inside
@@ -49,9 +48,17 @@ leaves_on types behind [] ms q = refl
 leaves_on types behind (Leaves left ∷ k) ms q = refl
 leaves_on types behind (f ∷ k) ms q = absurd q
 
-pub frugal_alone : (types : List TypeForm) (behind : Control) (mode : Mode) (k : Control) (ms : List Master) → Frugal (simple_marks types) behind mode k ms → calls_or_copies k ≡ false
-frugal_alone types behind mode k ms (inl q) = leads_on types behind k ms q
-frugal_alone types behind mode k ms (inr (runs, q)) = leaves_on types behind k ms q
+-- Nor is it where a new object begins first.
+begins_on : (types : List TypeForm) (behind : Control) (heap : List Object) (k : Control) (ms : List Master) → FrugalBegins (simple_marks types) behind heap k ms → calls_or_copies k ≡ false
+begins_on types behind heap [] ms q = refl
+begins_on types behind heap (frame.Treats v (frame.begins by done) tasks ∷ k) ms q = refl
+begins_on types behind heap (frame.Awaits v by done of part tasks ∷ k) ms q = refl
+begins_on types behind heap (f ∷ k) ms q = absurd q
+
+pub frugal_alone : (types : List TypeForm) (behind : Control) (heap : List Object) (mode : Mode) (k : Control) (ms : List Master) → Frugal (simple_marks types) behind heap mode k ms → calls_or_copies k ≡ false
+frugal_alone types behind heap mode k ms (inl q) = leads_on types behind k ms q
+frugal_alone types behind heap mode k ms (inr (runs, inl q)) = leaves_on types behind k ms q
+frugal_alone types behind heap mode k ms (inr (runs, inr q)) = begins_on types behind heap k ms q
 
 -- A state with these parts.
 abbrev with_parts : Mode → Control → State → State
@@ -275,10 +282,10 @@ module _ (types : List TypeDefinition) (bodies : List BodyForm) (w : View) where
   no_treatment (freeing access) c k l v treatment tasks e = absurd (cc e)
 
   -- So none is, where the other one is frugal, and frees no objects with controlled parts.
-  treated_not : (marks : Marks) → marks.ends_parts ≡ false → (back : Control) (s t : State) (ms : List Master) (v : Value) (treatment : frame.Treatment) (tasks : List Task) (k : Control) → Seen types bodies w s t → Frugal marks back t.mode t.control ms → s.control ≡ frame.Treats v treatment tasks ∷ k → ⊥
+  treated_not : (marks : Marks) → marks.ends_parts ≡ false → (back : Control) (s t : State) (ms : List Master) (v : Value) (treatment : frame.Treatment) (tasks : List Task) (k : Control) → Seen types bodies w s t → Frugal marks back t.heap t.mode t.control ms → s.control ≡ frame.Treats v treatment tasks ∷ k → ⊥
   treated_not marks none_parts back s t ms v treatment tasks k (plainly others is) frugal e =
       let control : t.control ≡ frame.Treats v treatment tasks ∷ seen_control w k = rw (is, e) refl in
-      treats_none marks none_parts back t.mode t.control ms frugal v treatment tasks (seen_control w k) control
+      treats_none marks none_parts back t.heap t.mode t.control ms frugal v treatment tasks (seen_control w k) control
   treated_not marks none_parts back s t ms v treatment tasks k (following c cs j running_is control_is others l vs is goes_on) frugal e = absurd (cc (control_is, e))
   treated_not marks none_parts back s t ms v treatment tasks k (elsewhere waiting c j vs running_is control_is operands_are others none is) frugal e =
       no_treatment waiting c j k v treatment tasks (sym control_is ∙ e)
@@ -286,7 +293,7 @@ module _ (types : List TypeDefinition) (bodies : List BodyForm) (w : View) where
       no_treatment waiting c (Does fs ∷ j) k v treatment tasks (sym control_is ∙ e)
 
   -- So what is left to do stays simple.
-  pub simple_still : (marks : Marks) → marks.ends_parts ≡ false → (back : Control) (s t : State) (ms : List Master) → Seen types bodies w s t → Frugal marks back t.mode t.control ms → StaysSimple w.tracks.first s.control → BodyIsSimple w.tracks.first s.control
+  pub simple_still : (marks : Marks) → marks.ends_parts ≡ false → (back : Control) (s t : State) (ms : List Master) → Seen types bodies w s t → Frugal marks back t.heap t.mode t.control ms → StaysSimple w.tracks.first s.control → BodyIsSimple w.tracks.first s.control
   simple_still marks none_parts back s t ms seen frugal (at_once simple) = simple
   simple_still marks none_parts back s t ms seen frugal (behind_treatment v treatment tasks k is simple) = absurd (treated_not marks none_parts back s t ms v treatment tasks k seen frugal is)
 

@@ -32,7 +32,6 @@ use Rattle.ada_program.specs.declared.program.Program.{Program}
 use Rattle.ada_program.specs.declared.program.VariableKind.TheVariants as variable_kinds
 use Rattle.ada_quiet.specs.Apart.{body_calls_apart, is_tracker}
 use Rattle.ada_quiet.specs.Bare.{has_bare_objects}
-use Rattle.ada_quiet.specs.Frugal.{is_frugal_body, thrift_of}
 use Rattle.ada_quiet.specs.InUse.{may_be_frugal, adjusts_alone, count_found, has_one_part}
 use Rattle.ada_quiet.specs.Simple.{is_simple_body}
 use Rattle.ada_quiet.specs.Calm.{are_calmly_copied_in, calmly_copied_types, has_calm_objects}
@@ -49,7 +48,6 @@ use Rattle.ada_sound.proofs.CallsApart.{CallApart}
 use Rattle.ada_sound.proofs.ConfinedBodies.{confined_body, reaches_record}
 use Rattle.ada_sound.proofs.CopiedOwners.{BeginsCopy, CopyLeft, hiding, owners_left}
 use Rattle.ada_sound.proofs.Fits.{IsWithin}
-use Rattle.ada_sound.proofs.FrugalBodies.{calling_none}
 use Rattle.ada_sound.proofs.Invariant.{Control, CoveredIn, under_in}
 use Rattle.ada_sound.proofs.Judged.{judged_in}
 use Rattle.ada_sound.proofs.JudgedApart.{judged_apart}
@@ -57,6 +55,7 @@ use Rattle.ada_sound.proofs.JudgedForms.{judged_covers, orderly_seen, orderly_si
 use Rattle.ada_sound.proofs.JudgedKinds.{tracks_components}
 use Rattle.ada_sound.proofs.JudgedRuns.{judged_runs, keeps_tracking}
 use Rattle.ada_sound.proofs.JudgedTyped.{typed_begins}
+use Rattle.ada_sound.proofs.Marks.{is_thrifty_body, simple_marks}
 use Rattle.ada_sound.proofs.OnlyParts.{passed_at}
 use Rattle.ada_sound.proofs.Operating.{IsCalm, WaitsFor}
 use Rattle.ada_sound.proofs.OperationBegins.{formal_holds, formal_within}
@@ -64,7 +63,7 @@ use Rattle.ada_sound.proofs.OrderlyBodies.{lone_body, orderly_body}
 use Rattle.ada_sound.proofs.PartsApart.{PartWithin, alone_left}
 use Rattle.ada_sound.proofs.QuietOperations.{MayTrack}
 use Rattle.ada_sound.proofs.Returns.{same_types}
-use Rattle.ada_sound.proofs.SimpleBodies.{simple_frugal, simple_with}
+use Rattle.ada_sound.proofs.SimpleBodies.{simple_thrifty, simple_with}
 use Rattle.ada_sound.proofs.SimpleEffects.{simple_silent}
 use Rattle.ada_sound.proofs.Starts.{Obeys}
 use Rattle.ada_sound.proofs.Touching.{resting}
@@ -180,8 +179,8 @@ module _
     simple_so : is_simple_body p.types true c.b ≡ true
     simple_so = simple_with p.types (adjusts_alone p) c.b tracks.1
 
-    frugal : is_frugal_body (thrift_of p) c.b ≡ true
-    frugal = simple_frugal (thrift_of p) c.b simple_so
+    thrifty : is_thrifty_body (simple_marks p.types) c.b ≡ true
+    thrifty = simple_thrifty (simple_marks p.types) c.b simple_so
 
     -- What the waiting activation sees, and the body.
     known_types : (known_in program a.procedure gs).program.types ≡ p.types
@@ -272,7 +271,7 @@ module _
     frees_bare : (t : ℕ) → CoveredIn (implicit_of p) (judged_in w.tracks own) t → has_bare_objects (known_in program a.procedure gs).program.types t ≡ true
     frees_bare t covered =
         subst (λ (types : List TypeForm). has_bare_objects types t ≡ true) (sym known_types)
-        (frugal_frees_bare program well c.number c.b c.there frugal t (judged_covers own w.tracks own_components own_orderly (implicit_of p) t covered))
+        (frugal_frees_bare program well c.number c.b c.there thrifty t (judged_covers own w.tracks own_components own_orderly (implicit_of p) t covered))
 
     -- What is left to do calls nothing that tracks.
     calls_apart : CallApart p.types (is_tracker p) k → CallApart p.types (is_tracker p) (seen_state w begun).control
@@ -327,7 +326,7 @@ module _
         let kept = keeps_tracking program c.number w.tracks in
         let waiting = resting a.procedure a.places (begins c.by c.done) o x.cell.access [] place behind s.masters kept at.works.rooms at.works.holds in
         adjusting_begins program c.number c.b c.there w lone components a rest gs s k o aside heap place refl within c.by c.done behind kept may_free r c.tasks at
-        frees_no_more frees_bare (of_copy c.by c.copies) refl tracker orderly none_other tracks.0 sees_to may (simple_frugal (calling_none p.types) c.b simple_so) simple
+        frees_no_more frees_bare (of_copy c.by c.copies) refl tracker orderly none_other tracks.0 sees_to may thrifty simple
         (simple_silent program well c.number c.b c.there simple_so tracks.2 w.tracks components orderly)
         (calls_apart behind_apart)
         (λ spares. judged_runs program c.number c.b w.tracks waiting gs well obeys.1 c.there refl components orderly spares refl)

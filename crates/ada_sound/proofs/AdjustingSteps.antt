@@ -99,7 +99,7 @@ module _ (program : Program) (s : State) (f : Adjusting program s) where
 
   own_masters : (left : Mode) (k : Control) → f.t.control ≡ Leaves left ∷ k → AreVariables (innermost f.t.masters)
   own_masters left k at =
-      let owned = leaves_own (simple_marks (program_form program).types) f.behind f.t.mode left k f.frugal.upper f.lower (rw at at f.frugal.frugal) f.frugal.own in
+      let owned = leaves_own (simple_marks (program_form program).types) f.behind f.t.heap f.t.mode left k f.frugal.upper f.lower (rw at at f.frugal.frugal) f.frugal.own in
       subst (λ (ms : List Master). AreVariables (innermost ms)) (sym f.frugal.masters) owned
 
   -- Where the real state leaves one, the other one does.
@@ -141,10 +141,10 @@ module _
   firsts = seen_within tds bodies f.w s f.t f.seen f.simple inner some_waits
 
   none_crosses : inside.crosses f.t.mode f.t.control ≡ false
-  none_crosses = frugal_crosses (simple_marks p.types) refl f.behind f.t.mode f.t.control f.frugal.upper f.frugal.frugal firsts.0 (λ runs. firsts.1)
+  none_crosses = frugal_crosses (simple_marks p.types) refl f.behind f.t.heap f.t.mode f.t.control f.frugal.upper f.frugal.frugal firsts.0 (λ runs. firsts.1)
 
   alone_there : calls_or_copies f.t.control ≡ false
-  alone_there = frugal_alone p.types f.behind f.t.mode f.t.control f.frugal.upper f.frugal.frugal
+  alone_there = frugal_alone p.types f.behind f.t.heap f.t.mode f.t.control f.frugal.upper f.frugal.frugal
 
   abbrev bare_types : ℕ → Bool
   bare_types access = has_bare_objects p.types access
@@ -159,13 +159,13 @@ module _
   finalizes : FinalizesIn bare_types known.program.types tds bodies f.t.mode f.t.control f.t
   finalizes = by f.t.mode f.t.control f.frugal.upper f.frugal.frugal
     where
-      by_frame : (g : Frame Value) (k : Control) (mode : Mode) (ms : List Master) → Frugal (simple_marks p.types) f.behind mode (g ∷ k) ms → FinalizesBy bare_types known.program.types tds bodies g (record f.t { mode = Running; control = k })
+      by_frame : (g : Frame Value) (k : Control) (mode : Mode) (ms : List Master) → Frugal (simple_marks p.types) f.behind f.t.heap mode (g ∷ k) ms → FinalizesBy bare_types known.program.types tds bodies g (record f.t { mode = Running; control = k })
       by_frame (frame.Does fs) k mode ms q = alive
       by_frame (frame.FreesIn access c) k mode ms q = alive
-      by_frame (frame.Treats v treatment tasks) k mode ms q = absurd (treats_none (simple_marks p.types) refl f.behind mode (frame.Treats v treatment tasks ∷ k) ms q v treatment tasks k refl)
+      by_frame (frame.Treats v treatment tasks) k mode ms q = absurd (treats_none (simple_marks p.types) refl f.behind f.t.heap mode (frame.Treats v treatment tasks ∷ k) ms q v treatment tasks k refl)
       by_frame g k mode ms q = tt
 
-      by : (mode : Mode) (k : Control) (ms : List Master) → Frugal (simple_marks p.types) f.behind mode k ms → FinalizesIn bare_types known.program.types tds bodies mode k f.t
+      by : (mode : Mode) (k : Control) (ms : List Master) → Frugal (simple_marks p.types) f.behind f.t.heap mode k ms → FinalizesIn bare_types known.program.types tds bodies mode k f.t
       by Running [] ms q = tt
       by Running (g ∷ k) ms q = by_frame g k Running ms q
       by (Raising e) k ms q = tt
@@ -190,7 +190,7 @@ module _
 
   -- What is freed next is bare.
   freely : FreesAmong bare_types f.t.control
-  freely = frees_bare (simple_marks p.types) refl f.behind f.t.mode f.t.control f.frugal.upper f.frugal.frugal
+  freely = frees_bare (simple_marks p.types) refl f.behind f.t.heap f.t.mode f.t.control f.frugal.upper f.frugal.frugal
 
   none_is_under : NoneIsUnder bare_types (outers known).under f.t.heap
   none_is_under o x under found = let none : IsUnder [] o = subst (λ (all : List Id). IsUnder all o) f.settled under in absurd none
@@ -215,12 +215,12 @@ module _
 
   frugal_on : GoesFrugally (simple_marks p.types) f.lower f.behind (next tds bodies f.t)
   frugal_on =
-      frugal_steps known.program judged.owns tds bodies (simple_marks p.types) (bare_by program) (records_bare_by program) (λ number b there told. absurd (cc told)) f.behind f.lower f.t f.frugal
-      (λ actuals references k is. absurd (let first = firsts.0 in cc (rw is at first))) (λ runs. treats_none (simple_marks p.types) refl f.behind f.t.mode f.t.control f.frugal.upper f.frugal.frugal) f.typed
-      bare_types (λ runs. freely) (λ o x found listed among never. absurd (cc never))
+      frugal_steps known.program judged.owns tds bodies (simple_marks p.types) (bare_by program) (λ none. refl) (records_bare_by program) (λ number b there told. absurd (cc told)) f.behind f.lower f.t f.frugal
+      (λ actuals references k is. absurd (let first = firsts.0 in cc (rw is at first))) (λ runs. treats_none (simple_marks p.types) refl f.behind f.t.heap f.t.mode f.t.control f.frugal.upper f.frugal.frugal) f.typed
+      bare_types (λ runs. freely) (λ ends_parts first. absurd (cc ends_parts)) (λ ends_parts. absurd (cc ends_parts))
 
   typed_on : Each (typed.TypedIn known.program) (next tds bodies f.t)
-  typed_on = judged.stays f.t f.typed alone_there none_crosses (none_ends (simple_marks p.types) refl f.behind f.t.mode f.t.control f.frugal.upper f.frugal.frugal)
+  typed_on = judged.stays f.t f.typed alone_there none_crosses (none_ends (simple_marks p.types) refl f.behind f.t.heap f.t.mode f.t.control f.frugal.upper f.frugal.frugal)
 
   -- And the real one takes a step to which it does.
   real_on : Each (SameRun s) (next tds bodies s)

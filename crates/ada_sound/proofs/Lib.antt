@@ -322,6 +322,10 @@ pub mod InOrder
 pub mod Operated
 -- what is behind its object, where it is called
 pub mod TouchingRests
+-- plain bodies follow nothing, and free nothing
+pub mod QuietDeeds
+-- what begins quietly
+pub mod BegunQuietly
 -- bodies that shun access types: frugal ones have their shape
 pub mod Shunning
 -- and that of a Finalize shuns what the end of its object does not reach

@@ -135,9 +135,9 @@ module _ (p : ProgramForm) where
   abbrev pub IsNotQuiet : ℕ → Type 0
   IsNotQuiet number = is_quiet_procedure p.types (slice_get p.bodies number) ≡ false
 
-  -- A procedure is frugal, where that may be, and its body may free objects with controlled parts or not.
-  abbrev pub IsFrugal : (ends_parts : Bool) → ℕ → Type 0
-  IsFrugal ends_parts number = (may_be_frugal p ≡ true) × (slice_index_or (frugal_procedures p) number false ≡ true)
+  -- A procedure is frugal, where that may be.
+  abbrev pub IsFrugal : ℕ → Type 0
+  IsFrugal number = (may_be_frugal p ≡ true) × (slice_index_or (frugal_procedures p) number false ≡ true)
 
   abbrev pub IsSilent : ℕ → Type 0
   IsSilent number = is_silent_procedure (own_effects p) (slice_get p.bodies number) ≡ true
@@ -168,9 +168,9 @@ module _ (p : ProgramForm) where
   not_quiet None number other is = absurd (cc is)
   not_quiet (Some procedure) number other is = let same : procedure.0 ≡ number = cc is in rw same at other
 
-  frugal_one : (ends_parts : Bool) (o : Option ProcedureNo) (number : ℕ) → is_frugal_operation p o ≡ true → procedure_number o ≡ Some number → slice_index_or (frugal_procedures p) number false ≡ true
-  frugal_one ends_parts None number frugal is = absurd (cc is)
-  frugal_one ends_parts (Some procedure) number frugal is = let same : procedure.0 ≡ number = cc is in rw same at frugal
+  frugal_one : (o : Option ProcedureNo) (number : ℕ) → is_frugal_operation p o ≡ true → procedure_number o ≡ Some number → slice_index_or (frugal_procedures p) number false ≡ true
+  frugal_one None number frugal is = absurd (cc is)
+  frugal_one (Some procedure) number frugal is = let same : procedure.0 ≡ number = cc is in rw same at frugal
 
   silent_one : (o : Option ProcedureNo) (number : ℕ) → is_silent_operation p o ≡ true → procedure_number o ≡ Some number → IsSilent number
   silent_one None number silent is = absurd (cc is)
@@ -185,7 +185,7 @@ module _ (p : ProgramForm) where
       by false quiet uses' =
           let three = apart (may_be_frugal p && is_frugal_operation p o) (is_silent_operation p o) uses' in
           let both = apart (may_be_frugal p) (is_frugal_operation p o) three.0 in
-          inr ((both.0, frugal_one true o number both.1 is), silent_one o number three.1 is, not_quiet o number quiet is)
+          inr ((both.0, frugal_one o number both.1 is), silent_one o number three.1 is, not_quiet o number quiet is)
 
   simple_one :
       (o : Option ProcedureNo) (number : ℕ) → is_simple_operation p (adjusts_alone p) o ≡ true → procedure_number o ≡ Some number
@@ -214,7 +214,7 @@ module _ (p : ProgramForm) where
     where
       by : (plain : Bool) → is_plain_operation p o ≡ plain → (plain || (may_be_frugal p && is_frugal_operation p o)) ≡ true → IsPlain number ⊎ (IsFrugal number × IsNotPlain number)
       by true plain uses' = inl (plain_one o number plain is)
-      by false plain uses' = let both = apart (may_be_frugal p) (is_frugal_operation p o) uses' in inr ((both.0, frugal_one false o number both.1 is), not_plain o number plain is)
+      by false plain uses' = let both = apart (may_be_frugal p) (is_frugal_operation p o) uses' in inr ((both.0, frugal_one o number both.1 is), not_plain o number plain is)
 
   three_used : (Owns : Type 0) (owns : Bool) (f : Option Finalization) (number : ℕ) → (owns ≡ true → is_adjust_of number f ≡ true → Owns) → uses_operations p owns f ≡ true → AreUsed Owns (operations_in f) number
   three_used Owns owns None number own uses = record { initializes = λ is. absurd (cc is); adjusts = λ copies is. absurd (cc is); finalizes = λ is. absurd (cc is) }
@@ -312,7 +312,7 @@ module _ (p : ProgramForm) where
     where
       by : IsPlain procedure.0 ⊎ (IsFrugal procedure.0 × IsNotPlain procedure.0) → NestsAnywhere (callees_of p) (Some procedure)
       by (inl plain) = plain_nests t (Some procedure) right plain
-      by (inr both) = frugal_nests p false procedure.0 both.0.1
+      by (inr both) = frugal_nests p procedure.0 both.0.1
 
   finalize_nests : (t : ℕ) (o : Option ProcedureNo) → overrides_rightly p.types (callable_in p) t o ≡ true → uses_finalize p o ≡ true → NestsAnywhere (callees_of p) o
   finalize_nests t None right uses = tt
@@ -320,7 +320,7 @@ module _ (p : ProgramForm) where
     where
       by : IsQuiet procedure.0 ⊎ (IsFrugal procedure.0 × IsSilent procedure.0 × IsNotQuiet procedure.0) → NestsAnywhere (callees_of p) (Some procedure)
       by (inl quiet) = plain_nests t (Some procedure) right (plain_operation p (Some procedure) quiet)
-      by (inr both) = frugal_nests p true procedure.0 both.0.1
+      by (inr both) = frugal_nests p procedure.0 both.0.1
 
   adjust_nests : (t : ℕ) (owns : Bool) (o : Option ProcedureNo) → overrides_rightly p.types (callable_in p) t o ≡ true → uses_adjust p owns o ≡ true → NestsAnywhere (callees_of p) o
   adjust_nests t owns None right uses = tt
@@ -331,7 +331,7 @@ module _ (p : ProgramForm) where
       by (inr both) = let b = there_one t (Some procedure) procedure.0 right refl in nests_there procedure.0 b.0 b.1 (λ callees around. simple_nests p.types callees b.0 around (simple_with p.types (adjusts_alone p) b.0 (rw (b.1) at both.0.1)))
 
       either : ((adjusts_nothing p && is_frugal_operation p (Some procedure)) ≡ true) ⊎ (uses_called_adjust p owns (Some procedure) ≡ true) → NestsAnywhere (callees_of p) (Some procedure)
-      either (inl nothing) = frugal_nests p true procedure.0 (apart (adjusts_nothing p) (is_frugal_operation p (Some procedure)) nothing).1
+      either (inl nothing) = frugal_nests p procedure.0 (apart (adjusts_nothing p) (is_frugal_operation p (Some procedure)) nothing).1
       either (inr called) = by (adjust_one owns (Some procedure) procedure.0 called refl)
 
   nests_three : (t : ℕ) (owns : Bool) (f : Option Finalization) → has_operations p.types (callable_in p) t f ≡ true → uses_operations p owns f ≡ true → AllNestAnywhere (callees_of p) (operations_in f)
@@ -451,13 +451,13 @@ module _ (program : Program) (uses : operations_may_be_called (program_form prog
   silent_body : IsSilent whole number → body_raises (own_effects whole) b (λ e. true) ≡ false
   silent_body silent = not-true (body_raises (own_effects whole) b (λ e. true)) (rw there at silent)
 
-  finalizes_as : (cause : Cause) → IsQuiet whole number ⊎ (IsFrugal whole true number × IsSilent whole number × IsNotQuiet whole number) → IsUsedAs whole of number (ends cause) b
+  finalizes_as : (cause : Cause) → IsQuiet whole number ⊎ (IsFrugal whole number × IsSilent whole number × IsNotQuiet whole number) → IsUsedAs whole of number (ends cause) b
   finalizes_as cause (inl quiet) = inl (quiet_body quiet)
-  finalizes_as cause (inr both) = inr (inl (tt, both.0.0, frugal_at whole true number b both.0.1 there, silent_body both.1, rw there at both.2))
+  finalizes_as cause (inr both) = inr (inl (tt, both.0.0, frugal_at whole number b both.0.1 there, silent_body both.1, rw there at both.2))
 
-  initializes_as : (done : List parts.Part) → IsPlain whole number ⊎ (IsFrugal whole false number × IsNotPlain whole number) → IsUsedAs whole of number (begins Creation done) b
+  initializes_as : (done : List parts.Part) → IsPlain whole number ⊎ (IsFrugal whole number × IsNotPlain whole number) → IsUsedAs whole of number (begins Creation done) b
   initializes_as done (inl plain) = inl (plain_body plain, tt)
-  initializes_as done (inr both) = inr (inl (tt, both.0.0, frugal_at whole false number b both.0.1 there, tt, rw there at both.1))
+  initializes_as done (inr both) = inr (inl (tt, both.0.0, frugal_at whole number b both.0.1 there, tt, rw there at both.1))
 
   adjusts_as : (treatment : Treatment) → AdjustsCopy treatment → (body_raises no_calls b (λ e. true) ≡ false → LetsNothingOut treatment b)
       → IsQuiet whole number ⊎ (IsSimple whole number × IsSilent whole number × AdjustsOwn whole.types of number) → IsUsedAs whole of number treatment b

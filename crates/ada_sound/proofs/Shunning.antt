@@ -4,20 +4,21 @@
 use Rattle.std.proofs.Common.{◌≡◌, ℕ, Bool, true, false, not, ◌==◌, ◌&&◌, ◌||◌, List, [], ◌∷◌, length, Option, Some, None, refl}
 use Rattle.std.specs.Prelude.{nat_lt, is_some}
 use Rattle.std.specs.List.{list_all, slice_index_or}
-use Rattle.std.proofs.lemmas.Bool.{and_from, and_parts, or_parts}
+use Rattle.std.proofs.lemmas.Bool.{and_from, and_parts, or_parts, or_right}
 use Rattle.ada_program.specs.declared.program.VariableKind.{VariableKind}
 use Rattle.ada_program.specs.declared.program.VariableKind.TheVariants as variable
 use Rattle.ada_program.specs.Form.{PathForm, RecordPathForm, ActualForm, in_value, in_null, in_access, in_record, in_out_path, in_out_access, in_out_component, in_out_record, ExpressionForm, integer, boolean, reads, is_null, applied_to, chained, LinksForm, no_more_links, a_link, ItemForm, null_item, item_of_path, item_of_value, item_of_record, RightForm, nothing, value_of, allocates, allocates_default, computes, DeclarationForm, creates_pool, collects, declares, declares_record, StmtForm, skips, assigns, assigns_record, frees, gets, writes, writes_text, chooses, repeats, counts, exits, calls, returns, raises, encloses, StmtsForm, no_stmts, a_stmt, BranchesForm, otherwise, a_branch, HandlersForm, no_handlers, a_handler}
 use Rattle.ada_program.specs.ProgramForm.{TypeForm, VariableForm, BodyForm, ProgramForm}
 use Rattle.ada_program.specs.WellFormed.{designated_type, finalization_of, is_access, path_kind, selected_kind, type_fits, value_access, variable_fits, variable_kind}
-use Rattle.ada_quiet.specs.Bare.{allocates_bare, has_bare_objects}
-use Rattle.ada_quiet.specs.Frugal.{thrift_of, frugal_procedures, is_frugal_declaration, are_frugal_declarations, is_frugal_stmt, are_frugal, are_frugal_branches, are_frugal_handlers, is_frugal_body}
+use Rattle.ada_quiet.specs.Bare.{has_bare_objects}
+use Rattle.ada_quiet.specs.Calm.{has_calm_objects, quietly_begun_types}
+use Rattle.ada_quiet.specs.Frugal.{allocates_quietly, thrift_of, frugal_procedures, is_frugal_declaration, are_frugal_declarations, is_frugal_stmt, are_frugal, are_frugal_branches, are_frugal_handlers, is_frugal_body}
 use Rattle.ada_deeds.specs.declared.deed.Callee.{Callee}
 use Rattle.ada_deeds.specs.declared.deed.Callee.TheVariants as callee
 use Rattle.ada_deeds.specs.declared.deed.Deed.{Deed}
 use Rattle.ada_deeds.specs.declared.deed.Deed.TheVariants as deed
-use Rattle.ada_deeds.specs.declared.deed.Operation.TheVariants.{Finalize}
-use Rattle.ada_deeds.specs.Forms.{path_does, expression_does, condition_does, actuals_do, freeing_does, is_left, procedure_does, parts_do, designated_by, declarations_do, leaving_does, stmt_does, stmts_do, branches_do, handlers_do, body_does}
+use Rattle.ada_deeds.specs.declared.deed.Operation.TheVariants.{Initialize, Finalize}
+use Rattle.ada_deeds.specs.Forms.{path_does, expression_does, condition_does, actuals_do, freeing_does, is_left, procedure_does, parts_do, designated_by, allocation_does, right_does, declaration_does, declarations_do, leaving_does, stmt_does, stmts_do, branches_do, handlers_do, body_does}
 use Rattle.ada_deeds.specs.Within.{does_by}
 use Rattle.ada_deeds.proofs.Naming.{KindFits, path_fits_kind}
 use Rattle.ada_reaching.specs.Apart.{Apart}
@@ -99,31 +100,6 @@ module _ (types : List TypeForm) (apart : Apart) (variables : List VariableForm)
   actual_shaped (in_out_component path) = path_shaped path
   actual_shaped (in_out_record q) = record_path_shaped q
 
-  -- What is assigned has it, where no object with controlled parts is allocated (5.2, 4.8).
-  right_shaped : (right : RightForm) → allocates_bare types right ≡ true → right_shuns types (λ t. false) apart variables right ≡ true
-  right_shaped nothing is = refl
-  right_shaped (value_of path) is = path_shaped path
-  right_shaped (allocates access items) is =
-      and_from (has_bare_objects types access) (list_all (item_shuns types (λ t. false) apart variables) items) is
-      (all_so (item_shuns types (λ t. false) apart variables) item_shaped items)
-  right_shaped (allocates_default access) is = is
-  right_shaped (computes e) is = expression_shaped e
-
-  -- A declaration of a variable has it (3.3.1),
-  declaration_shaped : (d : DeclarationForm) → is_frugal_declaration types d ≡ true → declaration_shuns types (λ t. false) apart variables d ≡ true
-  declaration_shaped (creates_pool pool) is = absurd (cc is)
-  declaration_shaped (collects access) is = absurd (cc is)
-  declaration_shaped (declares x right) is = right_shaped right is
-  declaration_shaped (declares_record x object initial) is = absurd (cc is)
-
-  -- and so have declarations of variables alone.
-  declarations_shaped : (ds : List DeclarationForm) → are_frugal_declarations types ds ≡ true → declarations_shun types (λ t. false) apart variables ds ≡ true
-  declarations_shaped [] is = refl
-  declarations_shaped (d ∷ ds) is =
-      let both = and_parts (is_frugal_declaration types d) (are_frugal_declarations types ds) is in
-      and_from (declaration_shuns types (λ t. false) apart variables d) (declarations_shun types (λ t. false) apart variables ds) (declaration_shaped d both.0)
-      (declarations_shaped ds both.1)
-
 -- What procedures do.
 
 -- A value of an access type is freed (13.11.2),
@@ -176,9 +152,15 @@ module _ (p : ProgramForm) (u : ℕ) where
       (access : ℕ) → is_access p.types access ≡ true → Spares p u (λ d. parts_do (does_by p d) Finalize (designated_type p.types access))
       → apart.ends access ≡ true
 
+  -- So may those be allocated by default that begin quietly (4.8, 7.6).
+  abbrev pub StartsSpared : Apart → Type 0
+  StartsSpared apart =
+      (access : ℕ) → has_calm_objects p.types (quietly_begun_types p) access ≡ true
+      → Spares p u (λ d. parts_do (does_by p d) Finalize (designated_type p.types access)) → apart.starts access ≡ true
+
   -- So it is with those that a body of a well-formed program goes by.
   module _
-      (apart : Apart) (marked : CallsFrugal apart) (ended : EndsSpared apart) (types_fit : list_all (type_fits p.types) p.types ≡ true)
+      (apart : Apart) (marked : CallsFrugal apart) (ended : EndsSpared apart) (started : StartsSpared apart) (types_fit : list_all (type_fits p.types) p.types ≡ true)
       (variables : List VariableForm) (variables_fit : list_all (variable_fits p.types) variables ≡ true) where
     -- What a value names may be freed, where its end is no use.
     kind_ended :
@@ -189,6 +171,43 @@ module _ (p : ProgramForm) (u : ℕ) where
     kind_ended (Some variable.Boolean) fits spares = refl
     kind_ended (Some (variable.Access access)) fits spares = ended access.0 fits spares
     kind_ended (Some (variable.Record object)) fits spares = refl
+
+    -- What is assigned has the shape, where what is allocated begins quietly, and its end is no use (5.2, 4.8, 7.6).
+    right_shaped :
+        (right : RightForm) → allocates_quietly p.types (quietly_begun_types p) right ≡ true → Spares p u (λ d. right_does p.types variables (does_by p d) d right)
+        → right_shuns p.types (λ t. false) apart variables right ≡ true
+    right_shaped nothing is spares = refl
+    right_shaped (value_of path) is spares = path_shaped p.types apart variables path
+    right_shaped (allocates access items) is spares =
+        let test = item_shuns p.types (λ t. false) apart variables in
+        and_from (has_bare_objects p.types access) (list_all test items) is (all_so test (item_shaped p.types apart variables) items)
+    right_shaped (allocates_default access) is spares =
+        let begun = λ (d : Deed). parts_do (does_by p d) Initialize (designated_type p.types access) in
+        let ended = λ (d : Deed). parts_do (does_by p d) Finalize (designated_type p.types access) in
+        or_right (has_bare_objects p.types access) (apart.starts access)
+        (started access is (second begun ended (second allocation_does (λ d. begun d || ended d) spares)))
+    right_shaped (computes e) is spares = expression_shaped p.types apart variables e
+
+    -- A declaration of a variable has it (3.3.1),
+    declaration_shaped :
+        (d : DeclarationForm) → is_frugal_declaration p.types (quietly_begun_types p) d ≡ true → Spares p u (λ e. declaration_does p.types variables (does_by p e) e d)
+        → declaration_shuns p.types (λ t. false) apart variables d ≡ true
+    declaration_shaped (creates_pool pool) is spares = absurd (cc is)
+    declaration_shaped (collects access) is spares = absurd (cc is)
+    declaration_shaped (declares x right) is spares = right_shaped right is spares
+    declaration_shaped (declares_record x object initial) is spares = absurd (cc is)
+
+    -- and so have declarations of variables alone.
+    declarations_shaped :
+        (ds : List DeclarationForm) → are_frugal_declarations p.types (quietly_begun_types p) ds ≡ true → Spares p u (λ e. declarations_do p.types variables (does_by p e) e ds)
+        → declarations_shun p.types (λ t. false) apart variables ds ≡ true
+    declarations_shaped [] is spares = refl
+    declarations_shaped (d ∷ ds) is spares =
+        let both = and_parts (is_frugal_declaration p.types (quietly_begun_types p) d) (are_frugal_declarations p.types (quietly_begun_types p) ds) is in
+        let one = λ (e : Deed). declaration_does p.types variables (does_by p e) e d in
+        let more = λ (e : Deed). declarations_do p.types variables (does_by p e) e ds in
+        and_from (declaration_shuns p.types (λ t. false) apart variables d) (declarations_shun p.types (λ t. false) apart variables ds)
+        (declaration_shaped d both.0 (first one more spares)) (declarations_shaped ds both.1 (second one more spares))
 
     -- A block, or a body: what it declares, its statements and its handlers.
     abbrev master_does : List DeclarationForm → StmtsForm → HandlersForm → Deed → Bool
@@ -209,11 +228,11 @@ module _ (p : ProgramForm) (u : ℕ) where
         → statements_shun p.types (λ t. false) apart variables fs ≡ true)
         → (are_frugal_handlers (thrift_of p) hs ≡ true → Spares p u (λ d. handlers_do p.types variables (does_by p d) d hs)
         → handlers_shun p.types (λ t. false) apart variables hs ≡ true)
-        → (are_frugal_declarations p.types ds && are_frugal (thrift_of p) fs && are_frugal_handlers (thrift_of p) hs) ≡ true
+        → (are_frugal_declarations p.types (quietly_begun_types p) ds && are_frugal (thrift_of p) fs && are_frugal_handlers (thrift_of p) hs) ≡ true
         → Spares p u (master_does ds fs hs) → master_shuns ds fs hs ≡ true
     master_shaped ds fs hs within behind frugal spares =
-        let parts = and_parts (are_frugal_declarations p.types ds && are_frugal (thrift_of p) fs) (are_frugal_handlers (thrift_of p) hs) frugal in
-        let inner = and_parts (are_frugal_declarations p.types ds) (are_frugal (thrift_of p) fs) parts.0 in
+        let parts = and_parts (are_frugal_declarations p.types (quietly_begun_types p) ds && are_frugal (thrift_of p) fs) (are_frugal_handlers (thrift_of p) hs) frugal in
+        let inner = and_parts (are_frugal_declarations p.types (quietly_begun_types p) ds) (are_frugal (thrift_of p) fs) parts.0 in
         let declared = λ (d : Deed). declarations_do p.types variables (does_by p d) d ds in
         let inside = λ (d : Deed). stmts_do p.types variables (does_by p d) d fs in
         let left = λ (d : Deed). is_left hs d && inside d in
@@ -224,7 +243,7 @@ module _ (p : ProgramForm) (u : ℕ) where
         and_from (declarations_shun p.types (λ t. false) apart variables ds && statements_shun p.types (λ t. false) apart variables fs)
         (handlers_shun p.types (λ t. false) apart variables hs)
         (and_from (declarations_shun p.types (λ t. false) apart variables ds) (statements_shun p.types (λ t. false) apart variables fs)
-        (declarations_shaped p.types apart variables ds inner.0) (within inner.1 (left_spares hs inside (second declared left two))))
+        (declarations_shaped ds inner.0 (first declared left two)) (within inner.1 (left_spares hs inside (second declared left two))))
         (behind parts.1 (second (λ d. declared d || left d) handled three))
 
     mutual
@@ -234,8 +253,10 @@ module _ (p : ProgramForm) (u : ℕ) where
           → statement_shuns p.types (λ t. false) apart variables f ≡ true
       statement_shaped skips frugal spares = refl
       statement_shaped (assigns target right) frugal spares =
+          let leads = λ (d : Deed). path_does p.types variables d target in
+          let gives = λ (d : Deed). right_does p.types variables (does_by p d) d right in
           and_from (path_shuns p.types (λ t. false) apart variables target) (right_shuns p.types (λ t. false) apart variables right)
-          (path_shaped p.types apart variables target) (right_shaped p.types apart variables right frugal)
+          (path_shaped p.types apart variables target) (right_shaped right frugal (second leads gives spares))
       statement_shaped (assigns_record target items) frugal spares =
           let leads = record_path_shuns p.types (λ t. false) apart variables target in
           let test = item_shuns p.types (λ t. false) apart variables in
@@ -321,10 +342,10 @@ module _ (p : ProgramForm) (u : ℕ) where
 
   -- So has a frugal body.
   pub body_shaped :
-      (apart : Apart) → CallsFrugal apart → EndsSpared apart → list_all (type_fits p.types) p.types ≡ true → (b : BodyForm)
+      (apart : Apart) → CallsFrugal apart → EndsSpared apart → StartsSpared apart → list_all (type_fits p.types) p.types ≡ true → (b : BodyForm)
       → list_all (variable_fits p.types) b.variables ≡ true → is_frugal_body (thrift_of p) b ≡ true
       → Spares p u (λ d. body_does p.types (does_by p d) d b) → body_shuns p.types (λ t. false) apart b ≡ true
-  body_shaped apart marked ended types_fit b variables_fit =
-      master_shaped apart marked ended types_fit b.variables variables_fit b.declarations b.statements b.handlers
-      (statements_shaped apart marked ended types_fit b.variables variables_fit b.statements)
-      (handlers_shaped apart marked ended types_fit b.variables variables_fit b.handlers)
+  body_shaped apart marked ended started types_fit b variables_fit =
+      master_shaped apart marked ended started types_fit b.variables variables_fit b.declarations b.statements b.handlers
+      (statements_shaped apart marked ended started types_fit b.variables variables_fit b.statements)
+      (handlers_shaped apart marked ended started types_fit b.variables variables_fit b.handlers)

@@ -5,7 +5,8 @@ use Rattle.std.proofs.Common.{◌≡◌, ℕ, Bool, true, false, not, ◌==◌, 
 use Rattle.std.specs.Prelude.{nat_lt, is_some}
 use Rattle.std.specs.List.{slice_get, slice_index_or}
 use Rattle.std.proofs.lemmas.Bool.{and_from, and_parts, or_parts, cases_Bool, eqb-true, eq-eqb, ltb-true, not-true, false_from_ne_true}
-use Rattle.ada_parts.specs.declared.tasks.Direction.TheVariants.{WholeFirst}
+use Rattle.ada_parts.specs.declared.tasks.Direction.{Direction}
+use Rattle.ada_parts.specs.declared.tasks.Direction.TheVariants.{PartsFirst, WholeFirst}
 use Rattle.ada_parts.specs.Shape.{Shape}
 use Rattle.ada_parts.specs.Task.{Task, performs, performed, treats}
 use Rattle.ada_program.specs.declared.program.Program.{Program}
@@ -15,6 +16,7 @@ use Rattle.ada_program.specs.WellFormed.{IsWellFormed, designated_in, designated
 use Rattle.ada_meaning.specs.declared.event.Cause.TheVariants.{Freeing}
 use Rattle.ada_meaning.specs.Frame.{ends}
 use Rattle.ada_meaning.specs.Step.{all_tasks, member_at, picked_task, tasks_for}
+use Rattle.ada_quiet.specs.Calm.{has_calm_objects, is_calm_access, quietly_begun_types}
 use Rattle.ada_quiet.specs.Frugal.{thrift_of, frugal_procedures, is_frugal_body}
 use Rattle.ada_quiet.specs.InUse.{operations_may_be_called}
 use Rattle.ada_effects.specs.Effects.{no_calls, body_raises}
@@ -40,10 +42,12 @@ use Rattle.ada_typed.proofs.Bodies.{SeenFits, seen_as, seen_fits}
 use Rattle.ada_typed.proofs.Lying.{IsOperable, Lying, lying_all, lying_taken}
 use Rattle.ada_typed.proofs.Parts.{known_number, shapes_shown}
 use Rattle.ada_sound.proofs.FrugalUseEnds.{done_lying}
+use Rattle.ada_sound.proofs.BegunQuietly.{begun_initialize, initialize_for}
+use Rattle.ada_sound.proofs.QuietDeeds.{plain_does_none}
 use Rattle.ada_sound.proofs.QuietOperations.{IsUsedAs, used_as}
-use Rattle.ada_sound.proofs.Shunning.{CallsFrugal, EndsSpared, Spares, body_shaped, calling, following, freeing, is_use}
+use Rattle.ada_sound.proofs.Shunning.{CallsFrugal, EndsSpared, StartsSpared, Spares, body_shaped, calling, following, freeing, is_use}
 
--- A body is frugal, where there is one; it may free objects with controlled parts.
+-- A body is frugal, where there is one.
 abbrev is_frugal_one : ProgramForm → Option BodyForm → Bool
 is_frugal_one p None = true
 is_frugal_one p (Some b) = is_frugal_body (thrift_of p) b
@@ -53,34 +57,35 @@ abbrev is_shunning : ProgramForm → (access procedure : ℕ) → Bool
 is_shunning p u n =
     is_frugal_one p (slice_get p.bodies n) && not (does_by p (freeing u) (calling n)) && not (does_by p (following u) (calling n))
 
--- These procedures, and the access types of which the end of an object does neither.
+-- These procedures, and the access types of which the end of an object does neither; and those of these of which an object begins quietly.
 abbrev apart_from : Program → (access : ℕ) → Apart
 apart_from program u = record {
   calls = is_shunning (program_form program) u;
   ends = λ t. not ((implicit_of (program_form program)).end_reaches t u);
+  starts = λ t. has_calm_objects (program_form program).types (quietly_begun_types (program_form program)) t && not ((implicit_of (program_form program)).end_reaches t u);
   definitions = program.types.items;
 }
 
--- What is left of the finalization of an object speaks of records that lie in it.
-module _ (program : Program) (access : ℕ) where
+-- What is left of the initialization or the finalization of an object speaks of records that lie in it.
+module _ (program : Program) (direction : Direction) (access : ℕ) where
   -- All of it does,
-  all_lie : Lying (program_form program).types access (all_tasks program.types.items access WholeFirst)
+  all_lie : Lying (program_form program).types access (all_tasks program.types.items access direction)
   all_lie =
       let definitions = program.types.items in
       let forms = (program_form program).types in
       let number = number_reached definitions access in
-      subst (λ (shapes : List Shape). Lying forms access (tasks_for shapes WholeFirst number)) (shapes_shown definitions forms refl)
-      (lying_all forms access WholeFirst number (known_number definitions forms access refl))
+      subst (λ (shapes : List Shape). Lying forms access (tasks_for shapes direction number)) (shapes_shown definitions forms refl)
+      (lying_all forms access direction number (known_number definitions forms access refl))
 
   -- so it does once a component is picked,
   picked_lies :
       (tasks : List Task) (i : ℕ) → Lying (program_form program).types access tasks
-      → Lying (program_form program).types access (picked_task (shapes_of program.types.items) WholeFirst tasks i)
+      → Lying (program_form program).types access (picked_task (shapes_of program.types.items) direction tasks i)
   picked_lies [] i lies = tt
   picked_lies (treats cs ∷ behind) i lies =
       let forms = (program_form program).types in
-      subst (λ (shapes : List Shape). Lying forms access (picked_task shapes WholeFirst (treats cs ∷ behind) i)) (shapes_shown program.types.items forms refl)
-      (lying_taken forms access WholeFirst cs behind (member_at WholeFirst (length cs) i) lies)
+      subst (λ (shapes : List Shape). Lying forms access (picked_task shapes direction (treats cs ∷ behind) i)) (shapes_shown program.types.items forms refl)
+      (lying_taken forms access direction cs behind (member_at direction (length cs) i) lies)
   picked_lies (performs of part ∷ behind) i lies = lies
 
   -- or an operation has been called.
@@ -90,7 +95,7 @@ module _ (program : Program) (access : ℕ) where
   performed_lies (performs of part ∷ behind) lies = lies.1
 
   -- So whatever is left does.
-  left_lies : {tasks : List Task} → IsLeftOf program.types.items access tasks → Lying (program_form program).types access tasks
+  left_lies : {tasks : List Task} → IsLeftOf program.types.items direction access tasks → Lying (program_form program).types access tasks
   left_lies whole = all_lie
   left_lies (picked {tasks = tasks} i left) = picked_lies tasks i (left_lies left)
   left_lies (called {tasks = tasks} left) = performed_lies tasks (left_lies left)
@@ -117,6 +122,13 @@ module _ (p : ProgramForm) (u : ℕ) where
   parts_spare None spares = refl
   parts_spare (Some t) spares = let both = callee_spares (callee.Parts Finalize (record { 0 = t })) spares in rw (both.0, both.1) refl
 
+  -- Objects that begin quietly are of an access type.
+  calm_access : (types : List TypeForm) (calm : List Bool) (o : Option TypeForm) → is_calm_access types calm o ≡ true → is_some (designated_in o) ≡ true
+  calm_access types calm None is = absurd (cc is)
+  calm_access types calm (Some (record_of name parts components finalization)) is = absurd (cc is)
+  calm_access types calm (Some (access_to name designated pool)) is = refl
+  calm_access types calm (Some (object_of record_type)) is = absurd (cc is)
+
   -- The objects of an access type are records of the type that it designates.
   record_designated : (access : ℕ) (o : Option TypeForm) → is_some (designated_in o) ≡ true → record_in access o ≡ designated_in o
   record_designated access None is = absurd (cc is)
@@ -138,7 +150,7 @@ module _ (p : ProgramForm) (u : ℕ) where
     where
       by : (found : Option BodyForm) → slice_get p.bodies n ≡ found → is_frugal_one p found ≡ true
       by None there = refl
-      by (Some b) there = frugal_at p true n b told there
+      by (Some b) there = frugal_at p n b told there
 
   -- A frugal procedure that does neither is one of these,
   shunning_from :
@@ -227,10 +239,37 @@ module _ (program : Program) (well : IsWellFormed (program_form program)) (uses 
         (operation_spares access of part number operable overrides (freeing u) none.0)
         (operation_spares access of part number operable overrides (following u) none.1)
 
-    -- So is each Finalize that the end of such an object calls.
+    -- So is an Initialize that is quiet: it frees nothing, and follows no value.
+    quiet_shuns :
+        (access of part number : ℕ) → IsOperable p.types access of part → procedure_number (operations_of program.types.items of).initialize ≡ Some number
+        → has_calm_objects p.types (quietly_begun_types p) access ≡ true → apart.calls number ≡ true
+    quiet_shuns access of part number operable overrides calm =
+        let o = initialize_for program well of number overrides in
+        let quiet = begun_initialize program well access of part number o.body operable calm overrides o.there in
+        let plain = and_parts (is_plain_body p.types o.body) (not (body_raises no_calls o.body (λ e. true))) quiet in
+        let frugal : is_frugal_one p (slice_get p.bodies number) ≡ true = rw (o.there) (frugal_body (thrift_of p) p.types o.body quiet) in
+        shunning_from p u number frugal
+        (plain_does_none p number o.body o.object o.there o.formals plain.0 (freeing u) refl)
+        (plain_does_none p number o.body o.object o.there o.formals plain.0 (following u) refl)
+
+    -- The end of what may be allocated does not reach the type, and it begins quietly.
+    start_parts : (access : ℕ) → apart.starts access ≡ true → (has_calm_objects p.types (quietly_begun_types p) access ≡ true) × ((implicit_of p).end_reaches access u ≡ false)
+    start_parts access may =
+        let calm = has_calm_objects p.types (quietly_begun_types p) access in
+        let reaches = (implicit_of p).end_reaches access u in
+        let both = and_parts calm (not reaches) may in
+        (both.0, not-true reaches both.1)
+
+    -- So is each Finalize that the end of such an object calls, each Initialize that the start of one calls, and each Finalize of what has begun of that.
     operations_apart : CallsApart program.types.items apart
-    operations_apart access of part number tasks may left overrides =
-        operation_shuns access of part number (left_lies program access left).0 overrides (not-true ((implicit_of p).end_reaches access u) may)
+    operations_apart = record {
+      finalizes = λ access of part number tasks may left overrides.
+          operation_shuns access of part number (left_lies program WholeFirst access left).0 overrides (not-true ((implicit_of p).end_reaches access u) may);
+      initializes = λ access of part number may begun overrides.
+          quiet_shuns access of part number (left_lies program PartsFirst access begun.1).0 overrides (start_parts access may).0;
+      undoes = λ access of part number may begun overrides.
+          operation_shuns access of part number (left_lies program PartsFirst access begun.1).0 overrides (start_parts access may).1;
+    }
 
     -- They free and follow no value of the type,
     unused : UseNone p (λ t. u == t) apart
@@ -262,6 +301,12 @@ module _ (program : Program) (well : IsWellFormed (program_form program)) (uses 
     ends_spared : EndsSpared p u apart
     ends_spared access is spares = ap not (end_spares p u access is spares)
 
+    -- and so is each access type of which an object begins quietly, and its end is no use.
+    starts_spared : StartsSpared p u apart
+    starts_spared access calm spares =
+        and_from (has_calm_objects p.types (quietly_begun_types p) access) (not ((implicit_of p).end_reaches access u)) calm
+        (ap not (end_spares p u access (calm_access p u p.types (quietly_begun_types p) (slice_get p.types access) calm) spares))
+
     -- So they have the shape.
     shaped : AreShaped p program.types.items apart
     shaped = record {
@@ -269,7 +314,7 @@ module _ (program : Program) (well : IsWellFormed (program_form program)) (uses 
       bodies = λ n b among there.
           let fits = subst (λ (own : ProgramForm). SeenFits own) (seen_as p n b there) (seen_fits p well (Some n)) in
           let frugal = subst (λ (found : Option BodyForm). is_frugal_one p found ≡ true) there (shunning_parts p u n among).0 in
-          body_shaped p u apart calls_frugal ends_spared well.types_fit b fits.variables_fit frugal (body_spares p u n b there (uses_none n among));
+          body_shaped p u apart calls_frugal ends_spared starts_spared well.types_fit b fits.variables_fit frugal (body_spares p u n b there (uses_none n among));
       operations = operations_apart;
     }
 
