@@ -1,7 +1,7 @@
 -- A plain body (7.6) follows no access value (4.1), and frees no object (13.11.2): it reads and writes Integers and Booleans alone, of its own, and of the record for
 -- which its formal parameter stands, and calls nothing.
 
-use Rattle.std.proofs.Common.{◌≡◌, ℕ, zero, suc, Bool, true, false, ◌&&◌, ◌||◌, List, [], ◌∷◌, Option, Some, None, map, take, drop, length, refl, ap}
+use Rattle.std.proofs.Common.{◌≡◌, ℕ, zero, suc, Bool, true, false, ◌&&◌, List, [], ◌∷◌, Option, Some, None, map, take, drop, length, refl, ap}
 use Rattle.std.specs.List.{list_all, slice_get}
 use Rattle.std.proofs.lemmas.Bool.{and_parts, false_from_ne_true}
 use Rattle.ada_deeds.specs.declared.deed.Callee.{Callee}
@@ -208,10 +208,10 @@ plain_does_none p number b object there formals plain d uses =
         rw (
           declarations_none p.types b.variables first known d uses b.declarations declared,
           left_none p.types b.variables first known d uses (is_left b.handlers d) (stmts_do p.types b.variables known d b.statements)
-          (stmts_none p.types b.variables first known d uses b.statements three.1),
+              (stmts_none p.types b.variables first known d uses b.statements three.1),
           handlers_none p.types b.variables first known d uses b.handlers four.1,
           leaving_none p.types b.variables first known d uses b.declarations declared,
         ) refl
 
     none : Does p d (callee.Procedure (record { 0 = number })) → ⊥
-    none (does is known calls done) = let so = ap (called_does p.types known d) there in let not = body_none known in cc (so, done, not)
+    none (does is known others done) = let so = ap (called_does p.types known d) there in let not = body_none known in cc (so, done, not)
