@@ -5,6 +5,7 @@ use Rattle.std.proofs.Common.{◌≡◌, ◌⊎◌, inr, true, List, [], ◌∷�
 use Rattle.std.specs.Prelude.{Some, None}
 use Rattle.ada_program.specs.declared.program.Declaration.TheVariants as declaration
 use Rattle.ada_program.specs.declared.program.FormalMode.TheVariants.{InOut}
+use Rattle.ada_program.specs.declared.program.Operations.{Operations}
 use Rattle.ada_program.specs.declared.program.PartKind.TheVariants as part
 use Rattle.ada_program.specs.declared.program.Path.{Path}
 use Rattle.ada_program.specs.declared.program.Procedure.{Procedure}
@@ -33,12 +34,12 @@ use Rattle.ada_sound.proofs.ExampleRecords.{of_object, of_object_type}
 use Rattle.ada_sound.proofs.ExampleOperations.{of_kind, operation}
 use Rattle.ada_sound.proofs.ExampleTidying.{holder_type}
 
--- type Keeper is new Limited_Controlled with record Held : Chest; end record;
-abbrev keeper_type : TypeDefinition
-keeper_type =
+-- type Keeper is new Limited_Controlled with record Held : Chest; end record; which overrides these operations.
+abbrev pub keeper_type : Operations → TypeDefinition
+keeper_type operations =
     definition.Record no_name (vec (of_kind part.Parent 0 0 ∷ of_kind (part.Elementary (an_access 3)) 0 1 ∷ []) (omega arith))
     (vec (an_access 3 ∷ []) (omega arith))
-    (Some (record { number = record { 0 = 1 }; parts = 1; limited = true; operations = keeping_operations }))
+    (Some (record { number = record { 0 = 1 }; parts = 1; limited = true; operations = operations }))
 
 -- type Cell is record Value : Integer; end record; type Link is access Cell; Holder; type Chest is access Holder; Keeper; and what K and the formal parameters are
 -- known by.
@@ -48,7 +49,7 @@ nesting_types =
     ∷ access_to 0
     ∷ holder_type tidying_operations
     ∷ access_to 2
-    ∷ keeper_type
+    ∷ keeper_type keeping_operations
     ∷ definition.Object (record { 0 = 4 })
     ∷ definition.Object (record { 0 = 2 })
     ∷ definition.Object (record { 0 = 4 })
@@ -71,7 +72,7 @@ abbrev nesting_procedures : List Procedure
 nesting_procedures = operation 6 (stmt.Free (record { 0 = 1 }) (of_object 0 0) ∷ []) (omega arith) [] (omega arith) ∷ outer_procedure ∷ []
 
 -- The component Head of the holder that K.Held names.
-abbrev head_of_kept : Path
+abbrev pub head_of_kept : Path
 head_of_kept = record (path 0 (record { 0 = 0 } ∷ record { 0 = 0 } ∷ []) (omega arith)) { of_record = true }
 
 -- K : Keeper; begin K.Held := new Holder; K.Held.Head := new Cell;

@@ -431,6 +431,8 @@ pub mod ExampleUnshelving
 pub mod ExampleLeaving
 -- one whose Finalize frees an object whose Finalize frees, too
 pub mod ExampleNesting
+-- one whose Initialize allocates an object with controlled parts
+pub mod ExampleHousing
 pub mod ExampleAllocating
 pub mod ExampleUndoing
 -- one whose Initialize allocates for what an allocator makes

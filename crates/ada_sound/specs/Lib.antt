@@ -28,6 +28,7 @@ pub mod ReleasingExample
 pub mod UnshelvingExample
 pub mod LeavingExample
 pub mod NestingExample
+pub mod HousingExample
 -- what the rules let through
 pub mod Owners
 -- what they say of calls

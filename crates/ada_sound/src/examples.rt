@@ -25,6 +25,7 @@ ghost use Rattle.ada_sound.specs.ReleasingExample as releasing_example;
 ghost use Rattle.ada_sound.specs.UnshelvingExample as unshelving_example;
 ghost use Rattle.ada_sound.specs.LeavingExample as leaving_example;
 ghost use Rattle.ada_sound.specs.NestingExample as nesting_example;
+ghost use Rattle.ada_sound.specs.HousingExample as housing_example;
 
 /// The laws are not empty: a program is accepted and comes to a statement; it finishes after it has followed an access
 /// value, written a line, freed an object, and left its main procedure, with which another object went. And one is
@@ -189,6 +190,11 @@ pub fn premises_are_met()
 /// back, and only then is the Finalize of the record object left, and its words go back. `flow_invariant` speaks of where the
 /// inner Free begins, too.
 ///
+/// And one is accepted whose Initialize allocates an object with controlled parts (7.6, 4.8): the Initialize of that object runs
+/// inside, which writes a text, and the record object owns it. It gets a cell. Where the main procedure is left, Finalize of the
+/// record object frees it by a component of its formal parameter, and its own Finalize frees the cell inside. `flow_invariant`
+/// speaks of where the allocating assignment begins, inside Initialize.
+///
 /// And one is accepted whose Initialize touches storage, too (7.6, 4.8): it allocates the cell that its record object owns,
 /// and handles `Storage_Error`, so that the program finishes where the cell is granted, and is freed by Finalize, and where
 /// it is refused, and nothing is freed.
@@ -283,6 +289,14 @@ pub fn operations_are_accepted()
         × (declaration_forms program ≡ nesting_example.nesting_declarations)
         × (stmt_forms program ≡ nesting_example.nesting_stmts)
         × IsChecked program × FinishesAfter nesting_example.nesting_events program
+        × always.InSomeRun program (λ events last. operation_examples.IsSpokenOfInside program last) }
+    ensures houses { (program : Program)
+        × (operations_of program.types.items 0 ≡ housing_example.housed_operations)
+        × (operations_of program.types.items 1 ≡ operation_examples.allocating_operations)
+        × (body_forms program ≡ housing_example.housing_bodies)
+        × (declaration_forms program ≡ nesting_example.nesting_declarations)
+        × (stmt_forms program ≡ housing_example.housing_stmts)
+        × IsChecked program × FinishesAfter housing_example.housing_events program
         × always.InSomeRun program (λ events last. operation_examples.IsSpokenOfInside program last) }
     ensures allocates { (program : Program)
         × (operations_of program.types.items 0 ≡ operation_examples.allocating_operations)

@@ -1,4 +1,4 @@
--- By sixteen programs and their runs.
+-- By seventeen programs and their runs.
 use Rattle.ada_sound.proofs.ExampleOperations as operations
 use Rattle.ada_sound.proofs.ExampleTidying as tidying
 use Rattle.ada_sound.proofs.ExampleOverwriting as overwriting
@@ -8,6 +8,7 @@ use Rattle.ada_sound.proofs.ExampleReleasing as releasing
 use Rattle.ada_sound.proofs.ExampleUnshelving as unshelving
 use Rattle.ada_sound.proofs.ExampleLeaving as leaving
 use Rattle.ada_sound.proofs.ExampleNesting as nesting
+use Rattle.ada_sound.proofs.ExampleHousing as housing
 use Rattle.ada_sound.proofs.ExampleAllocating as allocating
 use Rattle.ada_sound.proofs.ExampleUndoing as undoing
 use Rattle.ada_sound.proofs.ExampleFilling as filling
@@ -112,6 +113,17 @@ returns c = record {
     nesting.nesting_accepted,
     nesting.nests,
     nesting.is_spoken_of,
+  );
+  houses = (
+    housing.housing,
+    housing.holder_overrides,
+    housing.keeper_overrides,
+    housing.housing_has,
+    housing.housing_declares,
+    housing.housing_does,
+    housing.housing_accepted,
+    housing.houses,
+    housing.is_spoken_of,
   );
   allocates = (
     allocating.allocating,
