@@ -1,5 +1,5 @@
--- A program that meets the premises of the laws, in which the Initialize of a record object allocates an object with controlled parts, whose own Initialize runs inside,
--- and Finalize frees it. With its run.
+-- A program that meets the premises of the laws, in which the Initialize of a record object allocates an object with controlled parts, whose own Initialize
+-- runs inside, and Finalize frees it. With its run.
 
 use Rattle.std.proofs.Common.{◌≡◌, ◌⊎◌, inr, true, List, [], ◌∷◌, ◌++◌, refl, arith}
 use Rattle.std.specs.Prelude.{None}
@@ -32,8 +32,8 @@ use Rattle.ada_sound.proofs.ExampleOperations.{operation}
 use Rattle.ada_sound.proofs.ExampleNesting.{keeper_type, head_of_kept}
 use Rattle.ada_sound.proofs.ExampleTidying.{holder_type}
 
--- type Cell is record Value : Integer; end record; type Link is access Cell; Holder; type Chest is access Holder; Keeper; and what K and the formal parameters are
--- known by.
+-- type Cell is record Value : Integer; end record; type Link is access Cell; Holder; type Chest is access Holder; Keeper; and what K and the formal parameters
+-- are known by.
 abbrev housing_types : List TypeDefinition
 housing_types =
     record_of (an_integer ∷ []) (omega arith)

@@ -1,5 +1,5 @@
--- A plain body (7.6) follows no access value (4.1), and frees no object (13.11.2): it reads and writes Integers and Booleans alone, of its own, and of the record for
--- which its formal parameter stands, and calls nothing.
+-- A plain body (7.6) follows no access value (4.1), and frees no object (13.11.2): it reads and writes Integers and Booleans alone, of its own, and of the
+-- record for which its formal parameter stands, and calls nothing.
 
 use Rattle.std.proofs.Common.{◌≡◌, ℕ, zero, suc, Bool, true, false, ◌&&◌, List, [], ◌∷◌, Option, Some, None, map, take, drop, length, refl, ap}
 use Rattle.std.specs.List.{list_all, slice_get}
@@ -75,16 +75,21 @@ module _ (types : List TypeForm) (variables : List VariableForm) (formal : value
         let both = and_parts (is_quiet_expression types variables e) (are_quiet_links types variables links) quiet in
         rw (expression_none t e both.0, links_none t links both.1) refl
 
-  condition_none : (t : ℕ) (condition : Option ExpressionForm) → is_quiet_condition types variables condition ≡ true → condition_follows types variables t condition ≡ false
+  condition_none :
+      (t : ℕ) (condition : Option ExpressionForm) → is_quiet_condition types variables condition ≡ true
+      → condition_follows types variables t condition ≡ false
   condition_none t None quiet = refl
   condition_none t (Some e) quiet = expression_none t e quiet
 
   -- Whatever is known of what is called, which is nothing.
   module _ (known : Callee → Bool) (d : Deed) (uses : uses_storage d ≡ true) where
-    expression_does_none : (e : ExpressionForm) → is_quiet_expression types variables e ≡ true → evaluation_does d (expression_raises e) (λ t. expression_follows types variables t e) ≡ false
+    expression_does_none :
+        (e : ExpressionForm) → is_quiet_expression types variables e ≡ true
+        → evaluation_does d (expression_raises e) (λ t. expression_follows types variables t e) ≡ false
     expression_does_none e quiet = evaluated d uses (expression_raises e) (λ t. expression_follows types variables t e) (λ t. expression_none t e quiet)
 
-    path_does_none : (path : PathForm) → is_quiet_path types variables path ≡ true → evaluation_does d (path_raises path) (λ t. path_follows types variables t path) ≡ false
+    path_does_none :
+        (path : PathForm) → is_quiet_path types variables path ≡ true → evaluation_does d (path_raises path) (λ t. path_follows types variables t path) ≡ false
     path_does_none path quiet = evaluated d uses (path_raises path) (λ t. path_follows types variables t path) (λ t. path_none t path quiet)
 
     condition_does_none :
@@ -105,9 +110,10 @@ module _ (types : List TypeForm) (variables : List VariableForm) (formal : value
     declarations_none (creates_pool pool ∷ ds) quiet = absurd (cc quiet)
     declarations_none (collects access ∷ ds) quiet = absurd (cc quiet)
     declarations_none (declares x right ∷ ds) quiet =
-        let both = and_parts (holds_elementary (variable_kind variables x) && is_quiet_right types variables right) (are_quiet_declarations types variables ds) quiet in
+        let elementary = holds_elementary (variable_kind variables x) in
+        let both = and_parts (elementary && is_quiet_right types variables right) (are_quiet_declarations types variables ds) quiet in
         rw (
-          right_none right (and_parts (holds_elementary (variable_kind variables x)) (is_quiet_right types variables right) both.0).1,
+          right_none right (and_parts elementary (is_quiet_right types variables right) both.0).1,
           declarations_none ds both.1,
         ) refl
     declarations_none (declares_record x object initial ∷ ds) quiet = absurd (cc quiet)
@@ -117,7 +123,8 @@ module _ (types : List TypeForm) (variables : List VariableForm) (formal : value
     leaving_none (creates_pool pool ∷ ds) quiet = absurd (cc quiet)
     leaving_none (collects access ∷ ds) quiet = absurd (cc quiet)
     leaving_none (declares x right ∷ ds) quiet =
-        leaving_none ds (and_parts (holds_elementary (variable_kind variables x) && is_quiet_right types variables right) (are_quiet_declarations types variables ds) quiet).1
+        let elementary = holds_elementary (variable_kind variables x) in
+        leaving_none ds (and_parts (elementary && is_quiet_right types variables right) (are_quiet_declarations types variables ds) quiet).1
     leaving_none (declares_record x object initial ∷ ds) quiet = absurd (cc quiet)
 
     -- What statements do.
@@ -145,9 +152,12 @@ module _ (types : List TypeForm) (variables : List VariableForm) (formal : value
           let both = and_parts (is_quiet_condition types variables condition) (are_quiet types variables fs) quiet in
           rw (condition_does_none condition both.0, stmts_none fs both.1) refl
       stmt_none (counts x low high fs spot) quiet =
-          let four = and_parts (holds_elementary (variable_kind variables x) && is_quiet_expression types variables low && is_quiet_expression types variables high) (are_quiet types variables fs) quiet in
-          let three = and_parts (holds_elementary (variable_kind variables x) && is_quiet_expression types variables low) (is_quiet_expression types variables high) four.0 in
-          let two = and_parts (holds_elementary (variable_kind variables x)) (is_quiet_expression types variables low) three.0 in
+          let elementary = holds_elementary (variable_kind variables x) in
+          let from = is_quiet_expression types variables low in
+          let to = is_quiet_expression types variables high in
+          let four = and_parts (elementary && from && to) (are_quiet types variables fs) quiet in
+          let three = and_parts (elementary && from) to four.0 in
+          let two = and_parts elementary from three.0 in
           rw (expression_does_none low two.1, expression_does_none high three.1, stmts_none fs four.1) refl
       stmt_none (exits condition spot) quiet = condition_does_none condition quiet
       stmt_none (calls procedure actuals) quiet = absurd (cc quiet)
@@ -178,7 +188,8 @@ module _ (types : List TypeForm) (variables : List VariableForm) (formal : value
       handlers_none : (hs : HandlersForm) → are_quiet_handlers types variables hs ≡ true → handlers_do types variables known d hs ≡ false
       handlers_none no_handlers quiet = refl
       handlers_none (a_handler choices fs hs) quiet =
-          let both = and_parts (are_quiet types variables fs) (are_quiet_handlers types variables hs) quiet in rw (stmts_none fs both.0, handlers_none hs both.1) refl
+          let both = and_parts (are_quiet types variables fs) (are_quiet_handlers types variables hs) quiet in
+          rw (stmts_none fs both.0, handlers_none hs both.1) refl
 
 -- The formal parameter of an operation is a record.
 record_first : (formals : List FormalMode) (variables : List VariableForm) (object : TypeNo)
@@ -192,7 +203,8 @@ pub plain_does_none :
     (p : ProgramForm) (number : ℕ) (b : BodyForm) (object : TypeNo) → slice_get p.bodies number ≡ Some b → formal_kinds b ≡ variable.Record object ∷ []
     → is_plain_body p.types b ≡ true → (d : Deed) → uses_storage d ≡ true → does_by p d (callee.Procedure (record { 0 = number })) ≡ false
 plain_does_none p number b object there formals plain d uses =
-    false_from_ne_true (does_by p d (callee.Procedure (record { 0 = number }))) (λ done. none ((counts_are_enough p d (callee.Procedure (record { 0 = number }))).0 done))
+    let called = callee.Procedure (record { 0 = number }) in
+    false_from_ne_true (does_by p d called) (λ done. none ((counts_are_enough p d called).0 done))
   where
     first : value_access (variable_kind b.variables 0) ≡ None
     first = record_first b.formals b.variables object formals

@@ -160,7 +160,8 @@ module _ (p : ProgramForm) (u : ℕ) where
 
   -- So it is with those that a body of a well-formed program goes by.
   module _
-      (apart : Apart) (marked : CallsFrugal apart) (ended : EndsSpared apart) (started : StartsSpared apart) (types_fit : list_all (type_fits p.types) p.types ≡ true)
+      (apart : Apart) (marked : CallsFrugal apart) (ended : EndsSpared apart) (started : StartsSpared apart)
+      (types_fit : list_all (type_fits p.types) p.types ≡ true)
       (variables : List VariableForm) (variables_fit : list_all (variable_fits p.types) variables ≡ true) where
     -- What a value names may be freed, where its end is no use.
     kind_ended :
@@ -174,8 +175,8 @@ module _ (p : ProgramForm) (u : ℕ) where
 
     -- What is assigned has the shape, where what is allocated begins quietly, and its end is no use (5.2, 4.8, 7.6).
     right_shaped :
-        (right : RightForm) → allocates_quietly p.types (quietly_begun_types p) right ≡ true → Spares p u (λ d. right_does p.types variables (does_by p d) d right)
-        → right_shuns p.types (λ t. false) apart variables right ≡ true
+        (right : RightForm) → allocates_quietly p.types (quietly_begun_types p) right ≡ true
+        → Spares p u (λ d. right_does p.types variables (does_by p d) d right) → right_shuns p.types (λ t. false) apart variables right ≡ true
     right_shaped nothing is spares = refl
     right_shaped (value_of path) is spares = path_shaped p.types apart variables path
     right_shaped (allocates access items) is spares =
@@ -190,8 +191,8 @@ module _ (p : ProgramForm) (u : ℕ) where
 
     -- A declaration of a variable has it (3.3.1),
     declaration_shaped :
-        (d : DeclarationForm) → is_frugal_declaration p.types (quietly_begun_types p) d ≡ true → Spares p u (λ e. declaration_does p.types variables (does_by p e) e d)
-        → declaration_shuns p.types (λ t. false) apart variables d ≡ true
+        (d : DeclarationForm) → is_frugal_declaration p.types (quietly_begun_types p) d ≡ true
+        → Spares p u (λ e. declaration_does p.types variables (does_by p e) e d) → declaration_shuns p.types (λ t. false) apart variables d ≡ true
     declaration_shaped (creates_pool pool) is spares = absurd (cc is)
     declaration_shaped (collects access) is spares = absurd (cc is)
     declaration_shaped (declares x right) is spares = right_shaped right is spares
@@ -199,8 +200,8 @@ module _ (p : ProgramForm) (u : ℕ) where
 
     -- and so have declarations of variables alone.
     declarations_shaped :
-        (ds : List DeclarationForm) → are_frugal_declarations p.types (quietly_begun_types p) ds ≡ true → Spares p u (λ e. declarations_do p.types variables (does_by p e) e ds)
-        → declarations_shun p.types (λ t. false) apart variables ds ≡ true
+        (ds : List DeclarationForm) → are_frugal_declarations p.types (quietly_begun_types p) ds ≡ true
+        → Spares p u (λ e. declarations_do p.types variables (does_by p e) e ds) → declarations_shun p.types (λ t. false) apart variables ds ≡ true
     declarations_shaped [] is spares = refl
     declarations_shaped (d ∷ ds) is spares =
         let both = and_parts (is_frugal_declaration p.types (quietly_begun_types p) d) (are_frugal_declarations p.types (quietly_begun_types p) ds) is in
@@ -231,8 +232,9 @@ module _ (p : ProgramForm) (u : ℕ) where
         → (are_frugal_declarations p.types (quietly_begun_types p) ds && are_frugal (thrift_of p) fs && are_frugal_handlers (thrift_of p) hs) ≡ true
         → Spares p u (master_does ds fs hs) → master_shuns ds fs hs ≡ true
     master_shaped ds fs hs within behind frugal spares =
-        let parts = and_parts (are_frugal_declarations p.types (quietly_begun_types p) ds && are_frugal (thrift_of p) fs) (are_frugal_handlers (thrift_of p) hs) frugal in
-        let inner = and_parts (are_frugal_declarations p.types (quietly_begun_types p) ds) (are_frugal (thrift_of p) fs) parts.0 in
+        let begun = are_frugal_declarations p.types (quietly_begun_types p) ds in
+        let parts = and_parts (begun && are_frugal (thrift_of p) fs) (are_frugal_handlers (thrift_of p) hs) frugal in
+        let inner = and_parts begun (are_frugal (thrift_of p) fs) parts.0 in
         let declared = λ (d : Deed). declarations_do p.types variables (does_by p d) d ds in
         let inside = λ (d : Deed). stmts_do p.types variables (does_by p d) d fs in
         let left = λ (d : Deed). is_left hs d && inside d in

@@ -62,7 +62,9 @@ abbrev apart_from : Program → (access : ℕ) → Apart
 apart_from program u = record {
   calls = is_shunning (program_form program) u;
   ends = λ t. not ((implicit_of (program_form program)).end_reaches t u);
-  starts = λ t. has_calm_objects (program_form program).types (quietly_begun_types (program_form program)) t && not ((implicit_of (program_form program)).end_reaches t u);
+  starts = λ t.
+      has_calm_objects (program_form program).types (quietly_begun_types (program_form program)) t
+      && not ((implicit_of (program_form program)).end_reaches t u);
   definitions = program.types.items;
 }
 
@@ -253,7 +255,9 @@ module _ (program : Program) (well : IsWellFormed (program_form program)) (uses 
         (plain_does_none p number o.body o.object o.there o.formals plain.0 (following u) refl)
 
     -- The end of what may be allocated does not reach the type, and it begins quietly.
-    start_parts : (access : ℕ) → apart.starts access ≡ true → (has_calm_objects p.types (quietly_begun_types p) access ≡ true) × ((implicit_of p).end_reaches access u ≡ false)
+    start_parts :
+        (access : ℕ) → apart.starts access ≡ true
+        → (has_calm_objects p.types (quietly_begun_types p) access ≡ true) × ((implicit_of p).end_reaches access u ≡ false)
     start_parts access may =
         let calm = has_calm_objects p.types (quietly_begun_types p) access in
         let reaches = (implicit_of p).end_reaches access u in
@@ -314,7 +318,8 @@ module _ (program : Program) (well : IsWellFormed (program_form program)) (uses 
       bodies = λ n b among there.
           let fits = subst (λ (own : ProgramForm). SeenFits own) (seen_as p n b there) (seen_fits p well (Some n)) in
           let frugal = subst (λ (found : Option BodyForm). is_frugal_one p found ≡ true) there (shunning_parts p u n among).0 in
-          body_shaped p u apart calls_frugal ends_spared starts_spared well.types_fit b fits.variables_fit frugal (body_spares p u n b there (uses_none n among));
+          body_shaped p u apart calls_frugal ends_spared starts_spared well.types_fit b fits.variables_fit frugal
+          (body_spares p u n b there (uses_none n among));
       operations = operations_apart;
     }
 

@@ -24,7 +24,8 @@ right_quiet types begun (allocates_default access) is = bare_calm types begun (s
 right_quiet types begun (computes e) is = refl
 
 frugal_declarations :
-    (types : List TypeForm) (begun : List Bool) (ds : List DeclarationForm) → are_simple_declarations types ds ≡ true → are_frugal_declarations types begun ds ≡ true
+    (types : List TypeForm) (begun : List Bool) (ds : List DeclarationForm) → are_simple_declarations types ds ≡ true
+    → are_frugal_declarations types begun ds ≡ true
 frugal_declarations types begun [] is = refl
 frugal_declarations types begun (creates_pool p ∷ ds) is = absurd (cc is)
 frugal_declarations types begun (collects access ∷ ds) is = absurd (cc is)
@@ -166,7 +167,11 @@ simple_parts types b is =
 pub simple_frugal : (frugal : Thrift) (b : BodyForm) → is_simple_body frugal.types true b ≡ true → is_frugal_body frugal b ≡ true
 simple_frugal frugal b is =
     let parts = simple_parts frugal.types b is in
-    rw (frugal_declarations frugal.types frugal.begun b.declarations parts.declarations, frugal_stmts frugal b.statements parts.statements, frugal_handlers frugal b.handlers parts.handlers) refl
+    rw (
+      frugal_declarations frugal.types frugal.begun b.declarations parts.declarations,
+      frugal_stmts frugal b.statements parts.statements,
+      frugal_handlers frugal b.handlers parts.handlers,
+    ) refl
 
 -- It is so where bodies free no object with controlled parts.
 pub simple_thrifty : (marks : Marks) (b : BodyForm) → is_simple_body marks.types true b ≡ true → is_thrifty_body marks b ≡ true
@@ -179,5 +184,7 @@ simple_thrifty marks b is =
     ) refl
 
 -- It creates no collection, so it nests anywhere.
-pub simple_nests : (types : List TypeForm) (callees : Callees) (b : BodyForm) (around : List ℕ) → is_simple_body types true b ≡ true → body_nests types callees b around ≡ true
+pub simple_nests :
+    (types : List TypeForm) (callees : Callees) (b : BodyForm) (around : List ℕ) → is_simple_body types true b ≡ true
+    → body_nests types callees b around ≡ true
 simple_nests types callees b around is = lone_nests types callees b around (simple_frugal (calling_none types) b is)

@@ -1,5 +1,5 @@
--- The operations, the statements and the events of the program by which the laws show that an Initialize allocates an object with controlled parts: operations that
--- begin objects run inside others, too.
+-- The operations, the statements and the events of the program by which the laws show that an Initialize allocates an object with controlled parts: operations
+-- that begin objects run inside others, too.
 
 use Rattle.std.specs.Prelude.{List, [], ◌∷◌, ◌++◌, Some, None}
 use Rattle.std.proofs.Math.ListN.{replicate}
@@ -14,7 +14,8 @@ use Rattle.ada_meaning.specs.Run.{Event}
 use Rattle.ada_sound.specs.OperationExamples.{operation_body}
 use Rattle.ada_sound.specs.NestingExample.{inner_finalize, kept_now, head_of_kept, object_k, kept_holder, kept_cell}
 
--- The types and the object K are those of NestingExample.antt. Keeper overrides Initialize and Finalize by the first two of four procedures, and Holder by the others.
+-- The types and the object K are those of NestingExample.antt. Keeper overrides Initialize and Finalize by the first two of four procedures, and Holder by the
+-- others.
 abbrev pub housed_operations : Operations
 housed_operations = record { initialize = Some (record { 0 = 2 }); adjust = None; finalize = Some (record { 0 = 3 }) }
 
@@ -38,8 +39,8 @@ housing_bodies = housing_initialize ∷ housing_finalize ∷ housed_initialize �
 abbrev pub housing_stmts : StmtsForm
 housing_stmts = a_stmt (assigns head_of_kept (allocates_default 1)) no_stmts
 
--- Initialize of K is called, as the master of number 1: it follows K where Held is found as a target. Initialize of the new holder is called, as the master of number 2:
--- it writes the text, and is left, and the holder has begun. Then K is followed where Held is written, the body is left, and K has begun.
+-- Initialize of K is called, as the master of number 1: it follows K where Held is found as a target. Initialize of the new holder is called, as the master of
+-- number 2: it writes the text, and is left, and the holder has begun. Then K is followed where Held is written, the body is left, and K has begun.
 abbrev pub begun_events : List Event
 begun_events =
     Followed object_k
@@ -56,9 +57,9 @@ begun_events =
 abbrev pub housed_events : List Event
 housed_events = Followed kept_holder ∷ Back kept_cell 1 2 (Some 0) None (Freeing 6) ∷ Followed kept_holder ∷ Left 5 ∷ []
 
--- K is initialized. K and the holder are followed where Head is found as a target, and the holder where that is written. At the leaving of the main procedure K is
--- finalized, as the master of number 3: it follows K to what Held names, finalizes the holder, whose words go back, and follows K where Held becomes null. Then the words
--- of K go back. Nothing is left in the two collections.
+-- K is initialized. K and the holder are followed where Head is found as a target, and the holder where that is written. At the leaving of the main procedure K
+-- is finalized, as the master of number 3: it follows K to what Held names, finalizes the holder, whose words go back, and follows K where Held becomes null.
+-- Then the words of K go back. Nothing is left in the two collections.
 abbrev pub housing_events : List Event
 housing_events =
     begun_events
