@@ -10,9 +10,9 @@ pub mod QuietFrugal
 pub mod QuietSimple
 -- procedures that are frugal have frugal bodies
 pub mod FrugalAt
--- bodies that are frugal where none may free objects with controlled parts are so where some may
-pub mod FrugalMore
 -- collections that are created in order, found in one pass
 pub mod Collecting
 -- which types are calm, by what lies in their objects
 pub mod CalmTypes
+-- the first place where a component of a record frees an object
+pub mod Releasing

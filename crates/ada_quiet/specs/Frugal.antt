@@ -10,6 +10,7 @@ use Rattle.ada_program.specs.ProgramForm.{TypeForm, BodyForm, ProgramForm}
 use Rattle.ada_program.specs.WellFormed.{finalization_of}
 use Rattle.ada_quiet.specs.Bare.{has_bare_objects}
 use Rattle.ada_quiet.specs.Calm.{has_calm_objects, quietly_begun_types}
+use Rattle.ada_quiet.specs.Idle.{declarations_make_parts}
 use Rattle.ada_effects.specs.Effects.{Effects, no_implicit, effects_of, body_raises}
 
 -- What is assigned is no new object (4.8), or one for which no operation is called that touches storage, or lets an exception out: it has no controlled parts, or it is
@@ -93,10 +94,16 @@ frugal_procedures p = frugal_from p.types (quietly_begun_types p) [] p.bodies
 abbrev pub thrift_of : ProgramForm → Thrift
 thrift_of p = record { types = p.types; begun = quietly_begun_types p; procedures = frugal_procedures p }
 
--- What overrides an operation has such a body, if one is overridden (7.6).
+-- The declarations of a body, if there is one, create no object with controlled parts (3.3.1): a statement begins before another operation is called.
+abbrev pub declares_no_parts : List TypeForm → Option BodyForm → Bool
+declares_no_parts types None = true
+declares_no_parts types (Some b) = not (declarations_make_parts types false b.declarations)
+
+-- What overrides an operation has a frugal body, which declares so, if one is overridden (7.6).
 abbrev pub is_frugal_operation : ProgramForm → Option ProcedureNo → Bool
 is_frugal_operation p None = true
-is_frugal_operation p (Some procedure) = slice_index_or (frugal_procedures p) procedure.0 false
+is_frugal_operation p (Some procedure) =
+    slice_index_or (frugal_procedures p) procedure.0 false && declares_no_parts p.types (slice_get p.bodies procedure.0)
 
 -- What the procedures of a program may raise, but for what is called implicitly: in frugal bodies that is Finalize alone, out of which no exception comes.
 abbrev pub own_effects : ProgramForm → Effects

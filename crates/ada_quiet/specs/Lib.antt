@@ -6,14 +6,14 @@ pub mod Quiet
 pub mod Calm
 -- access types whose objects have no controlled parts, and the collections of others
 pub mod Bare
+-- programs that call no operation
+pub mod Idle
 -- bodies of Initialize and Finalize that touch storage: frugal ones
 pub mod Frugal
 -- bodies of an Adjust that touch storage: simple ones
 pub mod Simple
 -- procedures that override an Adjust which tracks stand apart
 pub mod Apart
--- programs that call no operation
-pub mod Idle
 -- components of records that free objects
 pub mod Releases
 -- what is in use

@@ -1,7 +1,7 @@
 -- Where a component of a record frees an object (13.11.2): of a declared record object, or of one for which a formal parameter stands (6.2). Nothing there says by which access
 -- value somebody else may come to the object in which the record lies.
 
-use Rattle.std.specs.Prelude.{ℕ, Bool, not, ◌&&◌, if◌then◌else◌, List, [], ◌∷◌, ◌++◌}
+use Rattle.std.specs.Prelude.{ℕ, Bool, not, ◌&&◌, if◌then◌else◌, List, [], ◌∷◌, ◌++◌, Option, Some, None}
 use Rattle.ada_text.specs.declared.spot.Spot.{Spot}
 use Rattle.ada_program.specs.Form.{PathForm, StmtForm, skips, assigns, assigns_record, frees, gets, writes, writes_text, chooses, repeats, counts, exits, calls, returns, raises, encloses, StmtsForm, no_stmts, a_stmt, BranchesForm, otherwise, a_branch, HandlersForm, no_handlers, a_handler}
 use Rattle.ada_program.specs.ProgramForm.{BodyForm, ProgramForm, main_body}
@@ -63,3 +63,8 @@ module _ (asked : (access : ℕ) → Bool) where
   -- In the text of a program, whether anything comes there or not.
   abbrev pub text_frees_inside : ProgramForm → List Spot
   text_frees_inside p = body_frees_inside (main_body p) ++ bodies_free_inside p.bodies
+
+-- The first of some places, if there is one.
+abbrev pub first_spot : List Spot → Option Spot
+first_spot [] = None
+first_spot (spot ∷ spots) = Some spot

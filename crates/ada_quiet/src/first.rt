@@ -1,7 +1,7 @@
 //! The first body in the text that overrides an operation of a controlled type and is not in use, in a program that may call some:
-//! Initialize is neither plain nor frugal, where it may be, Adjust is not frugal, where none is
-//! called, and not quiet, or, of a type with a component of an access type, not simple and silent, or may not track, or frees objects where a
-//! record of the program has two controlled parts, or Finalize is neither quiet nor, where it may be, frugal and silent.
+//! Initialize is neither plain nor frugal, where it may be, Adjust is not frugal, where none is called, and not quiet, or, of a type with a
+//! component of an access type, not simple and silent, or may not track, or frees objects where a record of the program has two controlled
+//! parts, or Finalize is neither quiet nor, where it may be, frugal and silent.
 
 ghost use Rattle.std.specs.Prelude.{◌≡◌, ◌↔◌, None, true, IfOk};
 ghost use Rattle.ada_program.specs.ProgramForm.{program_form};
@@ -167,12 +167,11 @@ fn first_uncallable(alloc: Global, program: &Program) -> Result<Option<Spot>, Al
 
 /// Where the first body in the text begins that overrides an operation of a controlled type (7.6) and is not in use, in a program
 /// whose operations are not idle: one that overrides Initialize and is not plain, since it touches storage or calls, nor frugal in a
-/// program in which operations may be; one that overrides Adjust, is not frugal in a program in
-/// which none is called, and is not quiet, since it is not plain or lets an exception out, or, of a type with a component of an access type,
-/// declared in it directly, is not simple and silent, stands in a program in which an Adjust may not track, or frees objects in one in which
-/// a record has two controlled parts; or one that overrides Finalize and is neither quiet nor, where operations may be frugal, frugal and
-/// silent. Linear in the types, their components, and all bodies; a call costs the
-/// size of what is known of it.
+/// program in which operations may be; one that overrides Adjust, is not frugal in a program in which none is called, and is not quiet,
+/// since it is not plain or lets an exception out, or, of a type with a component of an access type, declared in it directly, is not simple
+/// and silent, stands in a program in which an Adjust may not track, or frees objects in one in which a record has two controlled parts; or
+/// one that overrides Finalize and is neither quiet nor, where operations may be frugal, frugal and silent. Linear in the types, their
+/// components, and all bodies; a call costs the size of what is known of it.
 ///
 /// # Errors
 /// `AllocError` where memory for what is known of procedures was refused.

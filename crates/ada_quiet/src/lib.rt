@@ -1,11 +1,11 @@
 //! Plain and quiet operations: those procedures that override Initialize, Adjust or Finalize of a controlled type (7.6), read and write
-//! Integers and Booleans alone, and call nothing, are plain; and quiet, where they let no exception out. An Initialize or a Finalize
-//! is frugal that allocates and frees objects without controlled parts, moves and follows, and calls procedures with frugal bodies, but
-//! allocates no object with controlled parts, assigns no record with some as a whole, and declares variables alone, which may be given what
-//! it allocates. A Finalize, an Adjust that is never called, and what these call, may free objects with controlled parts, too (13.11.2):
-//! the operations that end these run inside. An exception may come out of a frugal Initialize; a Finalize is to be silent too: none comes
-//! out. What procedures may raise, and which are frugal, where none may free objects with controlled parts and where some may, is found
-//! once for all, in the order in which they call each other.
+//! Integers and Booleans alone, and call nothing, are plain; and quiet, where they let no exception out. An Initialize, a Finalize or an
+//! Adjust that is never called is frugal that allocates, moves, follows and frees objects, and calls procedures with frugal bodies, but
+//! assigns no record with controlled parts as a whole, and declares variables alone, which may be given what it allocates. What it frees
+//! may have controlled parts, whichever operation it is (13.11.2): the operations that end these run inside. What it allocates may have
+//! some, too, where it is initialized by default, and begins quietly: each Initialize that is called for it is quiet (4.8, 7.6); but the
+//! declarations of an operation's own body create none. An exception may come out of a frugal Initialize; a Finalize is to be silent too:
+//! none comes out. What procedures may raise, and which are frugal, is found once for all, in the order in which they call each other.
 //!
 //! Where nothing in the text of a program creates an object with controlled parts (3.3.1, 4.8), or assigns a record with some (5.2), no
 //! operation is called: operations are idle, and each is in use, whatever its body does. Where nothing in it copies such a record, no
@@ -31,6 +31,8 @@
 //! Variables and components free objects (13.11.2), whatever runs where these end. While an object is finalized that is freed, no component
 //! names it but the one that frees it, if one does; and nothing that runs there comes to the object in which that component lies:
 //! an allocated one by `SparesHolders`, which `ada_verdict` asks of a program besides, and a declared one is named by no access value.
+//! `first_freed_inside` finds the first component in the text that frees an object of certain access types, and lies in a declared record
+//! object, or in one for which a formal parameter stands.
 //!
 //! In all these programs operations are to stand apart. No procedure that overrides an Adjust of a type with a component of an access
 //! type, declared in it directly, is called or overrides another operation: so it runs nowhere else. And no allocator gives values to
@@ -48,8 +50,8 @@
 //! stay, and do so where nothing is freed. Where each record has at most one controlled part, none is left to be adjusted later.
 //!
 //! A program with another body is refused (F23), since no theorem covers it so far: an Initialize, an Adjust or a Finalize that
-//! touches storage in another program, allocates objects with controlled parts, or assigns records with some, an Initialize that frees
-//! objects with controlled parts, or an Adjust that may be called and does, one that touches storage of a type without such a component,
+//! touches storage in another program, allocates objects with controlled parts that do not begin quietly, or declares some, or assigns
+//! records with some, an Adjust that may be called and frees such objects, one that touches storage of a type without such a component,
 //! operations that call procedures that are not frugal, an Adjust that calls, assigns to records as a whole, copies records out of its own
 //! object, or frees objects where a record has two controlled parts, and an Adjust or a Finalize that lets an exception out.
 #![tactic(auto)]
@@ -68,6 +70,7 @@ pub mod laws;
 mod marks;
 mod numbered;
 mod operations;
+mod releases;
 mod simple;
 mod statements;
 mod tracking;
@@ -76,5 +79,7 @@ mod values;
 
 pub use crate::first::first_unused;
 pub use crate::idle::makes_parts;
+pub use crate::marks::mark;
 pub use crate::operations::operations_are_quiet;
+pub use crate::releases::first_freed_inside;
 pub use crate::uses::may_be_frugal;

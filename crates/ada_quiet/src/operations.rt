@@ -3,7 +3,7 @@
 ghost use Rattle.std.specs.Prelude.{◌≡◌, ◌&&◌, Some, is_some, map, not, IfOk};
 ghost use Rattle.std.specs.List.{list_any, slice_get};
 ghost use Rattle.ada_program.specs.Kept.{types_in};
-ghost use Rattle.ada_program.specs.ProgramForm.{ProgramForm, part_form, program_form, type_form};
+ghost use Rattle.ada_program.specs.ProgramForm.{part_form, program_form, type_form};
 ghost use Rattle.ada_program.specs.WellFormed as fits;
 ghost use Rattle.ada_quiet.specs.Frugal as frugal;
 ghost use Rattle.ada_quiet.specs.Known.{IsKnown};
@@ -12,6 +12,7 @@ ghost use Rattle.ada_quiet.specs.Simple as simple;
 
 use crate::bodies::{is_plain_body, is_quiet_body, is_silent_body};
 use crate::frugal::is_frugal_call;
+use crate::idle::declarations_make_parts;
 use crate::known::Known;
 use crate::simple::is_simple_body;
 use ada_program::program::{ComponentKind, Finalization, Part, PartKind, TypeDefinition};
@@ -51,13 +52,33 @@ pub(crate) fn is_quiet_operation(
     is_quiet_body(alloc, &program.types, procedure)
 }
 
-/// Whether it has a frugal one, by the procedures whose bodies are so.
-pub(crate) fn is_frugal_operation(procedures: &[bool], operation: Option<ProcedureNo>) -> bool
-    ensures { (p : ProgramForm) → procedures.now ≡ frugal.frugal_procedures p → result ≡ frugal.is_frugal_operation p operation }
+/// Whether the declarations of a body, if there is one, create no object with controlled parts (3.3.1). Linear in them.
+fn declares_no_parts(program: &Program, number: ProcedureNo) -> bool
+    ensures { let p = program_form program.now in result ≡ frugal.declares_no_parts p.types (slice_get p.bodies number.0) }
+{
+    match program.procedures.get(number.0) {
+        None => true,
+        Some(procedure) => {
+            !declarations_make_parts(&program.types, false, &procedure.declarations)
+        }
+    }
+}
+
+/// Whether it has a frugal one, by the procedures whose bodies are so, and the declarations of this one create no object with controlled
+/// parts. Linear in these.
+pub(crate) fn is_frugal_operation(
+    program: &Program,
+    procedures: &[bool],
+    operation: Option<ProcedureNo>,
+) -> bool
+    ensures { let p = program_form program.now in
+        procedures.now ≡ frugal.frugal_procedures p → result ≡ frugal.is_frugal_operation p operation }
 {
     match operation {
         None => true,
-        Some(procedure) => is_frugal_call(procedures, procedure),
+        Some(procedure) => {
+            is_frugal_call(procedures, procedure) && declares_no_parts(program, procedure)
+        }
     }
 }
 

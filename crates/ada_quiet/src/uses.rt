@@ -69,12 +69,12 @@ pub(crate) fn uses_initialize(
     ensures { result ≡ first.initializes (program_form program.now) frugal operation }
 {
     is_plain_operation(program, operation)
-        || frugal && is_frugal_operation(known.frugal, operation)
+        || frugal && is_frugal_operation(program, known.frugal, operation)
 }
 
-/// Whether what overrides Adjust is frugal, where no Adjust is called; else whether it is simple
-/// and silent, where it may track, if it is a body, and its type has a component of an access type, declared in it directly; of another
-/// type, whether it is quiet. What tracks may free objects where the copy of a record adjusts one controlled part alone, and there only.
+/// Whether what overrides Adjust is frugal, where no Adjust is called; else whether it is simple and silent, where it may track, if it is a
+/// body, and its type has a component of an access type, declared in it directly; of another type, whether it is quiet. What tracks may
+/// free objects where the copy of a record adjusts one controlled part alone, and there only.
 ///
 /// # Errors
 /// `AllocError` where memory for the exceptions that it raises was refused.
@@ -91,7 +91,7 @@ pub(crate) fn uses_adjust(
     requires { IsKnown (program_form program.now) known }
     ensures { IfOk result (λ answer. answer ≡ first.adjusts (program_form program.now) nothing tracks alone owns operation) }
 {
-    if nothing && is_frugal_operation(known.frugal, operation) {
+    if nothing && is_frugal_operation(program, known.frugal, operation) {
         return Ok(true);
     }
     if !(owns && is_overridden(program, operation)) {
@@ -121,7 +121,7 @@ pub(crate) fn uses_finalize(
     if is_quiet_operation(alloc, program, operation)? {
         return Ok(true);
     }
-    if !(frugal && is_frugal_operation(known.frugal, operation)) {
+    if !(frugal && is_frugal_operation(program, known.frugal, operation)) {
         return Ok(false);
     }
     is_silent_operation(alloc, program, known, operation)

@@ -17,17 +17,15 @@ use Rattle.ada_program.specs.ProgramForm.{TypeForm, type_form, VariableForm, Bod
 use Rattle.ada_program.specs.WellFormed.{finalization_in, finalization_of, named_in, variable_kind, IsWellFormed}
 use Rattle.ada_meaning.specs.Pace.{right_creates, declaration_creates, declarations_create, body_creates, operation_creates, OperationsDeclareNoParts}
 use Rattle.ada_quiet.specs.Quiet.{is_elementary, holds_elementary, is_quiet_right, is_quiet_declaration, are_quiet_declarations, are_quiet, are_quiet_handlers, is_plain_body, is_plain_procedure, is_plain_operation, is_quiet_operation, has_access, operation_body}
-use Rattle.ada_quiet.specs.Bare.{has_bare_objects, allocates_bare}
+use Rattle.ada_quiet.specs.Bare.{has_bare_objects}
 use Rattle.ada_quiet.specs.Idle.{has_parts, holds_parts, right_makes_parts, declaration_makes_parts, declarations_make_parts, stmts_make_parts, handlers_make_parts, body_makes_parts, makes_parts}
 use Rattle.ada_quiet.specs.InUse.{adjusts_alone, may_be_frugal, may_track, uses_initialize, uses_adjust, uses_finalize, uses_operations, operations_are_idle, operations_may_be_called, operations_are_in_use, adjusts_nothing, operations_stand_in_order, uses_called_adjust}
-use Rattle.ada_quiet.specs.Frugal.{Thrift, is_frugal_declaration, are_frugal_declarations, are_frugal, are_frugal_handlers, is_frugal_body, frugal_procedures, is_frugal_operation, is_silent_operation}
-use Rattle.ada_quiet.specs.Simple.{is_simple_procedure, is_simple_operation}
+use Rattle.ada_quiet.specs.Frugal.{declares_no_parts, frugal_procedures, is_frugal_operation, is_silent_operation}
+use Rattle.ada_quiet.specs.Simple.{is_bare_kind, is_plain_item, is_simple_right, is_simple_declaration, are_simple_declarations, are_simple, are_simple_handlers, is_simple_procedure, is_simple_operation}
 use Rattle.ada_quiet.proofs.InUse.{plain_operation}
-use Rattle.ada_quiet.proofs.FrugalAt.{frugal_at}
 use Rattle.ada_typed.proofs.Parts.{known_number, shown_number}
 use Rattle.ada_sound.proofs.FrugalFrees.{bare_number}
 use Rattle.ada_sound.proofs.OnlyRows.{none_passes}
-use Rattle.ada_sound.proofs.SimpleBodies.{simple_frugal, simple_with}
 
 -- Both tests are passed where their conjunction is.
 left_of : (a b : Bool) → (a && b) ≡ true → a ≡ true
@@ -124,73 +122,94 @@ module _ (program : Program) (well : IsWellFormed (program_form program)) where
   reaches_none : (access : ℕ) → has_bare_objects p.types access ≡ true → is_some (number_reached tds access) ≡ false
   reaches_none access bare = ap (λ (o : Option ℕ). is_some o) (sym (known_number tds p.types access refl) ∙ bare_number p.types (slice_get p.types access) bare)
 
-  right_bare : (right : RightForm) → allocates_bare p.types right ≡ true → right_creates tds right ≡ false
-  right_bare nothing bare = refl
-  right_bare (value_of path) bare = refl
-  right_bare (allocates access items) bare = reaches_none access bare
-  right_bare (allocates_default access) bare = reaches_none access bare
-  right_bare (computes e) bare = refl
+  -- So what a simple body gives to its variables creates none (3.3.1).
+  right_simple : (right : RightForm) → is_simple_right p.types right ≡ true → right_creates tds right ≡ false
+  right_simple nothing simple = refl
+  right_simple (value_of path) simple = refl
+  right_simple (allocates access items) simple = reaches_none access (left_of (has_bare_objects p.types access) (list_all is_plain_item items) simple)
+  right_simple (allocates_default access) simple = reaches_none access simple
+  right_simple (computes e) simple = refl
 
-  -- So a frugal declaration creates nothing that has some (3.3.1).
-  declaration_frugal : (d : DeclarationForm) → is_frugal_declaration p.types d ≡ true → declaration_creates tds d ≡ false
-  declaration_frugal (creates_pool pool) frugal = refl
-  declaration_frugal (collects access) frugal = refl
-  declaration_frugal (declares x right) frugal = right_bare right frugal
-  declaration_frugal (declares_record x object initial) frugal = absurd (cc frugal)
+  declaration_simple : (d : DeclarationForm) → is_simple_declaration p.types d ≡ true → declaration_creates tds d ≡ false
+  declaration_simple (creates_pool pool) simple = refl
+  declaration_simple (collects access) simple = refl
+  declaration_simple (declares x right) simple = right_simple right simple
+  declaration_simple (declares_record x object initial) simple = absurd (cc simple)
 
-  declarations_frugal : (ds : List DeclarationForm) → are_frugal_declarations p.types ds ≡ true → declarations_create tds ds ≡ false
-  declarations_frugal [] frugal = refl
-  declarations_frugal (d ∷ ds) frugal =
-      let here = is_frugal_declaration p.types d in
-      let later = are_frugal_declarations p.types ds in
-      rw (declaration_frugal d (left_of here later frugal)) (declarations_frugal ds (right_of here later frugal))
+  declarations_simple : (ds : List DeclarationForm) → are_simple_declarations p.types ds ≡ true → declarations_create tds ds ≡ false
+  declarations_simple [] simple = refl
+  declarations_simple (d ∷ ds) simple =
+      let here = is_simple_declaration p.types d in
+      let later = are_simple_declarations p.types ds in
+      rw (declaration_simple d (left_of here later simple)) (declarations_simple ds (right_of here later simple))
 
-  -- Nor does one of a frugal body.
-  body_frugal : (ends : Bool) (known : List Bool) (b : BodyForm) → is_frugal_body (record { types = p.types; ends_parts = ends; procedures = known }) b ≡ true →
-      declarations_create tds b.declarations ≡ false
-  body_frugal ends known b frugal =
-      let thrift : Thrift = record { types = p.types; ends_parts = ends; procedures = known } in
-      let declarations = are_frugal_declarations p.types b.declarations in
-      let statements = are_frugal thrift b.statements in
-      let handlers = are_frugal_handlers thrift b.handlers in
-      declarations_frugal b.declarations (left_of declarations statements (left_of (declarations && statements) handlers frugal))
-
-  procedure_frugal : (ends : Bool) (n : ℕ) (found : Option BodyForm) → slice_index_or (frugal_procedures p) n false ≡ true → slice_get p.bodies n ≡ found →
-      body_creates tds found ≡ false
-  procedure_frugal ends n None frugal at = refl
-  procedure_frugal ends n (Some b) frugal at = body_frugal ends (frugal_procedures p) b (frugal_at p ends n b frugal at)
-
-  operation_frugal : (ends : Bool) (o : Option ProcedureNo) → is_frugal_operation p ends o ≡ true → operation_creates tds p.bodies o ≡ false
-  operation_frugal ends None frugal = refl
-  operation_frugal ends (Some procedure) frugal = procedure_frugal ends procedure.0 (slice_get p.bodies procedure.0) frugal refl
-
-  -- Nor does one of a simple body, which is frugal, whatever is known of procedures, and whether it may free objects or not.
   procedure_simple : (may_free : Bool) (found : Option BodyForm) → is_simple_procedure p.types may_free found ≡ true → body_creates tds found ≡ false
   procedure_simple may_free None simple = refl
   procedure_simple may_free (Some b) simple =
-      body_frugal false [] b (simple_frugal (record { types = p.types; ends_parts = false; procedures = [] }) b (simple_with p.types may_free b simple))
+      let variables = list_all (λ (x : VariableForm). is_bare_kind p.types x.kind) (drop 1 b.variables) in
+      let declarations = are_simple_declarations p.types b.declarations in
+      let statements = are_simple p.types may_free b.statements in
+      let handlers = are_simple_handlers p.types may_free b.handlers in
+      declarations_simple b.declarations
+      (right_of variables declarations (left_of (variables && declarations) statements (left_of (variables && declarations && statements) handlers simple)))
 
   operation_simple : (may_free : Bool) (o : Option ProcedureNo) → is_simple_operation p may_free o ≡ true → operation_creates tds p.bodies o ≡ false
   operation_simple may_free None simple = refl
   operation_simple may_free (Some procedure) simple = procedure_simple may_free (slice_get p.bodies procedure.0) simple
 
+  -- What is known by a type without controlled parts creates none.
+  holds_none : (access : ℕ) → holds_parts p.types access ≡ false → is_some (number_reached tds access) ≡ false
+  holds_none access none =
+      ap (λ (o : Option ℕ). is_some o) (sym (known_number tds p.types access refl)) ∙ unnumbered_type p.types (named_in (slice_get p.types access)) none
+
+  right_idle : (right : RightForm) → right_makes_parts p.types false right ≡ false → right_creates tds right ≡ false
+  right_idle nothing none = refl
+  right_idle (value_of path) none = refl
+  right_idle (allocates access items) none = holds_none access none
+  right_idle (allocates_default access) none = holds_none access none
+  right_idle (computes e) none = refl
+
+  declaration_idle : (d : DeclarationForm) → declaration_makes_parts p.types false d ≡ false → declaration_creates tds d ≡ false
+  declaration_idle (creates_pool pool) none = refl
+  declaration_idle (collects access) none = refl
+  declaration_idle (declares x right) none = right_idle right none
+  declaration_idle (declares_record x object None) none = holds_none object none
+  declaration_idle (declares_record x object (Some items)) none = holds_none object none
+
+  declarations_idle : (ds : List DeclarationForm) → declarations_make_parts p.types false ds ≡ false → declarations_create tds ds ≡ false
+  declarations_idle [] none = refl
+  declarations_idle (d ∷ ds) none =
+      let both = or_parts (declaration_makes_parts p.types false d) (declarations_make_parts p.types false ds) none in
+      rw (declaration_idle d both.0) (declarations_idle ds both.1)
+
+  -- A frugal operation's own declarations make no such parts.
+  procedure_frugal : (found : Option BodyForm) → declares_no_parts p.types found ≡ true → body_creates tds found ≡ false
+  procedure_frugal None none = refl
+  procedure_frugal (Some b) none = declarations_idle b.declarations (not-true (declarations_make_parts p.types false b.declarations) none)
+
+  operation_frugal : (o : Option ProcedureNo) → is_frugal_operation p o ≡ true → operation_creates tds p.bodies o ≡ false
+  operation_frugal None frugal = refl
+  operation_frugal (Some procedure) frugal =
+      let told = slice_index_or (frugal_procedures p) procedure.0 false in
+      procedure_frugal (slice_get p.bodies procedure.0) (right_of told (declares_no_parts p.types (slice_get p.bodies procedure.0)) frugal)
+
   -- So it is with an Initialize and a Finalize that are in use.
   initialize_used : (o : Option ProcedureNo) → uses_initialize p o ≡ true → operation_creates tds p.bodies o ≡ false
   initialize_used o used =
       operation_either p tds o (is_plain_operation p o) (may_be_frugal p && is_frugal_operation p o) (operation_plain p tds o)
-      (λ both. operation_frugal false o (right_of (may_be_frugal p) (is_frugal_operation p o) both)) used
+      (λ both. operation_frugal o (right_of (may_be_frugal p) (is_frugal_operation p o) both)) used
 
   finalize_used : (o : Option ProcedureNo) → uses_finalize p o ≡ true → operation_creates tds p.bodies o ≡ false
   finalize_used o used =
       let frugal = may_be_frugal p && is_frugal_operation p o in
       operation_either p tds o (is_quiet_operation p o) (frugal && is_silent_operation p o) (λ quiet. operation_plain p tds o (plain_operation p o quiet))
-      (λ both. operation_frugal true o (right_of (may_be_frugal p) (is_frugal_operation p o) (left_of frugal (is_silent_operation p o) both))) used
+      (λ both. operation_frugal o (right_of (may_be_frugal p) (is_frugal_operation p o) (left_of frugal (is_silent_operation p o) both))) used
 
   -- So it is with an Adjust that is in use: it is simple, where it may track, or quiet.
   adjust_used : (owns : Bool) (o : Option ProcedureNo) → uses_adjust p owns o ≡ true → operation_creates tds p.bodies o ≡ false
   adjust_used owns o used =
       operation_either p tds o (adjusts_nothing p && is_frugal_operation p o) (uses_called_adjust p owns o)
-      (λ nothing. operation_frugal true o (right_of (adjusts_nothing p) (is_frugal_operation p o) nothing))
+      (λ nothing. operation_frugal o (right_of (adjusts_nothing p) (is_frugal_operation p o) nothing))
       (λ called. by (owns && is_some (operation_body p o)) called) used
     where
       by : (tracks : Bool)
@@ -217,31 +236,6 @@ module _ (program : Program) (well : IsWellFormed (program_form program)) where
   none_by (definition.Record name parts components finalization) used = none_in (has_access (Some (type_form (definition.Record name parts components finalization)))) finalization used
   none_by (definition.Access name designated pool) used = (refl, refl, refl)
   none_by (definition.Object record_type) used = (refl, refl, refl)
-
-  -- What is known by a type without controlled parts creates none.
-  holds_none : (access : ℕ) → holds_parts p.types access ≡ false → is_some (number_reached tds access) ≡ false
-  holds_none access none =
-      ap (λ (o : Option ℕ). is_some o) (sym (known_number tds p.types access refl)) ∙ unnumbered_type p.types (named_in (slice_get p.types access)) none
-
-  right_idle : (right : RightForm) → right_makes_parts p.types false right ≡ false → right_creates tds right ≡ false
-  right_idle nothing none = refl
-  right_idle (value_of path) none = refl
-  right_idle (allocates access items) none = holds_none access none
-  right_idle (allocates_default access) none = holds_none access none
-  right_idle (computes e) none = refl
-
-  declaration_idle : (d : DeclarationForm) → declaration_makes_parts p.types false d ≡ false → declaration_creates tds d ≡ false
-  declaration_idle (creates_pool pool) none = refl
-  declaration_idle (collects access) none = refl
-  declaration_idle (declares x right) none = right_idle right none
-  declaration_idle (declares_record x object None) none = holds_none object none
-  declaration_idle (declares_record x object (Some items)) none = holds_none object none
-
-  declarations_idle : (ds : List DeclarationForm) → declarations_make_parts p.types false ds ≡ false → declarations_create tds ds ≡ false
-  declarations_idle [] none = refl
-  declarations_idle (d ∷ ds) none =
-      let both = or_parts (declaration_makes_parts p.types false d) (declarations_make_parts p.types false ds) none in
-      rw (declaration_idle d both.0) (declarations_idle ds both.1)
 
   body_idle : (b : BodyForm) → body_makes_parts p.types false b ≡ false → declarations_create tds b.declarations ≡ false
   body_idle b none =

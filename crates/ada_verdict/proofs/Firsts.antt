@@ -1,5 +1,5 @@
 -- A source has one program at most, one first fault at most, and never both.
-use Rattle.std.proofs.Common.{◌≡◌, ◌≢◌, ℕ, ◌||◌, ◌&&◌, ◌==◌, Bool, true, false, List, Option, Some, None, Result, Ok, Err, IfOk, IfErr, IsErrAnd, arith, refl, sym, ap, subst, ◌∙◌}
+use Rattle.std.proofs.Common.{◌≡◌, ◌≢◌, ℕ, ◌||◌, ◌&&◌, ◌==◌, Bool, true, false, List, [], Option, Some, None, Result, Ok, Err, IfOk, IfErr, IsErrAnd, arith, refl, sym, ap, subst, ◌∙◌}
 use Rattle.std.specs.Prelude.{nat_lt}
 use Rattle.ada_text.specs.declared.spot.Spot.{Spot}
 use Rattle.ada_text.specs.declared.fault.TextFault.{TextFault}
@@ -23,6 +23,7 @@ use Rattle.ada_operations.specs.Operations.{HasFault, IsFirstFault as IsFirstOf,
 use Rattle.ada_quiet.specs.First.{HasUnused, IsFirst as IsFirstPlace}
 use Rattle.ada_quiet.specs.Idle.{makes_parts}
 use Rattle.ada_quiet.specs.InUse.{may_be_frugal}
+use Rattle.ada_quiet.specs.Releases.{first_spot, text_frees_inside}
 use Rattle.ada_resolve.specs.declared.fault.NameFault.{NameFault}
 use Rattle.ada_resolve.specs.declared.fault.NameFault.TheVariants as names
 use Rattle.ada_resolve.specs.declared.fault.NameRule.{NameRule}
@@ -31,12 +32,12 @@ use Rattle.ada_flow.specs.declared.fault.FlowFault.{FlowFault}
 use Rattle.ada_flow.specs.declared.fault.FlowFault.TheVariants as flow
 use Rattle.ada_effects.specs.Effects.{Implicit}
 use Rattle.ada_text.specs.Exactly.{Exactly}
-use Rattle.ada_sound.specs.Always.{SparesHolders, spare_holders}
+use Rattle.ada_sound.specs.Always.{SparesHolders, SparesStarts, reaches_holder, starts_spare}
 use Rattle.ada_verdict.specs.declared.fault.UnusedFault.{UnusedFault}
 use Rattle.ada_verdict.specs.declared.fault.UnusedFault.TheVariants as unused
 use Rattle.ada_verdict.specs.declared.fault.Verdict.{Verdict}
 use Rattle.ada_verdict.specs.declared.fault.Verdict.TheVariants as verdict
-use Rattle.ada_verdict.specs.First.{IsSourceOf, IsProgramOf, IsAccepted, IsFirstIn, IsFirst, IsFirstUnused, RefusesRightly, HasFaultOrProgram}
+use Rattle.ada_verdict.specs.First.{IsSourceOf, IsProgramOf, IsAccepted, IsFirstIn, IsFirst, IsFirstUnused, IsFreedFirst, RefusesRightly, HasFaultOrProgram}
 use Rattle.ada_verdict.specs.declared.rules.TheConstants as rules
 use Rattle.ada_verdict.specs.Refusal.{Told, told, rule_text, refusal_of}
 
@@ -175,16 +176,39 @@ no_early tokens text tree syntax source (verdict.Flow f) early b p a = absurd (c
 -- What is first unused obeys the rules of flow.
 unused_obeys : (p : Program) (f : UnusedFault) → IsFirstUnused p f → ObeysRules p
 unused_obeys p (unused.Operation spot) first = first.0
-unused_obeys p unused.Holder first = first.0
+unused_obeys p (unused.Holder spot) first = first.0
+unused_obeys p unused.Start first = first.0
 unused_obeys p unused.NoMemory first = first
 
--- In a program of this form the end of what a component names reaches no object of a type in which such a component lies.
+-- In a program of this form no component of a record frees an object whose end reaches a type whose objects have such a component.
 abbrev SparesHoldersIn : ProgramForm → Type 0
-SparesHoldersIn p = may_be_frugal p ≡ true → makes_parts p ≡ true → spare_holders (implicit_of p) p.types 0 p.types ≡ true
+SparesHoldersIn p = may_be_frugal p ≡ true → makes_parts p ≡ true → text_frees_inside (reaches_holder (implicit_of p) p.types) p ≡ []
+
+-- And the initialization of an object frees none of its own access type.
+abbrev SparesStartsIn : ProgramForm → Type 0
+SparesStartsIn p = may_be_frugal p ≡ true → makes_parts p ≡ true → starts_spare (implicit_of p) 0 p.types ≡ true
 
 -- Programs that are alike spare alike.
-same_spared : (p q : Program) → program_form p ≡ program_form q → SparesHolders p → SparesHolders q
-same_spared p q same spares = subst SparesHoldersIn same spares
+same_started : (p q : Program) → program_form p ≡ program_form q → SparesStarts p → SparesStarts q
+same_started p q same spares = subst SparesStartsIn same spares
+
+-- Where holders are spared, no component is freed first that does not spare one.
+no_freed : {X : Type 0} (p q : Program) (spot : Spot) → program_form p ≡ program_form q → IsFreedFirst (program_form p) spot → SparesHolders q → X
+no_freed p q spot same freed spares =
+    let back : SparesHoldersIn (program_form p) = subst SparesHoldersIn (sym same) spares in
+    let none = ap first_spot (back freed.0 freed.1) in
+    absurd (cc (sym none ∙ freed.2))
+
+-- What is told of a place, if there is one.
+abbrev told_of : List ℕ → Option Spot → Option Told
+told_of text None = None
+told_of text (Some spot) = told spot text
+
+-- One component is freed first.
+one_freed : (p q : ProgramForm) (spot other : Spot) → p ≡ q → IsFreedFirst p spot → IsFreedFirst q other → (text : List ℕ) → told spot text ≡ told other text
+one_freed p q spot other same a b text =
+    let back = subst (λ (form : ProgramForm). IsFreedFirst form other) (sym same) b in
+    ap (told_of text) (sym a.2 ∙ back.2)
 
 -- A later phase begins with a program.
 late_program : (source : List ℕ) (v : Verdict) → is_late v ≡ true → IsFirst source v → (p : Program) × IsProgramOf source p
@@ -274,8 +298,10 @@ no_first tokens text tree syntax source (verdict.Operations (operations.Broken s
 no_first tokens text tree syntax source (verdict.Operations operations.NoMemory) b p a = refl
 no_first tokens text tree syntax source (verdict.Unused (unused.Operation spot)) b p a =
     no_place HasUnused (program_form b.0) (program_form p) spot (one_program tokens tree source b.0 p b.1 a.0) b.2.1.1 a.1.2.0
-no_first tokens text tree syntax source (verdict.Unused unused.Holder) b p a =
-    absurd (b.2.1.2 (same_spared p b.0 (one_program tokens tree source p b.0 a.0 b.1) a.1.2.1))
+no_first tokens text tree syntax source (verdict.Unused (unused.Holder spot)) b p a =
+    no_freed b.0 p spot (one_program tokens tree source b.0 p b.1 a.0) b.2.1.2 a.1.2.1
+no_first tokens text tree syntax source (verdict.Unused unused.Start) b p a =
+    absurd (b.2.1.2.1 (same_started p b.0 (one_program tokens tree source p b.0 a.0 b.1) a.1.2.2))
 no_first tokens text tree syntax source (verdict.Unused unused.NoMemory) b p a = refl
 no_first tokens text tree syntax source (verdict.Flow (flow.Broken spot rule)) b p a =
     obeys_none p spot rule (same_judgement p b.0 (one_program tokens tree source p b.0 a.0 b.1) ∙ b.2.1) a.1.1
@@ -328,11 +354,21 @@ late_one tokens tree source (verdict.Unused f) (verdict.Operations (operations.B
     no_broken (program_form b.0) (program_form a.0) spot rule (one_program tokens tree source b.0 a.0 b.1 a.1) b.2 a.2.0
 late_one tokens tree source (verdict.Unused (unused.Operation spot)) (verdict.Unused (unused.Operation other)) x y a b n m =
     one_place HasUnused (program_form a.0) (program_form b.0) spot other (one_program tokens tree source a.0 b.0 a.1 b.1) a.2.1.1 b.2.1.1 rules.NOT_IN_PROFILE.now
-late_one tokens tree source (verdict.Unused (unused.Operation spot)) (verdict.Unused unused.Holder) x y a b n m =
+late_one tokens tree source (verdict.Unused (unused.Operation spot)) (verdict.Unused (unused.Holder other)) x y a b n m =
     no_place HasUnused (program_form a.0) (program_form b.0) spot (one_program tokens tree source a.0 b.0 a.1 b.1) a.2.1.1 b.2.1.1
-late_one tokens tree source (verdict.Unused unused.Holder) (verdict.Unused (unused.Operation spot)) x y a b n m =
+late_one tokens tree source (verdict.Unused (unused.Operation spot)) (verdict.Unused unused.Start) x y a b n m =
+    no_place HasUnused (program_form a.0) (program_form b.0) spot (one_program tokens tree source a.0 b.0 a.1 b.1) a.2.1.1 b.2.1.1
+late_one tokens tree source (verdict.Unused (unused.Holder other)) (verdict.Unused (unused.Operation spot)) x y a b n m =
     no_place HasUnused (program_form b.0) (program_form a.0) spot (one_program tokens tree source b.0 a.0 b.1 a.1) b.2.1.1 a.2.1.1
-late_one tokens tree source (verdict.Unused unused.Holder) (verdict.Unused unused.Holder) x y a b n m = refl
+late_one tokens tree source (verdict.Unused unused.Start) (verdict.Unused (unused.Operation spot)) x y a b n m =
+    no_place HasUnused (program_form b.0) (program_form a.0) spot (one_program tokens tree source b.0 a.0 b.1 a.1) b.2.1.1 a.2.1.1
+late_one tokens tree source (verdict.Unused (unused.Holder spot)) (verdict.Unused (unused.Holder other)) x y a b n m =
+    one_freed (program_form a.0) (program_form b.0) spot other (one_program tokens tree source a.0 b.0 a.1 b.1) a.2.1.2 b.2.1.2 rules.NOT_IN_PROFILE.now
+late_one tokens tree source (verdict.Unused (unused.Holder spot)) (verdict.Unused unused.Start) x y a b n m =
+    no_freed a.0 b.0 spot (one_program tokens tree source a.0 b.0 a.1 b.1) a.2.1.2 b.2.1.2.0
+late_one tokens tree source (verdict.Unused unused.Start) (verdict.Unused (unused.Holder spot)) x y a b n m =
+    no_freed b.0 a.0 spot (one_program tokens tree source b.0 a.0 b.1 a.1) b.2.1.2 a.2.1.2.0
+late_one tokens tree source (verdict.Unused unused.Start) (verdict.Unused unused.Start) x y a b n m = refl
 late_one tokens tree source (verdict.Unused f) (verdict.Flow (flow.Broken other rule)) x y a b n m =
     obeys_none a.0 other rule (same_judgement a.0 b.0 (one_program tokens tree source a.0 b.0 a.1 b.1) ∙ b.2.1) (unused_obeys a.0 f a.2.1)
 late_one tokens tree source (verdict.Flow f) (verdict.Operations (operations.Broken spot rule)) x y a b n m =

@@ -2,5 +2,7 @@
 pub mod Firsts
 -- what ends and adjustments spare
 pub mod Spares
--- the objects in which components lie
+-- the holders that ends reach
 pub mod SparedHolders
+-- the initialization of objects
+pub mod SparedStarts

@@ -1,22 +1,27 @@
 -- The program of a source, and its first fault. The phases are text, syntax, names, the rules on operations of controlled types, flow, and which operations are
 -- in use.
 
-use Rattle.std.specs.Prelude.{◌≡◌, ◌≢◌, ℕ, List, Some, None}
+use Rattle.std.specs.Prelude.{◌≡◌, ◌≢◌, ℕ, true, List, Some, None}
+use Rattle.ada_text.specs.declared.spot.Spot.{Spot}
 use Rattle.ada_text.specs.Token.{Lexeme}
 use Rattle.ada_text.specs.Reading.{Spells, IsFirstFault as IsFirstTextFault}
 use Rattle.ada_tree.specs.Statements.{UnitTree, IsTextOf}
 use Rattle.ada_parser.specs.FirstFault.{IsFirstFault as IsFirstSyntaxFault}
 use Rattle.ada_program.specs.declared.program.Program.{Program}
-use Rattle.ada_program.specs.ProgramForm.{program_form}
+use Rattle.ada_program.specs.ProgramForm.{ProgramForm, program_form}
+use Rattle.ada_deeds.specs.Implicit.{implicit_of}
 use Rattle.ada_operations.specs.declared.fault.OperationFault.{OperationFault}
 use Rattle.ada_operations.specs.declared.fault.OperationFault.TheVariants as operations
 use Rattle.ada_operations.specs.Operations.{IsFirstFault as IsFirstOf}
 use Rattle.ada_quiet.specs.First.{IsFirstUnused as IsFirstNotInUse}
+use Rattle.ada_quiet.specs.Idle.{makes_parts}
+use Rattle.ada_quiet.specs.InUse.{may_be_frugal}
+use Rattle.ada_quiet.specs.Releases.{first_spot, text_frees_inside}
 use Rattle.ada_resolve.specs.Resolution.{Resolves}
 use Rattle.ada_resolve.specs.View.{Faults}
 use Rattle.ada_flow.specs.Flow.{ObeysRules}
 use Rattle.ada_flow.specs.Told.{IsFirstFault as IsFirstFlowFault}
-use Rattle.ada_sound.specs.Always.{SparesHolders}
+use Rattle.ada_sound.specs.Always.{SparesHolders, SparesStarts, reaches_holder}
 use Rattle.ada_verdict.specs.declared.fault.UnusedFault.{UnusedFault}
 use Rattle.ada_verdict.specs.declared.fault.UnusedFault.TheVariants as unused
 use Rattle.ada_verdict.specs.declared.fault.Verdict.{Verdict}
@@ -41,9 +46,10 @@ OperationsObey program = IsFirstOf (program_form program) None
 
 -- Each operation is in use: Initialize is plain or, where it may be, frugal, Adjust is quiet, or, of a type that declares a component of an access type, simple
 -- and silent, where it may track, and Finalize is quiet or, where it may be, frugal and silent. And where one may touch storage, and something creates an
--- object with controlled parts, the end of what a component names reaches no access type whose objects have such a component.
+-- object with controlled parts, no component of a record frees an object whose end reaches an access type whose objects have such a component, and the initialization of
+-- an object frees none of its own access type.
 abbrev pub OperationsAreInUse : Program → Type 0
-OperationsAreInUse program = IsFirstNotInUse (program_form program) None × SparesHolders program
+OperationsAreInUse program = IsFirstNotInUse (program_form program) None × SparesHolders program × SparesStarts program
 
 -- Nothing is wrong with a program, by the phases behind names: its operations obey their rules, it obeys the rules of flow, where what operations may
 -- do that are called implicitly counts, and its operations are in use.
@@ -59,11 +65,24 @@ abbrev pub IsFirstBroken : Program → OperationFault → Type 0
 IsFirstBroken program (operations.Broken spot rule) = IsFirstOf (program_form program) (Some (spot, rule))
 IsFirstBroken program operations.NoMemory = Unit {0}
 
--- The first operation that is not in use, where the rules of flow are obeyed; or each is in use, but the end of what a component names may reach a
--- holder of such a component.
+-- Where the first component of a record is freed whose object's end may reach a holder of such a component, in a program of this form.
+abbrev pub IsFreedFirst : ProgramForm → Spot → Type 0
+IsFreedFirst p spot =
+    (may_be_frugal p ≡ true) × (makes_parts p ≡ true) × (first_spot (text_frees_inside (reaches_holder (implicit_of p) p.types) p) ≡ Some spot)
+
+-- What an end or a beginning does not spare, first in a program: a holder of a component, or an object of the same access type.
+abbrev pub IsFirstUnspared : Program → UnusedFault → Type 0
+IsFirstUnspared program (unused.Operation spot) = ⊥
+IsFirstUnspared program (unused.Holder spot) = IsFreedFirst (program_form program) spot
+IsFirstUnspared program unused.Start = SparesHolders program × (SparesStarts program → ⊥)
+IsFirstUnspared program unused.NoMemory = Unit {0}
+
+-- The first operation that is not in use, where the rules of flow are obeyed; or each is in use, but an end may not spare a holder of a component that is freed, or a
+-- beginning may not spare objects of the same access type.
 abbrev pub IsFirstUnused : Program → UnusedFault → Type 0
 IsFirstUnused program (unused.Operation spot) = ObeysRules program × IsFirstNotInUse (program_form program) (Some spot)
-IsFirstUnused program unused.Holder = ObeysRules program × IsFirstNotInUse (program_form program) None × (SparesHolders program → ⊥)
+IsFirstUnused program (unused.Holder spot) = ObeysRules program × IsFirstNotInUse (program_form program) None × IsFirstUnspared program (unused.Holder spot)
+IsFirstUnused program unused.Start = ObeysRules program × IsFirstNotInUse (program_form program) None × IsFirstUnspared program unused.Start
 IsFirstUnused program unused.NoMemory = ObeysRules program
 
 -- The first fault of a program, behind names: that of the first phase that has one.

@@ -1,6 +1,6 @@
 //! The checker: one phase after another, and the program that it accepts.
 
-ghost use Rattle.std.specs.Prelude.{◌≡◌, ◌⊎◌, true, IfOk, IfErr};
+ghost use Rattle.std.specs.Prelude.{◌≡◌, true, IfOk, IfErr};
 ghost use Rattle.ada_deeds.specs.Implicit.{implicit_of};
 ghost use Rattle.ada_effects.specs.Found.{implicit_in};
 ghost use Rattle.ada_flow.specs.Flow.{ObeysRules};
@@ -11,21 +11,21 @@ ghost use Rattle.ada_program.specs.Nested.{CollectionsNest};
 ghost use Rattle.ada_program.specs.ProgramForm.{program_form};
 ghost use Rattle.ada_program.specs.WellFormed.{IsWellFormed};
 ghost use Rattle.ada_quiet.specs.InUse.{operations_are_in_use};
-ghost use Rattle.ada_sound.specs.Always.{IsChecked, SparesHolders};
+ghost use Rattle.ada_sound.specs.Always.{IsChecked, SparesHolders, SparesStarts};
 ghost use Rattle.ada_tree.specs.StatementView.{unit_of};
-ghost use Rattle.ada_verdict.specs.declared.fault.UnusedFault.TheVariants as unused;
-ghost use Rattle.ada_verdict.specs.First.{HasNoFault, IsAccepted, IsFirst, IsFirstIn, IsFirstUnused, IsProgramOf, IsSourceOf, OperationsAreInUse, RefusesRightly};
+ghost use Rattle.ada_verdict.specs.First.{HasNoFault, IsAccepted, IsFirst, IsFirstIn, IsFirstUnspared, IsFirstUnused, IsProgramOf, IsSourceOf, OperationsAreInUse, RefusesRightly};
 
 use crate::fault::{UnusedFault, Verdict};
-use crate::holders::spare_holders;
+use crate::holders::reaching_holders;
 use crate::laws::accepted_sources_have_no_fault;
+use crate::starts::starts_spare;
 use ada_effects::Implicit;
 use ada_flow::{FlowFault, flow};
 use ada_operations::laws::ends_spare_their_own;
 use ada_operations::operations;
 use ada_parser::parse;
 use ada_program::Program;
-use ada_quiet::{first_unused, makes_parts, may_be_frugal};
+use ada_quiet::{first_freed_inside, first_unused, makes_parts, may_be_frugal};
 use ada_resolve::resolve;
 use ada_sound::laws::rules_imply_safety;
 use ada_tree::unit::Unit;
@@ -112,6 +112,7 @@ fn judge(alloc: Global, program: &Program) -> Result<(), Verdict>
     ensures fine { IfOk result (λ _. HasNoFault program.now) }
     ensures in_use { IfOk result (λ _. operations_are_in_use (program_form program.now) ≡ true) }
     ensures holders { IfOk result (λ _. SparesHolders program.now) }
+    ensures starts { IfOk result (λ _. SparesStarts program.now) }
     ensures refused { IfErr result (λ verdict. IsFirstIn program.now verdict) }
 {
     let implicit = operations(alloc, program)?;
@@ -134,11 +135,11 @@ fn obey(alloc: Global, program: &Program, implicit: &Implicit) -> Result<(), Flo
 
 /// Each operation is in use: Initialize is plain or, where it may be, frugal, Adjust is quiet, or, of a type that declares a component
 /// of an access type, simple and silent, where it may track, and Finalize is quiet or, where it may be, frugal and silent. And where one
-/// may touch storage, and something creates an object with controlled parts, the end of what a component names reaches no access type
-/// whose objects have such a component.
+/// may touch storage, and something creates an object with controlled parts, no component of a record frees an object whose end reaches an
+/// access type whose objects have such a component, and the initialization of an object frees none of its own access type.
 ///
 /// # Errors
-/// The first one that is not, or that the end of what a component names may reach a holder of such a component, or want of memory.
+/// The first one that is not, the first such component, or that an initialization may free such objects, or want of memory.
 fn use_all(alloc: Global, program: &Program, implicit: &Implicit) -> Result<(), UnusedFault>
     requires obeys { ObeysRules program.now }
     requires known { implicit_in implicit.now ≡ implicit_of (program_form program.now) }
@@ -148,31 +149,32 @@ fn use_all(alloc: Global, program: &Program, implicit: &Implicit) -> Result<(), 
 {
     match first_unused(alloc, program)? {
         Some(spot) => Err(UnusedFault::Operation(spot)),
-        None => spare_all_holders(alloc, program, implicit),
+        None => spare_all(alloc, program, implicit),
     }
 }
 
-/// Where a Finalize may touch storage, and something creates an object with controlled parts, the end of what a component names reaches
-/// no access type whose objects have such a component.
+/// Where operations may touch storage, and something creates an object with controlled parts, ends spare the holders of the components that
+/// are freed, and beginnings the objects of the same access type.
 ///
 /// # Errors
-/// That it may reach one, or want of memory.
-fn spare_all_holders(
-    alloc: Global,
-    program: &Program,
-    implicit: &Implicit,
-) -> Result<(), UnusedFault>
+/// Where the first component is freed that does not, or that a beginning may not, or want of memory.
+fn spare_all(alloc: Global, program: &Program, implicit: &Implicit) -> Result<(), UnusedFault>
     requires { implicit_in implicit.now ≡ implicit_of (program_form program.now) }
-    ensures spared { IfOk result (λ _. SparesHolders program.now) }
-    ensures refused { IfErr result (λ fault. (fault ≡ unused.Holder × (SparesHolders program.now → ⊥)) ⊎ fault ≡ unused.NoMemory) }
+    ensures holders { IfOk result (λ _. SparesHolders program.now) }
+    ensures starts { IfOk result (λ _. SparesStarts program.now) }
+    ensures refused { IfErr result (λ fault. IsFirstUnspared program.now fault) }
 {
-    if spare_holders(&program.types, implicit)
-        || !makes_parts(program)
-        || !may_be_frugal(alloc, program)?
-    {
+    if !makes_parts(program) || !may_be_frugal(alloc, program)? {
+        return Ok(());
+    }
+    let asked = reaching_holders(alloc, &program.types, implicit)?;
+    if let Some(spot) = first_freed_inside(program, &asked) {
+        return Err(UnusedFault::Holder(spot));
+    }
+    if starts_spare(&program.types, implicit) {
         Ok(())
     } else {
-        Err(UnusedFault::Holder)
+        Err(UnusedFault::Start)
     }
 }
 

@@ -28,9 +28,11 @@ pub enum UnusedFault {
     /// frugal and silent, or an Adjust that is neither quiet nor, of a type that declares a component of an access type, simple and
     /// silent where it may track, and no theorem speaks of it. Its body begins here.
     Operation(Spot),
-    /// Each operation is in use, but a Finalize may touch storage, something creates an object with controlled parts, and the end of what
-    /// a component names may reach an allocated object in which such a component lies (13.11.2).
-    Holder,
+    /// Each operation is in use, but a Finalize may touch storage, something creates an object with controlled parts, and a component of a
+    /// record is freed here, whose object's end may reach an allocated object in which such a component lies (13.11.2).
+    Holder(Spot),
+    /// No such component is freed, but the initialization of an object may free one of its own access type (7.6).
+    Start,
     NoMemory,
 }
 

@@ -1,18 +1,23 @@
-//! The objects in which components lie (3.8): no Finalize that is called where a component's object ends reaches one (7.6.1).
+//! The access types of which the end of an object may reach an object in which a component of that type lies (3.8): a Finalize that is
+//! called there frees or follows one (7.6.1).
 
-ghost use Rattle.std.specs.Prelude.{◌≡◌, option_copied};
-ghost use Rattle.std.specs.List.{list_all};
+ghost use Rattle.std.specs.Prelude.{◌≡◌, ◌&&◌, ◌||◌, ℕ, option_copied, IfOk, OnOk};
+ghost use Rattle.std.specs.List.{list_any};
 ghost use Rattle.ada_effects.specs.Found.{has_number, implicit_in};
 ghost use Rattle.ada_program.specs.Kept.{types_in};
+ghost use Rattle.ada_quiet.specs.Bare.{is_component_of};
+ghost use Rattle.ada_quiet.specs.Known.{is_marked};
 ghost use Rattle.ada_sound.specs.Always as always;
 
 use ada_effects::Implicit;
 use ada_program::TypeNo;
 use ada_program::lookup::reached_components;
 use ada_program::program::{ComponentKind, TypeDefinition};
+use ada_quiet::mark;
+use std::alloc::{AllocError, Global};
 
 /// Whether a number is that of one of these types. Costs their number.
-fn has_number(types: &[TypeNo], number: usize) -> bool
+pub(crate) fn has_number(types: &[TypeNo], number: usize) -> bool
     ensures { result ≡ has_number types.now number }
 {
     types.iter().any(|one| one.0 == number)
@@ -28,43 +33,73 @@ fn reaches(implicit: &Implicit, ended: usize, other: usize) -> bool
     }
 }
 
-/// Whether the end of what a component names reaches no object of a type, in which the component may lie.
-fn spares_holder(implicit: &Implicit, holder: usize, component: ComponentKind) -> bool
-    ensures { result ≡ always.spares_holder (implicit_in implicit.now) holder component }
+/// The access type of a component is marked, if the end of what it names reaches objects of a type, in which the component may lie.
+fn mark_component(
+    marks: &mut Vec<bool>,
+    implicit: &Implicit,
+    holder: usize,
+    component: ComponentKind,
+) -> Result<(), AllocError>
+    ensures { OnOk result ((t : ℕ) → is_marked marks.new.items t
+        ≡ (is_marked marks.old.items t || ((implicit_in implicit.now).end_reaches t holder && is_component_of t component))) }
 {
-    match component {
-        ComponentKind::Integer { initial: _ } | ComponentKind::Boolean { initial: _ } => true,
-        ComponentKind::Access(access) => !reaches(implicit, access.0, holder),
+    let ComponentKind::Access(access) = component else {
+        return Ok(());
+    };
+    if reaches(implicit, access.0, holder) {
+        mark(marks, access.0)?;
     }
+    Ok(())
 }
 
-/// Whether so it is with each of these components.
-fn all_spare_holder(implicit: &Implicit, holder: usize, components: &[ComponentKind]) -> bool
-    ensures { result ≡ list_all (always.spares_holder (implicit_in implicit.now) holder) components.now }
+/// So are those of these components.
+fn mark_components(
+    marks: &mut Vec<bool>,
+    implicit: &Implicit,
+    holder: usize,
+    components: &[ComponentKind],
+) -> Result<(), AllocError>
+    ensures { OnOk result ((t : ℕ) → is_marked marks.new.items t
+        ≡ (is_marked marks.old.items t || ((implicit_in implicit.now).end_reaches t holder && list_any (is_component_of t) components.now))) }
 {
-    components
-        .iter()
-        .all(|component| spares_holder(implicit, holder, *component))
+    'components: for component in components {
+        mark_component(marks, implicit, holder, *component)?;
+    }
+    Ok(())
 }
 
-/// Whether so it is with each of these components, if there are some.
-fn spare_holder(implicit: &Implicit, holder: usize, components: Option<&[ComponentKind]>) -> bool
-    ensures { result ≡ always.spare_holder (implicit_in implicit.now) holder (option_copied components.entry) }
+/// So are those of these components, if there are some.
+fn mark_held(
+    marks: &mut Vec<bool>,
+    implicit: &Implicit,
+    holder: usize,
+    components: Option<&[ComponentKind]>,
+) -> Result<(), AllocError>
+    ensures { OnOk result ((t : ℕ) → is_marked marks.new.items t
+        ≡ (is_marked marks.old.items t || ((implicit_in implicit.now).end_reaches t holder && always.hold_one t (option_copied components.entry)))) }
 {
     match components {
-        None => true,
-        Some(components) => all_spare_holder(implicit, holder, components),
+        None => Ok(()),
+        Some(components) => mark_components(marks, implicit, holder, components),
     }
 }
 
-/// Whether so it is with all components of the objects of each type. Costs, for each component, what the end of its object reaches.
-pub(crate) fn spare_holders(types: &[TypeDefinition], implicit: &Implicit) -> bool
-    ensures { result ≡ always.spare_holders (implicit_in implicit.now) (types_in types.now) 0 (types_in types.now) }
+/// Of each access type, by its number, whether the end of an object reaches a type whose objects have such a component. Costs, for each
+/// component of the objects of each type, what the end of its object reaches.
+///
+/// # Errors
+/// `AllocError` where memory was refused.
+pub(crate) fn reaching_holders(
+    alloc: Global,
+    types: &[TypeDefinition],
+    implicit: &Implicit,
+) -> Result<Vec<bool>, AllocError>
+    ensures { IfOk result (λ marks. (t : ℕ) → is_marked marks.items t
+        ≡ always.reaches_holder (implicit_in implicit.now) (types_in types.now) t) }
 {
+    let mut marks = Vec::new(alloc);
     'types: for holder in 0..types.len() {
-        if !spare_holder(implicit, holder, reached_components(types, holder)) {
-            return false;
-        }
+        mark_held(&mut marks, implicit, holder, reached_components(types, holder))?;
     }
-    true
+    Ok(marks)
 }

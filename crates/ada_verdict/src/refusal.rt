@@ -89,7 +89,8 @@ fn unused_refusal(fault: &UnusedFault) -> Option<Refusal>
 {
     match fault {
         UnusedFault::Operation(spot) => refused(*spot, rules::NOT_IN_PROFILE),
-        UnusedFault::Holder => refused(START, rules::NOT_IN_PROFILE),
+        UnusedFault::Holder(spot) => refused(*spot, rules::NOT_IN_PROFILE),
+        UnusedFault::Start => refused(START, rules::NOT_IN_PROFILE),
         UnusedFault::NoMemory => None,
     }
 }

@@ -10,27 +10,28 @@ use Rattle.ada_quiet.specs.Known.{thrift_in}
 use Rattle.ada_quiet.proofs.known.frugal_procedures.Goals as goal
 
 -- what is known of one more, and what is left behind it, tell of all
-next : (types : List TypeDefinition) (ends : Bool) (frugal more : List Bool) (here : Bool) (ps : List Procedure) (n : ℕ) (b : Procedure) (all : List Bool) → n < length ps
-    → b ≡ get_or ps n b → here ≡ is_frugal_body (thrift_in types ends frugal) (body_form b) → more ≡ frugal ++ here ∷ []
-    → frugal_from (types_in types) ends frugal (map body_form (drop n ps)) ≡ all → frugal_from (types_in types) ends more (map body_form (drop (n + 1) ps)) ≡ all
-next types ends frugal more here ps n b all inside there is grown before =
+next : (types : List TypeDefinition) (begun frugal more : List Bool) (here : Bool) (ps : List Procedure) (n : ℕ) (b : Procedure) (all : List Bool) → n < length ps
+    → b ≡ get_or ps n b → here ≡ is_frugal_body (thrift_in types begun frugal) (body_form b) → more ≡ frugal ++ here ∷ []
+    → frugal_from (types_in types) begun frugal (map body_form (drop n ps)) ≡ all → frugal_from (types_in types) begun more (map body_form (drop (n + 1) ps)) ≡ all
+next types begun frugal more here ps n b all inside there is grown before =
     let rest = drop (n + 1) ps in
-    ap (λ (marks : List Bool). frugal_from (types_in types) ends marks (map body_form rest)) (grown ∙ ap (λ (told : Bool). frugal ++ told ∷ []) is)
-    ∙ ap (λ (q : Procedure). frugal_from (types_in types) ends frugal (map body_form (q ∷ rest))) there
-    ∙ sym (at_drop_more (λ qs. frugal_from (types_in types) ends frugal (map body_form qs)) ps n b inside)
+    ap (λ (marks : List Bool). frugal_from (types_in types) begun marks (map body_form rest)) (grown ∙ ap (λ (told : Bool). frugal ++ told ∷ []) is)
+    ∙ ap (λ (q : Procedure). frugal_from (types_in types) begun frugal (map body_form (q ∷ rest))) there
+    ∙ sym (at_drop_more (λ qs. frugal_from (types_in types) begun frugal (map body_form qs)) ps n b inside)
     ∙ before
 
 pub procedures-preserved : goal.procedures-preserved
 procedures-preserved c =
     let program = c.args.program.now in
-    let ends = c.args.ends_parts in
+    let begun = c.in_ok-begun.begun.items in
     let index = c.procedures.procedure-index in
     let frugal = c.procedures.frugal.items in
     let b = c.procedure-item.result in
     let inside = subst (λ (ps : List Procedure). index < length ps) c.deref-procedure-items.ensures.value c.procedures-test.true in
     let there = subst (λ (ps : List Procedure). b ≡ get_or ps index b) c.deref-procedure-items.ensures.value c.procedure-item.is in
     let is = c.is_frugal_body-is_frugal.ensures
-    ∙ ap (λ (types : List TypeDefinition). is_frugal_body (thrift_in types ends c.deref-in-procedures.result.now) (body_form b)) c.deref.ensures.value
-    ∙ ap (λ (marks : List Bool). is_frugal_body (thrift_in program.types.items ends marks) (body_form b)) c.deref-in-procedures.ensures.value in
-    next program.types.items ends frugal c.push.new.self.items c.is_frugal_body-is_frugal.result program.procedures.items index b _ inside there is
+    ∙ ap (λ (types : List TypeDefinition). is_frugal_body (thrift_in types c.deref-in-procedures.result.now c.deref-in-procedures-2.result.now) (body_form b)) c.deref.ensures.value
+    ∙ ap (λ (marks : List Bool). is_frugal_body (thrift_in program.types.items marks c.deref-in-procedures-2.result.now) (body_form b)) c.deref-in-procedures.ensures.value
+    ∙ ap (λ (marks : List Bool). is_frugal_body (thrift_in program.types.items begun marks) (body_form b)) c.deref-in-procedures-2.ensures.value in
+    next program.types.items begun frugal c.push.new.self.items c.is_frugal_body-is_frugal.result program.procedures.items index b _ inside there is
     c.in_ok-push.ensures.items c.procedures.invariant

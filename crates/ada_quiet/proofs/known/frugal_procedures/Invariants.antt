@@ -6,5 +6,5 @@ use Rattle.ada_quiet.proofs.known.frugal_procedures.Given as goal
 -- what is known so far, and what is left, tell of all
 abbrev pub invariant-procedures : goal.invariant-procedures
 invariant-procedures l =
-    frugal_from (map type_form l.program.types.items) l.ends_parts l.frugal.items (map body_form (drop l.procedure-index l.program.procedures.items))
-    ≡ frugal_procedures (program_form l.program) l.ends_parts
+    frugal_from (map type_form l.program.types.items) l.begun.items l.frugal.items (map body_form (drop l.procedure-index l.program.procedures.items))
+    ≡ frugal_procedures (program_form l.program)

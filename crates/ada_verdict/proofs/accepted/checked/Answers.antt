@@ -19,6 +19,7 @@ invariant_of-result c = record {
   frees_own = c.in_ok-program.ensures.frees_own;
   spares_own = all_spare c.ends_spare_their_own.ensures (program_form c.in_ok-program.program) c.in_ok-judge.ensures.fine.0;
   spares_holders = c.in_ok-judge.ensures.holders;
+  spares_starts = c.in_ok-judge.ensures.starts;
   obeys = c.in_ok-judge.ensures.fine.1;
 }
 
@@ -30,5 +31,6 @@ returns-clause-sound c = record {
   frees_own = c.in_ok-program.ensures.frees_own;
   spares_own = all_spare c.ends_spare_their_own.ensures (program_form c.in_ok-program.program) c.in_ok-judge.ensures.fine.0;
   spares_holders = c.in_ok-judge.ensures.holders;
+  spares_starts = c.in_ok-judge.ensures.starts;
   obeys = c.in_ok-judge.ensures.fine.1;
 }
