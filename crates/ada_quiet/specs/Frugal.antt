@@ -8,6 +8,7 @@ use Rattle.ada_program.specs.Form.{RightForm, nothing, value_of, allocates, allo
 use Rattle.ada_program.specs.declared.program.ProcedureNo.{ProcedureNo}
 use Rattle.ada_program.specs.ProgramForm.{TypeForm, BodyForm, ProgramForm}
 use Rattle.ada_program.specs.WellFormed.{finalization_of}
+use Rattle.ada_quiet.specs.Apart.{is_bare_item}
 use Rattle.ada_quiet.specs.Bare.{has_bare_objects}
 use Rattle.ada_quiet.specs.Calm.{has_calm_objects, quietly_begun_types}
 use Rattle.ada_quiet.specs.Idle.{declarations_make_parts}
@@ -43,12 +44,12 @@ pub record Thrift : Type 0 where
 
 module _ (thrift : Thrift) where
   abbrev mutual
-    -- A statement assigns no record with controlled parts as a whole (5.2), allocates no object that begins otherwise (4.8), and calls procedures with frugal bodies alone
-    -- (6.4).
+    -- A statement assigns no record with controlled parts as a whole, and copies none into another one (5.2), allocates no object that begins otherwise (4.8), and calls
+    -- procedures with frugal bodies alone (6.4).
     pub is_frugal_stmt : StmtForm → Bool
     is_frugal_stmt skips = true
     is_frugal_stmt (assigns target right) = allocates_quietly thrift.types thrift.begun right
-    is_frugal_stmt (assigns_record target items) = not (is_some (finalization_of thrift.types target.record_type))
+    is_frugal_stmt (assigns_record target items) = not (is_some (finalization_of thrift.types target.record_type)) && list_all (is_bare_item thrift.types) items
     is_frugal_stmt (frees access path) = true
     is_frugal_stmt (gets target) = true
     is_frugal_stmt (writes e) = true

@@ -85,7 +85,7 @@ fn is_bare_item(types: &[TypeDefinition], item: &Item) -> bool
 }
 
 /// Whether that is so with each of these items.
-fn are_bare_items(types: &[TypeDefinition], items: &[Item]) -> bool
+pub(crate) fn are_bare_items(types: &[TypeDefinition], items: &[Item]) -> bool
     ensures { result ≡ list_all (rules.is_bare_item (types_in types.now)) (map item_form items.now) }
 {
     'items: for item in items {

@@ -9,6 +9,7 @@ ghost use Rattle.ada_program.specs.ProgramForm.{body_form};
 ghost use Rattle.ada_quiet.specs.Frugal as rules;
 ghost use Rattle.ada_quiet.specs.Known.{thrift_in};
 
+use crate::apart::are_bare_items;
 use crate::bare::has_bare_objects;
 use crate::calm::has_calm_objects;
 use ada_program::parts::finalization_of;
@@ -95,8 +96,8 @@ pub(crate) fn is_frugal_call(frugal: &[bool], procedure: ProcedureNo) -> bool
     }
 }
 
-/// Whether a statement assigns no record with controlled parts as a whole (5.2), allocates no object that begins otherwise (4.8), and calls
-/// procedures with frugal bodies alone (6.4).
+/// Whether a statement assigns no record with controlled parts as a whole, and copies none into another one (5.2), allocates no object that
+/// begins otherwise (4.8), and calls procedures with frugal bodies alone (6.4).
 #[cycle(statements)]
 #[tactic(auto, using(std::proofs::lemmas::Grind::common_steps, ada_program::specs::Form::statement_rules))]
 fn is_frugal_stmt(thrift: Thrift<'_>, statement: &Stmt) -> bool
@@ -112,8 +113,9 @@ fn is_frugal_stmt(thrift: Thrift<'_>, statement: &Stmt) -> bool
         | Stmt::Exit { .. }
         | Stmt::Return(_)
         | Stmt::Raise(_) => true,
-        Stmt::AssignRecord { target, items: _ } => {
+        Stmt::AssignRecord { target, items } => {
             finalization_of(thrift.types, target.record.0).is_none()
+                && are_bare_items(thrift.types, items)
         }
         Stmt::Assign { target: _, value } => allocates_quietly(thrift.types, thrift.begun, value),
         Stmt::Call {

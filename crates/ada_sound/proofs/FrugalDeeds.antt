@@ -15,6 +15,7 @@ use Rattle.ada_program.specs.declared.program.Finalization.{Finalization}
 use Rattle.ada_program.specs.Form.{ItemForm, null_item, item_of_path, item_of_value, item_of_record, RightForm, nothing, value_of, allocates, allocates_default, computes, DeclarationForm, creates_pool, collects, declares, declares_record, StmtForm, skips, assigns, assigns_record, frees, gets, writes, writes_text, chooses, repeats, counts, exits, calls, returns, raises, encloses, StmtsForm, no_stmts, a_stmt, BranchesForm, otherwise, a_branch, HandlersForm, no_handlers, a_handler}
 use Rattle.ada_program.specs.ProgramForm.{TypeForm, VariableForm, BodyForm}
 use Rattle.ada_program.specs.WellFormed.{designated_type, finalization_of, path_access}
+use Rattle.ada_quiet.specs.Apart.{is_bare_item}
 use Rattle.ada_quiet.specs.Calm.{has_calm_objects}
 use Rattle.ada_quiet.specs.Frugal.{Thrift, allocates_quietly, are_frugal_declarations, is_frugal_stmt, are_frugal, are_frugal_branches, are_frugal_handlers, is_frugal_body}
 use Rattle.ada_sound.proofs.CalmTypes.{bare_calm}
@@ -99,7 +100,7 @@ module _ (types : List TypeForm) (d : Deed) (thrift : Thrift) (same : thrift.typ
       stmt_less (assigns_record target items) is suits h =
           let t = target.record_type in
           let follows = record_path_does types variables d target in
-          let none : not (is_some (finalization_of types t)) ≡ true = rw same at is in
+          let none : not (is_some (finalization_of types t)) ≡ true = rw same at (apart (not (is_some (finalization_of thrift.types t))) (list_all (is_bare_item thrift.types) items) is).0 in
           first_of (follows || items_do types variables less d items) (assignment_does known t) (assignment_does less t) (rw (adjusted t none, finalized (Some t)) refl)
           (either (follows || items_do types variables known d items) (assignment_does known t) (follows || items_do types variables less d items) (assignment_does known t)
           (behind follows (items_do types variables known d items) (items_do types variables less d items) (items_less items (suits_plain types (finalization_of types t) items none suits)))

@@ -13,7 +13,6 @@ use Rattle.ada_deeds.proofs.Naming.{all_at}
 use Rattle.ada_deeds.proofs.RaisesKnown.{AreKnown, body_in}
 use Rattle.ada_deeds.proofs.Starting.{closes}
 use Rattle.ada_deeds.proofs.Within.{counts_are_enough, is_one_of}
-use Rattle.ada_deeds.specs.Aggregates.{aggregates_suit, body_suits}
 use Rattle.ada_deeds.specs.Does.{called_does, callee_does, is_deed_of, operations_do, Does, does}
 use Rattle.ada_deeds.specs.Forms.{body_does, components_do, creation_does, overriding_does, own_does, part_does, parts_do, procedure_does}
 use Rattle.ada_deeds.specs.Implicit.{record_at, record_in}
@@ -39,6 +38,7 @@ use Rattle.ada_program.specs.WellFormed.{IsWellFormed, Profile, profile_of, desi
 use Rattle.ada_quiet.proofs.CalmTypes.{known_at}
 use Rattle.ada_quiet.proofs.FrugalAt.{frugal_at}
 use Rattle.ada_quiet.proofs.QuietFrugal.{frugal_body}
+use Rattle.ada_quiet.specs.Apart.{body_calls_apart, is_tracker, operations_stand_apart}
 use Rattle.ada_quiet.specs.Calm.{begins_quietly, has_calm_objects, is_calm_access, is_calm_part, is_known_calm, quietly_begun_types}
 use Rattle.ada_quiet.specs.Frugal.{frugal_procedures, is_silent_procedure, own_effects, thrift_of}
 use Rattle.ada_quiet.specs.InUse.{may_be_frugal, operations_may_be_called, uses_adjust, uses_finalize, uses_initialize, uses_operations}
@@ -47,10 +47,12 @@ use Rattle.ada_sound.proofs.Bodies.{effect_at}
 use Rattle.ada_sound.proofs.CalmTypes.{bare_calm, bare_if_calm}
 use Rattle.ada_sound.proofs.FrugalBodies.{calling_none}
 use Rattle.ada_sound.proofs.FrugalDeeds.{body_less}
+use Rattle.ada_sound.proofs.FrugalSuits.{body_suited}
 use Rattle.ada_sound.proofs.FrugalUseLets.{StartSilently, does_nothing, known_before, silent_so}
 use Rattle.ada_sound.proofs.OperationStarts.{apart}
 use Rattle.ada_sound.proofs.QuietOperations.{finalize_one}
 use Rattle.ada_sound.proofs.Raising.{body_more}
+use Rattle.ada_sound.proofs.Trackers.{calls_stand_apart}
 use Rattle.ada_typed.proofs.Bodies.{body_at}
 
 -- An item of a list is there below its length.
@@ -59,9 +61,13 @@ item_there [] n below = absurd (omega (arith, below))
 item_there (x ∷ xs) zero below = (x, refl)
 item_there (x ∷ xs) (suc n) below = item_there xs n (omega (arith, below))
 
-module _ (p : ProgramForm) (well : IsWellFormed p) (uses : operations_may_be_called p ≡ true) (suits : aggregates_suit p ≡ true) (e : Exception) where
+module _ (p : ProgramForm) (well : IsWellFormed p) (uses : operations_may_be_called p ≡ true) (stand : operations_stand_apart p ≡ true) (e : Exception) where
   abbrev begun : List Bool
   begun = quietly_begun_types p
+
+  -- Each body stands apart.
+  stands_apart : (number : ℕ) (b : BodyForm) → slice_get p.bodies number ≡ Some b → body_calls_apart p.types (is_tracker p) b ≡ true
+  stands_apart number b there = all_at (body_calls_apart p.types (is_tracker p)) p.bodies number b (calls_stand_apart p stand).1 there
 
   -- It may come out of a procedure, as far as its body tells: that is not quiet, and not frugal, or raises it by its text.
   abbrev tells : (procedure : ℕ) → Bool
@@ -132,7 +138,8 @@ module _ (p : ProgramForm) (well : IsWellFormed p) (uses : operations_may_be_cal
       let effects = known_of no_implicit first in
       let fits = body_at p.types p.texts p.exceptions [] p.bodies number b well.bodies_fit there in
       let does_less =
-      body_less p.types (Raises e) (thrift_of p) refl others less started adjusted finalized called b (frugal_at p number b frugal there) (all_at (body_suits p.types) p.bodies number b suits there) h in
+      body_less p.types (Raises e) (thrift_of p) refl others less started adjusted finalized called b (frugal_at p number b frugal there)
+      (body_suited (thrift_of p) (is_tracker p) b (frugal_at p number b frugal there) (stands_apart number b there)) h in
       let are : AreKnown p.types effects less e (length callable) = record {
         starts = λ among is u k. absurd (less_starts (record_at p.types u) k);
         called = λ among is n below k. (
@@ -168,7 +175,8 @@ module _ (p : ProgramForm) (well : IsWellFormed p) (uses : operations_may_be_cal
       let does_none =
       body_less p.types (Raises e) (calling_none p.types) refl others nothing_does
       (λ access calm. started access (bare_calm p.types begun (slice_get p.types access) (bare_if_calm p.types (slice_get p.types access) calm))) adjusted finalized
-      (λ procedure is. absurd (cc is)) b (frugal_body (calling_none p.types) p.types b quiet) (all_at (body_suits p.types) p.bodies number b suits there) h in
+      (λ procedure is. absurd (cc is)) b (frugal_body (calling_none p.types) p.types b quiet)
+      (body_suited (calling_none p.types) (is_tracker p) b (frugal_body (calling_none p.types) p.types b quiet) (stands_apart number b there)) h in
       let are : AreKnown p.types no_calls nothing_does e (length callable) = record {
         starts = λ among is u k. absurd (none_starts (record_at p.types u) k);
         called = λ among is n below k. absurd (cc k);
@@ -325,6 +333,6 @@ module _ (p : ProgramForm) (well : IsWellFormed p) (uses : operations_may_be_cal
       ]
   creation_none access (Some (object_of record_type)) calm h = cc calm
 
-pub starts_silently : (p : ProgramForm) → IsWellFormed p → operations_may_be_called p ≡ true → aggregates_suit p ≡ true → StartSilently p (quietly_begun_types p)
-starts_silently p well uses suits e access calm =
-    false_from_ne_true (creation_does (does_by p (Raises e)) (record_at p.types access)) (λ h. creation_none p well uses suits e access (slice_get p.types access) calm h)
+pub starts_silently : (p : ProgramForm) → IsWellFormed p → operations_may_be_called p ≡ true → operations_stand_apart p ≡ true → StartSilently p (quietly_begun_types p)
+starts_silently p well uses stand e access calm =
+    false_from_ne_true (creation_does (does_by p (Raises e)) (record_at p.types access)) (λ h. creation_none p well uses stand e access (slice_get p.types access) calm h)

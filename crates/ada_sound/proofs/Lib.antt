@@ -184,6 +184,8 @@ pub mod FrugalUseEnds
 pub mod FrugalUseLets
 mod FrugalUseFrees
 mod FrugalDeeds
+-- that their aggregates suit
+mod FrugalSuits
 mod FrugalUseSilent
 -- no object of its own access type is freed where an object ends, or is adjusted
 pub mod SparesOwn

@@ -2,11 +2,12 @@
 
 use Rattle.std.proofs.Common.{◌≡◌, ℕ, Bool, true, false, ◌&&◌, ◌||◌, List, refl, []}
 use Rattle.std.specs.Prelude.{not, is_some}
-use Rattle.std.specs.List.{slice_index_or}
+use Rattle.std.specs.List.{list_all, slice_index_or}
 use Rattle.std.proofs.lemmas.Bool.{and_parts}
 use Rattle.ada_program.specs.Form.{StmtForm, skips, assigns, assigns_record, frees, gets, writes, writes_text, chooses, repeats, counts, exits, calls, returns, raises, encloses, StmtsForm, no_stmts, a_stmt, BranchesForm, otherwise, a_branch, HandlersForm, no_handlers, a_handler}
 use Rattle.ada_program.specs.ProgramForm.{TypeForm, BodyForm, ProgramForm}
 use Rattle.ada_program.specs.WellFormed.{finalization_of}
+use Rattle.ada_quiet.specs.Apart.{is_bare_item}
 use Rattle.ada_quiet.specs.Bare.{has_bare_objects}
 use Rattle.ada_quiet.specs.Calm.{quietly_begun_types}
 use Rattle.ada_quiet.specs.Frugal.{allocates_quietly, are_frugal_declarations, frugal_procedures, is_frugal_stmt, are_frugal, are_frugal_branches, are_frugal_handlers, is_frugal_body, thrift_of}
@@ -71,7 +72,7 @@ module _ (p : ProgramForm) where
     stmt_thrifty : (f : StmtForm) → is_frugal_stmt (thrift_of p) f ≡ true → is_thrifty_stmt (marks_of p) f ≡ true
     stmt_thrifty skips is = refl
     stmt_thrifty (assigns target right) is = is
-    stmt_thrifty (assigns_record target items) is = is
+    stmt_thrifty (assigns_record target items) is = (and_parts (not (is_some (finalization_of p.types target.record_type))) (list_all (is_bare_item p.types) items) is).0
     stmt_thrifty (frees access path) is = refl
     stmt_thrifty (gets target) is = refl
     stmt_thrifty (writes e) is = refl

@@ -24,7 +24,7 @@ use Rattle.ada_typed.proofs.Bodies.{seen_as, seen_fits}
 use Rattle.ada_scopes.specs.Scopes.{NestsAnywhere, AllNestAnywhere, OperationsNest}
 use Rattle.ada_quiet.specs.Apart.{is_this_one, is_adjust_of}
 use Rattle.ada_quiet.specs.Quiet.{is_quiet_stmt, are_quiet, are_quiet_branches, are_quiet_handlers, are_quiet_declarations, is_plain_body, is_quiet_body, is_plain_procedure, is_quiet_procedure, is_plain_operation, is_quiet_operation, has_access, operation_body}
-use Rattle.ada_quiet.specs.Frugal.{is_frugal_body, frugal_procedures, thrift_of, is_frugal_operation, own_effects, is_silent_procedure, is_silent_operation}
+use Rattle.ada_quiet.specs.Frugal.{declares_no_parts, is_frugal_body, frugal_procedures, thrift_of, is_frugal_operation, own_effects, is_silent_procedure, is_silent_operation}
 use Rattle.ada_quiet.specs.InUse.{may_be_frugal, uses_initialize, uses_finalize, uses_operations, operations_may_be_called, adjusts_alone, adjusts_nothing, may_track, uses_adjust, uses_called_adjust}
 use Rattle.ada_quiet.specs.Idle.{copies_parts}
 use Rattle.ada_quiet.specs.Simple.{is_simple_body, is_simple_procedure, is_simple_operation}
@@ -170,7 +170,9 @@ module _ (p : ProgramForm) where
 
   frugal_one : (o : Option ProcedureNo) (number : ℕ) → is_frugal_operation p o ≡ true → procedure_number o ≡ Some number → slice_index_or (frugal_procedures p) number false ≡ true
   frugal_one None number frugal is = absurd (cc is)
-  frugal_one (Some procedure) number frugal is = let same : procedure.0 ≡ number = cc is in rw same at frugal
+  frugal_one (Some procedure) number frugal is =
+      let same : procedure.0 ≡ number = cc is in
+      rw same at (apart (slice_index_or (frugal_procedures p) procedure.0 false) (declares_no_parts p.types (slice_get p.bodies procedure.0)) frugal).0
 
   silent_one : (o : Option ProcedureNo) (number : ℕ) → is_silent_operation p o ≡ true → procedure_number o ≡ Some number → IsSilent number
   silent_one None number silent is = absurd (cc is)
@@ -331,7 +333,9 @@ module _ (p : ProgramForm) where
       by (inr both) = let b = there_one t (Some procedure) procedure.0 right refl in nests_there procedure.0 b.0 b.1 (λ callees around. simple_nests p.types callees b.0 around (simple_with p.types (adjusts_alone p) b.0 (rw (b.1) at both.0.1)))
 
       either : ((adjusts_nothing p && is_frugal_operation p (Some procedure)) ≡ true) ⊎ (uses_called_adjust p owns (Some procedure) ≡ true) → NestsAnywhere (callees_of p) (Some procedure)
-      either (inl nothing) = frugal_nests p procedure.0 (apart (adjusts_nothing p) (is_frugal_operation p (Some procedure)) nothing).1
+      either (inl nothing) =
+          let frugal = (apart (adjusts_nothing p) (is_frugal_operation p (Some procedure)) nothing).1 in
+          frugal_nests p procedure.0 (apart (slice_index_or (frugal_procedures p) procedure.0 false) (declares_no_parts p.types (slice_get p.bodies procedure.0)) frugal).0
       either (inr called) = by (adjust_one owns (Some procedure) procedure.0 called refl)
 
   nests_three : (t : ℕ) (owns : Bool) (f : Option Finalization) → has_operations p.types (callable_in p) t f ≡ true → uses_operations p owns f ≡ true → AllNestAnywhere (callees_of p) (operations_in f)

@@ -11,6 +11,7 @@ use Rattle.ada_program.specs.Form.{PathForm, RecordPathForm, ActualForm, in_valu
 use Rattle.ada_program.specs.ProgramForm.{TypeForm, VariableForm, BodyForm, ProgramForm}
 use Rattle.ada_program.specs.WellFormed.{designated_type, finalization_of, is_access, path_kind, selected_kind, type_fits, value_access, variable_fits, variable_kind}
 use Rattle.ada_quiet.specs.Bare.{has_bare_objects}
+use Rattle.ada_quiet.specs.Apart.{is_bare_item}
 use Rattle.ada_quiet.specs.Calm.{has_calm_objects, quietly_begun_types}
 use Rattle.ada_quiet.specs.Frugal.{allocates_quietly, thrift_of, frugal_procedures, is_frugal_declaration, are_frugal_declarations, is_frugal_stmt, are_frugal, are_frugal_branches, are_frugal_handlers, is_frugal_body}
 use Rattle.ada_deeds.specs.declared.deed.Callee.{Callee}
@@ -264,7 +265,8 @@ module _ (p : ProgramForm) (u : ℕ) where
           let test = item_shuns p.types (λ t. false) apart variables in
           and_from (leads && list_all test items) (not (is_some (finalization_of p.types target.record_type)))
           (and_from leads (list_all test items) (record_path_shaped p.types apart variables target)
-          (all_so test (item_shaped p.types apart variables) items)) frugal
+          (all_so test (item_shaped p.types apart variables) items))
+          (and_parts (not (is_some (finalization_of p.types target.record_type))) (list_all (is_bare_item p.types) items) frugal).0
       statement_shaped (frees access path) frugal spares =
           let leads = path_shuns p.types (λ t. false) apart variables path in
           let kind = path_kind p.types variables path in
