@@ -439,6 +439,8 @@ pub mod ExampleAllocating
 pub mod ExampleUndoing
 -- one whose Initialize allocates for what an allocator makes
 pub mod ExampleFilling
+-- one whose Initialize allocates an object with operations of its own
+pub mod ExampleEquipping
 -- and those whose Adjust allocates
 pub mod ExampleDuplicating
 pub mod ExamplePairing

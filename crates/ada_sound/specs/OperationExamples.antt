@@ -595,6 +595,97 @@ unfilled_events =
     ∷ Left 0
     ∷ []
 
+-- type Tag is new Limited_Controlled with record Value : Integer; end record; which has number 0; type Label is access Tag; which has number 1; type Box is new
+-- Limited_Controlled with record Held : Label; end record; which has number 2. B : Box has number 0 in the main procedure, and is known by type 3, and the formal
+-- parameters by types 4 to 7.
+
+-- Tag overrides Initialize and Finalize, by the first two of four procedures.
+abbrev pub tag_operations : Operations
+tag_operations = record { initialize = Some (record { 0 = 0 }); adjust = None; finalize = Some (record { 0 = 1 }) }
+
+-- Box overrides them by the other two.
+abbrev pub equipping_operations : Operations
+equipping_operations = record { initialize = Some (record { 0 = 2 }); adjust = None; finalize = Some (record { 0 = 3 }) }
+
+-- The component Value of the formal parameter, T.
+abbrev pub tag_now : PathForm
+tag_now = object_path 0 (0 ∷ [])
+
+-- procedure Initialize (T : in out Tag) is begin T.Value := 7; end Initialize;
+abbrev pub tag_initialize : BodyForm
+tag_initialize = operation_body 4 (a_stmt (assigns tag_now (computes (integer (pos 7)))) no_stmts) no_handlers
+
+-- procedure Finalize (T : in out Tag) is begin Put_Line (Integer'Image (T.Value)); end Finalize;
+abbrev pub tag_finalize : BodyForm
+tag_finalize = operation_body 5 (a_stmt (writes (reads tag_now)) no_stmts) no_handlers
+
+-- The component Held of the formal parameter, B.
+abbrev pub held_now : PathForm
+held_now = object_path 0 (0 ∷ [])
+
+-- procedure Initialize (B : in out Box) is begin B.Held := new Tag; end Initialize;
+abbrev pub equipping_initialize : BodyForm
+equipping_initialize = operation_body 6 (a_stmt (assigns held_now (allocates_default 1)) no_stmts) no_handlers
+
+-- procedure Finalize (B : in out Box) is begin Free (B.Held); end Finalize;
+abbrev pub equipping_finalize : BodyForm
+equipping_finalize = operation_body 7 (a_stmt (frees 1 held_now) no_stmts) no_handlers
+
+-- All four, in order.
+abbrev pub equipping_bodies : List BodyForm
+equipping_bodies = tag_initialize ∷ tag_finalize ∷ equipping_initialize ∷ equipping_finalize ∷ []
+
+-- The collection of Label; B : Box;
+abbrev pub equipping_declarations : List DeclarationForm
+equipping_declarations = collects 1 ∷ declares_record 0 3 None ∷ []
+
+-- null;
+abbrev pub equipping_stmts : StmtsForm
+equipping_stmts = a_stmt skips no_stmts
+
+-- The object B.
+abbrev pub equipped_box : Value
+equipped_box = Names (record { 0 = 0 })
+
+-- The tag, which B owns.
+abbrev pub held_tag : Value
+held_tag = Names (record { 0 = 1 })
+
+-- The Initialize of B, a master of its own, follows B where its Held is found as a target. The tag is allocated, and its own Initialize is called, one more master, which
+-- follows it where Value is found as a target, and where that is written, and is left. So the tag has its value while the Initialize of B still runs: B is followed
+-- where Held is written, and its Initialize is left, and only then B has its value. At the leaving of the main procedure B is finalized: its Finalize follows B to
+-- what Held names, and the tag is finalized, whose own Finalize writes its 7, and is left. Then the words of the tag go back, B is followed where Held becomes
+-- null, its Finalize is left, and its words go back. Nothing is left in the collection.
+abbrev pub equipping_events : List Event
+equipping_events =
+    Followed equipped_box
+    ∷ replicate 2 (Followed held_tag)
+    ++ Left 2
+    ∷ Born held_tag 0 0 0 1 Creation
+    ∷ Followed equipped_box
+    ∷ Left 1
+    ∷ Born equipped_box 0 0 1 2 Creation
+    ∷ Finalized equipped_box 0 0 1 2 (Leaving 0 1)
+    ∷ Followed equipped_box
+    ∷ Finalized held_tag 0 0 0 1 (Freeing 4)
+    ∷ finalizes held_tag 7 5
+    ++ Back held_tag 1 1 (Some 0) None (Freeing 4)
+    ∷ Followed equipped_box
+    ∷ Left 3
+    ∷ Back equipped_box 3 0 None None (Leaving 0 1)
+    ∷ Left 0
+    ∷ []
+
+-- Where the tag is refused, Storage_Error leaves the Initialize of B, and B has no value: nothing of it is finalized, and its words go back. Then the exception leaves
+-- the main procedure.
+abbrev pub unequipped_events : List Event
+unequipped_events =
+    Followed equipped_box
+    ∷ Left 1
+    ∷ Back equipped_box 3 0 None None (Undoing 2)
+    ∷ Left 0
+    ∷ []
+
 -- The same first two types; and type Holder is new Controlled with record Head : Link; end record; which has number 2, is not limited, and overrides Adjust and
 -- Finalize, by these procedures. A : Holder and B : Holder have numbers 0 and 1 in the main procedure.
 abbrev pub duplicating_operations : Operations

@@ -7,7 +7,7 @@ ghost use Rattle.ada_program.specs.Form.{declaration_forms, stmt_forms, handler_
 ghost use Rattle.ada_program.specs.ProgramForm.{body_forms};
 ghost use Rattle.ada_flow.specs.declared.rule.Hold.TheVariants.{Null};
 ghost use Rattle.ada_flow.specs.declared.rule.Rule.TheVariants.{LostValue, AliasMoved, TakePair, LoopState, UnsafePath, FormalNotOwned, RecordCopied};
-ghost use Rattle.ada_program.specs.declared.program.Exception.TheVariants.{ConstraintError};
+ghost use Rattle.ada_program.specs.declared.program.Exception.TheVariants.{ConstraintError, StorageError};
 ghost use Rattle.ada_meaning.specs.declared.event.Halt.TheVariants.{Unhandled, Erroneous};
 ghost use Rattle.ada_meaning.specs.declared.event.Why.TheVariants.{FollowsGone, EndsTwice, GivesElsewhere, FinalizesTwice};
 ghost use Rattle.ada_finalized.specs.Example as controlled_example;
@@ -209,6 +209,12 @@ pub fn premises_are_met()
 /// before the words of their object. Where the second cell is refused, the first component is finalized, which frees its
 /// cell, and the words of the object go back before the handler takes `Storage_Error`.
 ///
+/// And one is accepted whose Initialize allocates an object with an Initialize and a Finalize of its own (4.8, 7.6), which touch
+/// Integers alone: a box owns a tag. The Initialize of the tag runs inside that of the box, so that the tag has its value before
+/// the box has one. Where the main procedure is left, the Finalize of the box frees the tag, which is finalized inside it, and
+/// writes its 7. Where the tag is refused, `Storage_Error` leaves the Initialize of the box, which has no value then: nothing is
+/// finalized (7.6.1), the words of the box go back, and the exception leaves the main procedure (11.4).
+///
 /// And one is accepted whose Adjust allocates (7.6, 4.8): a record that owns a cell is assigned to another one, of the same
 /// type. Right behind the copy the components of both name one cell; Adjust reads it, and gives the copy a cell of its own,
 /// or null, where an exception is raised. Where both cells are granted, each of the two records is finalized at the leaving
@@ -321,6 +327,14 @@ pub fn operations_are_accepted()
         × (handler_forms program ≡ operation_examples.undoing_handlers)
         × IsChecked program × FinishesAfter operation_examples.filling_events program
         × FinishesAfter operation_examples.unfilled_events program }
+    ensures equips { (program : Program)
+        × (operations_of program.types.items 0 ≡ operation_examples.tag_operations)
+        × (operations_of program.types.items 1 ≡ operation_examples.equipping_operations)
+        × (body_forms program ≡ operation_examples.equipping_bodies)
+        × (declaration_forms program ≡ operation_examples.equipping_declarations)
+        × (stmt_forms program ≡ operation_examples.equipping_stmts)
+        × IsChecked program × FinishesAfter operation_examples.equipping_events program
+        × always.HaltsAfter operation_examples.unequipped_events (Unhandled StorageError) program }
     ensures duplicates { (program : Program)
         × (operations_of program.types.items 0 ≡ operation_examples.duplicating_operations)
         × (body_forms program ≡ operation_examples.duplicating_bodies)

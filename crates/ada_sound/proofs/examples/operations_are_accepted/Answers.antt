@@ -12,6 +12,7 @@ use Rattle.ada_sound.proofs.ExampleHousing as housing
 use Rattle.ada_sound.proofs.ExampleAllocating as allocating
 use Rattle.ada_sound.proofs.ExampleUndoing as undoing
 use Rattle.ada_sound.proofs.ExampleFilling as filling
+use Rattle.ada_sound.proofs.ExampleEquipping as equipping
 use Rattle.ada_sound.proofs.ExampleDuplicating as duplicating
 use Rattle.ada_sound.proofs.ExamplePairing as pairing
 use Rattle.ada_sound.proofs.ExampleCopying as copying
@@ -156,6 +157,17 @@ returns c = record {
     filling.filling_accepted,
     filling.fills,
     filling.is_undone,
+  );
+  equips = (
+    equipping.equipping,
+    equipping.tag_overrides,
+    equipping.box_overrides,
+    equipping.equipping_has,
+    equipping.equipping_declares,
+    equipping.equipping_does,
+    equipping.equipping_accepted,
+    equipping.equips,
+    equipping.is_refused,
   );
   duplicates = (
     duplicating.duplicating,
