@@ -1,5 +1,5 @@
--- A program that meets the premises of the laws, in which the Initialize of a record object allocates an object with a quiet Initialize and a quiet Finalize, which run
--- inside those of the record object. With a run where that is granted, and one where it is refused, and the record object is undone.
+-- A program that meets the premises of the laws, in which the Initialize of a record object allocates an object with a quiet Initialize and a quiet Finalize,
+-- which run inside those of the record object. With a run where that is granted, and one where it is refused, and the record object is undone.
 
 use Rattle.std.proofs.Common.{◌≡◌, true, false, List, [], ◌∷◌, ◌++◌, refl, arith}
 use Rattle.std.specs.Prelude.{Some, None, pos}

@@ -595,9 +595,9 @@ unfilled_events =
     ∷ Left 0
     ∷ []
 
--- type Tag is new Limited_Controlled with record Value : Integer; end record; which has number 0; type Label is access Tag; which has number 1; type Box is new
--- Limited_Controlled with record Held : Label; end record; which has number 2. B : Box has number 0 in the main procedure, and is known by type 3, and the formal
--- parameters by types 4 to 7.
+-- type Tag is new Limited_Controlled with record Value : Integer; end record; which has number 0; type Label is access Tag; which has number 1; type Box is
+-- new Limited_Controlled with record Held : Label; end record; which has number 2. B : Box has number 0 in the main procedure, and is known by type 3, and
+-- the formal parameters by types 4 to 7.
 
 -- Tag overrides Initialize and Finalize, by the first two of four procedures.
 abbrev pub tag_operations : Operations
@@ -651,11 +651,11 @@ equipped_box = Names (record { 0 = 0 })
 abbrev pub held_tag : Value
 held_tag = Names (record { 0 = 1 })
 
--- The Initialize of B, a master of its own, follows B where its Held is found as a target. The tag is allocated, and its own Initialize is called, one more master, which
--- follows it where Value is found as a target, and where that is written, and is left. So the tag has its value while the Initialize of B still runs: B is followed
--- where Held is written, and its Initialize is left, and only then B has its value. At the leaving of the main procedure B is finalized: its Finalize follows B to
--- what Held names, and the tag is finalized, whose own Finalize writes its 7, and is left. Then the words of the tag go back, B is followed where Held becomes
--- null, its Finalize is left, and its words go back. Nothing is left in the collection.
+-- The Initialize of B, a master of its own, follows B where its Held is found as a target. The tag is allocated, and its own Initialize is called, one more
+-- master, which follows it where Value is found as a target, and where that is written, and is left. So the tag has its value while the Initialize of B still
+-- runs: B is followed where Held is written, and its Initialize is left, and only then B has its value. At the leaving of the main procedure B is finalized:
+-- its Finalize follows B to what Held names, and the tag is finalized, whose own Finalize writes its 7, and is left. Then the words of the tag go back, B is
+-- followed where Held becomes null, its Finalize is left, and its words go back. Nothing is left in the collection.
 abbrev pub equipping_events : List Event
 equipping_events =
     Followed equipped_box
@@ -676,8 +676,8 @@ equipping_events =
     ∷ Left 0
     ∷ []
 
--- Where the tag is refused, Storage_Error leaves the Initialize of B, and B has no value: nothing of it is finalized, and its words go back. Then the exception leaves
--- the main procedure.
+-- Where the tag is refused, Storage_Error leaves the Initialize of B, and B has no value: nothing of it is finalized, and its words go back. Then the
+-- exception leaves the main procedure.
 abbrev pub unequipped_events : List Event
 unequipped_events =
     Followed equipped_box
