@@ -399,11 +399,6 @@ abbrev pub TouchesStorage : ProgramForm → Treatment → BodyForm → Type 0
 TouchesStorage p (begins by done) b = is_plain_body p.types b ≡ false
 TouchesStorage p (ends cause) b = is_quiet_body p.types b ≡ false
 
--- The body of a Finalize may free objects with controlled parts, where it touches storage (7.6.1, 13.11.2); that of an Initialize frees none.
-abbrev pub ends_here : Treatment → Bool
-ends_here (begins by done) = false
-ends_here (ends cause) = true
-
 -- What is called is plain, or it is an Initialize or a Finalize that touches storage and is frugal, where it may be, or an Adjust that may track.
 abbrev pub IsUsedAs : ProgramForm → (of number : ℕ) → Treatment → BodyForm → Type 0
 IsUsedAs p of number treatment b =
