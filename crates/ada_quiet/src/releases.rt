@@ -122,8 +122,10 @@ fn handlers_free_inside(asked: &[bool], handlers: &[Handler]) -> Option<Spot>
 fn body_frees_inside(asked: &[bool], procedure: &Procedure) -> Option<Spot>
     ensures { result ≡ first_spot (rules.body_frees_inside (is_marked asked.now) (body_form procedure.now)) }
 {
-    stmts_free_inside(asked, &procedure.statements)
-        .or(handlers_free_inside(asked, &procedure.handlers))
+    stmts_free_inside(asked, &procedure.statements).or(handlers_free_inside(
+        asked,
+        &procedure.handlers,
+    ))
 }
 
 /// In the bodies of these procedures. Linear in the bodies.
@@ -144,8 +146,7 @@ fn bodies_free_inside(asked: &[bool], procedures: &[Procedure]) -> Option<Spot>
 fn main_frees_inside(asked: &[bool], program: &Program) -> Option<Spot>
     ensures { result ≡ first_spot (rules.body_frees_inside (is_marked asked.now) (main_body (program_form program.now))) }
 {
-    stmts_free_inside(asked, &program.statements)
-        .or(handlers_free_inside(asked, &program.handlers))
+    stmts_free_inside(asked, &program.statements).or(handlers_free_inside(asked, &program.handlers))
 }
 
 /// Where the first component of a record is freed that is of an access type that is marked, by its number, and lies in a declared record

@@ -7,7 +7,7 @@ use Rattle.std.specs.List.{list_all, slice_get, slice_index_or}
 use Rattle.std.specs.Prelude.{Option, Some, None, is_some, not}
 use Rattle.ada_deeds.proofs.More.{Stays, behind, both, either}
 use Rattle.ada_deeds.specs.Aggregates.{declaration_suits, item_is_plain, items_are_plain, items_suit, right_suits, stmt_suits, stmts_suit, branches_suit, handlers_suit, body_suits}
-use Rattle.ada_deeds.specs.Forms.{path_does, record_path_does, expression_does, condition_does, actuals_do, allocation_does, freeing_does, is_left, procedure_does, parts_do, creation_does, assignment_does, designated_by, item_does, items_do, right_does, declaration_does, declarations_do, leaving_does, stmt_does, stmts_do, branches_do, handlers_do, body_does}
+use Rattle.ada_deeds.specs.Forms.{path_does, record_path_does, expression_does, condition_does, actuals_do, allocation_does, freeing_does, is_left, procedure_does, parts_do, creation_does, assignment_does, designated_by, item_does, items_do, right_does, declarations_do, leaving_does, stmt_does, stmts_do, branches_do, handlers_do, body_does}
 use Rattle.ada_deeds.specs.declared.deed.Callee.{Callee}
 use Rattle.ada_deeds.specs.declared.deed.Deed.{Deed}
 use Rattle.ada_deeds.specs.declared.deed.Operation.TheVariants.{Adjust, Finalize}

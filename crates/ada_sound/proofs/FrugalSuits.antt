@@ -1,6 +1,6 @@
 -- A frugal body copies no record with controlled parts into another one (7.6, 4.3.1), where allocators with items stand apart: so its aggregates suit.
 
-use Rattle.std.proofs.Common.{◌≡◌, ℕ, Bool, true, false, ◌&&◌, List, [], ◌∷◌, refl}
+use Rattle.std.proofs.Common.{◌≡◌, ℕ, Bool, true, ◌&&◌, List, [], ◌∷◌, refl}
 use Rattle.std.proofs.lemmas.Bool.{and_from}
 use Rattle.std.specs.List.{list_all}
 use Rattle.std.specs.Prelude.{Option, Some, None, is_some, not}
@@ -9,7 +9,7 @@ use Rattle.ada_program.specs.declared.program.Finalization.{Finalization}
 use Rattle.ada_program.specs.Form.{ItemForm, null_item, item_of_path, item_of_value, item_of_record, RightForm, nothing, value_of, allocates, allocates_default, computes, DeclarationForm, creates_pool, collects, declares, declares_record, StmtForm, skips, assigns, assigns_record, frees, gets, writes, writes_text, chooses, repeats, counts, exits, calls, returns, raises, encloses, StmtsForm, no_stmts, a_stmt, BranchesForm, otherwise, a_branch, HandlersForm, no_handlers, a_handler}
 use Rattle.ada_program.specs.ProgramForm.{TypeForm, BodyForm}
 use Rattle.ada_program.specs.WellFormed.{finalization_of}
-use Rattle.ada_quiet.specs.Apart.{is_bare_item, is_bare_right, declares_apart, declare_apart, calls_apart, all_call_apart, branches_call_apart, handlers_call_apart, body_calls_apart}
+use Rattle.ada_quiet.specs.Apart.{is_bare_item, is_bare_right, declare_apart, calls_apart, all_call_apart, branches_call_apart, handlers_call_apart, body_calls_apart}
 use Rattle.ada_quiet.specs.Bare.{has_bare_objects}
 use Rattle.ada_quiet.specs.Frugal.{Thrift, allocates_quietly, are_frugal_declarations, is_frugal_stmt, are_frugal, are_frugal_branches, are_frugal_handlers, is_frugal_body}
 use Rattle.ada_sound.proofs.OperationStarts.{apart}

@@ -1,18 +1,17 @@
 -- What a body may free that calls nothing, and frees and allocates no object with controlled parts (7.6, 7.6.1, 13.11.2), has none: a Free of it says so, and implicitly it
 -- calls nothing, also where it assigns a record (5.2).
 
-use Rattle.std.proofs.Common.{◌≡◌, ℕ, zero, suc, Bool, true, false, ◌||◌, List, [], ◌∷◌, ◌++◌, map, take, refl, sym, ap, ◌∙◌, subst, inl, inr}
+use Rattle.std.proofs.Common.{◌≡◌, ℕ, Bool, true, false, ◌||◌, List, [], ◌∷◌, ◌++◌, map, take, refl, sym, ◌∙◌, subst, inl, inr}
 use Rattle.std.proofs.lemmas.Bool.{eqb-true, or_cases}
-use Rattle.std.proofs.lemmas.Option.{slice_get-map}
-use Rattle.std.specs.List.{list_all, slice_get, slice_index_or}
+use Rattle.std.specs.List.{list_all, slice_get}
 use Rattle.std.specs.Prelude.{Option, Some, None, is_some, not}
 use Rattle.ada_deeds.proofs.Freed.{deed}
 use Rattle.ada_deeds.specs.Implicit.{implicit_of}
 use Rattle.ada_deeds.specs.declared.deed.Operation.TheVariants.{Adjust, Finalize}
-use Rattle.ada_effects.specs.Effects.{Effect, Effects, assignment_frees, call_frees, right_frees, ending_frees, declarations_free, leaving_frees, stmt_frees, stmts_free, branches_free, handlers_free, body_frees, effect_of, known_of, effects_from, effects_of}
+use Rattle.ada_effects.specs.Effects.{Effect, Effects, assignment_frees, right_frees, ending_frees, declarations_free, leaving_frees, stmt_frees, stmts_free, branches_free, handlers_free, body_frees, known_of, effects_from, effects_of}
 use Rattle.ada_program.specs.Form.{RecordPathForm, RightForm, nothing, value_of, allocates, allocates_default, computes, DeclarationForm, creates_pool, collects, declares, declares_record, StmtForm, skips, assigns, assigns_record, frees, gets, writes, writes_text, chooses, repeats, counts, exits, calls, returns, raises, encloses, StmtsForm, no_stmts, a_stmt, BranchesForm, otherwise, a_branch, HandlersForm, no_handlers, a_handler}
 use Rattle.ada_program.specs.ProgramForm.{TypeForm, record_of, access_to, object_of, VariableForm, BodyForm, ProgramForm, seen_in, seen_by}
-use Rattle.ada_program.specs.WellFormed.{IsWellFormed, Profile, profile_of, finalization_of, is_record_path, designated_in, is_freed_by, is_this, path_access, same_record, suits_profile, type_fits, statement_fits, stmts_fit, branches_fit, handlers_fit, body_fits, bodies_fit}
+use Rattle.ada_program.specs.WellFormed.{IsWellFormed, Profile, profile_of, finalization_of, is_record_path, designated_in, is_freed_by, is_this, path_access, same_record, type_fits, statement_fits, stmts_fit, branches_fit, handlers_fit, body_fits}
 use Rattle.ada_quiet.specs.Bare.{has_bare_objects, is_bare_access}
 use Rattle.ada_quiet.specs.Frugal.{allocates_quietly, are_frugal_declarations}
 use Rattle.ada_sound.proofs.Marks.{simple_marks, is_thrifty_stmt, are_thrifty, are_thrifty_branches, are_thrifty_handlers, is_thrifty_body}

@@ -4,9 +4,7 @@
 use Rattle.std.proofs.Common.{◌≡◌, ◌<◌, ℕ, zero, suc, Bool, true, false, ◌&&◌, ◌||◌, List, [], ◌∷◌, ◌++◌, length, map, take, refl, sym, ap, ◌∙◌, arith, ◌⊎◌, inl, inr}
 use Rattle.std.proofs.lemmas.Bool.{and_from, and_parts, false_from_ne_true, not-true, or_cases, or_left, or_right}
 use Rattle.std.proofs.lemmas.List.{length-map}
-use Rattle.std.proofs.lemmas.Option.{slice_get-map}
-use Rattle.std.specs.List.{list_all, list_any, slice_get, slice_index_or}
-use Rattle.std.specs.Option.{option_map}
+use Rattle.std.specs.List.{list_all, slice_get, slice_index_or}
 use Rattle.std.specs.Prelude.{Option, Some, None, is_some, not}
 use Rattle.ada_deeds.proofs.More.{Stays, callee_stays, least}
 use Rattle.ada_deeds.proofs.Naming.{all_at}
@@ -20,13 +18,12 @@ use Rattle.ada_deeds.specs.Laws.{IsClosed, IsWithin}
 use Rattle.ada_deeds.specs.Within.{does_by}
 use Rattle.ada_deeds.specs.declared.deed.Callee.{Callee}
 use Rattle.ada_deeds.specs.declared.deed.Callee.TheVariants as callee
-use Rattle.ada_deeds.specs.declared.deed.Deed.{Deed}
 use Rattle.ada_deeds.specs.declared.deed.Deed.TheVariants.{Raises}
 use Rattle.ada_deeds.specs.declared.deed.Operation.{Operation}
 use Rattle.ada_deeds.specs.declared.deed.Operation.TheVariants.{Initialize, Adjust, Finalize}
 use Rattle.ada_effects.proofs.Programs.{calls_raise_each}
 use Rattle.ada_effects.proofs.Sameness.{is_itself}
-use Rattle.ada_effects.specs.Effects.{Effect, Effects, call_raises, body_raises, effects_from, effects_of, known_of, no_calls, no_implicit}
+use Rattle.ada_effects.specs.Effects.{Effect, call_raises, body_raises, effects_from, known_of, no_calls, no_implicit}
 use Rattle.ada_program.specs.declared.program.Exception.{Exception}
 use Rattle.ada_program.specs.declared.program.Finalization.{Finalization}
 use Rattle.ada_program.specs.declared.program.PartKind.{PartKind}
@@ -34,7 +31,7 @@ use Rattle.ada_program.specs.declared.program.PartKind.TheVariants as part
 use Rattle.ada_program.specs.declared.program.ProcedureNo.{ProcedureNo}
 use Rattle.ada_program.specs.Handling.{is_same}
 use Rattle.ada_program.specs.ProgramForm.{PartForm, TypeForm, record_of, access_to, object_of, BodyForm, ProgramForm}
-use Rattle.ada_program.specs.WellFormed.{IsWellFormed, Profile, profile_of, designated_in, designated_type, finalization_in, finalization_of}
+use Rattle.ada_program.specs.WellFormed.{IsWellFormed, profile_of, designated_in, designated_type, finalization_in, finalization_of}
 use Rattle.ada_quiet.proofs.CalmTypes.{known_at}
 use Rattle.ada_quiet.proofs.FrugalAt.{frugal_at}
 use Rattle.ada_quiet.proofs.QuietFrugal.{frugal_body}
@@ -148,7 +145,7 @@ module _ (p : ProgramForm) (well : IsWellFormed p) (uses : operations_may_be_cal
             let long = length-map (take number p.bodies) profile_of in
             let one = item_there (take number p.bodies) n (omega (arith, below, long)) in
             ap (λ (o : Option Effect). call_raises o among) (known_before p well no_implicit number n (Some one.0) (profile_of one.0) one.1 refl) ∙ more
-        );
+            );
         adjusts = λ o k. less_none Adjust o k;
         finalizes = λ o k. less_none Finalize o k;
       } in

@@ -460,5 +460,3 @@ pub mod BareObjects
 pub mod CalmTypes
 -- objects for which no operation is called that touches storage, where they begin or end
 pub mod CalmObjects
--- what begins quietly
-pub mod QuietBegins

@@ -47,7 +47,7 @@ use Rattle.ada_sound.proofs.Operating.{IsCalled, PlainBody, WaitsFor, behind_ope
 use Rattle.ada_sound.proofs.OperationBegins.{begins_operation}
 use Rattle.ada_sound.proofs.Pauses.{AllWatched, inner_on}
 use Rattle.ada_sound.proofs.QuietOperations.{AdjustsCopy, IsUsedAs, LetsNone, LetsNothingOut, MayTouch, TouchesStorage, used_as}
-use Rattle.ada_sound.proofs.QuietBegins.{quiet_initialize}
+use Rattle.ada_sound.proofs.BegunQuietly.{begun_initialize}
 use Rattle.ada_sound.proofs.Raising.{body_more}
 use Rattle.ada_sound.proofs.CopiedOwners.{BeginsCopy}
 use Rattle.ada_sound.proofs.Ready.{running}
@@ -323,7 +323,7 @@ module _ (program : Program) (a : Activation Value) (rest : List (Activation Val
             let there = subst (λ (q : Id). object_at s.heap q ≡ Some x) same begun.3 in
             let cell : operated.2.0 ≡ x.cell = some_same (sym operated.2.1 ∙ cell_at s.heap c.o.0 x there) in
             let access : x.cell.access ≡ operated.0 = ap (λ (d : Cell Value). d.access) (sym cell) ∙ operated.2.2 in
-            quiet_initialize program grounds.well operated.0 c.of operated.1 c.number c.b operated.3
+            begun_initialize program grounds.well operated.0 c.of operated.1 c.number c.b operated.3
             (subst (λ (t : ℕ). has_calm_objects p.types (quietly_begun_types p) t ≡ true) access begun.4) called c.there
           where
             some_same : {d d' : Cell Value} → Some d ≡ Some d' → d ≡ d'

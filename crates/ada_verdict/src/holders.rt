@@ -99,7 +99,12 @@ pub(crate) fn reaching_holders(
 {
     let mut marks = Vec::new(alloc);
     'types: for holder in 0..types.len() {
-        mark_held(&mut marks, implicit, holder, reached_components(types, holder))?;
+        mark_held(
+            &mut marks,
+            implicit,
+            holder,
+            reached_components(types, holder),
+        )?;
     }
     Ok(marks)
 }
