@@ -179,10 +179,7 @@ fn is_quietly_begun_found(
 ///
 /// # Errors
 /// `AllocError` where memory was refused.
-pub(crate) fn quietly_begun_types(
-    alloc: Global,
-    program: &Program,
-) -> Result<Vec<bool>, AllocError>
+pub(crate) fn quietly_begun_types(alloc: Global, program: &Program) -> Result<Vec<bool>, AllocError>
     ensures { IfOk result (λ begun. begun.items ≡ rules.quietly_begun_types (program_form program.now)) }
 {
     let numbered = numbered_types(alloc, &program.types)?;

@@ -28,10 +28,7 @@ pub(crate) struct Known<'a> {
 ///
 /// # Errors
 /// `AllocError` where memory was refused.
-pub(crate) fn frugal_procedures(
-    alloc: Global,
-    program: &Program,
-) -> Result<Vec<bool>, AllocError>
+pub(crate) fn frugal_procedures(alloc: Global, program: &Program) -> Result<Vec<bool>, AllocError>
     ensures { IfOk result (λ frugal. frugal.items ≡ rules.frugal_procedures (program_form program.now)) }
 {
     let begun = quietly_begun_types(alloc, program)?;
