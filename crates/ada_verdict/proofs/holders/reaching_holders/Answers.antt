@@ -20,6 +20,6 @@ types-preserved c =
     let lt : n < length types = omega (arith, c.types-test.true, length-map c.args.types.now type_form) in
     marked_more implicit types n marks c.mark_held.new.marks.items lt
     (λ t.
-        c.in_ok-mark_held.ensures t
-        ∙ ap (λ (components : Option (List ComponentKind)). is_marked marks t || (implicit.end_reaches t n && hold_one t components)) c.reached_components.ensures)
+    c.in_ok-mark_held.ensures t
+    ∙ ap (λ (components : Option (List ComponentKind)). is_marked marks t || (implicit.end_reaches t n && hold_one t components)) c.reached_components.ensures)
     c.types.invariant
