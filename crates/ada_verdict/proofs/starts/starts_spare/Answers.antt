@@ -16,7 +16,7 @@ returns-then-not-start_spares c =
     let n = c.types.number in
     let t = c.index-types-number.result in
     let lt : n < length types = omega (arith, c.types-test.true, length-map c.args.types.now type_form) in
-    let at : get_or types n (type_form t) ≡ type_form t = get_or-map c.args.types.now n t (type_form t) c.types-test.true ∙ ap type_form (sym c.index-types-number.is) in
+    let at : get_or types n (type_form t) ≡ type_form t = get_or-map type_form c.args.types.now n t (type_form t) c.types-test.true ∙ ap type_form (sym c.index-types-number.is) in
     let not = ap (start_spares implicit n) at ∙ sym c.start_spares.ensures ∙ c.if-not-start_spares.true in
     sym (spare_no_more implicit types n (type_form t) lt not) ∙ c.types.invariant
 
@@ -28,6 +28,6 @@ types-preserved c =
     let n = c.types.number in
     let t = c.index-types-number.result in
     let lt : n < length types = omega (arith, c.types-test.true, length-map c.args.types.now type_form) in
-    let at : get_or types n (type_form t) ≡ type_form t = get_or-map c.args.types.now n t (type_form t) c.types-test.true ∙ ap type_form (sym c.index-types-number.is) in
+    let at : get_or types n (type_form t) ≡ type_form t = get_or-map type_form c.args.types.now n t (type_form t) c.types-test.true ∙ ap type_form (sym c.index-types-number.is) in
     let so = ap (start_spares implicit n) at ∙ sym c.start_spares.ensures ∙ c.if-not-start_spares.false in
     spare_behind implicit types n (type_form t) lt so ∙ c.types.invariant
