@@ -8,13 +8,14 @@ ghost use Rattle.ada_meaning.specs.State.{begins};
 ghost use Rattle.ada_meaning.specs.Run.{first_state};
 ghost use Rattle.ada_interpreter.specs.CommonSteps.{GoesQuietly};
 ghost use Rattle.ada_interpreter.specs.Process.{shown};
+ghost use Rattle.ada_untouched.specs.Past.{forgetting};
 ghost use Rattle.ada_interpreter.specs.Machine.{state_in, program_of, choices_of, halt_of, MakesStep, EndsRun, Settles, EndsTurn};
 
 use crate::choices::Choices;
 use crate::loaded::Loaded;
 use crate::process::Process;
 use crate::turn::{Allocation, Leaving, Open, Turn};
-use ada_meaning::{Event, Halt, Request};
+use ada_meaning::{Event, Halt, Id, Request};
 use ada_program::program::TypeDefinition;
 use ada_program::{Program, RecordNo};
 use std::alloc::{AllocError, Global};
@@ -111,6 +112,17 @@ impl<'a, C: Choices + Drop> Machine<'a, C> {
                 Err(AllocError)
             }
         }
+    }
+
+    /// Forgets what lies in an object, if that is past: it has ceased to exist, is in no collection, and its storage is back. No
+    /// step looks for that any more, so memory need follow only the objects that there are, and not all that ever were.
+    pub fn forget(&mut self, object: Id)
+        ensures state { state_in self.new ≡ forgetting object (state_in self.old) }
+        ensures choices { choices_of self.new ≡ choices_of self.old }
+        ensures halted { halt_of self.new ≡ halt_of self.old }
+        ensures program { program_of self.new ≡ program_of self.old }
+    {
+        self.process.forget(object);
     }
 
     /// The record type that has a number among those that have controlled parts, as events tell it, if there is one. In a

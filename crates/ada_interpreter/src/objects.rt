@@ -7,6 +7,7 @@ ghost use Rattle.ada_meaning.specs.Step.{initial_value, stored_from};
 ghost use Rattle.ada_meaning.specs.Named.{named, object_at, seen, lent_by, standing_by, all_alive, new_object, changed, parted, finished, returned, filled, born_part, finalized_part, treated, members};
 ghost use Rattle.ada_interpreter.specs.Objects.{cell_of, declared_cell, object_of, kept_of, kept_at, listed_home, gone, filled_from, part_at, with_part_state, is_member_at, members_among, Trims, IsTidied};
 ghost use Rattle.ada_interpreter.specs.Treatment.{part_form};
+ghost use Rattle.ada_untouched.specs.Past.{forgotten};
 
 use crate::shelves::{Shelf, discount, enter, entries_at, live_at, make_shelves};
 use crate::treatment::{PartState, set_part};
@@ -205,6 +206,13 @@ impl Objects {
         set_returned(&mut self.objects, o);
     }
 
+    /// Nothing more is remembered of the object of a name, if it is past.
+    pub(crate) fn forget(&mut self, o: Id)
+        ensures { self.new ≡ changed forgotten (object_at self.old o) self.old o }
+    {
+        forget_object(&mut self.objects, o);
+    }
+
     /// A component of the object of a name gets another value (5.2).
     pub(crate) fn store(&mut self, o: Id, component: ComponentNo, value: Value)
         ensures { self.new ≡ changed (filled component.0 value) (object_at self.old o) self.old o }
@@ -319,6 +327,13 @@ fn set_gone(objects: &mut Vec<Object>, o: Id)
         let object = &mut objects[o.0];
         object.stage = Stage::Gone;
     }
+}
+
+/// Nothing more is remembered of the object of a name, if it is past.
+fn forget_object(objects: &mut Vec<Object>, o: Id)
+    ensures { let xs = map object_of objects.old.items in
+        map object_of objects.new.items ≡ changed forgotten (object_at xs o) xs o }
+{
 }
 
 /// The words of the object of a name are back.

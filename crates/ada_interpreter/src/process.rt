@@ -5,6 +5,7 @@ ghost use Rattle.ada_meaning.specs.State.{begins};
 ghost use Rattle.ada_meaning.specs.Step.{jumping, raised, computed, popped, put, entered, newest, held};
 ghost use Rattle.ada_meaning.specs.Named.{named};
 ghost use Rattle.ada_meaning.specs.Run.{first_state};
+ghost use Rattle.ada_untouched.specs.Past.{forgetting};
 ghost use Rattle.ada_interpreter.specs.Process.{frame_of, state_of, passed, replaced, pushed};
 
 use crate::activations::Activations;
@@ -13,7 +14,7 @@ use crate::input::Input;
 use crate::masters::Masters;
 use crate::objects::Objects;
 use crate::stack::Stack;
-use ada_meaning::{Exception, Mode, Value};
+use ada_meaning::{Exception, Id, Mode, Value};
 use ada_program::{Program, VariableNo};
 use std::alloc::{AllocError, Global};
 
@@ -218,6 +219,13 @@ impl<'a> Process<'a> {
         ensures { result ≡ held named (state_of self.now) variable.0 }
     {
         self.activations.held(variable)
+    }
+
+    /// Nothing more is remembered of the object of a name, if it is past.
+    pub(crate) fn forget(&mut self, object: Id)
+        ensures { state_of self.new ≡ forgetting object (state_of self.old) }
+    {
+        self.objects.forget(object);
     }
 
     /// A variable gets a value (5.2).

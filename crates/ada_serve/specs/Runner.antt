@@ -13,6 +13,7 @@ use Rattle.ada_meaning.specs.Step.{halts, moves, tells, asks, picks}
 use Rattle.ada_meaning.specs.Named.{Next, State, next}
 use Rattle.ada_meaning.specs.Run.{Choice, grants, takes, Event, Step, first_state, Halts}
 use Rattle.ada_meaning.specs.Chosen.{ChosenRun}
+use Rattle.ada_untouched.specs.Past.{StatesButForPast}
 use Rattle.ada_interpreter.specs.declared.machine.Machine.{Machine}
 use Rattle.ada_interpreter.specs.Machine.{choices_of, state_in}
 use Rattle.ada_pools.specs.declared.choices.PoolChoices.{PoolChoices}
@@ -112,10 +113,11 @@ TakesTurn program trace runner after s last old new (Ok None) = StepsOn program 
 TakesTurn program trace runner after s last old new (Ok (Some ending)) = EndsIn program s old new ending
 TakesTurn program trace runner after s last old new (Err fault) = BreaksOff program trace runner s old new
 
--- What a machine does in a turn, and what its turn writes.
-abbrev pub TurnsOn : Program → (trace : Bool) → (before after : Machine PoolChoices) → Option (List ℕ) → Option (List ℕ) → Result (Option Status) ServeFault → Type 0
-TurnsOn program trace before after old new result =
-    TakesTurn program trace (runner_of (choices_of before)) (runner_of (choices_of after)) (state_in before) (state_in after) old new result
+-- What a machine does in a turn, and what its turn writes: it may have forgotten behind its step what lies in an object that is past.
+pub record TurnsOn (program : Program) (trace : Bool) (before after : Machine PoolChoices) (old new : Option (List ℕ)) (result : Result (Option Status) ServeFault) : Type 0 where
+  pub reached : State
+  pub turn : TakesTurn program trace (runner_of (choices_of before)) (runner_of (choices_of after)) (state_in before) reached old new result
+  pub forgets : StatesButForPast reached (state_in after)
 
 -- The runner's run of a program, traced or not, on these numbers, which its input gives; it may begin so many statements, and the runner begins so:
 -- its lines and how it ends are the text. It comes to its end; or it has begun that many statements, and would begin another.

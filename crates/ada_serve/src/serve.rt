@@ -1,6 +1,7 @@
 //! The answer to a source: the source is checked, and run on its input if it is accepted and a run is asked for.
 
 ghost use Rattle.std.specs.Prelude.{◌≡◌, ◌≢◌, ◌++◌, ◌-◌, take, length, [], true, None, Err, IfOk, IfErr, OnOk};
+ghost use Rattle.ada_untouched.specs.Past.{StatesButForPast};
 ghost use Rattle.ada_interpreter.specs.Machine.{state_in, program_of, choices_of, halt_of};
 ghost use Rattle.ada_meaning.specs.declared.event.Halt.TheVariants.{Memory};
 ghost use Rattle.ada_meaning.specs.Event.{event_of};
@@ -324,9 +325,22 @@ fn take_turn<W: ByteWriter>(
     match machine.step() {
         Ok(event) => {
             write_event(page, program, machine, trace, out, event)?;
+            forget_past(machine, event);
             Ok(None)
         }
         Err(halt) => Ok(Some(finish(page, program, out, halt)?)),
+    }
+}
+
+/// Forgets the object whose storage is back by an event.
+fn forget_past(machine: &mut Machine<'_, PoolChoices>, event: Event)
+    ensures forgets { StatesButForPast (state_in machine.old) (state_in machine.new) }
+    ensures choices { choices_of machine.new ≡ choices_of machine.old }
+    ensures halted { halt_of machine.new ≡ halt_of machine.old }
+    ensures program { program_of machine.new ≡ program_of machine.old }
+{
+    if let Event::Back { object, .. } = event {
+        machine.forget(object);
     }
 }
 

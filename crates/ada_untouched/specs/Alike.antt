@@ -38,10 +38,14 @@ pub record HeapsAlike (hidden : Id → (component : ℕ) → Bool) (ghosts : Id 
   pub count : length h ≡ length k
   pub objects : (o : Id) → FoundAlike (hidden o) (ghosts o) (object_at h o) (object_at k o)
 
--- States that are the same but for such heaps.
-pub record StatesAlike (hidden : Id → (component : ℕ) → Bool) (ghosts : Id → Bool) (s t : State) : Type 0 where
+-- States that are the same but for their heaps, which are so.
+pub record StatesBy (AreSo : List Object → List Object → Type 0) (s t : State) : Type 0 where
   pub rest : t ≡ record s { heap = t.heap }
-  pub heaps : HeapsAlike hidden ghosts s.heap t.heap
+  pub heaps : AreSo s.heap t.heap
+
+-- States that are the same but for heaps that are alike.
+abbrev pub StatesAlike : (hidden : Id → (component : ℕ) → Bool) → (ghosts : Id → Bool) → (s t : State) → Type 0
+StatesAlike hidden ghosts s t = StatesBy (HeapsAlike hidden ghosts) s t
 
 -- Does a value name a ghost?
 abbrev pub is_ghost : (ghosts : Id → Bool) → Value → Bool
@@ -56,13 +60,16 @@ SparesGhosts ghosts (Followed v) = is_ghost ghosts v ≡ false
 SparesGhosts ghosts (Back v access number pool subpool cause) = is_ghost ghosts v ≡ false
 SparesGhosts ghosts e = Unit {0}
 
--- What comes next of both: the same, but that the states are alike, whatever is answered. Where an event comes, it spares the ghosts.
+-- What comes next of both: the same, but that the heaps of the states are so, whatever is answered. Where an event comes, it is so, too.
+abbrev pub NextBy : (AreSo : List Object → List Object → Type 0) → (IsSo : Event Value → Type 0) → Next → Next → Type 0
+NextBy AreSo IsSo (halts h) n = n ≡ halts h
+NextBy AreSo IsSo (moves event s) n = (t : State) × (n ≡ moves event t) × StatesBy AreSo s t × IsSo event
+NextBy AreSo IsSo (tells request event s) n = (t : State) × (n ≡ tells request event t) × StatesBy AreSo s t × IsSo event
+NextBy AreSo IsSo (asks request answered) n =
+    (answers : Bool → State) × (n ≡ asks request answers) × ((granted : Bool) → StatesBy AreSo (answered granted) (answers granted))
+NextBy AreSo IsSo (picks count taken) n =
+    (taking : ℕ → State) × (n ≡ picks count taking) × ((i : ℕ) → StatesBy AreSo (taken i) (taking i))
+
+-- The same, but that the states are alike; and each event spares the ghosts.
 abbrev pub NextAlike : (hidden : Id → (component : ℕ) → Bool) → (ghosts : Id → Bool) → Next → Next → Type 0
-NextAlike hidden ghosts (halts h) n = n ≡ halts h
-NextAlike hidden ghosts (moves event s) n = (t : State) × (n ≡ moves event t) × StatesAlike hidden ghosts s t × SparesGhosts ghosts event
-NextAlike hidden ghosts (tells request event s) n =
-    (t : State) × (n ≡ tells request event t) × StatesAlike hidden ghosts s t × SparesGhosts ghosts event
-NextAlike hidden ghosts (asks request answered) n =
-    (answers : Bool → State) × (n ≡ asks request answers) × ((granted : Bool) → StatesAlike hidden ghosts (answered granted) (answers granted))
-NextAlike hidden ghosts (picks count taken) n =
-    (taking : ℕ → State) × (n ≡ picks count taking) × ((i : ℕ) → StatesAlike hidden ghosts (taken i) (taking i))
+NextAlike hidden ghosts coming n = NextBy (HeapsAlike hidden ghosts) (SparesGhosts ghosts) coming n

@@ -2,6 +2,8 @@
 
 -- states that are alike but for some components and some objects; events that spare these objects
 pub mod Alike
+-- states that are alike but for what lies in objects that are past
+pub mod Past
 -- what a step looks at
 pub mod Untouched
 -- what a step writes

@@ -1,6 +1,6 @@
 -- What the next step looks at, by the first of what is left to do: at no hidden component and at no ghost.
 
-use Rattle.std.specs.Prelude.{◌≡◌, ℕ, Bool, false, List, [], ◌∷◌, Option, Some, None}
+use Rattle.std.specs.Prelude.{◌≡◌, ◌⊎◌, ℕ, Bool, false, List, [], ◌∷◌, Option, Some, None}
 use Rattle.std.specs.List.{slice_get}
 use Rattle.ada_program.specs.Form.{PathForm, RecordPathForm, ExpressionForm, reads, is_null, ItemForm, item_of_path, item_of_record, RightForm, value_of, StmtForm, assigns, assigns_record, frees, gets, StmtsForm, no_stmts, a_stmt}
 use Rattle.ada_meaning.specs.declared.state.Id.{Id}
@@ -67,6 +67,10 @@ abbrev pub InnermostHousesNone : List Master → Type 0
 InnermostHousesNone [] = Unit {0}
 InnermostHousesNone (m ∷ ms) = NewestHousesNone m.items
 
+-- There are no ghosts.
+abbrev pub AreNone : (ghosts : Id → Bool) → Type 0
+AreNone ghosts = (o : Id) → ghosts o ≡ false
+
 module _ (hidden : Id → (component : ℕ) → Bool) (ghosts : Id → Bool) (s : State) where
   -- A path leads on from its variable (4.1).
   abbrev pub PathIsOpen : PathForm → Type 0
@@ -121,10 +125,11 @@ module _ (hidden : Id → (component : ℕ) → Bool) (ghosts : Id → Bool) (s 
   StatementsAreOpen (a_stmt f fs) = StatementIsOpen f
 
   -- What a frame looks at, where no jump is on its way. Where a record is copied from an object, that hides no component. An object is treated whose components
-  -- may be hidden (7.6, 7.6.1), or a part of it comes to have a value. None takes an object out of its collection where a master is left (7.6.1).
+  -- may be hidden (7.6, 7.6.1), or a part of it comes to have a value. Where there are ghosts, none takes an object out of its collection as a master is left
+  -- (7.6.1).
   abbrev pub FrameIsOpen : Frame Value → Type 0
   FrameIsOpen (frame.Does fs) = StatementsAreOpen fs
-  FrameIsOpen (frame.Leaves mode) = InnermostHousesNone s.masters
+  FrameIsOpen (frame.Leaves mode) = InnermostHousesNone s.masters ⊎ AreNone ghosts
   FrameIsOpen (frame.Evaluates right) = RightIsOpen right
   FrameIsOpen (frame.Computes e) = ExpressionIsOpen e
   FrameIsOpen (frame.Follows cs) = IsOpen hidden ghosts cs (newest named s)

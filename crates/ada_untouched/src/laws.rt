@@ -2,7 +2,7 @@
 //! theorem.
 
 ghost use Rattle.ada_untouched.specs.Example.{PremisesAreMet, PremiseIsNeeded, WritesBeside, RecordsAreCopiedBeside};
-ghost use Rattle.ada_untouched.specs.Law.{UntouchedPartsDoNotMatter, HiddenPartsStay};
+ghost use Rattle.ada_untouched.specs.Law.{UntouchedPartsDoNotMatter, HiddenPartsStay, PastObjectsDoNotMatter, PastObjectsWeighNothing, ForgettingChangesPastAlone};
 
 /// Where a step looks neither at a hidden component nor at a ghost, a state that is alike but for these takes the same step: the
 /// same is asked of storage and told to it, the same is shown, and the states behind it are alike again, or both end so. No ghost is
@@ -40,4 +40,20 @@ pub fn writes_beside()
 /// component of the record changes, and behind each step the states are alike again.
 pub fn copies_beside()
     ensures { RecordsAreCopiedBeside }
+{}
+
+/// What lies in an object that is gone, and whose storage is back, does not matter to any step: a state in which something else
+/// lies there takes the same step, and the states behind it differ in nothing else again.
+pub fn past_objects_do_not_matter()
+    ensures { PastObjectsDoNotMatter }
+{}
+
+/// Nor does it matter to how many steps may follow before a statement begins.
+pub fn past_objects_weigh_nothing()
+    ensures { PastObjectsWeighNothing }
+{}
+
+/// So a machine may forget such an object at any time.
+pub fn forgetting_changes_past_objects_alone()
+    ensures { ForgettingChangesPastAlone }
 {}
