@@ -1,5 +1,5 @@
--- Where a component of a record frees an object (13.11.2): of a declared record object, or of one for which a formal parameter stands (6.2). Nothing there says by which access
--- value somebody else may come to the object in which the record lies.
+-- Where a component of a record frees an object (13.11.2): of a declared record object, or of one for which a formal parameter stands (6.2). Nothing there says
+-- by which access value somebody else may come to the object in which the record lies.
 
 use Rattle.std.specs.Prelude.{ℕ, Bool, not, ◌&&◌, if◌then◌else◌, List, [], ◌∷◌, ◌++◌, Option, Some, None}
 use Rattle.ada_text.specs.declared.spot.Spot.{Spot}
@@ -60,9 +60,9 @@ module _ (asked : (access : ℕ) → Bool) where
   bodies_free_inside [] = []
   bodies_free_inside (b ∷ bs) = body_frees_inside b ++ bodies_free_inside bs
 
-  -- In the text of a program, whether anything comes there or not.
+  -- In the text of a program, in which the bodies of procedures stand before the statements of the main one, whether anything comes there or not.
   abbrev pub text_frees_inside : ProgramForm → List Spot
-  text_frees_inside p = body_frees_inside (main_body p) ++ bodies_free_inside p.bodies
+  text_frees_inside p = bodies_free_inside p.bodies ++ body_frees_inside (main_body p)
 
 -- The first of some places, if there is one.
 abbrev pub first_spot : List Spot → Option Spot

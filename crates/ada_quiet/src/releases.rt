@@ -150,11 +150,11 @@ fn main_frees_inside(asked: &[bool], program: &Program) -> Option<Spot>
 }
 
 /// Where the first component of a record is freed that is of an access type that is marked, by its number, and lies in a declared record
-/// object, or in one for which a formal parameter stands: in the body of the main procedure, then in those of the other ones, in the order
-/// of the text, whether anything comes there or not. Linear in all bodies.
+/// object, or in one for which a formal parameter stands: in the bodies of procedures in the order of the text, then in the main
+/// procedure's own statements, whether anything comes there or not. Linear in all bodies.
 #[tactic(auto, using(std::proofs::lemmas::Grind::common_steps, crate::proofs::Releasing::first_steps))]
 pub fn first_freed_inside(program: &Program, asked: &[bool]) -> Option<Spot>
     ensures { result ≡ first_spot (rules.text_frees_inside (is_marked asked.now) (program_form program.now)) }
 {
-    main_frees_inside(asked, program).or(bodies_free_inside(asked, &program.procedures))
+    bodies_free_inside(asked, &program.procedures).or(main_frees_inside(asked, program))
 }

@@ -1,5 +1,5 @@
--- The body of an Adjust runs that tracks components of its formal parameter (7.6), after a copy of a record: what holds of the state that stands for the real one,
--- which has a variable for each of them.
+-- The body of an Adjust runs that tracks components of its formal parameter (7.6), after a copy of a record: what holds of the state that stands for the real
+-- one, which has a variable for each of them.
 
 use Rattle.std.proofs.Common.{◌≡◌, ◌≢◌, ℕ, ◌==◌, Bool, true, false, List, [], ◌∷◌, length, drop, ◌⊎◌}
 use Rattle.std.specs.Prelude.{Option, Some}
@@ -42,7 +42,7 @@ use Rattle.ada_sound.proofs.FrugalControl.{Frugally}
 use Rattle.ada_sound.proofs.Invariant.{AdjustsAside, Control, Ready, Rooms, RunsOn, Standing, body_among, under_in}
 use Rattle.ada_sound.proofs.Judged.{known_judged}
 use Rattle.ada_sound.proofs.Operating.{IsCalm, WaitsFor}
-use Rattle.ada_sound.proofs.Marks.{simple_marks}
+use Rattle.ada_sound.proofs.Allowance.{simple_allowance}
 use Rattle.ada_sound.proofs.Touching.{Paused, resting}
 use Rattle.ada_sound.proofs.WatchedBy.{hold_bare}
 use Rattle.ada_sound.specs.Agreement.{running_procedure}
@@ -97,7 +97,7 @@ pub record Adjusting (program : Program) (s : State) : Type 0 where
   pub kept : Keeping
   pub rooms : Rooms
   pub holds : Holds
-  pub frugal : Frugally (simple_marks (program_form program).types) lower behind t
+  pub frugal : Frugally (simple_allowance (program_form program).types) lower behind t
   pub waits : Paused (known_in program procedure suspensions) object access places after lower rooms holds
   pub untreated : (v : Value) → v ≢ Names object → NothingBegins v after
   pub rests : RunsOn (known_in program procedure suspensions) after rooms holds

@@ -64,22 +64,22 @@ use Rattle.ada_sound.proofs.Operating.{IsCalm, WaitsFor, behind_operation}
 use Rattle.ada_sound.proofs.OperationStarts.{apart}
 use Rattle.ada_sound.proofs.Orderings.{as_good}
 use Rattle.ada_sound.proofs.Returns.{same_types}
-use Rattle.ada_sound.proofs.Marks.{Marks, is_thrifty_stmt, are_thrifty, are_thrifty_branches, are_thrifty_handlers, is_thrifty_body, simple_marks}
+use Rattle.ada_sound.proofs.Allowance.{Allowance, is_thrifty_stmt, are_thrifty, are_thrifty_branches, are_thrifty_handlers, is_thrifty_body, simple_allowance}
 use Rattle.ada_sound.proofs.Stored.{stored_entered}
 use Rattle.ada_sound.proofs.Touching.{resting}
 use Rattle.ada_sound.proofs.TouchingBegins.{IsAlone}
 use Rattle.ada_sound.proofs.Waiting.{stands_kept}
 
 -- A body is frugal as it is judged, where it is.
-module _ (marks : Marks) (tracks : Tracks) where
-  right_same : (right : RightForm) → allocates_quietly marks.types marks.begun (seen_right tracks right) ≡ allocates_quietly marks.types marks.begun right
+module _ (allowance : Allowance) (tracks : Tracks) where
+  right_same : (right : RightForm) → allocates_quietly allowance.types allowance.begun (seen_right tracks right) ≡ allocates_quietly allowance.types allowance.begun right
   right_same nothing = refl
   right_same (value_of path) = refl
   right_same (allocates access items) = refl
   right_same (allocates_default access) = refl
   right_same (computes e) = refl
 
-  declarations_same : (ds : List DeclarationForm) → are_frugal_declarations marks.types marks.begun (seen_declarations tracks ds) ≡ are_frugal_declarations marks.types marks.begun ds
+  declarations_same : (ds : List DeclarationForm) → are_frugal_declarations allowance.types allowance.begun (seen_declarations tracks ds) ≡ are_frugal_declarations allowance.types allowance.begun ds
   declarations_same [] = refl
   declarations_same (creates_pool p ∷ ds) = refl
   declarations_same (collects access ∷ ds) = refl
@@ -87,7 +87,7 @@ module _ (marks : Marks) (tracks : Tracks) where
   declarations_same (declares_record x t initial ∷ ds) = refl
 
   mutual
-    stmt_same : (f : StmtForm) → is_thrifty_stmt marks (seen_stmt tracks f) ≡ is_thrifty_stmt marks f
+    stmt_same : (f : StmtForm) → is_thrifty_stmt allowance (seen_stmt tracks f) ≡ is_thrifty_stmt allowance f
     stmt_same skips = refl
     stmt_same (assigns target right) = right_same right
     stmt_same (assigns_record target items) = refl
@@ -104,20 +104,20 @@ module _ (marks : Marks) (tracks : Tracks) where
     stmt_same (raises e) = refl
     stmt_same (encloses ds fs hs) = rw (declarations_same ds, stmts_same fs, handlers_same hs) refl
 
-    stmts_same : (fs : StmtsForm) → are_thrifty marks (seen_stmts tracks fs) ≡ are_thrifty marks fs
+    stmts_same : (fs : StmtsForm) → are_thrifty allowance (seen_stmts tracks fs) ≡ are_thrifty allowance fs
     stmts_same no_stmts = refl
     stmts_same (a_stmt f fs) = rw (stmt_same f, stmts_same fs) refl
 
-    branches_same : (branches : BranchesForm) → are_thrifty_branches marks (seen_branches tracks branches) ≡ are_thrifty_branches marks branches
+    branches_same : (branches : BranchesForm) → are_thrifty_branches allowance (seen_branches tracks branches) ≡ are_thrifty_branches allowance branches
     branches_same (otherwise fs) = stmts_same fs
     branches_same (a_branch e fs branches) = rw (stmts_same fs, branches_same branches) refl
 
-    handlers_same : (hs : HandlersForm) → are_thrifty_handlers marks (seen_handlers tracks hs) ≡ are_thrifty_handlers marks hs
+    handlers_same : (hs : HandlersForm) → are_thrifty_handlers allowance (seen_handlers tracks hs) ≡ are_thrifty_handlers allowance hs
     handlers_same no_handlers = refl
     handlers_same (a_handler choices fs hs) = rw (stmts_same fs, handlers_same hs) refl
 
-  pub thrifty_as_judged : (b : BodyForm) → is_thrifty_body marks b ≡ true
-      → (are_frugal_declarations marks.types marks.begun (seen_declarations tracks b.declarations) ≡ true) × (are_thrifty marks (seen_stmts tracks b.statements) ≡ true) × (are_thrifty_handlers marks (seen_handlers tracks b.handlers) ≡ true)
+  pub thrifty_as_judged : (b : BodyForm) → is_thrifty_body allowance b ≡ true
+      → (are_frugal_declarations allowance.types allowance.begun (seen_declarations tracks b.declarations) ≡ true) × (are_thrifty allowance (seen_stmts tracks b.statements) ≡ true) × (are_thrifty_handlers allowance (seen_handlers tracks b.handlers) ≡ true)
   thrifty_as_judged b is =
       let three = apart _ _ is in
       let two = apart _ _ three.0 in
@@ -160,8 +160,8 @@ pub record Copied (known : Known) (may : ℕ → Bool) (o : Id) (x : Object) (re
   pub spares : Spares known may
   pub unaliased : Unaliased known.program.variables may works.holds
 
--- The body of such an Adjust runs, for this object, which is known by the type `access`: a record of this type was copied into it, and these tasks are left behind
--- the operation.
+-- The body of such an Adjust runs, for this object, which is known by the type `access`: a record of this type was copied into it, and these tasks are left
+-- behind the operation.
 pub record AdjustsIn (program : Program) (o : Id) (access record_type : ℕ) (tasks : List Task) (w : View) (s : State) : Type 0 where
   pub adjusting : Adjusting program s
   pub object_is : adjusting.object ≡ o
@@ -326,7 +326,7 @@ module _ (program : Program) (number : ℕ) (b : BodyForm) (there : slice_get (p
     referred_low q t (inr other) = absurd other
 
     -- The body begins.
-    pub adjusting_begins : IsOfCopy by → tracks_of p.types number b ≡ w.tracks → is_tracker p number ≡ true → BodyIsOrderly w.tracks b → hold_bare p.types (drop 1 b.variables) ≡ true → may_track p ≡ true → are_calmly_copied_in p x.cell.access ≡ false → may_be_frugal p ≡ true → is_thrifty_body (simple_marks p.types) b ≡ true → FrameIsSimple w.tracks.first (Elaborates b.declarations b.statements b.handlers)
+    pub adjusting_begins : IsOfCopy by → tracks_of p.types number b ≡ w.tracks → is_tracker p number ≡ true → BodyIsOrderly w.tracks b → hold_bare p.types (drop 1 b.variables) ≡ true → may_track p ≡ true → are_calmly_copied_in p x.cell.access ≡ false → may_be_frugal p ≡ true → is_thrifty_body (simple_allowance p.types) b ≡ true → FrameIsSimple w.tracks.first (Elaborates b.declarations b.statements b.handlers)
         → ((e : Exception) → body_among (implicit_of p) (known_judged program number w.tracks []).program e ≡ true → ⊥)
         → CallApart p.types (is_tracker p) (seen_state w begun).control → RunsAsJudged → BeginsAsJudged → TypedAsJudged
         → (e : Event) (of : ℕ) → Alters s.heap e heap → WaitsFor p.types o of (begins by done) tasks k behind → Stands program gs (record s { activations = a ∷ rest }) → IsCalm (behind_call behind) → under_in (callers_of program gs) ≡ []
@@ -380,7 +380,7 @@ module _ (program : Program) (number : ℕ) (b : BodyForm) (there : slice_get (p
             upper = record { number = s.next; items = [] } ∷ [];
             masters = refl;
             own = (tt, tt);
-            frugal = inl (thrifty_as_judged (simple_marks p.types) w.tracks b frugal, inl ((refl, refl), refl, refl));
+            frugal = inl (thrifty_as_judged (simple_allowance p.types) w.tracks b frugal, inl ((refl, refl), refl, refl));
           };
           waits = record {
             parted = at.parted;

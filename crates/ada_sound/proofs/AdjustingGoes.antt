@@ -1,4 +1,5 @@
--- Each step while the body of an Adjust runs that tracks components of its formal parameter (7.6), its end included, from facts of the program and the state alone.
+-- Each step while the body of an Adjust runs that tracks components of its formal parameter (7.6), its end included, from facts of the program and the state
+-- alone.
 
 use Rattle.std.proofs.Common.{◌≡◌, ℕ, true, false, List, [], ◌∷◌, ◌++◌, refl, sym, ap, ◌∙◌, subst, drop, length}
 use Rattle.std.proofs.lemmas.Bool.{and_parts}
@@ -55,7 +56,7 @@ use Rattle.ada_sound.proofs.TracksApart.{AreInARow, tracks_apart}
 use Rattle.ada_sound.proofs.TracksWell.{copied_in_order, tracked_well}
 use Rattle.ada_sound.proofs.Trackers.{calls_stand_apart, names_none_too, order_too, stands_apart}
 use Rattle.ada_sound.proofs.CalmTypes.{components_are_calm}
-use Rattle.ada_sound.proofs.Marks.{simple_marks}
+use Rattle.ada_sound.proofs.Allowance.{simple_allowance}
 use Rattle.ada_sound.proofs.WatchedBy.{hold_bare, watched_by}
 
 -- What a body frees as it is judged it frees by the instance for that (13.11.2).
@@ -161,13 +162,13 @@ module _ (program : Program) (s : State) (f : Adjusting program s) (ends_now : s
   stands_so : f.t ≡ seen_state f.w s
   stands_so = (plainly_at_end program.types.items (program_form program).bodies f.w s f.t [] [] f.behind f.seen ends_now).1
 
-  frugal_now : Frugally (simple_marks (program_form program).types) f.lower f.behind (seen_state f.w s)
-  frugal_now = subst (Frugally (simple_marks (program_form program).types) f.lower f.behind) stands_so f.frugal
+  frugal_now : Frugally (simple_allowance (program_form program).types) f.lower f.behind (seen_state f.w s)
+  frugal_now = subst (Frugally (simple_allowance (program_form program).types) f.lower f.behind) stands_so f.frugal
 
   pub lower_left : s.masters ≡ f.lower
   lower_left =
-      let last : Frugal (simple_marks (program_form program).types) f.behind (seen_state f.w s).heap s.mode (Returns [] [] ∷ f.behind) frugal_now.upper = subst (λ (k : Control). Frugal (simple_marks (program_form program).types) f.behind (seen_state f.w s).heap s.mode (seen_control f.w k) frugal_now.upper) ends_now frugal_now.frugal in
-      let end = frugal_ends (simple_marks (program_form program).types) f.behind (seen_state f.w s).heap s.mode [] [] f.behind frugal_now.upper refl last in
+      let last : Frugal (simple_allowance (program_form program).types) f.behind (seen_state f.w s).heap s.mode (Returns [] [] ∷ f.behind) frugal_now.upper = subst (λ (k : Control). Frugal (simple_allowance (program_form program).types) f.behind (seen_state f.w s).heap s.mode (seen_control f.w k) frugal_now.upper) ends_now frugal_now.frugal in
+      let end = frugal_ends (simple_allowance (program_form program).types) f.behind (seen_state f.w s).heap s.mode [] [] f.behind frugal_now.upper refl last in
       frugal_now.masters ∙ ap (λ (upper : List Master). upper ++ f.lower) end.2
 
 -- The activation that waits is the next one.

@@ -55,7 +55,7 @@ use Rattle.ada_sound.proofs.JudgedForms.{judged_covers, orderly_seen, orderly_si
 use Rattle.ada_sound.proofs.JudgedKinds.{tracks_components}
 use Rattle.ada_sound.proofs.JudgedRuns.{judged_runs, keeps_tracking}
 use Rattle.ada_sound.proofs.JudgedTyped.{typed_begins}
-use Rattle.ada_sound.proofs.Marks.{is_thrifty_body, simple_marks}
+use Rattle.ada_sound.proofs.Allowance.{is_thrifty_body, simple_allowance}
 use Rattle.ada_sound.proofs.OnlyParts.{passed_at}
 use Rattle.ada_sound.proofs.Operating.{IsCalm, WaitsFor}
 use Rattle.ada_sound.proofs.OperationBegins.{formal_holds, formal_within}
@@ -179,8 +179,8 @@ module _
     simple_so : is_simple_body p.types true c.b ≡ true
     simple_so = simple_with p.types (adjusts_alone p) c.b tracks.1
 
-    thrifty : is_thrifty_body (simple_marks p.types) c.b ≡ true
-    thrifty = simple_thrifty (simple_marks p.types) c.b simple_so
+    thrifty : is_thrifty_body (simple_allowance p.types) c.b ≡ true
+    thrifty = simple_thrifty (simple_allowance p.types) c.b simple_so
 
     -- What the waiting activation sees, and the body.
     known_types : (known_in program a.procedure gs).program.types ≡ p.types

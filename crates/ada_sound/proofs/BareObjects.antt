@@ -1,5 +1,5 @@
--- Where operations may touch storage, what those free that free no object with controlled parts has none; and what they are called for has some, or is a declared
--- object (7.6, 3.10).
+-- Where operations may touch storage, what those free that free no object with controlled parts has none; and what they are called for has some, or is a
+-- declared object (7.6, 3.10).
 
 use Rattle.std.proofs.Common.{◌≡◌, ℕ, true, false, ◌||◌, List, refl, ap, ◌⊎◌, inl, inr}
 use Rattle.std.specs.Prelude.{Option, Some, None, is_some}
@@ -18,7 +18,7 @@ use Rattle.ada_quiet.specs.InUse.{designates_no_parts, allocates_no_parts, may_b
 use Rattle.ada_sound.proofs.FrugalUseFrees.{covered_bare}
 use Rattle.ada_sound.proofs.FrugalUseParts.{some_parts, walked_parts}
 use Rattle.ada_sound.proofs.Invariant.{CoveredIn}
-use Rattle.ada_sound.proofs.Marks.{is_thrifty_body, simple_marks}
+use Rattle.ada_sound.proofs.Allowance.{is_thrifty_body, simple_allowance}
 use Rattle.ada_sound.proofs.OperationStarts.{apart}
 use Rattle.ada_typed.specs.Holding.{PartsLie, WalksTo}
 use Rattle.ada_typed.proofs.Inner.{lies_at}
@@ -64,7 +64,7 @@ module _ (program : Program) (well : IsWellFormed (program_form program)) where
       walked_bare p.types t first part (slice_get p.types access) (lie.1 (some_parts p.types well.types_fit t (slice_get p.types t) f refl is)) (ap (λ (o : Option Finalization). is_some o) is)
 
   -- What a body may free that calls nothing, and frees and allocates no object with controlled parts, has none.
-  pub frugal_frees_bare : (number : ℕ) (b : BodyForm) → slice_get p.bodies number ≡ Some b → is_thrifty_body (simple_marks p.types) b ≡ true → (t : ℕ)
+  pub frugal_frees_bare : (number : ℕ) (b : BodyForm) → slice_get p.bodies number ≡ Some b → is_thrifty_body (simple_allowance p.types) b ≡ true → (t : ℕ)
       → CoveredIn (implicit_of p) (seen_in (Some number) p) t → has_bare_objects p.types t ≡ true
   frugal_frees_bare number b there simple t covered = covered_bare p well number b there simple t covered
 

@@ -1,5 +1,5 @@
--- What is behind the end of an operation that runs for a member of a collection that goes (7.6.1): there is one such end, the collection is the newest item there, and no
--- body goes on in front of what is left of the member.
+-- What is behind the end of an operation that runs for a member of a collection that goes (7.6.1): there is one such end, the collection is the newest item
+-- there, and no body goes on in front of what is left of the member.
 
 use Rattle.std.proofs.Common.{◌≡◌, ℕ, suc, ◌≤◌, Bool, true, List, [], ◌∷◌, ◌++◌, length, refl, sym, ap, subst, ◌∙◌, ◌⊎◌, inl, inr, arith}
 use Rattle.std.specs.Prelude.{Option, Some}
@@ -23,7 +23,7 @@ use Rattle.ada_meaning.specs.Law.{items_of}
 use Rattle.ada_meaning.specs.Named.{Object, State, object_at, next}
 use Rattle.ada_meaning.specs.State.{Activation, Item, Master, Owned, declared, collection, record_object, storage_pool}
 use Rattle.ada_meaning.specs.Step.{moves, older, operands, places, procedure_of, treating}
-use Rattle.ada_sound.proofs.Marks.{Marks}
+use Rattle.ada_sound.proofs.Allowance.{Allowance}
 use Rattle.ada_reaching.specs.Apart.{Apart}
 use Rattle.ada_reaching.specs.Law.{none_hidden}
 use Rattle.ada_reaching.specs.Reaching.{IsReaching, LeftShuns, none_unnamed}
@@ -96,16 +96,16 @@ module _ (p : ProgramForm) (shuns : ℕ → Bool) (apart : Apart) (ghosts : Id �
   ends_or_not procedure (f ∷ k) suspended left = inr (λ is. cc is)
 
   -- Frugal bodies go on up to the same end, where no operation runs behind what is behind it, of the one and of the other.
-  module _ (waits : NoOperationRuns behind → ⊥) (calm : IsCalm (behind_call behind)) (marks : Marks) (back : Control) (back_waits : NoOperationRuns back → ⊥) (back_calm : IsCalm (behind_call back)) where
+  module _ (waits : NoOperationRuns behind → ⊥) (calm : IsCalm (behind_call behind)) (allowance : Allowance) (back : Control) (back_waits : NoOperationRuns back → ⊥) (back_calm : IsCalm (behind_call back)) where
     -- Where no master is being left.
-    leads_same : (k : Control) (ms : List Master) (procedure : Option ℕ) (suspended : List (Activation Value)) → FrugalLeads marks back k ms → Left procedure k suspended → back ≡ behind
+    leads_same : (k : Control) (ms : List Master) (procedure : Option ℕ) (suspended : List (Activation Value)) → FrugalLeads allowance back k ms → Left procedure k suspended → back ≡ behind
     leads_same [] ms procedure suspended q left = absurd q
     leads_same (Returns actuals references ∷ k) ms procedure suspended (inl q) (inl last) = let same : k ≡ behind = cc last in sym q.2 ∙ same
     leads_same (Returns actuals references ∷ k) ms procedure suspended (inl q) (inr inner) =
         absurd (left_not_calm waits (procedure_of suspended) k (older suspended) inner.others (subst (λ (j : Control). IsCalm (behind_call j)) (sym q.2) back_calm))
     leads_same (Returns actuals references ∷ k) ms procedure suspended (inr q) (inl last) =
         let same : k ≡ behind = cc last in
-        absurd (back_waits (frugal_calm marks back [] Running k ms (subst (λ (j : Control). IsCalm (behind_call j)) (sym same) calm) (inl q)))
+        absurd (back_waits (frugal_calm allowance back [] Running k ms (subst (λ (j : Control). IsCalm (behind_call j)) (sym same) calm) (inl q)))
     leads_same (Returns actuals references ∷ k) ms procedure suspended (inr q) (inr inner) = leads_same k ms (procedure_of suspended) (older suspended) q inner.others
     leads_same (frame.Elaborates ds fs hs ∷ k) [] procedure suspended q left = absurd q
     leads_same (frame.Elaborates ds fs hs ∷ k) (m ∷ ms) procedure suspended q left = leads_same k ms procedure suspended q.1 left.2
@@ -118,7 +118,7 @@ module _ (p : ProgramForm) (shuns : ℕ → Bool) (apart : Apart) (ghosts : Id �
     -- Wherever they are.
     pub same_end :
         (heap : List Object) (mode : Mode) (k : Control) (ms : List Master) (procedure : Option ℕ) (suspended : List (Activation Value))
-        → Frugal marks back heap mode k ms → Left procedure k suspended → back ≡ behind
+        → Frugal allowance back heap mode k ms → Left procedure k suspended → back ≡ behind
     same_end heap mode k ms procedure suspended (inl q) left = leads_same k ms procedure suspended q left
     same_end heap mode [] ms procedure suspended (inr (runs, inl leaving)) left = absurd leaving
     same_end heap mode (Leaves exit ∷ k) [] procedure suspended (inr (runs, inl leaving)) left = absurd leaving
@@ -230,13 +230,13 @@ confines_running known Returning k heap places operands masters ready = absurd (
 
 -- No body runs in front of the end of a member.
 pub none_frugal :
-    (marks : Marks) (back : Control) (heap : List Object) (mode m : Mode) (object : Id) (master item : ℕ) (pool : Option ℕ) (tasks : List Task) (k : Control)
+    (allowance : Allowance) (back : Control) (heap : List Object) (mode m : Mode) (object : Id) (master item : ℕ) (pool : Option ℕ) (tasks : List Task) (k : Control)
     (ms : List Master)
-    → Frugal marks back heap mode (frame.Confines ∷ treating (Names object) (ends (Leaving master item)) tasks (ending object master item pool m k)) ms → ⊥
-none_frugal marks back heap mode m object master item pool [] k ms (inl q) = q.1.1.1.0
-none_frugal marks back heap mode m object master item pool (task ∷ tasks) k ms (inl q) = q.1.0.0
-none_frugal marks back heap mode m object master item pool tasks k ms (inr (runs, inl leaving)) = leaving
-none_frugal marks back heap mode m object master item pool tasks k ms (inr (runs, inr beginning)) = beginning
+    → Frugal allowance back heap mode (frame.Confines ∷ treating (Names object) (ends (Leaving master item)) tasks (ending object master item pool m k)) ms → ⊥
+none_frugal allowance back heap mode m object master item pool [] k ms (inl q) = q.1.1.1.0
+none_frugal allowance back heap mode m object master item pool (task ∷ tasks) k ms (inl q) = q.1.0.0
+none_frugal allowance back heap mode m object master item pool tasks k ms (inr (runs, inl leaving)) = leaving
+none_frugal allowance back heap mode m object master item pool tasks k ms (inr (runs, inr beginning)) = beginning
 
 -- Nor does one that touches no storage.
 pub none_quiet : (sight : Sight) (back : Control) (ms : List Master) (mode : Mode) (k : Control) (operands : List Value) → Comes sight back ms mode (frame.Confines ∷ k) operands → ⊥

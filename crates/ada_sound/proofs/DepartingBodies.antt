@@ -1,5 +1,5 @@
--- While an operation runs for a member of a collection that goes (7.6.1), none of the bodies that run uses a value of the collection's access type: what each of their
--- steps leads to, the end of the operation included.
+-- While an operation runs for a member of a collection that goes (7.6.1), none of the bodies that run uses a value of the collection's access type: what each
+-- of their steps leads to, the end of the operation included.
 
 use Rattle.std.proofs.Common.{◌≡◌, ℕ, suc, ◌≤◌, Bool, true, false, List, [], ◌∷◌, ◌++◌, length, refl, sym, ap, subst, ◌∙◌, ◌⊎◌, inl, inr}
 use Rattle.std.proofs.lemmas.Bool.{and_parts, false_from_ne_true}
@@ -38,7 +38,7 @@ use Rattle.ada_typed.proofs.Kept.{behind_call}
 use Rattle.ada_untouched.proofs.Law.{steps_alike}
 use Rattle.ada_untouched.specs.Alike.{NextAlike, SparesGhosts, StatesAlike}
 use Rattle.ada_untouched.specs.Untouched.{Untouched}
-use Rattle.ada_sound.proofs.Marks.{marks_of}
+use Rattle.ada_sound.proofs.Allowance.{allowance_of}
 use Rattle.ada_sound.specs.Agreement.{running_procedure}
 use Rattle.ada_sound.specs.Callees.{IsCovered}
 use Rattle.ada_sound.proofs.Alters.{Alters, alters_same}
@@ -152,7 +152,7 @@ module _ (program : Program) (s : State) (sound : Sound program s) (w : Within p
     -- The outermost one is the operation of the object.
     back_is : outermost.behind ≡ w.behind
     back_is =
-        same_end p shuns w.apart w.ghosts w.behind waits w.calm (marks_of (program_form program)) outermost.behind (waits_behind outermost.treatment outermost.awaited) f.within.calm v.heap v.mode v.control f.within.frugal.upper
+        same_end p shuns w.apart w.ghosts w.behind waits w.calm (allowance_of (program_form program)) outermost.behind (waits_behind outermost.treatment outermost.awaited) f.within.calm v.heap v.mode v.control f.within.frugal.upper
         (procedure_of v.activations) (older v.activations) f.within.frugal.frugal reaching_too.control
 
     -- Its object is finalized behind that.
@@ -180,7 +180,7 @@ module _ (program : Program) (s : State) (sound : Sound program s) (w : Within p
         let so = and_parts (is_access p.types w.access) _ (subst (λ (z : State). may_free program z w.access ≡ true) (sym w.seen.alike.rest) may) in
         let waiting = subst (λ (all : List Suspension). AllWait (implicit_of p) (seen_in (running_procedure v) p) (callers_of program all)) f.within.are f.stands.standing.waiting in
         let behind_it = origin program (length f.within.inner) v outermost ∷ outermost.suspensions in
-        let covered = covers_outermost program sound.spares_own v (marks_of (program_form program)) outermost.behind outermost.lower (running_procedure v) 0 outermost.number behind_it f.within.inner f.within.within waiting w.access so.1 in
+        let covered = covers_outermost program sound.spares_own v (allowance_of (program_form program)) outermost.behind outermost.lower (running_procedure v) 0 outermost.number behind_it f.within.inner f.within.within waiting w.access so.1 in
         frees_not program sound.spares_own v (length f.within.inner) outermost w.object w.member.0 member_found object_is
         (subst (λ (t : ℕ). CoveredIn (implicit_of p) (seen_in (Some outermost.number) p) t) (sym w.member.2) covered)
         (subst (λ (t : ℕ). is_access p.types t ≡ true) (sym w.member.2) w.accessed)
@@ -192,11 +192,11 @@ module _ (program : Program) (s : State) (sound : Sound program s) (w : Within p
 
     -- The home of its type is behind the masters of the bodies.
     own_first :
-        (mode : Mode) (c : Control) (upper : List Master) → Frugal (marks_of (program_form program)) outermost.behind v.heap mode c upper → (ds : List DeclarationForm) (fs : StmtsForm) (hs : HandlersForm) (k : Control)
+        (mode : Mode) (c : Control) (upper : List Master) → Frugal (allowance_of (program_form program)) outermost.behind v.heap mode c upper → (ds : List DeclarationForm) (fs : StmtsForm) (hs : HandlersForm) (k : Control)
         → c ≡ frame.Elaborates ds fs hs ∷ k → (m : Master) × (ms : List Master) × (upper ≡ m ∷ ms)
-    own_first mode c upper frugal ds fs hs k is = by upper (subst (λ (j : Control). Frugal (marks_of (program_form program)) outermost.behind v.heap mode j upper) is frugal)
+    own_first mode c upper frugal ds fs hs k is = by upper (subst (λ (j : Control). Frugal (allowance_of (program_form program)) outermost.behind v.heap mode j upper) is frugal)
       where
-        by : (ms : List Master) → Frugal (marks_of (program_form program)) outermost.behind v.heap mode (frame.Elaborates ds fs hs ∷ k) ms → (m : Master) × (rest : List Master) × (ms ≡ m ∷ rest)
+        by : (ms : List Master) → Frugal (allowance_of (program_form program)) outermost.behind v.heap mode (frame.Elaborates ds fs hs ∷ k) ms → (m : Master) × (rest : List Master) × (ms ≡ m ∷ rest)
         by [] (inl q) = absurd q
         by [] (inr (runs, inl leaving)) = absurd leaving
         by [] (inr (runs, inr beginning)) = absurd beginning
@@ -403,8 +403,8 @@ module _ (program : Program) (s : State) (sound : Sound program s) (w : Within p
     went_behind : Went program v.heap Quiet view → InDeparting program s.heap Quiet after
     went_behind (inl c) =
         let f = c.body in
-        absurd (none_frugal (marks_of (program_form program)) f.within.outermost.behind view.heap view.mode w.mode w.object w.master w.item w.pool w.tasks w.k f.within.frugal.upper
-        (subst (λ (k : Control). Frugal (marks_of (program_form program)) f.within.outermost.behind view.heap view.mode k f.within.frugal.upper) control_behind f.within.frugal.frugal))
+        absurd (none_frugal (allowance_of (program_form program)) f.within.outermost.behind view.heap view.mode w.mode w.object w.master w.item w.pool w.tasks w.k f.within.frugal.upper
+        (subst (λ (k : Control). Frugal (allowance_of (program_form program)) f.within.outermost.behind view.heap view.mode k f.within.frugal.upper) control_behind f.within.frugal.frugal))
     went_behind (inr (inl c)) =
         let o = c.operates in
         let sight : Sight = record { program = seen_in (Some o.procedure) p; object = o.object; access = o.access } in

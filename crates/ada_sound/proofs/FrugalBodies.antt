@@ -34,7 +34,7 @@ InStep [] (n ∷ ns) = ⊥
 InStep (m ∷ ms) [] = ⊥
 InStep (m ∷ ms) (n ∷ ns) = (m ≡ true → (around : List ℕ) → n around ≡ true) × InStep ms ns
 
-step_nests : (marks : List Bool) (nests : Callees) → InStep marks nests → CalleesNest marks nests
+step_nests : (allowance : List Bool) (nests : Callees) → InStep allowance nests → CalleesNest allowance nests
 step_nests [] [] step number is around = absurd (cc is)
 step_nests [] (n ∷ ns) step number is around = absurd step
 step_nests (m ∷ ms) [] step number is around = absurd step
@@ -90,18 +90,18 @@ module _ (types : List TypeForm) where
         ) refl
 
   -- One procedure more, in step.
-  one_more : (marks : List Bool) (nests : Callees) (mark : Bool) (nest : (around : List ℕ) → Bool) → InStep marks nests → (mark ≡ true → (around : List ℕ) → nest around ≡ true) → InStep (marks ++ mark ∷ []) (nests ++ nest ∷ [])
+  one_more : (allowance : List Bool) (nests : Callees) (mark : Bool) (nest : (around : List ℕ) → Bool) → InStep allowance nests → (mark ≡ true → (around : List ℕ) → nest around ≡ true) → InStep (allowance ++ mark ∷ []) (nests ++ nest ∷ [])
   one_more [] [] mark nest step more = (more, tt)
   one_more [] (n ∷ ns) mark nest step more = absurd step
   one_more (m ∷ ms) [] mark nest step more = absurd step
   one_more (m ∷ ms) (n ∷ ns) mark nest step more = (step.0, one_more ms ns mark nest step.1 more)
 
-  all_step : (begun : List Bool) (bodies : List BodyForm) (marks : List Bool) (nests : Callees) → InStep marks nests → InStep (frugal_from types begun marks bodies) (callees_from types nests bodies)
-  all_step begun [] marks nests step = step
-  all_step begun (b ∷ bodies) marks nests step =
-      let frugal : Thrift = record { types = types; begun = begun; procedures = marks } in
-      all_step begun bodies (marks ++ is_frugal_body frugal b ∷ []) (nests ++ body_nests types nests b ∷ [])
-      (one_more marks nests (is_frugal_body frugal b) (body_nests types nests b) step (λ is around. body_is frugal nests (step_nests marks nests step) b around is))
+  all_step : (begun : List Bool) (bodies : List BodyForm) (allowance : List Bool) (nests : Callees) → InStep allowance nests → InStep (frugal_from types begun allowance bodies) (callees_from types nests bodies)
+  all_step begun [] allowance nests step = step
+  all_step begun (b ∷ bodies) allowance nests step =
+      let frugal : Thrift = record { types = types; begun = begun; procedures = allowance } in
+      all_step begun bodies (allowance ++ is_frugal_body frugal b ∷ []) (nests ++ body_nests types nests b ∷ [])
+      (one_more allowance nests (is_frugal_body frugal b) (body_nests types nests b) step (λ is around. body_is frugal nests (step_nests allowance nests step) b around is))
 
 -- The body of a frugal procedure nests wherever it is called, whatever it frees.
 pub frugal_nests : (p : ProgramForm) (number : ℕ) → slice_index_or (frugal_procedures p) number false ≡ true → (around : List ℕ) → call_nests (slice_get (callees_of p) number) around ≡ true

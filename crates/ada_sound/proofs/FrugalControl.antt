@@ -1,6 +1,6 @@
--- The body of an operation runs that touches storage, a frugal one (7.6, 7.6.1, 13.11.2), or one that it calls (6.4), or the operation of an object that it frees: what
--- is left before its end. Nothing in that is adjusted; what bodies allocate is initialized first, and begins quietly; where they may free objects with controlled parts,
--- these are finalized.
+-- The body of an operation runs that touches storage, a frugal one (7.6, 7.6.1, 13.11.2), or one that it calls (6.4), or the operation of an object that it
+-- frees: what is left before its end. Nothing in that is adjusted; what bodies allocate is initialized first, and begins quietly; where they may free objects
+-- with controlled parts, these are finalized.
 
 use Rattle.std.specs.Prelude.{Some}
 use Rattle.std.proofs.Common.{◌≡◌, ℕ, suc, ◌≤◌, Bool, true, false, List, [], ◌∷◌, ◌++◌, length, refl, sym, ap, subst, ◌⊎◌, inl, inr, arith, ◌∙◌}
@@ -28,7 +28,7 @@ use Rattle.ada_quiet.specs.Frugal.{allocates_quietly, are_frugal_declarations}
 use Rattle.ada_typed.proofs.Control.{is_operation}
 use Rattle.ada_typed.proofs.Kept.{is_treatment}
 use Rattle.ada_sound.proofs.Invariant.{Control, IsAwaited}
-use Rattle.ada_sound.proofs.Marks.{Marks, may_end, are_thrifty, are_thrifty_branches, are_thrifty_handlers, is_thrifty_body, thrifty_parts}
+use Rattle.ada_sound.proofs.Allowance.{Allowance, may_end, are_thrifty, are_thrifty_branches, are_thrifty_handlers, is_thrifty_body, thrifty_parts}
 use Rattle.ada_sound.proofs.Operating.{OwnVariables}
 use Rattle.ada_sound.proofs.Alters.{Alters}
 
@@ -55,9 +55,9 @@ begins_first (frame.Awaits v by done of part tasks ∷ k) = true
 begins_first (f ∷ k) = false
 
 -- What the frugal bodies of the program go by.
-module _ (frugal : Marks) where
-  -- What a frame of such a body does, or of one that it calls: what it allocates begins quietly, and what it frees has no controlled parts, unless bodies may free others.
-  -- While a master is left, or a new object begins, that is the first frame: below.
+module _ (frugal : Allowance) where
+  -- What a frame of such a body does, or of one that it calls: what it allocates begins quietly, and what it frees has no controlled parts, unless bodies may
+  -- free others. While a master is left, or a new object begins, that is the first frame: below.
   abbrev pub FrugalFrame : Frame Value → Type 0
   FrugalFrame (Elaborates ds fs hs) = (are_frugal_declarations frugal.types frugal.begun ds ≡ true) × (are_thrifty frugal fs ≡ true) × (are_thrifty_handlers frugal hs ≡ true)
   FrugalFrame (Does fs) = (are_thrifty frugal fs ≡ true)
@@ -151,13 +151,13 @@ abbrev pub is_return_first : Control → Bool
 is_return_first [] = false
 is_return_first (f ∷ k) = is_return f
 
-module _ (marks : Marks) (lower : List Master) (behind : Control) where
+module _ (allowance : Allowance) (lower : List Master) (behind : Control) where
   -- The body runs still, or one that it calls, in masters of their own that own variables alone.
   pub record Frugally (after : State) : Type 0 where
     pub upper : List Master
     pub masters : after.masters ≡ upper ++ lower
     pub own : OwnVariables upper
-    pub frugal : Frugal marks behind after.heap after.mode after.control upper
+    pub frugal : Frugal allowance behind after.heap after.mode after.control upper
 
   -- So it does whatever comes next, if the run does not end.
   abbrev pub GoesFrugally : Next → Type 0
@@ -168,12 +168,12 @@ module _ (marks : Marks) (lower : List Master) (behind : Control) where
   GoesFrugally (picks n taken) = (i : ℕ) → suc i ≤ n → Frugally (taken i)
 
 -- It begins, in a master of its own.
-pub frugal_begins : {mode : Mode} (heap : List Object) (frugal : Marks) (b : BodyForm) → is_thrifty_body frugal b ≡ true → (behind : Control) (m : Master) → Frugal frugal behind heap mode (Elaborates b.declarations b.statements b.handlers ∷ Returns [] [] ∷ behind) (m ∷ [])
+pub frugal_begins : {mode : Mode} (heap : List Object) (frugal : Allowance) (b : BodyForm) → is_thrifty_body frugal b ≡ true → (behind : Control) (m : Master) → Frugal frugal behind heap mode (Elaborates b.declarations b.statements b.handlers ∷ Returns [] [] ∷ behind) (m ∷ [])
 frugal_begins heap frugal b is behind m =
     inl (thrifty_parts frugal b is, inl ((refl, refl), refl, refl))
 
 -- So it does as the operation of a part of an object.
-pub frugal_starts : (frugal : Marks) (procedure : ℕ) (b : BodyForm) → is_thrifty_body frugal b ≡ true → (reference : Value) (behind : Control) (s : State) → Frugally frugal s.masters behind (operating named procedure b reference behind s)
+pub frugal_starts : (frugal : Allowance) (procedure : ℕ) (b : BodyForm) → is_thrifty_body frugal b ≡ true → (reference : Value) (behind : Control) (s : State) → Frugally frugal s.masters behind (operating named procedure b reference behind s)
 frugal_starts frugal procedure b is reference behind s = record {
   upper = record { number = s.next; items = [] } ∷ [];
   masters = refl;
@@ -183,7 +183,7 @@ frugal_starts frugal procedure b is reference behind s = record {
 
 -- In front of what is left to do already, the body of another operation begins so.
 pub frugal_starts_inside :
-    (frugal : Marks) (back : Control) (upper lower : List Master) (procedure : ℕ) (b : BodyForm) → is_thrifty_body frugal b ≡ true → (reference : Value) (behind : Control) (s : State)
+    (frugal : Allowance) (back : Control) (upper lower : List Master) (procedure : ℕ) (b : BodyForm) → is_thrifty_body frugal b ≡ true → (reference : Value) (behind : Control) (s : State)
     → s.masters ≡ upper ++ lower → OwnVariables upper → FrugalLeads frugal back behind upper → Frugally frugal lower back (operating named procedure b reference behind s)
 frugal_starts_inside frugal back upper lower procedure b is reference behind s masters own leads = record {
   upper = record { number = s.next; items = [] } ∷ upper;
@@ -194,14 +194,14 @@ frugal_starts_inside frugal back upper lower procedure b is reference behind s m
 
 -- An object that is freed is finalized before this.
 pub treating_leads :
-    (frugal : Marks) (back : Control) (v : Value) (treatment : Treatment) (tasks : List Task) (k : Control) (ms : List Master) → EndsFreed frugal v treatment k → FrugalLeads frugal back k ms
+    (frugal : Allowance) (back : Control) (v : Value) (treatment : Treatment) (tasks : List Task) (k : Control) (ms : List Master) → EndsFreed frugal v treatment k → FrugalLeads frugal back k ms
     → FrugalLeads frugal back (treating v treatment tasks k) ms
 treating_leads frugal back v treatment [] k ms ending q = q
 treating_leads frugal back v treatment (task ∷ tasks) k ms ending q = (ending, q)
 
 -- The operation of one of its parts is called: the others are finalized behind that.
 pub ends_leads :
-    (frugal : Marks) (back : Control) (v : Value) (treatment : Treatment) (tasks : List Task) (k : Control) (ms : List Master) → EndsFreed frugal v treatment k → FrugalLeads frugal back k ms
+    (frugal : Allowance) (back : Control) (v : Value) (treatment : Treatment) (tasks : List Task) (k : Control) (ms : List Master) → EndsFreed frugal v treatment k → FrugalLeads frugal back k ms
     → FrugalLeads frugal back (frame.Confines ∷ treating v treatment tasks k) ms
 ends_leads frugal back v treatment tasks k ms ending q = ((ending.1, by tasks), treating_leads frugal back v treatment tasks k ms ending q)
   where
@@ -211,21 +211,21 @@ ends_leads frugal back v treatment tasks k ms ending q = ((ending.1, by tasks), 
 
 -- An object begins first that begins quietly, if anything is to be done for it.
 pub beginning_frugal :
-    (frugal : Marks) (back : Control) (heap : List Object) (v : Value) (by : Birth) (done : List Part) (tasks : List Task) (k : Control) (ms : List Master) → BeginsQuietly frugal heap v by k → FrugalLeads frugal back k ms
+    (frugal : Allowance) (back : Control) (heap : List Object) (v : Value) (by : Birth) (done : List Part) (tasks : List Task) (k : Control) (ms : List Master) → BeginsQuietly frugal heap v by k → FrugalLeads frugal back k ms
     → Frugal frugal back heap Running (treating v (begins by done) tasks k) ms
 beginning_frugal frugal back heap v by done [] k ms quiet q = inl q
 beginning_frugal frugal back heap v by done (task ∷ tasks) k ms quiet q = inr (refl, inr (quiet, q))
 
 -- So it does whatever becomes of objects, as each stays of its access type.
 pub quietly_kept :
-    (frugal : Marks) (before after : List Object) (e : Event) (v : Value) (by : Birth) (k : Control) → Alters before e after → BeginsQuietly frugal before v by k → BeginsQuietly frugal after v by k
+    (frugal : Allowance) (before after : List Object) (e : Event) (v : Value) (by : Birth) (k : Control) → Alters before e after → BeginsQuietly frugal before v by k → BeginsQuietly frugal after v by k
 quietly_kept frugal before after e v by k alters (creation, alone, (o, is, x, found, calm, ends_parts)) =
     let there = alters.kept o x found in
     (creation, alone, (o, is, there.0, there.1, ap (has_calm_objects frugal.types frugal.begun) there.2.0 ∙ calm, ends_parts))
 
 -- And so the body goes on.
 pub frugal_kept :
-    (frugal : Marks) (back : Control) (before after : List Object) (e : Event) (mode : Mode) (k : Control) (ms : List Master) → Alters before e after → Frugal frugal back before mode k ms
+    (frugal : Allowance) (back : Control) (before after : List Object) (e : Event) (mode : Mode) (k : Control) (ms : List Master) → Alters before e after → Frugal frugal back before mode k ms
     → Frugal frugal back after mode k ms
 frugal_kept frugal back before after e mode k ms alters (inl q) = inl q
 frugal_kept frugal back before after e mode k ms alters (inr (runs, inl leaving)) = inr (runs, inl leaving)
@@ -240,7 +240,7 @@ frugal_kept frugal back before after e mode k ms alters (inr (runs, inr beginnin
 
 -- Each frame in front of its end is one of such a body, but where an object is finalized.
 pub first_frugal :
-    (frugal : Marks) (behind : Control) (f : Frame Value) (k : Control) (ms : List Master) → is_return f ≡ false → is_treatment f ≡ false → is_operation f ≡ false → FrugalLeads frugal behind (f ∷ k) ms
+    (frugal : Allowance) (behind : Control) (f : Frame Value) (k : Control) (ms : List Master) → is_return f ≡ false → is_treatment f ≡ false → is_operation f ≡ false → FrugalLeads frugal behind (f ∷ k) ms
     → FrugalFrame frugal f
 first_frugal frugal behind (Returns actuals references) k ms inner plain calm q = absurd (cc inner)
 first_frugal frugal behind (Elaborates ds fs hs) k [] inner plain calm q = absurd q
@@ -254,14 +254,14 @@ first_frugal frugal behind frame.Confines k ms inner plain calm q = absurd (cc c
 first_frugal frugal behind f k ms inner plain calm q = q.0
 
 -- Where no object with controlled parts is freed, none is finalized, and no operation ends.
-pub none_treated : (frugal : Marks) → frugal.ends_parts ≡ false → (behind : Control) (f : Frame Value) (k : Control) (ms : List Master) → FrugalLeads frugal behind (f ∷ k) ms → (is_treatment f ≡ false) × (is_operation f ≡ false)
+pub none_treated : (frugal : Allowance) → frugal.ends_parts ≡ false → (behind : Control) (f : Frame Value) (k : Control) (ms : List Master) → FrugalLeads frugal behind (f ∷ k) ms → (is_treatment f ≡ false) × (is_operation f ≡ false)
 none_treated frugal none behind (frame.Treats v treatment tasks) k ms q = let ends_parts = q.0.1 in absurd (cc (none, ends_parts))
 none_treated frugal none behind frame.Confines k ms q = let ends_parts = q.0.0 in absurd (cc (none, ends_parts))
 none_treated frugal none behind (frame.Awaits v by done of part tasks) k ms q = absurd q.0
 none_treated frugal none behind f k ms q = (refl, refl)
 
 -- Nor does an object begin first.
-pub none_beginning : (frugal : Marks) → frugal.ends_parts ≡ false → (behind : Control) (heap : List Object) (k : Control) (ms : List Master) → FrugalBegins frugal behind heap k ms → ⊥
+pub none_beginning : (frugal : Allowance) → frugal.ends_parts ≡ false → (behind : Control) (heap : List Object) (k : Control) (ms : List Master) → FrugalBegins frugal behind heap k ms → ⊥
 none_beginning frugal none behind heap [] ms q = q
 none_beginning frugal none behind heap (frame.Treats v (begins by done) tasks ∷ k) ms ((creation, alone, (o, is, x, found, calm, ends_parts)), q) = cc (none, ends_parts)
 none_beginning frugal none behind heap (frame.Treats v (ends cause) tasks ∷ k) ms q = q
@@ -269,14 +269,14 @@ none_beginning frugal none behind heap (frame.Awaits v by done of part tasks ∷
 none_beginning frugal none behind heap (f ∷ k) ms q = q
 
 -- Where the body runs on, no object begins first.
-pub leads_first : (frugal : Marks) (behind : Control) (k : Control) (ms : List Master) → FrugalLeads frugal behind k ms → begins_first k ≡ false
+pub leads_first : (frugal : Allowance) (behind : Control) (k : Control) (ms : List Master) → FrugalLeads frugal behind k ms → begins_first k ≡ false
 leads_first frugal behind [] ms q = refl
 leads_first frugal behind (frame.Treats v (begins by done) tasks ∷ k) ms q = absurd q.0.0
 leads_first frugal behind (frame.Awaits v by done of part tasks ∷ k) ms q = absurd q.0
 leads_first frugal behind (f ∷ k) ms q = refl
 
 -- There is more to do than what is behind all of it.
-leads_longer : (frugal : Marks) (behind k : Control) (ms : List Master) → FrugalLeads frugal behind k ms → suc (length behind) ≤ length k
+leads_longer : (frugal : Allowance) (behind k : Control) (ms : List Master) → FrugalLeads frugal behind k ms → suc (length behind) ≤ length k
 leads_longer frugal behind [] ms q = absurd q
 leads_longer frugal behind (Returns actuals references ∷ k) ms (inl q) = let same = ap length q.2 in omega (arith, same)
 leads_longer frugal behind (Returns actuals references ∷ k) ms (inr q) = let longer = leads_longer frugal behind k ms q in omega (arith, longer)
@@ -288,7 +288,7 @@ leads_longer frugal behind (Declares x ∷ k) [] q = absurd q
 leads_longer frugal behind (Declares x ∷ k) (m ∷ ms) q = let longer = leads_longer frugal behind k (m ∷ ms) q.1 in omega (arith, longer)
 leads_longer frugal behind (f ∷ k) ms q = let longer = leads_longer frugal behind k ms q.1 in omega (arith, longer)
 
-pub shorter : (frugal : Marks) (back k : Control) (ms : List Master) → FrugalLeads frugal back k ms → k ≡ back → ⊥
+pub shorter : (frugal : Allowance) (back k : Control) (ms : List Master) → FrugalLeads frugal back k ms → k ≡ back → ⊥
 shorter frugal back k ms q is =
     let longer = leads_longer frugal back k ms q in
     let same = ap length is in
@@ -296,7 +296,7 @@ shorter frugal back k ms q is =
 
 -- Where the end of the operation's own body is next, the masters have been left.
 pub frugal_ends :
-    (frugal : Marks) (back : Control) (heap : List Object) (mode : Mode) (actuals : List ActualForm) (references : List Value) (k : Control) (ms : List Master) → k ≡ back → Frugal frugal back heap mode (Returns actuals references ∷ k) ms
+    (frugal : Allowance) (back : Control) (heap : List Object) (mode : Mode) (actuals : List ActualForm) (references : List Value) (k : Control) (ms : List Master) → k ≡ back → Frugal frugal back heap mode (Returns actuals references ∷ k) ms
     → (actuals ≡ []) × (references ≡ []) × (ms ≡ [])
 frugal_ends frugal back heap mode actuals references k ms last (inl (inl q)) = (q.0.0, q.0.1, q.1)
 frugal_ends frugal back heap mode actuals references k ms last (inl (inr q)) = absurd (shorter frugal back k ms q last)
@@ -304,19 +304,19 @@ frugal_ends frugal back heap mode actuals references k ms last (inr (runs, other
 
 -- Where that of another one is next, what is behind that goes on: the body that called it, or the end of the object of which it is an operation.
 pub frugal_returns_inside :
-    (frugal : Marks) (back : Control) (heap : List Object) (mode : Mode) (actuals : List ActualForm) (references : List Value) (k : Control) (ms : List Master) → (k ≡ back → ⊥) → Frugal frugal back heap mode (Returns actuals references ∷ k) ms
+    (frugal : Allowance) (back : Control) (heap : List Object) (mode : Mode) (actuals : List ActualForm) (references : List Value) (k : Control) (ms : List Master) → (k ≡ back → ⊥) → Frugal frugal back heap mode (Returns actuals references ∷ k) ms
     → FrugalLeads frugal back k ms
 frugal_returns_inside frugal back heap mode actuals references k ms inside (inl (inl q)) = absurd (inside q.2)
 frugal_returns_inside frugal back heap mode actuals references k ms inside (inl (inr q)) = q
 frugal_returns_inside frugal back heap mode actuals references k ms inside (inr (runs, other)) = elim other [ inl leaving ↦ absurd leaving | inr begins' ↦ absurd begins' ]
 
 -- So it is with one that was called.
-pub frugal_returns : (frugal : Marks) (behind : Control) (heap : List Object) (mode : Mode) (actuals : List ActualForm) (references : List Value) (k : Control) (ms : List Master) → IsAwaited behind → (IsAwaited k → ⊥) → Frugal frugal behind heap mode (Returns actuals references ∷ k) ms → FrugalLeads frugal behind k ms
+pub frugal_returns : (frugal : Allowance) (behind : Control) (heap : List Object) (mode : Mode) (actuals : List ActualForm) (references : List Value) (k : Control) (ms : List Master) → IsAwaited behind → (IsAwaited k → ⊥) → Frugal frugal behind heap mode (Returns actuals references ∷ k) ms → FrugalLeads frugal behind k ms
 frugal_returns frugal behind heap mode actuals references k ms awaited calls frugally =
     frugal_returns_inside frugal behind heap mode actuals references k ms (λ last. calls (subst IsAwaited (sym last) awaited)) frugally
 
 -- Which items a master owns does not matter.
-pub same_masters : (frugal : Marks) (behind : Control) (j : Control) (m n : Master) (ms : List Master) → FrugalLeads frugal behind j (m ∷ ms) → FrugalLeads frugal behind j (n ∷ ms)
+pub same_masters : (frugal : Allowance) (behind : Control) (j : Control) (m n : Master) (ms : List Master) → FrugalLeads frugal behind j (m ∷ ms) → FrugalLeads frugal behind j (n ∷ ms)
 same_masters frugal behind [] m n ms q = q
 same_masters frugal behind (Returns actuals references ∷ k) m n ms (inl q) = let none = q.1 in absurd (cc none)
 same_masters frugal behind (Returns actuals references ∷ k) m n ms (inr q) = inr (same_masters frugal behind k m n ms q)

@@ -1,5 +1,5 @@
--- A frugal body (7.6, 7.6.1, 13.11.2) comes to what is left of an expression, an assignment, an allocator, a Free, a call or a statement: nothing is treated next but
--- an object that is freed, or a new one that begins quietly (4.8), and what is called is frugal, too (6.4).
+-- A frugal body (7.6, 7.6.1, 13.11.2) comes to what is left of an expression, an assignment, an allocator, a Free, a call or a statement: nothing is treated
+-- next but an object that is freed, or a new one that begins quietly (4.8), and what is called is frugal, too (6.4).
 
 use Rattle.std.proofs.Common.{◌≡◌, ℕ, Bool, true, false, List, [], ◌∷◌, ◌++◌, refl, inl, inr}
 use Rattle.std.specs.Prelude.{ℤ, Option, Some, None, drop, Result, Ok, Err, ◌&&◌, int_le, if◌then◌else◌}
@@ -33,7 +33,7 @@ use Rattle.ada_meaning.specs.State.{Activation, Item, Master, Owned, declared, c
 use Rattle.ada_meaning.specs.Step.{first_or, older, places_of, operands_of, with_operands, begun, record_holder_next, referred_next, refers_next, open_next, opened_next, opens_next, storing, returned, computing, call_next, entered, all_tasks, halts, moves, same_pool, raised, jumping, computed, put, owned, at, reading, component_next, follow_next, path_next, selected, named_next, before_last, last_of, holder_next, expression_next, null_test_next, is_decided, link_next, links_next, outcome_next, place_in, record_in, item_next, items_next, copied_next, copies_next, answered, new_next, right_next, freeing, freeing_next, free_next, end_next, told_back, given_back, back_next, assign_next, target_next, stored_next, store_next, record_target_next, record_stored_next, newest_ones, store_record_next, record_assign_next, has_parts, frees_next, freed_next, free_component_next, free_in_next, branches_next, decided_next, turn_next, repeats_next, turned_next, count_turn_next, counts_next, ranges_next, gets_next, received_next, receive_next, exit_next, exited_next, stmt_next, line_next, declarations_next, leave_next, master_leave_next, item_leave_next, granted, new_cell, born_next, awaited_next}
 use Rattle.ada_meaning.specs.Named.{State, Next, named, whole, look, standing, create, created, new_object, bear, born_part}
 use Rattle.ada_quiet.specs.Frugal.{allocates_quietly, is_frugal_declaration, are_frugal_declarations}
-use Rattle.ada_sound.proofs.Marks.{Marks, may_end, is_thrifty_stmt, are_thrifty, are_thrifty_branches, are_thrifty_handlers, is_thrifty_body, thrifty_parts}
+use Rattle.ada_sound.proofs.Allowance.{Allowance, may_end, is_thrifty_stmt, are_thrifty, are_thrifty_branches, are_thrifty_handlers, is_thrifty_body, thrifty_parts}
 use Rattle.ada_sound.proofs.Fits.{place_at}
 use Rattle.ada_sound.proofs.Invariant.{Control}
 use Rattle.ada_sound.proofs.OperationStarts.{apart}
@@ -43,12 +43,12 @@ use Rattle.ada_sound.proofs.FrugalFrees.{RecordIsBare, IsFreely, StmtIsFreely, b
 use Rattle.ada_sound.proofs.Treatments.{alters_treated}
 use Rattle.ada_owners.proofs.Objects.{next_id, at_new}
 
-module _ (marks : Marks) (lower : List Master) (behind : Control) (tds : List TypeDefinition) (bodies : List BodyForm) (s : State) where
+module _ (allowance : Allowance) (lower : List Master) (behind : Control) (tds : List TypeDefinition) (bodies : List BodyForm) (s : State) where
   abbrev pub Fine : Next → Type 0
-  Fine n = GoesFrugally marks lower behind n
+  Fine n = GoesFrugally allowance lower behind n
 
   abbrev pub Goes : State → Type 0
-  Goes after = Frugally marks lower behind after
+  Goes after = Frugally allowance lower behind after
 
   -- The state in which a frame has been taken off, with these activations, before this, in these masters of the body.
   abbrev pub now : List (Activation Value) → Control → List Master → State
@@ -60,7 +60,7 @@ module _ (marks : Marks) (lower : List Master) (behind : Control) (tds : List Ty
 
   module _ (ms : List Master) (own : OwnVariables ms) where
     abbrev pub Left : Control → Type 0
-    Left k = FrugalLeads marks behind k ms
+    Left k = FrugalLeads allowance behind k ms
 
     -- It runs on.
     pub on : (after : State) → after.masters ≡ ms ++ lower → Left (after.control) → Goes after
@@ -133,10 +133,10 @@ module _ (marks : Marks) (lower : List Master) (behind : Control) (tds : List Ty
     outcome_on (Err WrongType) all k q = tt
 
     -- What is assigned.
-    pub right_on : (right : RightForm) → allocates_quietly marks.types marks.begun right ≡ true → (all : List (Activation Value)) → (k : Control) → Left k → Fine (right_next named tds right (now all k ms))
+    pub right_on : (right : RightForm) → allocates_quietly allowance.types allowance.begun right ≡ true → (all : List (Activation Value)) → (k : Control) → Left k → Fine (right_next named tds right (now all k ms))
     right_on nothing bare all k q = computes_on _ all k q
     right_on (value_of path) bare all k q = named_on path.selectors path.root all k q
-    right_on (allocates access items) bare all k q = on _ refl (tt, (bare_calm marks.types marks.begun access bare, q))
+    right_on (allocates access items) bare all k q = on _ refl (tt, (bare_calm allowance.types allowance.begun access bare, q))
     right_on (allocates_default access) bare all k q = on _ refl (bare, q)
     right_on (computes e) bare all k q = on _ refl (tt, q)
 
@@ -164,47 +164,47 @@ module _ (marks : Marks) (lower : List Master) (behind : Control) (tds : List Ty
     copies_on o first count (finds cell) all k q = copied_on o (record_in cell.values first count) all k q
 
     -- A pool is asked for a new object, for which nothing is to be done, or that begins quietly.
-    granted_on : (access count words : ℕ) (home : Destination) (all : List (Activation Value)) → (k : Control) → IsNewly marks tds access s.heap k → Left k → Goes (granted named tds access count words home (now all k ms))
+    granted_on : (access count words : ℕ) (home : Destination) (all : List (Activation Value)) → (k : Control) → IsNewly allowance tds access s.heap k → Left k → Goes (granted named tds access count words home (now all k ms))
     granted_on access count words home all k (inl none) q = rw none (on _ refl q)
     granted_on access count words home all k (inr (calm, ends_parts, alone)) q = record {
       upper = ms;
       masters = refl;
       own = own;
-      frugal = beginning_frugal marks behind (create s.heap words cell) (created s.heap words) Creation [] (all_tasks tds access PartsFirst) k ms (refl, alone, (next_id s.heap, refl, new_object cell, at_new s.heap words cell, calm, ends_parts)) q;
+      frugal = beginning_frugal allowance behind (create s.heap words cell) (created s.heap words) Creation [] (all_tasks tds access PartsFirst) k ms (refl, alone, (next_id s.heap, refl, new_object cell, at_new s.heap words cell, calm, ends_parts)) q;
     }
       where
         cell : Cell Value
         cell = new_cell named tds access count home (now all k ms)
 
-    answered_on : (access count words : ℕ) (home : Destination) (all : List (Activation Value)) → (k : Control) → IsNewly marks tds access s.heap k → Left k → (granting : Bool) → Goes (answered named tds access count words home (now all k ms) granting)
+    answered_on : (access count words : ℕ) (home : Destination) (all : List (Activation Value)) → (k : Control) → IsNewly allowance tds access s.heap k → Left k → (granting : Bool) → Goes (answered named tds access count words home (now all k ms) granting)
     answered_on access count words home all k new q true = granted_on access count words home all k new q
     answered_on access count words home all k new q false = raises_on StorageError all k q
 
-    pub new_on : (access count words : ℕ) (home : Option Destination) (all : List (Activation Value)) → (k : Control) → IsNewly marks tds access s.heap k → Left k → Fine (new_next named tds access count words home (now all k ms))
+    pub new_on : (access count words : ℕ) (home : Option Destination) (all : List (Activation Value)) → (k : Control) → IsNewly allowance tds access s.heap k → Left k → Fine (new_next named tds access count words home (now all k ms))
     new_on access count words None all k new q = raises_on StorageError all k q
     new_on access count words (Some home) all k new q = answered_on access count words home all k new q
 
     -- The Initialize of a part has come to its end: the object goes on beginning.
-    born_on : (v : Value) (by : Birth) (done : List Part) (of part : ℕ) (tasks : List Task) (found : Option PartState) (all : List (Activation Value)) → (k : Control) → BeginsQuietly marks s.heap v by k → Left k → Fine (born_next named v by done of part tasks found (now all k ms))
+    born_on : (v : Value) (by : Birth) (done : List Part) (of part : ℕ) (tasks : List Task) (found : Option PartState) (all : List (Activation Value)) → (k : Control) → BeginsQuietly allowance s.heap v by k → Left k → Fine (born_next named v by done of part tasks found (now all k ms))
     born_on v by done of part tasks None all k quiet q = tt
     born_on v by done of part tasks (Some p) all k quiet q = record {
       upper = ms;
       masters = refl;
       own = own;
-      frugal = beginning_frugal marks behind (bear s.heap v part (counted s.born)) v by (record { of = of; number = part } ∷ done) tasks k ms (quietly_kept marks s.heap _ Quiet v by k (alters_treated (born_part (counted s.born)) part s.heap Quiet v) quiet) q;
+      frugal = beginning_frugal allowance behind (bear s.heap v part (counted s.born)) v by (record { of = of; number = part } ∷ done) tasks k ms (quietly_kept allowance s.heap _ Quiet v by k (alters_treated (born_part (counted s.born)) part s.heap Quiet v) quiet) q;
     }
 
-    pub awaited_on : (v : Value) (by : Birth) (done : List Part) (of part : ℕ) (tasks : List Task) (found : Found (Cell Value)) (all : List (Activation Value)) → (k : Control) → BeginsQuietly marks s.heap v by k → Left k → Fine (awaited_next named v by done of part tasks found (now all k ms))
+    pub awaited_on : (v : Value) (by : Birth) (done : List Part) (of part : ℕ) (tasks : List Task) (found : Found (Cell Value)) (all : List (Activation Value)) → (k : Control) → BeginsQuietly allowance s.heap v by k → Left k → Fine (awaited_next named v by done of part tasks found (now all k ms))
     awaited_on v by done of part tasks on_null all k quiet q = tt
     awaited_on v by done of part tasks on_gone all k quiet q = tt
     awaited_on v by done of part tasks on_other all k quiet q = tt
     awaited_on v by done of part tasks (finds cell) all k quiet q = born_on v by done of part tasks (slice_get cell.parts part) all k quiet q
 
-    assigns_on : (cs : List ℕ) (x : ℕ) (right : RightForm) → allocates_quietly marks.types marks.begun right ≡ true → (all : List (Activation Value)) → (k : Control) → Left k → Fine (assign_next named cs x right (now all k ms))
+    assigns_on : (cs : List ℕ) (x : ℕ) (right : RightForm) → allocates_quietly allowance.types allowance.begun right ≡ true → (all : List (Activation Value)) → (k : Control) → Left k → Fine (assign_next named cs x right (now all k ms))
     assigns_on [] x right bare all k q = on _ refl (bare, (tt, q))
     assigns_on (c ∷ cs) x right bare all k q = holder_on c cs x (λ last. Targets last right) all k (λ last. (bare, q))
 
-    pub target_on : (o : Value) (c : ℕ) (right : RightForm) (found : Found (Cell Value)) → allocates_quietly marks.types marks.begun right ≡ true → (all : List (Activation Value)) → (k : Control) → Left k → Fine (target_next named o c right found (now all k ms))
+    pub target_on : (o : Value) (c : ℕ) (right : RightForm) (found : Found (Cell Value)) → allocates_quietly allowance.types allowance.begun right ≡ true → (all : List (Activation Value)) → (k : Control) → Left k → Fine (target_next named o c right found (now all k ms))
     target_on o c right on_null bare all k q = raises_on ConstraintError all k q
     target_on o c right on_gone bare all k q = tt
     target_on o c right on_other bare all k q = tt
@@ -220,7 +220,8 @@ module _ (marks : Marks) (lower : List Master) (behind : Control) (tds : List Ty
     store_on o c v on_other all k q = tt
     store_on o c v (finds cell) all k q = stored_on o c v (slice_get cell.values c) all k q
 
-    -- A record without controlled parts is assigned (5.2): the object in which it lies is found, the items are evaluated, and then its components get their values.
+    -- A record without controlled parts is assigned (5.2): the object in which it lies is found, the items are evaluated, and then its components get their
+    -- values.
     record_assign_on : (parts : Bool) → parts ≡ false → (p : RecordPathForm) (items : List ItemForm) (all : List (Activation Value)) → (k : Control) → Left k → Fine (record_assign_next named parts p items (now all k ms))
     record_assign_on true none p items all k q = absurd (cc none)
     record_assign_on false none p items all k q =
@@ -249,41 +250,41 @@ module _ (marks : Marks) (lower : List Master) (behind : Control) (tds : List Ty
     puts_on x v all k q = on _ refl q
 
     -- A Free: nothing is to be done for its object, which is to cease to exist, or that is finalized first.
-    freeing_on : (access : ℕ) (v : Value) (cell : Cell Value) (clears : Frame Value) → (all : List (Activation Value)) → (k : Control) → IsFreely marks tds (clears ∷ k) v (finds cell) → Left (clears ∷ k) → Goes (freeing named tds access v cell clears (now all k ms))
+    freeing_on : (access : ℕ) (v : Value) (cell : Cell Value) (clears : Frame Value) → (all : List (Activation Value)) → (k : Control) → IsFreely allowance tds (clears ∷ k) v (finds cell) → Left (clears ∷ k) → Goes (freeing named tds access v cell clears (now all k ms))
     freeing_on access v cell clears all k (inl none) q = rw none (on _ refl (tt, (tt, q)))
     freeing_on access v cell clears all k (inr (ends_parts, alone)) q =
         on (freeing named tds access v cell clears (now all k ms)) refl
-        (treating_leads marks behind v (ends (Freeing s.next)) (all_tasks tds cell.access WholeFirst)
+        (treating_leads allowance behind v (ends (Freeing s.next)) (all_tasks tds cell.access WholeFirst)
         (Ends v ∷ GivesBack v (Freeing s.next) (Some (pool_freed_to (home_of access (ms ++ lower)))) ∷ clears ∷ k) ms (tt, ends_parts, refl, alone) (tt, (tt, q)))
 
-    freeing_next_on : (access : ℕ) (v : Value) (cell : Cell Value) (clears : Frame Value) (event : Event Value) → (all : List (Activation Value)) → (k : Control) → IsFreely marks tds (clears ∷ k) v (finds cell) → Left (clears ∷ k) → Fine (freeing_next named tds access v cell clears event (now all k ms))
+    freeing_next_on : (access : ℕ) (v : Value) (cell : Cell Value) (clears : Frame Value) (event : Event Value) → (all : List (Activation Value)) → (k : Control) → IsFreely allowance tds (clears ∷ k) v (finds cell) → Left (clears ∷ k) → Fine (freeing_next named tds access v cell clears event (now all k ms))
     freeing_next_on access v cell clears event all k freely q = by (same_pool (Some (pool_freed_to (home_of access (ms ++ lower)))) cell.home.pool)
       where
         by : (one : Bool) → Fine (if one then moves event (freeing named tds access v cell clears (now all k ms)) else halts (Erroneous GivesElsewhere))
         by true = freeing_on access v cell clears all k freely q
         by false = tt
 
-    free_on : (access x : ℕ) (v : Value) (found : Found (Cell Value)) (all : List (Activation Value)) → (k : Control) → IsFreely marks tds k v found → Left k → Fine (free_next named tds access x v found (now all k ms))
+    free_on : (access x : ℕ) (v : Value) (found : Found (Cell Value)) (all : List (Activation Value)) → (k : Control) → IsFreely allowance tds k v found → Left k → Fine (free_next named tds access x v found (now all k ms))
     free_on access x v on_null all k freely q = on _ refl q
     free_on access x v on_gone all k freely q = tt
     free_on access x v on_other all k freely q = tt
     free_on access x v (finds cell) all k freely q = freeing_next_on access v cell (Clears x) Quiet all k freely (tt, q)
 
-    frees_on : (cs : List ℕ) (access x : ℕ) (all : List (Activation Value)) → may_end marks access ≡ true → (k : Control) → (cs ≡ [] → IsFreely marks tds k (place_at (places_of all) x) (standing s.heap (place_at (places_of all) x))) → Left k → Fine (frees_next named tds cs access x (now all k ms))
+    frees_on : (cs : List ℕ) (access x : ℕ) (all : List (Activation Value)) → may_end allowance access ≡ true → (k : Control) → (cs ≡ [] → IsFreely allowance tds k (place_at (places_of all) x) (standing s.heap (place_at (places_of all) x))) → Left k → Fine (frees_next named tds cs access x (now all k ms))
     frees_on [] access x all is k freely q = free_on access x (place_at (places_of all) x) (standing s.heap (place_at (places_of all) x)) all k (freely refl) q
     frees_on (c ∷ cs) access x all is k freely q = holder_on c cs x (λ last. FreesIn access last) all k (λ last. (is, q))
 
-    freed_on : (access : ℕ) (o : Value) (c : ℕ) (v : Value) (found : Found (Cell Value)) (all : List (Activation Value)) → (k : Control) → IsFreely marks tds k v found → Left k → Fine (freed_next named tds access o c v found (now all k ms))
+    freed_on : (access : ℕ) (o : Value) (c : ℕ) (v : Value) (found : Found (Cell Value)) (all : List (Activation Value)) → (k : Control) → IsFreely allowance tds k v found → Left k → Fine (freed_next named tds access o c v found (now all k ms))
     freed_on access o c v on_null all k freely q = on _ refl q
     freed_on access o c v on_gone all k freely q = tt
     freed_on access o c v on_other all k freely q = tt
     freed_on access o c v (finds cell) all k freely q = freeing_next_on access v cell (ClearsIn o c) (Followed o) all k freely (tt, q)
 
-    free_component_on : (access : ℕ) (o : Value) (c : ℕ) (found : Option Value) (all : List (Activation Value)) → (k : Control) → ((w : Value) → found ≡ Some w → IsFreely marks tds k w (standing s.heap w)) → Left k → Fine (free_component_next named tds access o c found (now all k ms))
+    free_component_on : (access : ℕ) (o : Value) (c : ℕ) (found : Option Value) (all : List (Activation Value)) → (k : Control) → ((w : Value) → found ≡ Some w → IsFreely allowance tds k w (standing s.heap w)) → Left k → Fine (free_component_next named tds access o c found (now all k ms))
     free_component_on access o c None all k freely q = tt
     free_component_on access o c (Some v) all k freely q = freed_on access o c v (standing s.heap v) all k (freely v refl) q
 
-    pub free_in_on : (access : ℕ) (o : Value) (c : ℕ) (found : Found (Cell Value)) (all : List (Activation Value)) → (k : Control) → ((cell : Cell Value) (w : Value) → found ≡ finds cell → slice_get cell.values c ≡ Some w → IsFreely marks tds k w (standing s.heap w)) → Left k → Fine (free_in_next named tds access o c found (now all k ms))
+    pub free_in_on : (access : ℕ) (o : Value) (c : ℕ) (found : Found (Cell Value)) (all : List (Activation Value)) → (k : Control) → ((cell : Cell Value) (w : Value) → found ≡ finds cell → slice_get cell.values c ≡ Some w → IsFreely allowance tds k w (standing s.heap w)) → Left k → Fine (free_in_next named tds access o c found (now all k ms))
     free_in_on access o c on_null all k freely q = raises_on ConstraintError all k q
     free_in_on access o c on_gone all k freely q = tt
     free_in_on access o c on_other all k freely q = tt
@@ -310,43 +311,43 @@ module _ (marks : Marks) (lower : List Master) (behind : Control) (tds : List Ty
         by false = tt
 
     -- Branches.
-    pub branches_on : (branches : BranchesForm) → are_thrifty_branches marks branches ≡ true → (all : List (Activation Value)) → (k : Control) → Left k → Fine (branches_next named branches (now all k ms))
+    pub branches_on : (branches : BranchesForm) → are_thrifty_branches allowance branches ≡ true → (all : List (Activation Value)) → (k : Control) → Left k → Fine (branches_next named branches (now all k ms))
     branches_on (otherwise fs) frugal all k q = on _ refl (frugal, q)
     branches_on (a_branch e fs branches) frugal all k q =
-        let both = apart (are_thrifty marks fs) (are_thrifty_branches marks branches) frugal in
+        let both = apart (are_thrifty allowance fs) (are_thrifty_branches allowance branches) frugal in
         on _ refl (tt, (both, q))
 
-    pub decided_on : (fs : StmtsForm) (branches : BranchesForm) (truth : Option Bool) → (are_thrifty marks fs ≡ true) × (are_thrifty_branches marks branches ≡ true) → (all : List (Activation Value)) → (k : Control) → Left k → Fine (decided_next named fs branches truth (now all k ms))
+    pub decided_on : (fs : StmtsForm) (branches : BranchesForm) (truth : Option Bool) → (are_thrifty allowance fs ≡ true) × (are_thrifty_branches allowance branches ≡ true) → (all : List (Activation Value)) → (k : Control) → Left k → Fine (decided_next named fs branches truth (now all k ms))
     decided_on fs branches None frugal all k q = tt
     decided_on fs branches (Some true) frugal all k q = on _ refl (frugal.0, q)
     decided_on fs branches (Some false) frugal all k q = branches_on branches frugal.1 all k q
 
     -- Loops.
-    turn_on : (condition : Option ExpressionForm) (fs : StmtsForm) → are_thrifty marks fs ≡ true → (all : List (Activation Value)) → (k : Control) → Left k → Fine (turn_next named condition fs (now all k ms))
+    turn_on : (condition : Option ExpressionForm) (fs : StmtsForm) → are_thrifty allowance fs ≡ true → (all : List (Activation Value)) → (k : Control) → Left k → Fine (turn_next named condition fs (now all k ms))
     turn_on condition no_stmts frugal all k q = tt
     turn_on condition (a_stmt f fs) frugal all k q = on _ refl (frugal, (frugal, q))
 
-    pub repeats_on : (condition : Option ExpressionForm) (fs : StmtsForm) → are_thrifty marks fs ≡ true → (all : List (Activation Value)) → (k : Control) → Left k → Fine (repeats_next named condition fs (now all k ms))
+    pub repeats_on : (condition : Option ExpressionForm) (fs : StmtsForm) → are_thrifty allowance fs ≡ true → (all : List (Activation Value)) → (k : Control) → Left k → Fine (repeats_next named condition fs (now all k ms))
     repeats_on None fs frugal all k q = turn_on None fs frugal all k q
     repeats_on (Some e) fs frugal all k q = on _ refl (tt, (frugal, q))
 
-    pub turned_on : (e : ExpressionForm) (fs : StmtsForm) (truth : Option Bool) → are_thrifty marks fs ≡ true → (all : List (Activation Value)) → (k : Control) → Left k → Fine (turned_next named e fs truth (now all k ms))
+    pub turned_on : (e : ExpressionForm) (fs : StmtsForm) (truth : Option Bool) → are_thrifty allowance fs ≡ true → (all : List (Activation Value)) → (k : Control) → Left k → Fine (turned_next named e fs truth (now all k ms))
     turned_on e fs None frugal all k q = tt
     turned_on e fs (Some true) frugal all k q = turn_on (Some e) fs frugal all k q
     turned_on e fs (Some false) frugal all k q = on _ refl q
 
-    count_turn_on : (x : ℕ) (value last : ℤ) (fs : StmtsForm) → are_thrifty marks fs ≡ true → (all : List (Activation Value)) → (k : Control) → Left k → Fine (count_turn_next named x value last fs (now all k ms))
+    count_turn_on : (x : ℕ) (value last : ℤ) (fs : StmtsForm) → are_thrifty allowance fs ≡ true → (all : List (Activation Value)) → (k : Control) → Left k → Fine (count_turn_next named x value last fs (now all k ms))
     count_turn_on x value last no_stmts frugal all k q = tt
     count_turn_on x value last (a_stmt f fs) frugal all k q = on _ refl (frugal, (frugal, q))
 
-    pub counts_on : (x : ℕ) (value last : ℤ) (fs : StmtsForm) → are_thrifty marks fs ≡ true → (all : List (Activation Value)) → (k : Control) → Left k → Fine (counts_next named x value last fs (now all k ms))
+    pub counts_on : (x : ℕ) (value last : ℤ) (fs : StmtsForm) → are_thrifty allowance fs ≡ true → (all : List (Activation Value)) → (k : Control) → Left k → Fine (counts_next named x value last fs (now all k ms))
     counts_on x value last fs frugal all k q = by (int_le value last)
       where
         by : (b : Bool) → Fine (if b then count_turn_next named x value last fs (now all k ms) else moves Quiet (now all k ms))
         by true = count_turn_on x value last fs frugal all k q
         by false = on _ refl q
 
-    pub ranges_on : (x : ℕ) (fs : StmtsForm) (low high : Option ℤ) → are_thrifty marks fs ≡ true → (all : List (Activation Value)) → (k : Control) → Left k → Fine (ranges_next named x fs low high (now all k ms))
+    pub ranges_on : (x : ℕ) (fs : StmtsForm) (low high : Option ℤ) → are_thrifty allowance fs ≡ true → (all : List (Activation Value)) → (k : Control) → Left k → Fine (ranges_next named x fs low high (now all k ms))
     ranges_on x fs None high frugal all k q = tt
     ranges_on x fs (Some low) None frugal all k q = tt
     ranges_on x fs (Some low) (Some high) frugal all k q = counts_on x low high fs frugal all k q
@@ -383,10 +384,10 @@ module _ (marks : Marks) (lower : List Master) (behind : Control) (tds : List Ty
     line_on (Some i) all k q = on _ refl q
 
     -- A block is a master of its own.
-    encloses_on : (ds : List DeclarationForm) (fs : StmtsForm) (hs : HandlersForm) → (are_frugal_declarations marks.types marks.begun ds && are_thrifty marks fs && are_thrifty_handlers marks hs) ≡ true → (all : List (Activation Value)) → (k : Control) → Left k → Goes (entered (at (Elaborates ds fs hs ∷ k) (now all k ms)))
+    encloses_on : (ds : List DeclarationForm) (fs : StmtsForm) (hs : HandlersForm) → (are_frugal_declarations allowance.types allowance.begun ds && are_thrifty allowance fs && are_thrifty_handlers allowance hs) ≡ true → (all : List (Activation Value)) → (k : Control) → Left k → Goes (entered (at (Elaborates ds fs hs ∷ k) (now all k ms)))
     encloses_on ds fs hs frugal all k q =
-        let one = apart (are_frugal_declarations marks.types marks.begun ds && are_thrifty marks fs) (are_thrifty_handlers marks hs) frugal in
-        let two = apart (are_frugal_declarations marks.types marks.begun ds) (are_thrifty marks fs) one.0 in
+        let one = apart (are_frugal_declarations allowance.types allowance.begun ds && are_thrifty allowance fs) (are_thrifty_handlers allowance hs) frugal in
+        let two = apart (are_frugal_declarations allowance.types allowance.begun ds) (are_thrifty allowance fs) one.0 in
         record {
           upper = record { number = s.next; items = [] } ∷ ms;
           masters = refl;
@@ -436,17 +437,17 @@ module _ (marks : Marks) (lower : List Master) (behind : Control) (tds : List Ty
     computing_left (in_out_component path ∷ rest) k q = (tt, computing_left rest k q)
     computing_left (in_out_record p ∷ rest) k q = (tt, computing_left rest k q)
 
-    call_on : (number : ℕ) (actuals : List ActualForm) (found : Option BodyForm) → ((b : BodyForm) → found ≡ Some b → is_thrifty_body marks b ≡ true) → (all : List (Activation Value)) → (k : Control) → Left k → Fine (call_next named number actuals found (now all k ms))
+    call_on : (number : ℕ) (actuals : List ActualForm) (found : Option BodyForm) → ((b : BodyForm) → found ≡ Some b → is_thrifty_body allowance b ≡ true) → (all : List (Activation Value)) → (k : Control) → Left k → Fine (call_next named number actuals found (now all k ms))
     call_on number actuals None frugal all k q = tt
     call_on number actuals (Some b) frugal all k q = on _ refl (computing_left actuals (Calls number b actuals ∷ k) (frugal b refl, q))
 
     -- The body that is called begins, in a master of its own.
-    pub begun_on : (number : ℕ) (b : BodyForm) (actuals : List ActualForm) (vs : List Value) → is_thrifty_body marks b ≡ true → (all : List (Activation Value)) → (k : Control) → Left k → Goes (begun named number b actuals vs (now all k ms))
+    pub begun_on : (number : ℕ) (b : BodyForm) (actuals : List ActualForm) (vs : List Value) → is_thrifty_body allowance b ≡ true → (all : List (Activation Value)) → (k : Control) → Left k → Goes (begun named number b actuals vs (now all k ms))
     begun_on number b actuals vs frugal all k q = record {
       upper = record { number = s.next; items = [] } ∷ ms;
       masters = refl;
       own = (tt, own);
-      frugal = inl (thrifty_parts marks b frugal, inr q);
+      frugal = inl (thrifty_parts allowance b frugal, inr q);
     }
 
     -- It has ended: what its caller gets back in components is stored next.
@@ -458,7 +459,7 @@ module _ (marks : Marks) (lower : List Master) (behind : Control) (tds : List Ty
     returned_on actuals references all k q = on _ refl (storing_left references k q)
 
     -- Statements.
-    pub stmt_on : (f : StmtForm) → ((number : ℕ) (b : BodyForm) → slice_get bodies number ≡ Some b → slice_index_or marks.procedures number false ≡ true → is_thrifty_body marks b ≡ true) → RecordIsBare marks.types tds → is_thrifty_stmt marks f ≡ true → (all : List (Activation Value)) → (k : Control) → StmtIsFreely marks tds f k s.heap (places_of all) → Left k → Fine (stmt_next named tds bodies f (now all k ms))
+    pub stmt_on : (f : StmtForm) → ((number : ℕ) (b : BodyForm) → slice_get bodies number ≡ Some b → slice_index_or allowance.procedures number false ≡ true → is_thrifty_body allowance b ≡ true) → RecordIsBare allowance.types tds → is_thrifty_stmt allowance f ≡ true → (all : List (Activation Value)) → (k : Control) → StmtIsFreely allowance tds f k s.heap (places_of all) → Left k → Fine (stmt_next named tds bodies f (now all k ms))
     stmt_on skips finds_frugal records_bare frugal all k freely q = on _ refl q
     stmt_on (assigns target right) finds_frugal records_bare frugal all k freely q = assigns_on target.selectors target.root right frugal all k q
     stmt_on (assigns_record target items) finds_frugal records_bare frugal all k freely q =
@@ -477,30 +478,30 @@ module _ (marks : Marks) (lower : List Master) (behind : Control) (tds : List Ty
     stmt_on (encloses ds fs hs) finds_frugal records_bare frugal all k freely q = encloses_on ds fs hs frugal all k q
 
   -- The declarations of a block, or of the body.
-  declaration_on : (m : Master) (ms : List Master) → OwnVariables (m ∷ ms) → (d : DeclarationForm) (ds : List DeclarationForm) (fs : StmtsForm) (hs : HandlersForm) → is_frugal_declaration marks.types marks.begun d ≡ true → (are_frugal_declarations marks.types marks.begun ds ≡ true) × (are_thrifty marks fs ≡ true) × (are_thrifty_handlers marks hs ≡ true) → (all : List (Activation Value)) → (k : Control) → FrugalLeads marks behind k ms → Fine (declarations_next named tds (d ∷ ds) fs hs (now all k (m ∷ ms)))
+  declaration_on : (m : Master) (ms : List Master) → OwnVariables (m ∷ ms) → (d : DeclarationForm) (ds : List DeclarationForm) (fs : StmtsForm) (hs : HandlersForm) → is_frugal_declaration allowance.types allowance.begun d ≡ true → (are_frugal_declarations allowance.types allowance.begun ds ≡ true) × (are_thrifty allowance fs ≡ true) × (are_thrifty_handlers allowance hs ≡ true) → (all : List (Activation Value)) → (k : Control) → FrugalLeads allowance behind k ms → Fine (declarations_next named tds (d ∷ ds) fs hs (now all k (m ∷ ms)))
   declaration_on m ms own (creates_pool p) ds fs hs frugal more all k q = absurd (cc frugal)
   declaration_on m ms own (collects access) ds fs hs frugal more all k q = absurd (cc frugal)
   declaration_on m ms own (declares_record x t initial) ds fs hs frugal more all k q = absurd (cc frugal)
   declaration_on m ms own (declares x right) ds fs hs frugal more all k q = on (m ∷ ms) own _ refl (frugal, (tt, (more, q)))
 
-  pub declarations_on : (ms : List Master) → OwnVariables ms → (ds : List DeclarationForm) (fs : StmtsForm) (hs : HandlersForm) (all : List (Activation Value)) → (k : Control) → FrugalLeads marks behind (Elaborates ds fs hs ∷ k) ms → Fine (declarations_next named tds ds fs hs (now all k ms))
+  pub declarations_on : (ms : List Master) → OwnVariables ms → (ds : List DeclarationForm) (fs : StmtsForm) (hs : HandlersForm) (all : List (Activation Value)) → (k : Control) → FrugalLeads allowance behind (Elaborates ds fs hs ∷ k) ms → Fine (declarations_next named tds ds fs hs (now all k ms))
   declarations_on [] own ds fs hs all k q = absurd q
   declarations_on (m ∷ ms) own [] fs hs all k ((ds_frugal, frugal, hs_frugal), q) = on (m ∷ ms) own _ refl (frugal, (hs_frugal, (tt, q)))
   declarations_on (m ∷ ms) own (d ∷ ds) fs hs all k ((ds_frugal, frugal, hs_frugal), q) =
-      let both = apart (is_frugal_declaration marks.types marks.begun d) (are_frugal_declarations marks.types marks.begun ds) ds_frugal in
+      let both = apart (is_frugal_declaration allowance.types allowance.begun d) (are_frugal_declarations allowance.types allowance.begun ds) ds_frugal in
       declaration_on m ms own d ds fs hs both.0 (both.1, frugal, hs_frugal) all k q
 
-  pub declares_on : (ms : List Master) → OwnVariables ms → (x : ℕ) (v : Value) (all : List (Activation Value)) → (k : Control) → FrugalLeads marks behind (Declares x ∷ k) ms → Goes (owned (declared x) (put x v (now all k ms)))
+  pub declares_on : (ms : List Master) → OwnVariables ms → (x : ℕ) (v : Value) (all : List (Activation Value)) → (k : Control) → FrugalLeads allowance behind (Declares x ∷ k) ms → Goes (owned (declared x) (put x v (now all k ms)))
   declares_on [] own x v all k q = absurd q
   declares_on (m ∷ ms) own x v all k q = record {
     upper = record m { items = record { number = height ((m ∷ ms) ++ lower); owned = declared x } ∷ m.items } ∷ ms;
     masters = refl;
     own = ((tt, own.0), own.1);
-    frugal = inl (same_masters marks behind k m _ ms q.1);
+    frugal = inl (same_masters allowance behind k m _ ms q.1);
   }
 
   -- A master is left.
-  pub leaves_first : (ms : List Master) → OwnVariables ms → (left : Mode) (k : Control) (after : State) → after.masters ≡ ms ++ lower → after.mode ≡ Running → after.control ≡ Leaves left ∷ k → FrugalLeaves marks behind (Leaves left ∷ k) ms → Goes after
+  pub leaves_first : (ms : List Master) → OwnVariables ms → (left : Mode) (k : Control) (after : State) → after.masters ≡ ms ++ lower → after.mode ≡ Running → after.control ≡ Leaves left ∷ k → FrugalLeaves allowance behind (Leaves left ∷ k) ms → Goes after
   leaves_first ms own left k after masters in_mode is q = record {
     upper = ms;
     masters = masters;
@@ -508,7 +509,7 @@ module _ (marks : Marks) (lower : List Master) (behind : Control) (tds : List Ty
     frugal = rw (in_mode, is) (inr (refl, inl q));
   }
 
-  pub leaves_on : (ms : List Master) → OwnVariables ms → (left : Mode) (all : List (Activation Value)) → (k : Control) → FrugalLeaves marks behind (Leaves left ∷ k) ms → Fine (leave_next named tds left (ms ++ lower) (now all k ms))
+  pub leaves_on : (ms : List Master) → OwnVariables ms → (left : Mode) (all : List (Activation Value)) → (k : Control) → FrugalLeaves allowance behind (Leaves left ∷ k) ms → Fine (leave_next named tds left (ms ++ lower) (now all k ms))
   leaves_on [] own left all k q = absurd q
   leaves_on (m ∷ ms) own left all k q = by m.items refl own.0
     where

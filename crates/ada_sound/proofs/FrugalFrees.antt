@@ -1,5 +1,6 @@
--- What a frugal body allocates has no controlled parts (4.8, 7.6), as the access types say that it names, or it begins quietly, and none of its operations runs behind
--- that; nor has a record that it assigns some (5.2): its assignments treat nothing. What it frees has none, either, or no operation of that object runs (7.6.1, 13.11.2).
+-- What a frugal body allocates has no controlled parts (4.8, 7.6), as the access types say that it names, or it begins quietly, and none of its operations runs
+-- behind that; nor has a record that it assigns some (5.2): its assignments treat nothing. What it frees has none, either, or no operation of that object runs
+-- (7.6.1, 13.11.2).
 
 use Rattle.std.proofs.Common.{◌≡◌, ℕ, zero, suc, Bool, true, false, ◌&&◌, if◌then◌else◌, List, [], ◌∷◌, refl, sym, ap, ◌∙◌, subst, ◌⊎◌, inl, inr}
 use Rattle.std.specs.Prelude.{Option, Some, None, is_some, not, ◌||◌}
@@ -44,7 +45,7 @@ use Rattle.ada_typed.proofs.Runs.{typed_holds}
 use Rattle.ada_typed.proofs.Targets.{component_there}
 use Rattle.ada_typed.proofs.Values as typing
 use Rattle.ada_typed.proofs.Values.{OperandKind, of_kind, AreComputed}
-use Rattle.ada_sound.proofs.Marks.{Marks, may_end, are_thrifty}
+use Rattle.ada_sound.proofs.Allowance.{Allowance, may_end, are_thrifty}
 use Rattle.ada_sound.proofs.Assigned.{access_from, this_is}
 use Rattle.ada_sound.proofs.Calm.{ends_operation, operation_ends_there}
 use Rattle.ada_sound.proofs.Fits.{place_at}
@@ -272,8 +273,9 @@ ListedAlone may heap k =
 abbrev pub Unborn : List Object → Control → Type 0
 Unborn heap k = (o : Id) → (NamesExisting heap (Names o) → ⊥) → NoOperationRunsOn (Names o) k
 
-module _ (frugal : Marks) (tds : List TypeDefinition) where
-  -- What is found of an object may be freed: nothing is to be done for it, or bodies may free what has controlled parts, and none of its operations runs behind this.
+module _ (frugal : Allowance) (tds : List TypeDefinition) where
+  -- What is found of an object may be freed: nothing is to be done for it, or bodies may free what has controlled parts, and none of its operations runs behind
+  -- this.
   abbrev pub IsFreely : Control → Value → Found (Cell Value) → Type 0
   IsFreely k v on_null = Unit {0}
   IsFreely k v on_gone = Unit {0}
@@ -338,7 +340,7 @@ module _ (frugal : Marks) (tds : List TypeDefinition) where
   next_freely bare may behind heap values results (f ∷ k) ms alone q freely own = tt
 
 -- Where bodies free no objects with controlled parts, what is freed next has none.
-pub frees_bare : (frugal : Marks) → frugal.ends_parts ≡ false → (behind : Control) (heap : List Object) (mode : Mode) (k : Control) (ms : List Master) → Frugal frugal behind heap mode k ms → FreesAmong (has_bare_objects frugal.types) k
+pub frees_bare : (frugal : Allowance) → frugal.ends_parts ≡ false → (behind : Control) (heap : List Object) (mode : Mode) (k : Control) (ms : List Master) → Frugal frugal behind heap mode k ms → FreesAmong (has_bare_objects frugal.types) k
 frees_bare frugal none behind heap mode [] ms q = tt
 frees_bare frugal none behind heap mode (Does (a_stmt (frees access path) fs) ∷ k) ms (inl q) = let may = (apart (may_end frugal access) (are_thrifty frugal fs) q.0).0 in rw none at may
 frees_bare frugal none behind heap mode (Does (a_stmt (frees access path) fs) ∷ k) ms (inr (runs, inl leaving)) = absurd leaving
@@ -348,8 +350,9 @@ frees_bare frugal none behind heap mode (FreesIn access c ∷ k) ms (inr (runs, 
 frees_bare frugal none behind heap mode (FreesIn access c ∷ k) ms (inr (runs, inr beginning)) = absurd beginning
 frees_bare frugal none behind heap mode (f ∷ k) ms q = tt
 
--- For a new object there is nothing to do; or it begins quietly, and none of its operations runs behind this, as none of an object that is still to be created does.
-abbrev pub IsNewly : Marks → List TypeDefinition → (access : ℕ) → List Object → Control → Type 0
+-- For a new object there is nothing to do; or it begins quietly, and none of its operations runs behind this, as none of an object that is still to be created
+-- does.
+abbrev pub IsNewly : Allowance → List TypeDefinition → (access : ℕ) → List Object → Control → Type 0
 IsNewly frugal tds access heap k =
     (all_tasks tds access PartsFirst ≡ [])
     ⊎ ((has_calm_objects frugal.types frugal.begun access ≡ true) × (frugal.ends_parts ≡ true) × NoOperationRunsOn (Names (next_id heap)) k)
@@ -383,7 +386,7 @@ calm_bare types access is = by (slice_get types access) is
     by (Some (object_of record_type)) is' = absurd (cc is')
 
 -- Where bodies free no objects with controlled parts, none of these begin quietly.
-abbrev pub BeginsNone : Marks → Type 0
+abbrev pub BeginsNone : Allowance → Type 0
 BeginsNone frugal = frugal.ends_parts ≡ false → frugal.begun ≡ []
 
 -- An object that has not been created does not exist.
@@ -395,7 +398,7 @@ past_unborn heap (o, is, x, found, stage) =
 
 -- What such a body allocates is so.
 pub is_newly :
-    (frugal : Marks) (tds : List TypeDefinition) → AccessIsBare frugal.types tds → BeginsNone frugal → (access : ℕ) (heap : List Object) (k : Control) → (frugal.ends_parts ≡ true → Unborn heap k)
+    (frugal : Allowance) (tds : List TypeDefinition) → AccessIsBare frugal.types tds → BeginsNone frugal → (access : ℕ) (heap : List Object) (k : Control) → (frugal.ends_parts ≡ true → Unborn heap k)
     → has_calm_objects frugal.types frugal.begun access ≡ true → IsNewly frugal tds access heap k
 is_newly frugal tds bare begins_none access heap k unborn calm = by frugal.ends_parts refl
   where

@@ -1,5 +1,5 @@
--- Any step of a frugal body (7.6, 7.6.1, 13.11.2) in front of its end leads on in it, or in one that it calls (6.4), or to the end of an object that it frees, or to the
--- beginning of one that it allocates (4.8).
+-- Any step of a frugal body (7.6, 7.6.1, 13.11.2) in front of its end leads on in it, or in one that it calls (6.4), or to the end of an object that it frees,
+-- or to the beginning of one that it allocates (4.8).
 
 use Rattle.std.proofs.Common.{◌≡◌, ℕ, suc, Bool, true, false, if◌then◌else◌, List, [], ◌∷◌, ◌++◌, length, refl, sym, ap, ◌∙◌, subst, ◌⊎◌, inl, inr}
 use Rattle.std.specs.Prelude.{Option, Some, None, ◌||◌, ◌==◌}
@@ -37,7 +37,7 @@ use Rattle.ada_typed.proofs.Bodies.{own_bodies}
 use Rattle.ada_typed.proofs.Control as typed
 use Rattle.ada_typed.proofs.Control.{OwnBody}
 use Rattle.ada_typed.proofs.Kept.{Each, crosses as crosses_by, is_treatment}
-use Rattle.ada_sound.proofs.Marks.{Marks, are_thrifty, are_thrifty_handlers, is_thrifty_body, marks_of, body_thrifty}
+use Rattle.ada_sound.proofs.Allowance.{Allowance, are_thrifty, are_thrifty_handlers, is_thrifty_body, allowance_of, body_thrifty}
 use Rattle.ada_sound.specs.Agreement.{running_procedure}
 use Rattle.ada_sound.proofs.Calm.{ends_operation, operation_ends_there}
 use Rattle.ada_sound.proofs.Invariant.{Control, IsAwaited}
@@ -51,176 +51,176 @@ use Rattle.ada_sound.proofs.FrugalFrames as frames
 use Rattle.ada_sound.proofs.Treatments.{alters_treated}
 
 -- The statements of the handler that takes an exception.
-handler_frugal : (marks : Marks) (hs : HandlersForm) (e : Exception) (fs : StmtsForm) → handler_of e hs ≡ Some fs → are_thrifty_handlers marks hs ≡ true → are_thrifty marks fs ≡ true
-handler_frugal marks no_handlers e fs is frugal = absurd (cc is)
-handler_frugal marks (a_handler choices gs hs) e fs is frugal = by (some_takes e choices) is (λ later more. handler_frugal marks hs e fs later more)
+handler_frugal : (allowance : Allowance) (hs : HandlersForm) (e : Exception) (fs : StmtsForm) → handler_of e hs ≡ Some fs → are_thrifty_handlers allowance hs ≡ true → are_thrifty allowance fs ≡ true
+handler_frugal allowance no_handlers e fs is frugal = absurd (cc is)
+handler_frugal allowance (a_handler choices gs hs) e fs is frugal = by (some_takes e choices) is (λ later more. handler_frugal allowance hs e fs later more)
   where
-    both : (are_thrifty marks gs ≡ true) × (are_thrifty_handlers marks hs ≡ true)
-    both = apart (are_thrifty marks gs) (are_thrifty_handlers marks hs) frugal
+    both : (are_thrifty allowance gs ≡ true) × (are_thrifty_handlers allowance hs ≡ true)
+    both = apart (are_thrifty allowance gs) (are_thrifty_handlers allowance hs) frugal
 
-    by : (b : Bool) → (if b then Some gs else handler_of e hs) ≡ Some fs → (handler_of e hs ≡ Some fs → are_thrifty_handlers marks hs ≡ true → are_thrifty marks fs ≡ true) → are_thrifty marks fs ≡ true
+    by : (b : Bool) → (if b then Some gs else handler_of e hs) ≡ Some fs → (handler_of e hs ≡ Some fs → are_thrifty_handlers allowance hs ≡ true → are_thrifty allowance fs ≡ true) → are_thrifty allowance fs ≡ true
     by true is' more = let same : gs ≡ fs = cc is' in rw (← same) both.0
     by false is' more = more is' both.1
 
 -- The body that a statement calls is frugal, where its procedure is.
-abbrev FindsFrugal : Marks → List BodyForm → Type 0
-FindsFrugal marks bodies = (number : ℕ) (b : BodyForm) → slice_get bodies number ≡ Some b → slice_index_or marks.procedures number false ≡ true → is_thrifty_body marks b ≡ true
+abbrev FindsFrugal : Allowance → List BodyForm → Type 0
+FindsFrugal allowance bodies = (number : ℕ) (b : BodyForm) → slice_get bodies number ≡ Some b → slice_index_or allowance.procedures number false ≡ true → is_thrifty_body allowance b ≡ true
 
 -- No object is treated next (7.6.1).
 abbrev pub TreatsNothing : Control → Type 0
 TreatsNothing k = (v : Value) (treatment : Treatment) (tasks : List Task) (j : Control) → k ≡ Treats v treatment tasks ∷ j → ⊥
 
-module _ (marks : Marks) (lower : List Master) (behind : Control) (tds : List TypeDefinition) (bodies : List BodyForm) (access_bare : AccessIsBare marks.types tds) (begins_none : BeginsNone marks) (records_bare : RecordIsBare marks.types tds) (finds_frugal : FindsFrugal marks bodies) (s : State) where
+module _ (allowance : Allowance) (lower : List Master) (behind : Control) (tds : List TypeDefinition) (bodies : List BodyForm) (access_bare : AccessIsBare allowance.types tds) (begins_none : BeginsNone allowance) (records_bare : RecordIsBare allowance.types tds) (finds_frugal : FindsFrugal allowance bodies) (s : State) where
   abbrev Fine : Next → Type 0
-  Fine n = GoesFrugally marks lower behind n
+  Fine n = GoesFrugally allowance lower behind n
 
   abbrev now : List (Activation Value) → Control → List Master → State
-  now all k ms = frames.now marks lower behind tds bodies s all k ms
+  now all k ms = frames.now allowance lower behind tds bodies s all k ms
 
   -- Where the end of a body is next, it is one that was called: what called it goes on.
   abbrev IsInner : Frame Value → Control → List Master → Type 0
-  IsInner (Returns actuals references) k ms = FrugalLeads marks behind k ms
+  IsInner (Returns actuals references) k ms = FrugalLeads allowance behind k ms
   IsInner f k ms = Unit {0}
 
   -- Without the newest operand, or the two newest ones.
   abbrev without : List (Activation Value) → List (Activation Value)
-  without all = frames.without marks lower behind tds bodies s all
+  without all = frames.without allowance lower behind tds bodies s all
 
   abbrev twice_without : List (Activation Value) → List (Activation Value)
   twice_without all = without (without all)
 
   -- What is left of the body goes on.
-  frame_on : (f : Frame Value) (k : Control) (ms : List Master) → OwnVariables ms → (all : List (Activation Value)) → IsInner f k ms → is_treatment f ≡ false → FrameIsFreely marks tds f k s.heap (places_of all) (operands_of all) → (marks.ends_parts ≡ true → Unborn s.heap (f ∷ k)) → FrugalLeads marks behind (f ∷ k) ms → Fine (frame_next named tds bodies f (now all k ms))
-  frame_on (Elaborates ds fs hs) k ms own all inner plain freely unborn q = frames.declarations_on marks lower behind tds bodies s ms own ds fs hs all k q
-  frame_on (Does no_stmts) k ms own all inner plain freely unborn (frugal, q) = frames.on marks lower behind tds bodies s ms own _ refl q
+  frame_on : (f : Frame Value) (k : Control) (ms : List Master) → OwnVariables ms → (all : List (Activation Value)) → IsInner f k ms → is_treatment f ≡ false → FrameIsFreely allowance tds f k s.heap (places_of all) (operands_of all) → (allowance.ends_parts ≡ true → Unborn s.heap (f ∷ k)) → FrugalLeads allowance behind (f ∷ k) ms → Fine (frame_next named tds bodies f (now all k ms))
+  frame_on (Elaborates ds fs hs) k ms own all inner plain freely unborn q = frames.declarations_on allowance lower behind tds bodies s ms own ds fs hs all k q
+  frame_on (Does no_stmts) k ms own all inner plain freely unborn (frugal, q) = frames.on allowance lower behind tds bodies s ms own _ refl q
   frame_on (Does (a_stmt f fs)) k ms own all inner plain freely unborn (frugal, q) =
       let both = apart _ _ frugal in
-      frames.stmt_on marks lower behind tds bodies s ms own f finds_frugal records_bare both.0 all (Does fs ∷ k) freely (both.1, q)
+      frames.stmt_on allowance lower behind tds bodies s ms own f finds_frugal records_bare both.0 all (Does fs ∷ k) freely (both.1, q)
   frame_on (Decides fs branches) k ms own all inner plain freely unborn (frugal, q) =
-      frames.decided_on marks lower behind tds bodies s ms own fs branches (named.reads_boolean (first_or Null (operands_of all))) frugal (without all) k q
-  frame_on (Repeats condition fs) k ms own all inner plain freely unborn (frugal, q) = frames.repeats_on marks lower behind tds bodies s ms own condition fs frugal all k q
+      frames.decided_on allowance lower behind tds bodies s ms own fs branches (named.reads_boolean (first_or Null (operands_of all))) frugal (without all) k q
+  frame_on (Repeats condition fs) k ms own all inner plain freely unborn (frugal, q) = frames.repeats_on allowance lower behind tds bodies s ms own condition fs frugal all k q
   frame_on (Turns e fs) k ms own all inner plain freely unborn (frugal, q) =
-      frames.turned_on marks lower behind tds bodies s ms own e fs (named.reads_boolean (first_or Null (operands_of all))) frugal (without all) k q
+      frames.turned_on allowance lower behind tds bodies s ms own e fs (named.reads_boolean (first_or Null (operands_of all))) frugal (without all) k q
   frame_on (Ranges x fs) k ms own all inner plain freely unborn (frugal, q) =
-      frames.ranges_on marks lower behind tds bodies s ms own x fs (named.reads_integer (first_or Null (operands_of (without all)))) (named.reads_integer (first_or Null (operands_of all))) frugal
+      frames.ranges_on allowance lower behind tds bodies s ms own x fs (named.reads_integer (first_or Null (operands_of (without all)))) (named.reads_integer (first_or Null (operands_of all))) frugal
       (twice_without all) k q
-  frame_on (Counts x value last fs) k ms own all inner plain freely unborn (frugal, q) = frames.counts_on marks lower behind tds bodies s ms own x value last fs frugal all k q
+  frame_on (Counts x value last fs) k ms own all inner plain freely unborn (frugal, q) = frames.counts_on allowance lower behind tds bodies s ms own x value last fs frugal all k q
   frame_on Exits k ms own all inner plain freely unborn (frugal, q) =
-      frames.exited_on marks lower behind tds bodies s ms own (named.reads_boolean (first_or Null (operands_of all))) (without all) k q
-  frame_on (Handles hs) k ms own all inner plain freely unborn (frugal, q) = frames.on marks lower behind tds bodies s ms own _ refl q
+      frames.exited_on allowance lower behind tds bodies s ms own (named.reads_boolean (first_or Null (operands_of all))) (without all) k q
+  frame_on (Handles hs) k ms own all inner plain freely unborn (frugal, q) = frames.on allowance lower behind tds bodies s ms own _ refl q
   frame_on Closes k [] own all inner plain freely unborn q = absurd q
-  frame_on Closes k (m ∷ ms) own all inner plain freely unborn q = frames.leaves_first marks lower behind tds bodies s (m ∷ ms) own Running k _ refl refl refl q.1
+  frame_on Closes k (m ∷ ms) own all inner plain freely unborn q = frames.leaves_first allowance lower behind tds bodies s (m ∷ ms) own Running k _ refl refl refl q.1
   frame_on (Calls number b actuals) k ms own all inner plain freely unborn (frugal, q) =
-      frames.begun_on marks lower behind tds bodies s ms own number b actuals (newest_ones named (operand_count actuals) (now all k ms)) frugal all k q
-  frame_on (Returns actuals references) k ms own all inner plain freely unborn q = frames.returned_on marks lower behind tds bodies s ms own actuals references all k inner
-  frame_on (Refers path) k ms own all inner plain freely unborn (frugal, q) = frames.record_on marks lower behind tds bodies s ms own path all k q
+      frames.begun_on allowance lower behind tds bodies s ms own number b actuals (newest_ones named (operand_count actuals) (now all k ms)) frugal all k q
+  frame_on (Returns actuals references) k ms own all inner plain freely unborn q = frames.returned_on allowance lower behind tds bodies s ms own actuals references all k inner
+  frame_on (Refers path) k ms own all inner plain freely unborn (frugal, q) = frames.record_on allowance lower behind tds bodies s ms own path all k q
   frame_on (RefersIn place t) k ms own all inner plain freely unborn (frugal, q) =
-      frames.refers_on marks lower behind tds bodies s ms own (first_or Null (operands_of all)) place (width_of tds t) (look s.heap (first_or Null (operands_of all))) (without all) k q
-  frame_on (Opens path) k ms own all inner plain freely unborn (frugal, q) = frames.open_on marks lower behind tds bodies s ms own path.selectors path.root all k q
+      frames.refers_on allowance lower behind tds bodies s ms own (first_or Null (operands_of all)) place (width_of tds t) (look s.heap (first_or Null (operands_of all))) (without all) k q
+  frame_on (Opens path) k ms own all inner plain freely unborn (frugal, q) = frames.open_on allowance lower behind tds bodies s ms own path.selectors path.root all k q
   frame_on (OpensIn c) k ms own all inner plain freely unborn (frugal, q) =
-      frames.opens_on marks lower behind tds bodies s ms own (first_or Null (operands_of all)) c (look s.heap (first_or Null (operands_of all))) (without all) k q
-  frame_on (Evaluates right) k ms own all inner plain freely unborn (frugal, q) = frames.right_on marks lower behind tds bodies s ms own right frugal all k q
-  frame_on (Computes e) k ms own all inner plain freely unborn (frugal, q) = frames.expression_on marks lower behind tds bodies s ms own e all k q
+      frames.opens_on allowance lower behind tds bodies s ms own (first_or Null (operands_of all)) c (look s.heap (first_or Null (operands_of all))) (without all) k q
+  frame_on (Evaluates right) k ms own all inner plain freely unborn (frugal, q) = frames.right_on allowance lower behind tds bodies s ms own right frugal all k q
+  frame_on (Computes e) k ms own all inner plain freely unborn (frugal, q) = frames.expression_on allowance lower behind tds bodies s ms own e all k q
   frame_on (Follows cs) k ms own all inner plain freely unborn (frugal, q) =
-      frames.path_on marks lower behind tds bodies s ms own cs (first_or Null (operands_of all)) (without all) k q
+      frames.path_on allowance lower behind tds bodies s ms own cs (first_or Null (operands_of all)) (without all) k q
   frame_on (TestsNull equal) k ms own all inner plain freely unborn (frugal, q) =
-      frames.null_test_on marks lower behind tds bodies s ms own equal (named.reads_null (first_or Null (operands_of all))) (without all) k q
-  frame_on (Continues links) k ms own all inner plain freely unborn (frugal, q) = frames.links_on marks lower behind tds bodies s ms own links all k q
+      frames.null_test_on allowance lower behind tds bodies s ms own equal (named.reads_null (first_or Null (operands_of all))) (without all) k q
+  frame_on (Continues links) k ms own all inner plain freely unborn (frugal, q) = frames.links_on allowance lower behind tds bodies s ms own links all k q
   frame_on (Applies operator) k ms own all inner plain freely unborn (frugal, q) =
-      frames.outcome_on marks lower behind tds bodies s ms own (named.binary operator (first_or Null (operands_of (without all))) (first_or Null (operands_of all))) (twice_without all) k q
+      frames.outcome_on allowance lower behind tds bodies s ms own (named.binary operator (first_or Null (operands_of (without all))) (first_or Null (operands_of all))) (twice_without all) k q
   frame_on (AppliesAlone operator) k ms own all inner plain freely unborn (frugal, q) =
-      frames.outcome_on marks lower behind tds bodies s ms own (named.unary operator (first_or Null (operands_of all))) (without all) k q
-  frame_on (Fills items) k ms own all inner plain freely unborn (frugal, q) = frames.items_on marks lower behind tds bodies s ms own items all k q
+      frames.outcome_on allowance lower behind tds bodies s ms own (named.unary operator (first_or Null (operands_of all))) (without all) k q
+  frame_on (Fills items) k ms own all inner plain freely unborn (frugal, q) = frames.items_on allowance lower behind tds bodies s ms own items all k q
   frame_on (Copies first t) k ms own all inner plain freely unborn (frugal, q) =
-      frames.copies_on marks lower behind tds bodies s ms own (first_or Null (operands_of all)) first (width_of tds t) (look s.heap (first_or Null (operands_of all))) (without all) k q
+      frames.copies_on allowance lower behind tds bodies s ms own (first_or Null (operands_of all)) first (width_of tds t) (look s.heap (first_or Null (operands_of all))) (without all) k q
   frame_on (Creates access count) k ms own all inner plain freely unborn (frugal, q) =
-      frames.new_on marks lower behind tds bodies s ms own access count (words_of tds access) (home_of access (ms ++ lower)) all k
-      (is_newly marks tds access_bare begins_none access s.heap k unborn frugal) q
+      frames.new_on allowance lower behind tds bodies s ms own access count (words_of tds access) (home_of access (ms ++ lower)) all k
+      (is_newly allowance tds access_bare begins_none access s.heap k unborn frugal) q
   frame_on (Stores x) k ms own all inner plain freely unborn (frugal, q) =
-      frames.puts_on marks lower behind tds bodies s ms own x (first_or Null (operands_of all)) (without all) k q
+      frames.puts_on allowance lower behind tds bodies s ms own x (first_or Null (operands_of all)) (without all) k q
   frame_on (Targets c right) k ms own all inner plain freely unborn (frugal, q) =
-      frames.target_on marks lower behind tds bodies s ms own (first_or Null (operands_of all)) c right (look s.heap (first_or Null (operands_of all))) frugal (without all) k q
+      frames.target_on allowance lower behind tds bodies s ms own (first_or Null (operands_of all)) c right (look s.heap (first_or Null (operands_of all))) frugal (without all) k q
   frame_on (StoresIn o c) k ms own all inner plain freely unborn (frugal, q) =
-      frames.store_on marks lower behind tds bodies s ms own o c (first_or Null (operands_of all)) (look s.heap o) (without all) k q
+      frames.store_on allowance lower behind tds bodies s ms own o c (first_or Null (operands_of all)) (look s.heap o) (without all) k q
   frame_on (TargetsRecord first t items) k ms own all inner plain freely unborn (frugal, q) =
-      frames.record_target_on marks lower behind tds bodies s ms own (first_or Null (operands_of all)) first (width_of tds t) items (look s.heap (first_or Null (operands_of all))) (without all) k q
+      frames.record_target_on allowance lower behind tds bodies s ms own (first_or Null (operands_of all)) first (width_of tds t) items (look s.heap (first_or Null (operands_of all))) (without all) k q
   frame_on (StoresRecord o first count) k ms own all inner plain freely unborn (frugal, q) =
-      frames.store_record_on marks lower behind tds bodies s ms own o first count (look s.heap o) all k q
+      frames.store_record_on allowance lower behind tds bodies s ms own o first count (look s.heap o) all k q
   frame_on (Receives c) k ms own all inner plain freely unborn (frugal, q) =
-      frames.receive_on marks lower behind tds bodies s ms own (first_or Null (operands_of all)) c (look s.heap (first_or Null (operands_of all))) (without all) k q
+      frames.receive_on allowance lower behind tds bodies s ms own (first_or Null (operands_of all)) c (look s.heap (first_or Null (operands_of all))) (without all) k q
   frame_on (FreesIn access c) k ms own all inner plain freely unborn (frugal, q) =
-      frames.free_in_on marks lower behind tds bodies s ms own access (first_or Null (operands_of all)) c (look s.heap (first_or Null (operands_of all))) (without all) k freely q
-  frame_on (Declares x) k ms own all inner plain freely unborn q = frames.declares_on marks lower behind tds bodies s ms own x (first_or Null (operands_of all)) (without all) k q
+      frames.free_in_on allowance lower behind tds bodies s ms own access (first_or Null (operands_of all)) c (look s.heap (first_or Null (operands_of all))) (without all) k freely q
+  frame_on (Declares x) k ms own all inner plain freely unborn q = frames.declares_on allowance lower behind tds bodies s ms own x (first_or Null (operands_of all)) (without all) k q
   frame_on Writes k ms own all inner plain freely unborn (frugal, q) =
-      frames.line_on marks lower behind tds bodies s ms own (named.reads_integer (first_or Null (operands_of all))) (without all) k q
-  frame_on (Ends v) k ms own all inner plain freely unborn (frugal, q) = frames.end_on marks lower behind tds bodies s ms own v (look s.heap v) all k q
-  frame_on (GivesBack v cause pool) k ms own all inner plain freely unborn (frugal, q) = frames.back_on marks lower behind tds bodies s ms own v cause pool (lent s.heap v) all k q
-  frame_on (Clears x) k ms own all inner plain freely unborn (frugal, q) = frames.puts_on marks lower behind tds bodies s ms own x Null all k q
-  frame_on (ClearsIn o c) k ms own all inner plain freely unborn (frugal, q) = frames.store_on marks lower behind tds bodies s ms own o c Null (look s.heap o) all k q
+      frames.line_on allowance lower behind tds bodies s ms own (named.reads_integer (first_or Null (operands_of all))) (without all) k q
+  frame_on (Ends v) k ms own all inner plain freely unborn (frugal, q) = frames.end_on allowance lower behind tds bodies s ms own v (look s.heap v) all k q
+  frame_on (GivesBack v cause pool) k ms own all inner plain freely unborn (frugal, q) = frames.back_on allowance lower behind tds bodies s ms own v cause pool (lent s.heap v) all k q
+  frame_on (Clears x) k ms own all inner plain freely unborn (frugal, q) = frames.puts_on allowance lower behind tds bodies s ms own x Null all k q
+  frame_on (ClearsIn o c) k ms own all inner plain freely unborn (frugal, q) = frames.store_on allowance lower behind tds bodies s ms own o c Null (look s.heap o) all k q
   frame_on (Treats v treatment tasks) k ms own all inner plain freely unborn q = absurd (cc plain)
-  frame_on Confines k ms own all inner plain freely unborn q = frames.on marks lower behind tds bodies s ms own _ refl q.1
+  frame_on Confines k ms own all inner plain freely unborn q = frames.on allowance lower behind tds bodies s ms own _ refl q.1
   frame_on f k ms own all inner plain freely unborn q = absurd q.0
 
-  leaving_on : (k : Control) (ms : List Master) → OwnVariables ms → (all : List (Activation Value)) → FrugalLeaves marks behind k ms → Fine (mode_next named tds bodies Running (now all k ms))
+  leaving_on : (k : Control) (ms : List Master) → OwnVariables ms → (all : List (Activation Value)) → FrugalLeaves allowance behind k ms → Fine (mode_next named tds bodies Running (now all k ms))
   leaving_on [] ms own all q = absurd q
-  leaving_on (Leaves left ∷ k) ms own all q = frames.leaves_on marks lower behind tds bodies s ms own left all k q
+  leaving_on (Leaves left ∷ k) ms own all q = frames.leaves_on allowance lower behind tds bodies s ms own left all k q
   leaving_on (f ∷ k) ms own all q = absurd q
 
   -- An object that begins first goes on doing so, where it is not treated next: the body of an operation has ended.
-  beginning_on : (k : Control) (ms : List Master) → OwnVariables ms → (all : List (Activation Value)) → TreatsNothing k → FrugalBegins marks behind s.heap k ms → Fine (mode_next named tds bodies Running (now all k ms))
+  beginning_on : (k : Control) (ms : List Master) → OwnVariables ms → (all : List (Activation Value)) → TreatsNothing k → FrugalBegins allowance behind s.heap k ms → Fine (mode_next named tds bodies Running (now all k ms))
   beginning_on [] ms own all none q = absurd q
   beginning_on (Treats v treatment tasks ∷ k) ms own all none q = absurd (none v treatment tasks k refl)
-  beginning_on (Awaits v by done of part tasks ∷ k) ms own all none q = frames.awaited_on marks lower behind tds bodies s ms own v by done of part tasks (look s.heap v) all k q.0 q.1
+  beginning_on (Awaits v by done of part tasks ∷ k) ms own all none q = frames.awaited_on allowance lower behind tds bodies s ms own v by done of part tasks (look s.heap v) all k q.0 q.1
   beginning_on (f ∷ k) ms own all none q = absurd q
 
   -- A jump passes what is left of the body, or lands there.
   abbrev passing : Mode → List (Activation Value) → Control → List Master → State
   passing m all k ms = record s { mode = m; control = k; activations = all; masters = ms ++ lower }
 
-  handled_on : (e : Exception) (hs : HandlersForm) (found : Option StmtsForm) → handler_of e hs ≡ found → are_thrifty_handlers marks hs ≡ true → (k : Control) (ms : List Master) → OwnVariables ms → (all : List (Activation Value)) → FrugalLeads marks behind k ms → Fine (landed named (handler_landing found) (Raising e) (passing (Raising e) all k ms))
-  handled_on e hs None is frugal k ms own all q = frames.on marks lower behind tds bodies s ms own _ refl q
+  handled_on : (e : Exception) (hs : HandlersForm) (found : Option StmtsForm) → handler_of e hs ≡ found → are_thrifty_handlers allowance hs ≡ true → (k : Control) (ms : List Master) → OwnVariables ms → (all : List (Activation Value)) → FrugalLeads allowance behind k ms → Fine (landed named (handler_landing found) (Raising e) (passing (Raising e) all k ms))
+  handled_on e hs None is frugal k ms own all q = frames.on allowance lower behind tds bodies s ms own _ refl q
   handled_on e hs (Some no_stmts) is frugal k ms own all q = tt
-  handled_on e hs (Some (a_stmt f fs)) is frugal k ms own all q = frames.on marks lower behind tds bodies s ms own _ refl (handler_frugal marks hs e (a_stmt f fs) is frugal, q)
+  handled_on e hs (Some (a_stmt f fs)) is frugal k ms own all q = frames.on allowance lower behind tds bodies s ms own _ refl (handler_frugal allowance hs e (a_stmt f fs) is frugal, q)
 
-  raising_on : (e : Exception) (f : Frame Value) (k : Control) (ms : List Master) → OwnVariables ms → (all : List (Activation Value)) → IsInner f k ms → FrugalLeads marks behind (f ∷ k) ms → Fine (jump_next named (Raising e) (f ∷ k) (passing (Raising e) all (f ∷ k) ms))
+  raising_on : (e : Exception) (f : Frame Value) (k : Control) (ms : List Master) → OwnVariables ms → (all : List (Activation Value)) → IsInner f k ms → FrugalLeads allowance behind (f ∷ k) ms → Fine (jump_next named (Raising e) (f ∷ k) (passing (Raising e) all (f ∷ k) ms))
   raising_on e (Elaborates ds fs hs) k [] own all inner q = absurd q
-  raising_on e (Elaborates ds fs hs) k (m ∷ ms) own all inner q = frames.leaves_first marks lower behind tds bodies s (m ∷ ms) own (Raising e) k _ refl refl refl q.1
+  raising_on e (Elaborates ds fs hs) k (m ∷ ms) own all inner q = frames.leaves_first allowance lower behind tds bodies s (m ∷ ms) own (Raising e) k _ refl refl refl q.1
   raising_on e Closes k [] own all inner q = absurd q
-  raising_on e Closes k (m ∷ ms) own all inner q = frames.leaves_first marks lower behind tds bodies s (m ∷ ms) own (Raising e) k _ refl refl refl q.1
+  raising_on e Closes k (m ∷ ms) own all inner q = frames.leaves_first allowance lower behind tds bodies s (m ∷ ms) own (Raising e) k _ refl refl refl q.1
   raising_on e (Handles hs) k ms own all inner q = handled_on e hs (handler_of e hs) refl q.0 k ms own all q.1
-  raising_on e (Returns actuals references) k ms own all inner q = frames.on marks lower behind tds bodies s ms own _ refl inner
+  raising_on e (Returns actuals references) k ms own all inner q = frames.on allowance lower behind tds bodies s ms own _ refl inner
   raising_on e (Awaits v by done of part tasks) k ms own all inner q = absurd q.0
   raising_on e Confines k ms own all inner q = tt
   raising_on e (Declares x) k [] own all inner q = absurd q
-  raising_on e (Declares x) k (m ∷ ms) own all inner q = frames.on marks lower behind tds bodies s (m ∷ ms) own _ refl q.1
-  raising_on e f k ms own all inner q = frames.on marks lower behind tds bodies s ms own _ refl q.1
+  raising_on e (Declares x) k (m ∷ ms) own all inner q = frames.on allowance lower behind tds bodies s (m ∷ ms) own _ refl q.1
+  raising_on e f k ms own all inner q = frames.on allowance lower behind tds bodies s ms own _ refl q.1
 
-  exiting_on : (f : Frame Value) (k : Control) (ms : List Master) → OwnVariables ms → (all : List (Activation Value)) → IsInner f k ms → FrugalLeads marks behind (f ∷ k) ms → Fine (jump_next named Exiting (f ∷ k) (passing Exiting all (f ∷ k) ms))
+  exiting_on : (f : Frame Value) (k : Control) (ms : List Master) → OwnVariables ms → (all : List (Activation Value)) → IsInner f k ms → FrugalLeads allowance behind (f ∷ k) ms → Fine (jump_next named Exiting (f ∷ k) (passing Exiting all (f ∷ k) ms))
   exiting_on (Elaborates ds fs hs) k [] own all inner q = absurd q
-  exiting_on (Elaborates ds fs hs) k (m ∷ ms) own all inner q = frames.leaves_first marks lower behind tds bodies s (m ∷ ms) own Exiting k _ refl refl refl q.1
+  exiting_on (Elaborates ds fs hs) k (m ∷ ms) own all inner q = frames.leaves_first allowance lower behind tds bodies s (m ∷ ms) own Exiting k _ refl refl refl q.1
   exiting_on Closes k [] own all inner q = absurd q
-  exiting_on Closes k (m ∷ ms) own all inner q = frames.leaves_first marks lower behind tds bodies s (m ∷ ms) own Exiting k _ refl refl refl q.1
-  exiting_on (Returns actuals references) k ms own all inner q = frames.on marks lower behind tds bodies s ms own _ refl inner
+  exiting_on Closes k (m ∷ ms) own all inner q = frames.leaves_first allowance lower behind tds bodies s (m ∷ ms) own Exiting k _ refl refl refl q.1
+  exiting_on (Returns actuals references) k ms own all inner q = frames.on allowance lower behind tds bodies s ms own _ refl inner
   exiting_on (Awaits v by done of part tasks) k ms own all inner q = absurd q.0
   exiting_on Confines k ms own all inner q = tt
   exiting_on (Declares x) k [] own all inner q = absurd q
-  exiting_on (Declares x) k (m ∷ ms) own all inner q = frames.on marks lower behind tds bodies s (m ∷ ms) own _ refl q.1
-  exiting_on f k ms own all inner q = frames.on marks lower behind tds bodies s ms own _ refl q.1
+  exiting_on (Declares x) k (m ∷ ms) own all inner q = frames.on allowance lower behind tds bodies s (m ∷ ms) own _ refl q.1
+  exiting_on f k ms own all inner q = frames.on allowance lower behind tds bodies s ms own _ refl q.1
 
-  returning_on : (f : Frame Value) (k : Control) (ms : List Master) → OwnVariables ms → (all : List (Activation Value)) → IsInner f k ms → FrugalLeads marks behind (f ∷ k) ms → Fine (jump_next named Returning (f ∷ k) (passing Returning all (f ∷ k) ms))
+  returning_on : (f : Frame Value) (k : Control) (ms : List Master) → OwnVariables ms → (all : List (Activation Value)) → IsInner f k ms → FrugalLeads allowance behind (f ∷ k) ms → Fine (jump_next named Returning (f ∷ k) (passing Returning all (f ∷ k) ms))
   returning_on (Elaborates ds fs hs) k [] own all inner q = absurd q
-  returning_on (Elaborates ds fs hs) k (m ∷ ms) own all inner q = frames.leaves_first marks lower behind tds bodies s (m ∷ ms) own Returning k _ refl refl refl q.1
+  returning_on (Elaborates ds fs hs) k (m ∷ ms) own all inner q = frames.leaves_first allowance lower behind tds bodies s (m ∷ ms) own Returning k _ refl refl refl q.1
   returning_on Closes k [] own all inner q = absurd q
-  returning_on Closes k (m ∷ ms) own all inner q = frames.leaves_first marks lower behind tds bodies s (m ∷ ms) own Returning k _ refl refl refl q.1
-  returning_on (Returns actuals references) k ms own all inner q = frames.on marks lower behind tds bodies s ms own _ refl (frames.storing_left marks lower behind tds bodies s ms own references k inner)
+  returning_on Closes k (m ∷ ms) own all inner q = frames.leaves_first allowance lower behind tds bodies s (m ∷ ms) own Returning k _ refl refl refl q.1
+  returning_on (Returns actuals references) k ms own all inner q = frames.on allowance lower behind tds bodies s ms own _ refl (frames.storing_left allowance lower behind tds bodies s ms own references k inner)
   returning_on (Awaits v by done of part tasks) k ms own all inner q = absurd q.0
   returning_on Confines k ms own all inner q = tt
   returning_on (Declares x) k [] own all inner q = absurd q
-  returning_on (Declares x) k (m ∷ ms) own all inner q = frames.on marks lower behind tds bodies s (m ∷ ms) own _ refl q.1
-  returning_on f k ms own all inner q = frames.on marks lower behind tds bodies s ms own _ refl q.1
+  returning_on (Declares x) k (m ∷ ms) own all inner q = frames.on allowance lower behind tds bodies s (m ∷ ms) own _ refl q.1
+  returning_on f k ms own all inner q = frames.on allowance lower behind tds bodies s ms own _ refl q.1
 
   -- Whatever the mode is.
-  is_inner : (f : Frame Value) (k : Control) (ms : List Master) → ((actuals : List ActualForm) (references : List Value) (j : Control) → f ∷ k ≡ Returns actuals references ∷ j → FrugalLeads marks behind j ms) → IsInner f k ms
+  is_inner : (f : Frame Value) (k : Control) (ms : List Master) → ((actuals : List ActualForm) (references : List Value) (j : Control) → f ∷ k ≡ Returns actuals references ∷ j → FrugalLeads allowance behind j ms) → IsInner f k ms
   is_inner (Returns actuals references) k ms inner = inner actuals references k refl
   is_inner f k ms inner = tt
 
@@ -228,7 +228,7 @@ module _ (marks : Marks) (lower : List Master) (behind : Control) (tds : List Ty
   is_plain (Treats v treatment tasks) k none = absurd (none v treatment tasks k refl)
   is_plain f k none = refl
 
-  mode_on : (mode : Mode) (k : Control) (ms : List Master) → OwnVariables ms → (all : List (Activation Value)) → ((actuals : List ActualForm) (references : List Value) (j : Control) → k ≡ Returns actuals references ∷ j → FrugalLeads marks behind j ms) → (mode ≡ Running → TreatsNothing k) → (mode ≡ Running → NextIsFreely marks tds k s.heap (places_of all) (operands_of all)) → (marks.ends_parts ≡ true → Unborn s.heap k) → Frugal marks behind s.heap mode k ms → Fine (mode_next named tds bodies mode (passing mode all k ms))
+  mode_on : (mode : Mode) (k : Control) (ms : List Master) → OwnVariables ms → (all : List (Activation Value)) → ((actuals : List ActualForm) (references : List Value) (j : Control) → k ≡ Returns actuals references ∷ j → FrugalLeads allowance behind j ms) → (mode ≡ Running → TreatsNothing k) → (mode ≡ Running → NextIsFreely allowance tds k s.heap (places_of all) (operands_of all)) → (allowance.ends_parts ≡ true → Unborn s.heap k) → Frugal allowance behind s.heap mode k ms → Fine (mode_next named tds bodies mode (passing mode all k ms))
   mode_on mode k ms own all inner none freely unborn (inr (runs, inl leaving)) = rw runs (leaving_on k ms own all leaving)
   mode_on mode k ms own all inner none freely unborn (inr (runs, inr beginning)) = let nothing = none runs in rw runs (beginning_on k ms own all nothing beginning)
   mode_on mode [] ms own all inner none freely unborn (inl q) = absurd q
@@ -238,36 +238,37 @@ module _ (marks : Marks) (lower : List Master) (behind : Control) (tds : List Ty
   mode_on Returning (f ∷ k) ms own all inner none freely unborn (inl q) = returning_on f k ms own all (is_inner f k ms inner) q
 
 -- Where a body comes to its end next, it is one that was called: what called it goes on in these masters.
-abbrev pub EndsInner : (marks : Marks) (behind : Control) → Control → List Master → Type 0
-EndsInner marks behind k ms = (actuals : List ActualForm) (references : List Value) (j : Control) → k ≡ Returns actuals references ∷ j → FrugalLeads marks behind j ms
+abbrev pub EndsInner : (allowance : Allowance) (behind : Control) → Control → List Master → Type 0
+EndsInner allowance behind k ms = (actuals : List ActualForm) (references : List Value) (j : Control) → k ≡ Returns actuals references ∷ j → FrugalLeads allowance behind j ms
 
--- While a frugal body runs, or one that it calls, and its own end is not next, whatever comes next is in such a body, too, where no object is treated next. Each Free of
--- what runs is by the instance for the access type of what it frees (13.11.2), among some types; and where bodies may free objects with controlled parts, no object of
--- these types that is in its collection has an operation that runs, unless one begins first, and none runs of an object that does not exist.
+-- While a frugal body runs, or one that it calls, and its own end is not next, whatever comes next is in such a body, too, where no object is treated next.
+-- Each Free of what runs is by the instance for the access type of what it frees (13.11.2), among some types; and where bodies may free objects with controlled
+-- parts, no object of these types that is in its collection has an operation that runs, unless one begins first, and none runs of an object that does not
+-- exist.
 pub frugal_steps :
-    (p : ProgramForm) → OwnBody p → (tds : List TypeDefinition) (bodies : List BodyForm) (marks : Marks) → AccessIsBare marks.types tds → BeginsNone marks → RecordIsBare marks.types tds → FindsFrugal marks bodies
-    → (behind : Control) (lower : List Master) (s : State) (f : Frugally marks lower behind s)
-    → EndsInner marks behind s.control f.upper → (s.mode ≡ Running → TreatsNothing s.control) → typed.TypedIn p s
-    → (may : ℕ → Bool) → (s.mode ≡ Running → FreesAmong may s.control) → (marks.ends_parts ≡ true → begins_first s.control ≡ false → ListedAlone may s.heap s.control)
-    → (marks.ends_parts ≡ true → Unborn s.heap s.control)
-    → GoesFrugally marks lower behind (next tds bodies s)
+    (p : ProgramForm) → OwnBody p → (tds : List TypeDefinition) (bodies : List BodyForm) (allowance : Allowance) → AccessIsBare allowance.types tds → BeginsNone allowance → RecordIsBare allowance.types tds → FindsFrugal allowance bodies
+    → (behind : Control) (lower : List Master) (s : State) (f : Frugally allowance lower behind s)
+    → EndsInner allowance behind s.control f.upper → (s.mode ≡ Running → TreatsNothing s.control) → typed.TypedIn p s
+    → (may : ℕ → Bool) → (s.mode ≡ Running → FreesAmong may s.control) → (allowance.ends_parts ≡ true → begins_first s.control ≡ false → ListedAlone may s.heap s.control)
+    → (allowance.ends_parts ≡ true → Unborn s.heap s.control)
+    → GoesFrugally allowance lower behind (next tds bodies s)
 unfolding next
-frugal_steps p whole tds bodies marks bare begins_none records_bare finds_frugal behind lower s f inner none typing may among alone unborn =
-    subst (λ (t : State). GoesFrugally marks lower behind (mode_next named tds bodies s.mode t)) state_is
-    (mode_on marks lower behind tds bodies bare begins_none records_bare finds_frugal s s.mode s.control f.upper f.own s.activations inner none (λ runs. by f.frugal (among runs) (next_own p whole s typing runs)) unborn f.frugal)
+frugal_steps p whole tds bodies allowance bare begins_none records_bare finds_frugal behind lower s f inner none typing may among alone unborn =
+    subst (λ (t : State). GoesFrugally allowance lower behind (mode_next named tds bodies s.mode t)) state_is
+    (mode_on allowance lower behind tds bodies bare begins_none records_bare finds_frugal s s.mode s.control f.upper f.own s.activations inner none (λ runs. by f.frugal (among runs) (next_own p whole s typing runs)) unborn f.frugal)
   where
-    by : Frugal marks behind s.heap s.mode s.control f.upper → FreesAmong may s.control → NextFreesOwn s.control s.heap (places_of s.activations) (operands_of s.activations) → NextIsFreely marks tds s.control s.heap (places_of s.activations) (operands_of s.activations)
+    by : Frugal allowance behind s.heap s.mode s.control f.upper → FreesAmong may s.control → NextFreesOwn s.control s.heap (places_of s.activations) (operands_of s.activations) → NextIsFreely allowance tds s.control s.heap (places_of s.activations) (operands_of s.activations)
     by (inl q) freely own =
-        next_freely marks tds bare may behind s.heap (places_of s.activations) (operands_of s.activations) s.control f.upper (λ ends_parts. alone ends_parts (leads_first marks behind s.control f.upper q)) q freely own
+        next_freely allowance tds bare may behind s.heap (places_of s.activations) (operands_of s.activations) s.control f.upper (λ ends_parts. alone ends_parts (leads_first allowance behind s.control f.upper q)) q freely own
     by (inr (runs, inl leaving)) freely own = leaving_freely s.control f.upper leaving
       where
-        leaving_freely : (k : Control) (ms : List Master) → FrugalLeaves marks behind k ms → NextIsFreely marks tds k s.heap (places_of s.activations) (operands_of s.activations)
+        leaving_freely : (k : Control) (ms : List Master) → FrugalLeaves allowance behind k ms → NextIsFreely allowance tds k s.heap (places_of s.activations) (operands_of s.activations)
         leaving_freely [] ms leaves = tt
         leaving_freely (Leaves left ∷ k) ms leaves = tt
         leaving_freely (g ∷ k) ms leaves = absurd leaves
     by (inr (runs, inr beginning)) freely own = beginning_freely s.control f.upper beginning
       where
-        beginning_freely : (k : Control) (ms : List Master) → FrugalBegins marks behind s.heap k ms → NextIsFreely marks tds k s.heap (places_of s.activations) (operands_of s.activations)
+        beginning_freely : (k : Control) (ms : List Master) → FrugalBegins allowance behind s.heap k ms → NextIsFreely allowance tds k s.heap (places_of s.activations) (operands_of s.activations)
         beginning_freely [] ms q = tt
         beginning_freely (Treats v treatment tasks ∷ k) ms q = tt
         beginning_freely (Awaits v how done of part tasks ∷ k) ms q = tt
@@ -280,27 +281,27 @@ frugal_steps p whole tds bodies marks bare begins_none records_bare finds_frugal
 -- The body, or what it calls, runs on, unless its own end is next, or an object is treated, in a run of a well-formed program.
 pub frugal_goes :
     (program : Program) → FreesItsOwn (program_form program)
-    → (lower : List Master) (behind : Control) (s : State) (f : Frugally (marks_of (program_form program)) lower behind s)
-    → EndsInner (marks_of (program_form program)) behind s.control f.upper → (s.mode ≡ Running → TreatsNothing s.control)
+    → (lower : List Master) (behind : Control) (s : State) (f : Frugally (allowance_of (program_form program)) lower behind s)
+    → EndsInner (allowance_of (program_form program)) behind s.control f.upper → (s.mode ≡ Running → TreatsNothing s.control)
     → typed.TypedIn (seen_in (running_procedure s) (program_form program)) s
     → (may : ℕ → Bool) → (s.mode ≡ Running → FreesAmong may s.control) → (begins_first s.control ≡ false → ListedAlone may s.heap s.control)
     → Unborn s.heap s.control
-    → GoesFrugally (marks_of (program_form program)) lower behind (next program.types.items (body_forms program) s)
+    → GoesFrugally (allowance_of (program_form program)) lower behind (next program.types.items (body_forms program) s)
 frugal_goes program whole lower behind s f inner none typing may among alone unborn =
     let p = program_form program in
     let procedure = running_procedure s in
-    frugal_steps (seen_in procedure p) (own_bodies p whole procedure) program.types.items (body_forms program) (marks_of p) (bare_by program) (λ never. absurd (cc never)) (records_bare_by program)
+    frugal_steps (seen_in procedure p) (own_bodies p whole procedure) program.types.items (body_forms program) (allowance_of p) (bare_by program) (λ never. absurd (cc never)) (records_bare_by program)
     (λ number b there told. body_thrifty p b (frugal_at p number b told there)) behind lower s f inner none typing may among (λ ends_parts. alone) (λ ends_parts. unborn)
 
 -- An object is treated next that such a body frees (7.6.1), or allocates (4.8): the body of an operation begins, or what is left to do is so behind that.
-module _ (marks : Marks) (lower : List Master) (back : Control) (tds : List TypeDefinition) (bodies : List BodyForm) (s : State) where
+module _ (allowance : Allowance) (lower : List Master) (back : Control) (tds : List TypeDefinition) (bodies : List BodyForm) (s : State) where
   abbrev pub GoesOrBegins : State → Type 0
-  GoesOrBegins after = Frugally marks lower back after ⊎ (length after.activations ≡ suc (length s.activations))
+  GoesOrBegins after = Frugally allowance lower back after ⊎ (length after.activations ≡ suc (length s.activations))
 
   abbrev pub GoesTreating : Next → Type 0
   GoesTreating n = Each GoesOrBegins n
 
-  module _ (v : Value) (k : Control) (f : Frugally marks lower back s) (leads : FrugalLeads marks back k f.upper) where
+  module _ (v : Value) (k : Control) (f : Frugally allowance lower back s) (leads : FrugalLeads allowance back k f.upper) where
     abbrev left_with : List Object → Control → State
     left_with heap c = record s { heap = heap; control = c }
 
@@ -309,20 +310,20 @@ module _ (marks : Marks) (lower : List Master) (back : Control) (tds : List Type
     called_on heap behind procedure (Some b) reference event = inr refl
 
     -- It is freed.
-    module _ (treatment : Treatment) (ending : EndsFreed marks v treatment k) where
+    module _ (treatment : Treatment) (ending : EndsFreed allowance v treatment k) where
       goes_on : (heap : List Object) (tasks : List Task) → GoesOrBegins (left_with heap (treating v treatment tasks k))
       goes_on heap tasks = inl (record {
         upper = f.upper;
         masters = f.masters;
         own = f.own;
-        frugal = inl (treating_leads marks back v treatment tasks k f.upper ending leads);
+        frugal = inl (treating_leads allowance back v treatment tasks k f.upper ending leads);
       })
 
       ended_on : (heap : List Object) (tasks : List Task) (part : ℕ) (state : PartState) (operation : Option ℕ) (event : Event Value) → GoesTreating (ended_next named bodies v part state (treating v treatment tasks k) operation event (left_with heap k))
       ended_on heap tasks part state None event = goes_on heap tasks
       ended_on heap tasks part state (Some procedure) event = called_on heap (Confines ∷ treating v treatment tasks k) procedure (slice_get bodies procedure) _ event
 
-    finalized_on : (cause : Cause) → EndsFreed marks v (ends cause) k → (of part : ℕ) (tasks : List Task) (operation : Option ℕ) (found : Option PartState) → GoesTreating (finalized_next named bodies v cause of part tasks operation found (record s { control = k }))
+    finalized_on : (cause : Cause) → EndsFreed allowance v (ends cause) k → (of part : ℕ) (tasks : List Task) (operation : Option ℕ) (found : Option PartState) → GoesTreating (finalized_next named bodies v cause of part tasks operation found (record s { control = k }))
     finalized_on cause ending of part tasks operation None = tt
     finalized_on cause ending of part tasks operation (Some state) = by state.alive
       where
@@ -330,14 +331,14 @@ module _ (marks : Marks) (lower : List Master) (back : Control) (tds : List Type
         by true = ended_on (ends cause) ending (finalize s.heap v part) tasks part state operation _
         by false = tt
 
-    performed_on : (treatment : Treatment) → EndsFreed marks v treatment k → (of part : ℕ) (tasks : List Task) (found : Found (Cell Value)) → GoesTreating (performed_next named tds bodies v treatment of part tasks found (record s { control = k }))
+    performed_on : (treatment : Treatment) → EndsFreed allowance v treatment k → (of part : ℕ) (tasks : List Task) (found : Found (Cell Value)) → GoesTreating (performed_next named tds bodies v treatment of part tasks found (record s { control = k }))
     performed_on treatment ending of part tasks on_null = tt
     performed_on treatment ending of part tasks on_gone = tt
     performed_on treatment ending of part tasks on_other = tt
     performed_on (begins by done) ending of part tasks (finds cell) = absurd ending.0
     performed_on (ends cause) ending of part tasks (finds cell) = finalized_on cause ending of part tasks (procedure_number (operations_of tds of).finalize) (slice_get cell.parts part)
 
-    treats_on : (treatment : Treatment) → EndsFreed marks v treatment k → (tasks : List Task) (n : NextTask) → GoesTreating (treats_next named tds bodies v treatment tasks n (record s { control = k }))
+    treats_on : (treatment : Treatment) → EndsFreed allowance v treatment k → (tasks : List Task) (n : NextTask) → GoesTreating (treats_next named tds bodies v treatment tasks n (record s { control = k }))
     treats_on treatment ending tasks Done = goes_on treatment ending s.heap []
     treats_on treatment ending tasks (Pick count) = by (count == 0)
       where
@@ -347,13 +348,13 @@ module _ (marks : Marks) (lower : List Master) (back : Control) (tds : List Type
     treats_on treatment ending tasks (Perform of part) = performed_on treatment ending of part (performed tasks) (look s.heap v)
 
     -- It is new.
-    module _ (by : Birth) (runs : s.mode ≡ Running) (quiet : BeginsQuietly marks s.heap v by k) where
+    module _ (by : Birth) (runs : s.mode ≡ Running) (quiet : BeginsQuietly allowance s.heap v by k) where
       goes_begun : (done : List Part) (tasks : List Task) → GoesOrBegins (left_with s.heap (treating v (begins by done) tasks k))
       goes_begun done tasks = inl (record {
         upper = f.upper;
         masters = f.masters;
         own = f.own;
-        frugal = rw runs (beginning_frugal marks back s.heap v by done tasks k f.upper quiet leads);
+        frugal = rw runs (beginning_frugal allowance back s.heap v by done tasks k f.upper quiet leads);
       })
 
       born_on : (done : List Part) (of part : ℕ) (tasks : List Task) (found : Option PartState) → GoesTreating (born_next named v by done of part tasks found (record s { control = k }))
@@ -363,8 +364,8 @@ module _ (marks : Marks) (lower : List Master) (back : Control) (tds : List Type
         masters = f.masters;
         own = f.own;
         frugal = rw runs (
-            beginning_frugal marks back (bear s.heap v part (counted s.born)) v by (record { of = of; number = part } ∷ done) tasks k f.upper
-            (quietly_kept marks s.heap _ Quiet v by k (alters_treated (born_part (counted s.born)) part s.heap Quiet v) quiet) leads
+            beginning_frugal allowance back (bear s.heap v part (counted s.born)) v by (record { of = of; number = part } ∷ done) tasks k f.upper
+            (quietly_kept allowance s.heap _ Quiet v by k (alters_treated (born_part (counted s.born)) part s.heap Quiet v) quiet) leads
             );
       })
 
@@ -389,21 +390,21 @@ module _ (marks : Marks) (lower : List Master) (back : Control) (tds : List Type
       begins_on done tasks (Perform of part) = starts_on done of part (performed tasks) (look s.heap v)
 
 pub treats_frugally :
-    (marks : Marks) (lower : List Master) (back : Control) (tds : List TypeDefinition) (bodies : List BodyForm) (s : State) → Frugally marks lower back s → s.mode ≡ Running
-    → (v : Value) (treatment : Treatment) (tasks : List Task) (k : Control) → s.control ≡ Treats v treatment tasks ∷ k → GoesTreating marks lower back tds bodies s (next tds bodies s)
+    (allowance : Allowance) (lower : List Master) (back : Control) (tds : List TypeDefinition) (bodies : List BodyForm) (s : State) → Frugally allowance lower back s → s.mode ≡ Running
+    → (v : Value) (treatment : Treatment) (tasks : List Task) (k : Control) → s.control ≡ Treats v treatment tasks ∷ k → GoesTreating allowance lower back tds bodies s (next tds bodies s)
 unfolding next
-treats_frugally marks lower back tds bodies s f runs v treatment tasks k first =
+treats_frugally allowance lower back tds bodies s f runs v treatment tasks k first =
     coming s.mode s.control runs first
   where
-    by_frugal : (treatment' : Treatment) → Frugal marks back s.heap s.mode (Treats v treatment' tasks ∷ k) f.upper
-        → GoesTreating marks lower back tds bodies s (treats_next named tds bodies v treatment' tasks (task_next tasks) (record s { control = k }))
-    by_frugal treatment' (inl q) = treats_on marks lower back tds bodies s v k f q.1 treatment' q.0 tasks (task_next tasks)
+    by_frugal : (treatment' : Treatment) → Frugal allowance back s.heap s.mode (Treats v treatment' tasks ∷ k) f.upper
+        → GoesTreating allowance lower back tds bodies s (treats_next named tds bodies v treatment' tasks (task_next tasks) (record s { control = k }))
+    by_frugal treatment' (inl q) = treats_on allowance lower back tds bodies s v k f q.1 treatment' q.0 tasks (task_next tasks)
     by_frugal treatment' (inr (running, inl leaving)) = absurd leaving
-    by_frugal (begins how done) (inr (running, inr q)) = begins_on marks lower back tds bodies s v k f q.1 how runs q.0 done tasks (task_next tasks)
+    by_frugal (begins how done) (inr (running, inr q)) = begins_on allowance lower back tds bodies s v k f q.1 how runs q.0 done tasks (task_next tasks)
     by_frugal (ends cause) (inr (running, inr q)) = absurd q
 
-    coming : (mode : Mode) (c : Control) → mode ≡ Running → c ≡ Treats v treatment tasks ∷ k → GoesTreating marks lower back tds bodies s (mode_next named tds bodies mode (record s { control = c }))
-    coming mode c running is = rw (running, is) (by_frugal treatment (subst (λ (j : Control). Frugal marks back s.heap s.mode j f.upper) first f.frugal))
+    coming : (mode : Mode) (c : Control) → mode ≡ Running → c ≡ Treats v treatment tasks ∷ k → GoesTreating allowance lower back tds bodies s (mode_next named tds bodies mode (record s { control = c }))
+    coming mode c running is = rw (running, is) (by_frugal treatment (subst (λ (j : Control). Frugal allowance back s.heap s.mode j f.upper) first f.frugal))
 
 -- No operation waits for the end of a call (6.4): typing says so.
 pub called_back : (p : ProgramForm) (s : State) (number : ℕ) (b : BodyForm) (given : List ActualForm) (k : Control) → typed.TypedIn p s → s.mode ≡ Running → s.control ≡ Calls number b given ∷ k → IsAwaited k → ⊥
@@ -431,21 +432,21 @@ called_back p s number b given k (typed.on_jump mode jumps goes) runs is awaited
     nowhere
 
 -- Where bodies free no objects with controlled parts, no object is treated.
-pub treats_none : (marks : Marks) → marks.ends_parts ≡ false → (behind : Control) (heap : List Object) (mode : Mode) (k : Control) (ms : List Master) → Frugal marks behind heap mode k ms → TreatsNothing k
-treats_none marks none behind heap mode k ms (inl q) v treatment tasks j is =
-    let first = none_treated marks none behind (Treats v treatment tasks) j ms (rw is at q) in
+pub treats_none : (allowance : Allowance) → allowance.ends_parts ≡ false → (behind : Control) (heap : List Object) (mode : Mode) (k : Control) (ms : List Master) → Frugal allowance behind heap mode k ms → TreatsNothing k
+treats_none allowance none behind heap mode k ms (inl q) v treatment tasks j is =
+    let first = none_treated allowance none behind (Treats v treatment tasks) j ms (rw is at q) in
     let never : true ≡ false = first.0 in
     absurd (cc never)
-treats_none marks none behind heap mode k ms (inr (runs, inl leaving)) v treatment tasks j is = let never : ⊥ = rw is at leaving in never
-treats_none marks none behind heap mode k ms (inr (runs, inr beginning)) v treatment tasks j is = none_beginning marks none behind heap k ms beginning
+treats_none allowance none behind heap mode k ms (inr (runs, inl leaving)) v treatment tasks j is = let never : ⊥ = rw is at leaving in never
+treats_none allowance none behind heap mode k ms (inr (runs, inr beginning)) v treatment tasks j is = none_beginning allowance none behind heap k ms beginning
 
 -- No operation of a controlled type ends in such a body, either.
-pub none_ends : (marks : Marks) → marks.ends_parts ≡ false → (behind : Control) (heap : List Object) (mode : Mode) (k : Control) (ms : List Master) → Frugal marks behind heap mode k ms → ends_operation k ≡ false
-none_ends marks none behind heap mode [] ms frugal = refl
-none_ends marks none behind heap mode (f ∷ k) ms (inl q) = (none_treated marks none behind f k ms q).1
-none_ends marks none behind heap mode (Leaves left ∷ k) ms (inr (runs, q)) = refl
-none_ends marks none behind heap mode (f ∷ k) ms (inr (runs, inl q)) = absurd q
-none_ends marks none behind heap mode (f ∷ k) ms (inr (runs, inr q)) = absurd (none_beginning marks none behind heap (f ∷ k) ms q)
+pub none_ends : (allowance : Allowance) → allowance.ends_parts ≡ false → (behind : Control) (heap : List Object) (mode : Mode) (k : Control) (ms : List Master) → Frugal allowance behind heap mode k ms → ends_operation k ≡ false
+none_ends allowance none behind heap mode [] ms frugal = refl
+none_ends allowance none behind heap mode (f ∷ k) ms (inl q) = (none_treated allowance none behind f k ms q).1
+none_ends allowance none behind heap mode (Leaves left ∷ k) ms (inr (runs, q)) = refl
+none_ends allowance none behind heap mode (f ∷ k) ms (inr (runs, inl q)) = absurd q
+none_ends allowance none behind heap mode (f ∷ k) ms (inr (runs, inr q)) = absurd (none_beginning allowance none behind heap (f ∷ k) ms q)
 
 -- A call comes next.
 abbrev pub is_call_first : Control → Bool
@@ -460,18 +461,18 @@ calls_nothing (Returns actuals references) k inner none plain = absurd (cc inner
 calls_nothing (Treats v treatment tasks) k inner none plain = absurd (cc plain)
 calls_nothing f k inner none plain = refl
 
-leaving_crosses : (marks : Marks) (behind : Control) (k : Control) (ms : List Master) → FrugalLeaves marks behind k ms → crosses Running k ≡ false
-leaving_crosses marks behind [] ms leaving = refl
-leaving_crosses marks behind (Leaves left ∷ k) ms leaving = refl
-leaving_crosses marks behind (f ∷ k) ms leaving = absurd leaving
+leaving_crosses : (allowance : Allowance) (behind : Control) (k : Control) (ms : List Master) → FrugalLeaves allowance behind k ms → crosses Running k ≡ false
+leaving_crosses allowance behind [] ms leaving = refl
+leaving_crosses allowance behind (Leaves left ∷ k) ms leaving = refl
+leaving_crosses allowance behind (f ∷ k) ms leaving = absurd leaving
 
--- Where bodies free no objects with controlled parts, and neither the end of a body is next, nor the beginning of one, no body begins, none ends, and no operation is
--- called.
-pub frugal_crosses : (marks : Marks) → marks.ends_parts ≡ false → (behind : Control) (heap : List Object) (mode : Mode) (k : Control) (ms : List Master) → Frugal marks behind heap mode k ms → is_return_first k ≡ false → (mode ≡ Running → is_call_first k ≡ false) → crosses mode k ≡ false
-frugal_crosses marks ends_none behind heap mode k ms (inr (runs, inl leaving)) inner none = rw runs (leaving_crosses marks behind k ms leaving)
-frugal_crosses marks ends_none behind heap mode k ms (inr (runs, inr beginning)) inner none = absurd (none_beginning marks ends_none behind heap k ms beginning)
-frugal_crosses marks ends_none behind heap mode [] ms (inl q) inner none = absurd q
-frugal_crosses marks ends_none behind heap Running (f ∷ k) ms (inl q) inner none = calls_nothing f k inner (none refl) (none_treated marks ends_none behind f k ms q).0
-frugal_crosses marks ends_none behind heap (Raising e) (f ∷ k) ms (inl q) inner none = inner
-frugal_crosses marks ends_none behind heap Exiting (f ∷ k) ms (inl q) inner none = inner
-frugal_crosses marks ends_none behind heap Returning (f ∷ k) ms (inl q) inner none = inner
+-- Where bodies free no objects with controlled parts, and neither the end of a body is next, nor the beginning of one, no body begins, none ends, and no
+-- operation is called.
+pub frugal_crosses : (allowance : Allowance) → allowance.ends_parts ≡ false → (behind : Control) (heap : List Object) (mode : Mode) (k : Control) (ms : List Master) → Frugal allowance behind heap mode k ms → is_return_first k ≡ false → (mode ≡ Running → is_call_first k ≡ false) → crosses mode k ≡ false
+frugal_crosses allowance ends_none behind heap mode k ms (inr (runs, inl leaving)) inner none = rw runs (leaving_crosses allowance behind k ms leaving)
+frugal_crosses allowance ends_none behind heap mode k ms (inr (runs, inr beginning)) inner none = absurd (none_beginning allowance ends_none behind heap k ms beginning)
+frugal_crosses allowance ends_none behind heap mode [] ms (inl q) inner none = absurd q
+frugal_crosses allowance ends_none behind heap Running (f ∷ k) ms (inl q) inner none = calls_nothing f k inner (none refl) (none_treated allowance ends_none behind f k ms q).0
+frugal_crosses allowance ends_none behind heap (Raising e) (f ∷ k) ms (inl q) inner none = inner
+frugal_crosses allowance ends_none behind heap Exiting (f ∷ k) ms (inl q) inner none = inner
+frugal_crosses allowance ends_none behind heap Returning (f ∷ k) ms (inl q) inner none = inner

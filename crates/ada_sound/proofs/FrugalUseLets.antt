@@ -100,8 +100,8 @@ start_none : (p : ProgramForm) (begun : List Bool) → StartSilently p begun →
 start_none p begun silently among access is =
     none_among (λ e. creation_does (does_by p (Raises e)) (record_at p.types access)) among (exceptions_of p) (λ e. silently e access is)
 
--- A frugal body raises nothing by what it calls implicitly (4.8, 5.2, 7.6): what it allocates begins quietly, what it assigns has no controlled parts, and where it frees
--- an object with some, no exception comes out of a Finalize (13.11.2). So what is known of implicit calls changes nothing of what it raises.
+-- A frugal body raises nothing by what it calls implicitly (4.8, 5.2, 7.6): what it allocates begins quietly, what it assigns has no controlled parts, and
+-- where it frees an object with some, no exception comes out of a Finalize (13.11.2). So what is known of implicit calls changes nothing of what it raises.
 module _ (p : ProgramForm) (types_fit : list_all (type_fits p.types) p.types ≡ true) where
   module _ (implicit : Implicit) (begun : List Bool) (quietly : StartNone p.types begun implicit) where
     starts_same : (among : Exception → Bool) (right : RightForm) → allocates_quietly p.types begun right ≡ true → right_starts implicit among right ≡ right_starts no_implicit among right
@@ -124,8 +124,8 @@ module _ (p : ProgramForm) (types_fit : list_all (type_fits p.types) p.types ≡
     declarations_same among (d ∷ ds) is = let both = apart _ _ is in rw (declaration_same among d both.0, declarations_same among ds both.1) refl
 
     -- The procedures that it may call are known to raise the same, as far as they are frugal: then it raises the same.
-    module _ (marks : List Bool) (first second : List Effect) (callable : List Profile)
-        (called : (procedure : ℕ) (profile : Profile) → slice_get callable procedure ≡ Some profile → slice_index_or marks procedure false ≡ true → (among : Exception → Bool)
+    module _ (allowance : List Bool) (first second : List Effect) (callable : List Profile)
+        (called : (procedure : ℕ) (profile : Profile) → slice_get callable procedure ≡ Some profile → slice_index_or allowance procedure false ≡ true → (among : Exception → Bool)
         → call_raises (slice_get first procedure) among ≡ call_raises (slice_get second procedure) among) where
       abbrev before : Effects
       before = known_of implicit first
@@ -134,11 +134,11 @@ module _ (p : ProgramForm) (types_fit : list_all (type_fits p.types) p.types ≡
       after = known_of no_implicit second
 
       abbrev thrift : Thrift
-      thrift = record { types = p.types; begun = begun; procedures = marks }
+      thrift = record { types = p.types; begun = begun; procedures = allowance }
 
       module _ (variables : List VariableForm) where
         call_same : (among : Exception → Bool) (procedure : ℕ) (actuals : List ActualForm) (o : Option Profile) → slice_get callable procedure ≡ o → suits_profile p.types variables o actuals ≡ true
-            → slice_index_or marks procedure false ≡ true → call_raises (slice_get first procedure) among ≡ call_raises (slice_get second procedure) among
+            → slice_index_or allowance procedure false ≡ true → call_raises (slice_get first procedure) among ≡ call_raises (slice_get second procedure) among
         call_same among procedure actuals None at fits is = absurd (cc fits)
         call_same among procedure actuals (Some profile) at fits is = called procedure profile at is among
 
@@ -215,42 +215,42 @@ module _ (p : ProgramForm) (types_fit : list_all (type_fits p.types) p.types ≡
 -- Of procedures it is known whether they are frugal, and what they raise by either knowledge: of a frugal one the same.
 abbrev Agree : List Bool → List Effect → List Effect → Type 0
 Agree [] [] [] = Unit {0}
-Agree (x ∷ marks) (a ∷ first) (b ∷ second) = (x ≡ true → (among : Exception → Bool) → a.raises among ≡ b.raises among) × Agree marks first second
-Agree marks first second = ⊥
+Agree (x ∷ allowance) (a ∷ first) (b ∷ second) = (x ≡ true → (among : Exception → Bool) → a.raises among ≡ b.raises among) × Agree allowance first second
+Agree allowance first second = ⊥
 
-agree_at : (marks : List Bool) (first second : List Effect) → Agree marks first second → (i : ℕ) → slice_index_or marks i false ≡ true → (among : Exception → Bool)
+agree_at : (allowance : List Bool) (first second : List Effect) → Agree allowance first second → (i : ℕ) → slice_index_or allowance i false ≡ true → (among : Exception → Bool)
     → call_raises (slice_get first i) among ≡ call_raises (slice_get second i) among
 agree_at [] [] [] agree i is among = refl
 agree_at [] [] (b ∷ second) agree i is among = absurd agree
 agree_at [] (a ∷ first) second agree i is among = absurd agree
-agree_at (x ∷ marks) [] second agree i is among = absurd agree
-agree_at (x ∷ marks) (a ∷ first) [] agree i is among = absurd agree
-agree_at (x ∷ marks) (a ∷ first) (b ∷ second) agree zero is among = agree.0 is among
-agree_at (x ∷ marks) (a ∷ first) (b ∷ second) agree (suc i) is among = agree_at marks first second agree.1 i is among
+agree_at (x ∷ allowance) [] second agree i is among = absurd agree
+agree_at (x ∷ allowance) (a ∷ first) [] agree i is among = absurd agree
+agree_at (x ∷ allowance) (a ∷ first) (b ∷ second) agree zero is among = agree.0 is among
+agree_at (x ∷ allowance) (a ∷ first) (b ∷ second) agree (suc i) is among = agree_at allowance first second agree.1 i is among
 
-agree_more : (marks : List Bool) (first second : List Effect) → Agree marks first second → (x : Bool) (a b : Effect) → (x ≡ true → (among : Exception → Bool) → a.raises among ≡ b.raises among)
-    → Agree (marks ++ x ∷ []) (first ++ a ∷ []) (second ++ b ∷ [])
+agree_more : (allowance : List Bool) (first second : List Effect) → Agree allowance first second → (x : Bool) (a b : Effect) → (x ≡ true → (among : Exception → Bool) → a.raises among ≡ b.raises among)
+    → Agree (allowance ++ x ∷ []) (first ++ a ∷ []) (second ++ b ∷ [])
 agree_more [] [] [] agree x a b same = (same, tt)
 agree_more [] [] (c ∷ second) agree x a b same = absurd agree
 agree_more [] (c ∷ first) second agree x a b same = absurd agree
-agree_more (y ∷ marks) [] second agree x a b same = absurd agree
-agree_more (y ∷ marks) (c ∷ first) [] agree x a b same = absurd agree
-agree_more (y ∷ marks) (c ∷ first) (d ∷ second) agree x a b same = (agree.0, agree_more marks first second agree.1 x a b same)
+agree_more (y ∷ allowance) [] second agree x a b same = absurd agree
+agree_more (y ∷ allowance) (c ∷ first) [] agree x a b same = absurd agree
+agree_more (y ∷ allowance) (c ∷ first) (d ∷ second) agree x a b same = (agree.0, agree_more allowance first second agree.1 x a b same)
 
 -- So it is with all procedures, each behind those before it.
 module _ (p : ProgramForm) (well : IsWellFormed p) where
   module _ (begun : List Bool) (quietly : StartNone p.types begun (implicit_of p)) where
-    all_agree : (bs : List BodyForm) (callable : List Profile) (marks : List Bool) (first second : List Effect) → bodies_fit p.types p.texts p.exceptions callable bs ≡ true → Agree marks first second
-        → Agree (frugal_from p.types begun marks bs) (effects_from p.types (implicit_of p) first bs) (effects_from p.types no_implicit second bs)
-    all_agree [] callable marks first second fits agree = agree
-    all_agree (b ∷ bs) callable marks first second fits agree =
-        let frugal : Thrift = record { types = p.types; begun = begun; procedures = marks } in
+    all_agree : (bs : List BodyForm) (callable : List Profile) (allowance : List Bool) (first second : List Effect) → bodies_fit p.types p.texts p.exceptions callable bs ≡ true → Agree allowance first second
+        → Agree (frugal_from p.types begun allowance bs) (effects_from p.types (implicit_of p) first bs) (effects_from p.types no_implicit second bs)
+    all_agree [] callable allowance first second fits agree = agree
+    all_agree (b ∷ bs) callable allowance first second fits agree =
+        let frugal : Thrift = record { types = p.types; begun = begun; procedures = allowance } in
         let two = apart (body_fits p.types p.texts p.exceptions callable b) (bodies_fit p.types p.texts p.exceptions (callable ++ profile_of b ∷ []) bs) fits in
         let one = effect_of p.types (known_of (implicit_of p) first) b in
         let other = effect_of p.types (known_of no_implicit second) b in
-        all_agree bs (callable ++ profile_of b ∷ []) (marks ++ is_frugal_body frugal b ∷ []) (first ++ one ∷ []) (second ++ other ∷ []) two.1
-        (agree_more marks first second agree (is_frugal_body frugal b) one other
-        (λ is among. body_same p well.types_fit (implicit_of p) begun quietly marks first second callable (λ procedure profile at. agree_at marks first second agree procedure) b is two.0 among))
+        all_agree bs (callable ++ profile_of b ∷ []) (allowance ++ is_frugal_body frugal b ∷ []) (first ++ one ∷ []) (second ++ other ∷ []) two.1
+        (agree_more allowance first second agree (is_frugal_body frugal b) one other
+        (λ is among. body_same p well.types_fit (implicit_of p) begun quietly allowance first second callable (λ procedure profile at. agree_at allowance first second agree procedure) b is two.0 among))
 
   -- What calls of a frugal procedure are known to raise, they are known to raise without what is called implicitly.
   calls_agree : StartSilently p (quietly_begun_types p) → (i : ℕ) → slice_index_or (frugal_procedures p) i false ≡ true → (among : Exception → Bool)
@@ -286,27 +286,27 @@ never : (b : Bool) → b ≡ true → b ≡ false → ⊥
 never true is not_so = cc not_so
 never false is not_so = cc is
 
--- So no exception comes out of a silent one, by what is known of implicit calls, where the procedures that it may call are known to raise the same, as far as they are
--- frugal.
+-- So no exception comes out of a silent one, by what is known of implicit calls, where the procedures that it may call are known to raise the same, as far as
+-- they are frugal.
 pub silent_so :
-    (p : ProgramForm) → IsWellFormed p → (implicit : Implicit) (begun : List Bool) → StartNone p.types begun implicit → (marks : List Bool)
-    → ((i : ℕ) → slice_index_or marks i false ≡ true → (among : Exception → Bool) → call_raises (slice_get (effects_of implicit p).calls i) among ≡ call_raises (slice_get (own_effects p).calls i) among)
-    → (number : ℕ) (b : BodyForm) → slice_get p.bodies number ≡ Some b → is_frugal_body (record { types = p.types; begun = begun; procedures = marks }) b ≡ true
+    (p : ProgramForm) → IsWellFormed p → (implicit : Implicit) (begun : List Bool) → StartNone p.types begun implicit → (allowance : List Bool)
+    → ((i : ℕ) → slice_index_or allowance i false ≡ true → (among : Exception → Bool) → call_raises (slice_get (effects_of implicit p).calls i) among ≡ call_raises (slice_get (own_effects p).calls i) among)
+    → (number : ℕ) (b : BodyForm) → slice_get p.bodies number ≡ Some b → is_frugal_body (record { types = p.types; begun = begun; procedures = allowance }) b ≡ true
     → body_raises (own_effects p) b (λ x. true) ≡ false → (e : Exception)
     → body_raises (known_of implicit (effects_from p.types implicit [] (take number p.bodies))) b (is_same e) ≡ true → ⊥
-silent_so p well implicit begun quietly marks agree number b there frugal silent e raised =
+silent_so p well implicit begun quietly allowance agree number b there frugal silent e raised =
     let callable = [] ++ map profile_of (take number p.bodies) in
     let first = effects_from p.types implicit [] (take number p.bodies) in
     let second = (own_effects p).calls in
     let fits = body_at p.types p.texts p.exceptions [] p.bodies number b well.bodies_fit there in
-    let known : (procedure : ℕ) (profile : Profile) → slice_get callable procedure ≡ Some profile → slice_index_or marks procedure false ≡ true → (some : Exception → Bool)
+    let known : (procedure : ℕ) (profile : Profile) → slice_get callable procedure ≡ Some profile → slice_index_or allowance procedure false ≡ true → (some : Exception → Bool)
     → call_raises (slice_get first procedure) some ≡ call_raises (slice_get second procedure) some =
     λ procedure profile at is some.
     ap (λ (o : Option Effect). call_raises o some)
     (known_before p well implicit number procedure (slice_get (take number p.bodies) procedure) profile refl (sym (slice_get-map profile_of (take number p.bodies) procedure) ∙ at))
     ∙ agree procedure is some in
     let own : body_raises (own_effects p) b (is_same e) ≡ true =
-    sym (body_same p well.types_fit implicit begun quietly marks first second callable known b frugal fits (is_same e)) ∙ raised in
+    sym (body_same p well.types_fit implicit begun quietly allowance first second callable known b frugal fits (is_same e)) ∙ raised in
     never (body_raises (own_effects p) b (λ x. true)) (raises_more (own_effects p) (program_each no_implicit p) b (is_same e) (λ x. true) (λ x is. refl) own) silent
 
 -- What a body may raise, it raises by what is known of the procedures before it.
@@ -357,8 +357,8 @@ starts_let program well access of part number b operable overrides there e among
         created_out p e access r at (or_left (parts_do (does_by p (Raises e)) Initialize (Some r)) (parts_do (does_by p (Raises e)) Finalize (Some r)) h)
         (is_one_of p (Raises e) (callee.Procedure (record { 0 = number })) done)
 
--- What comes out of the body of such an operation may come out of the treatment that calls it: of an Initialize what the creation of the object may raise, and of a
--- Finalize nothing (7.6, 7.6.1).
+-- What comes out of the body of such an operation may come out of the treatment that calls it: of an Initialize what the creation of the object may raise, and
+-- of a Finalize nothing (7.6, 7.6.1).
 pub touches_let : (program : Program) → IsWellFormed (program_form program) → (access of part number : ℕ) (b : BodyForm) → IsOperable (program_form program).types access of part
     → StartSilently (program_form program) (quietly_begun_types (program_form program)) → (treatment : Treatment) → MayTouch treatment → LetsNone (program_form program) treatment b → IsCalled (operations_of program.types.items of) treatment number → slice_get (body_forms program) number ≡ Some b → is_frugal_body (thrift_of (program_form program)) b ≡ true
     → (e : Exception) → body_among (implicit_of (program_form program)) (seen_in (Some number) (program_form program)) e ≡ true → lets_out (implicit_of (program_form program)) access treatment e ≡ true

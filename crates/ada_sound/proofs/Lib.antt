@@ -126,7 +126,7 @@ pub mod Operating
 -- where none does
 pub mod Calm
 -- frugal bodies, and what they may free
-pub mod Marks
+pub mod Allowance
 -- a frugal body of a Finalize runs
 pub mod FrugalBodies
 -- simple bodies of an Adjust

@@ -1,6 +1,6 @@
 -- What waits for operations that touch storage stays as it is known, whatever the bodies in front of it do (7.6, 7.6.1): each object stays the object that it
--- was, and each activation that waits keeps the operands that it had. Where a part of an object has been finalized that ends behind, or has been begun of one that
--- begins, what is watched is another object.
+-- was, and each activation that waits keeps the operands that it had. Where a part of an object has been finalized that ends behind, or has been begun of one
+-- that begins, what is watched is another object.
 
 use Rattle.std.proofs.Common.{◌≡◌, ◌≢◌, ℕ, zero, suc, false, List, [], ◌∷◌, length, drop, refl, sym, ap, ◌∙◌, subst, ◌⊎◌, inl, inr, arith}
 use Rattle.std.proofs.Math.Nat.{add-zero}
@@ -27,7 +27,7 @@ use Rattle.ada_reaching.specs.Reaching.{IsReaching, LeftShuns}
 use Rattle.ada_reaching.proofs.Behind.{ends_other, reaching_kept, waiting_kept}
 use Rattle.ada_tracked.proofs.Lists.{is_apart, is_same}
 use Rattle.ada_sound.proofs.FrugalControl.{frugal_kept}
-use Rattle.ada_sound.proofs.Marks.{Marks, marks_of}
+use Rattle.ada_sound.proofs.Allowance.{Allowance, allowance_of}
 use Rattle.ada_sound.specs.Agreement.{running_procedure}
 use Rattle.ada_sound.proofs.Alters.{Alters}
 use Rattle.ada_sound.proofs.Callers.{Suspension}
@@ -74,9 +74,9 @@ pause_on program depth later s after e f alters same still = record {
   lets = f.lets;
 }
 
-module _ (program : Program) (s : State) (marks : Marks) (back : Control) (lower : List Master) where
+module _ (program : Program) (s : State) (allowance : Allowance) (back : Control) (lower : List Master) where
   -- What is watched in each of these activations that waits for an operation is so still in a state.
-  abbrev pub AllWatched : (after : State) (running : Option ℕ) (depth : ℕ) (outermost : Option ℕ) (others inner : List Suspension) → AreInner program s marks back lower running depth outermost others inner → Type 0
+  abbrev pub AllWatched : (after : State) (running : Option ℕ) (depth : ℕ) (outermost : Option ℕ) (others inner : List Suspension) → AreInner program s allowance back lower running depth outermost others inner → Type 0
   AllWatched after running depth outermost others [] w = Unit {0}
   AllWatched after running depth outermost others (g ∷ inner) (inl call, more) = AllWatched after g.procedure (suc depth) outermost others inner more
   AllWatched after running depth outermost others (g ∷ inner) (inr operation, more) =
@@ -101,9 +101,9 @@ module _ (program : Program) (s : State) (marks : Marks) (back : Control) (lower
 
   -- What they wait for is known behind a step, too.
   pub inner_on :
-      (after : State) (e : Event) (running : Option ℕ) (depth later : ℕ) (outermost : Option ℕ) (others inner : List Suspension) (w : AreInner program s marks back lower running depth outermost others inner)
+      (after : State) (e : Event) (running : Option ℕ) (depth later : ℕ) (outermost : Option ℕ) (others inner : List Suspension) (w : AreInner program s allowance back lower running depth outermost others inner)
       → Alters s.heap e after.heap → SameBehind after depth later
-      → AllWatched after running depth outermost others inner w → AreInner program after marks back lower running later outermost others inner
+      → AllWatched after running depth outermost others inner w → AreInner program after allowance back lower running later outermost others inner
   inner_on after e running depth later outermost others [] w alters same still = w
   inner_on after e running depth later outermost others (g ∷ inner) (inl call, more) alters same still =
       (inl call, inner_on after e g.procedure (suc depth) (suc later) outermost others inner more alters (same_further after depth later same) still)
@@ -190,15 +190,15 @@ module _ (program : Program) (s after : State) (o : Id) (going : GoesOnBehind o 
 
   -- So it is of each of these activations.
   all_on :
-      (marks : Marks) (back : Control) (lower : List Master) (running : Option ℕ) (depth : ℕ) (outermost : Option ℕ) (waiting inner : List Suspension)
-      (w : AreInner program s marks back lower running depth outermost waiting inner)
-      → AllWatched program s marks back lower after running depth outermost waiting inner w
-  all_on marks back lower running depth outermost waiting [] w = tt
-  all_on marks back lower running depth outermost waiting (g ∷ inner) (inl call, more) =
-      all_on marks back lower g.procedure (suc depth) outermost waiting inner more
-  all_on marks back lower running depth outermost waiting (g ∷ inner) (inr operation, more) = (
+      (allowance : Allowance) (back : Control) (lower : List Master) (running : Option ℕ) (depth : ℕ) (outermost : Option ℕ) (waiting inner : List Suspension)
+      (w : AreInner program s allowance back lower running depth outermost waiting inner)
+      → AllWatched program s allowance back lower after running depth outermost waiting inner w
+  all_on allowance back lower running depth outermost waiting [] w = tt
+  all_on allowance back lower running depth outermost waiting (g ∷ inner) (inl call, more) =
+      all_on allowance back lower g.procedure (suc depth) outermost waiting inner more
+  all_on allowance back lower running depth outermost waiting (g ∷ inner) (inr operation, more) = (
     watched_on operation.pause.watch operation.pause.behind operation.pause.still,
-    all_on marks back lower g.procedure (suc depth) outermost waiting inner more,
+    all_on allowance back lower g.procedure (suc depth) outermost waiting inner more,
   )
 
   pub within_kept :
@@ -216,18 +216,18 @@ module _ (program : Program) (s after : State) (o : Id) (going : GoesOnBehind o 
             (watched_on w.outermost.watch w.outermost.behind w.outermost.still);
         are = w.are;
         within =
-            subst (λ (procedure : Option ℕ). AreInner program after (marks_of (program_form program)) w.outermost.behind w.outermost.lower procedure 0 last waiting w.inner)
+            subst (λ (procedure : Option ℕ). AreInner program after (allowance_of (program_form program)) w.outermost.behind w.outermost.lower procedure 0 last waiting w.inner)
             (sym (ap procedure_of active))
-            (inner_on program s (marks_of (program_form program)) w.outermost.behind w.outermost.lower after e (running_procedure s) 0 0 last waiting w.inner w.within alters
+            (inner_on program s (allowance_of (program_form program)) w.outermost.behind w.outermost.lower after e (running_procedure s) 0 0 last waiting w.inner w.within alters
             (λ n. same (0 + n))
-            (all_on (marks_of (program_form program)) w.outermost.behind w.outermost.lower (running_procedure s) 0 last waiting w.inner w.within));
+            (all_on (allowance_of (program_form program)) w.outermost.behind w.outermost.lower (running_procedure s) 0 last waiting w.inner w.within));
         frugal = record {
           upper = w.frugal.upper;
           masters = masters ∙ w.frugal.masters;
           own = w.frugal.own;
           frugal =
               rw (mode, control)
-              (frugal_kept (marks_of (program_form program)) w.outermost.behind s.heap after.heap e s.mode s.control w.frugal.upper alters w.frugal.frugal);
+              (frugal_kept (allowance_of (program_form program)) w.outermost.behind s.heap after.heap e s.mode s.control w.frugal.upper alters w.frugal.frugal);
         };
         untreated = w.untreated;
         calm = w.calm;

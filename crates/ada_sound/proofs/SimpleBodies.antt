@@ -12,7 +12,7 @@ use Rattle.ada_quiet.specs.Simple.{is_plain_item, is_simple_right, are_simple_de
 use Rattle.ada_typed.proofs.OfKinds.{and_both}
 use Rattle.ada_sound.proofs.CalmTypes.{bare_calm}
 use Rattle.ada_sound.proofs.FrugalBodies.{calling_none, lone_nests}
-use Rattle.ada_sound.proofs.Marks.{Marks, is_thrifty_stmt, are_thrifty, are_thrifty_branches, are_thrifty_handlers, is_thrifty_body}
+use Rattle.ada_sound.proofs.Allowance.{Allowance, is_thrifty_stmt, are_thrifty, are_thrifty_branches, are_thrifty_handlers, is_thrifty_body}
 use Rattle.ada_sound.proofs.OperationStarts.{apart}
 
 -- What it allocates is bare, so it begins quietly.
@@ -69,13 +69,13 @@ module _ (frugal : Thrift) where
     frugal_handlers (a_handler choices fs hs) is = let both = apart _ _ is in rw (frugal_stmts fs both.0, frugal_handlers hs both.1) refl
 
 -- So it is where bodies may free objects with controlled parts or not: it frees none.
-module _ (marks : Marks) where
+module _ (allowance : Allowance) where
   mutual
-    thrifty_stmt : (f : StmtForm) → is_simple_stmt marks.types true f ≡ true → is_thrifty_stmt marks f ≡ true
+    thrifty_stmt : (f : StmtForm) → is_simple_stmt allowance.types true f ≡ true → is_thrifty_stmt allowance f ≡ true
     thrifty_stmt skips is = refl
-    thrifty_stmt (assigns target right) is = right_quiet marks.types marks.begun right is
+    thrifty_stmt (assigns target right) is = right_quiet allowance.types allowance.begun right is
     thrifty_stmt (assigns_record target items) is = absurd (cc is)
-    thrifty_stmt (frees access path) is = or_right marks.ends_parts (has_bare_objects marks.types access) is
+    thrifty_stmt (frees access path) is = or_right allowance.ends_parts (has_bare_objects allowance.types access) is
     thrifty_stmt (gets target) is = refl
     thrifty_stmt (writes e) is = refl
     thrifty_stmt (writes_text text) is = refl
@@ -89,17 +89,17 @@ module _ (marks : Marks) where
     thrifty_stmt (encloses ds fs hs) is =
         let two = apart _ _ is in
         let three = apart _ _ two.0 in
-        rw (frugal_declarations marks.types marks.begun ds three.0, thrifty_stmts fs three.1, thrifty_handlers hs two.1) refl
+        rw (frugal_declarations allowance.types allowance.begun ds three.0, thrifty_stmts fs three.1, thrifty_handlers hs two.1) refl
 
-    thrifty_stmts : (fs : StmtsForm) → are_simple marks.types true fs ≡ true → are_thrifty marks fs ≡ true
+    thrifty_stmts : (fs : StmtsForm) → are_simple allowance.types true fs ≡ true → are_thrifty allowance fs ≡ true
     thrifty_stmts no_stmts is = refl
     thrifty_stmts (a_stmt f fs) is = let both = apart _ _ is in rw (thrifty_stmt f both.0, thrifty_stmts fs both.1) refl
 
-    thrifty_branches : (branches : BranchesForm) → are_simple_branches marks.types true branches ≡ true → are_thrifty_branches marks branches ≡ true
+    thrifty_branches : (branches : BranchesForm) → are_simple_branches allowance.types true branches ≡ true → are_thrifty_branches allowance branches ≡ true
     thrifty_branches (otherwise fs) is = thrifty_stmts fs is
     thrifty_branches (a_branch e fs branches) is = let both = apart _ _ is in rw (thrifty_stmts fs both.0, thrifty_branches branches both.1) refl
 
-    thrifty_handlers : (hs : HandlersForm) → are_simple_handlers marks.types true hs ≡ true → are_thrifty_handlers marks hs ≡ true
+    thrifty_handlers : (hs : HandlersForm) → are_simple_handlers allowance.types true hs ≡ true → are_thrifty_handlers allowance hs ≡ true
     thrifty_handlers no_handlers is = refl
     thrifty_handlers (a_handler choices fs hs) is = let both = apart _ _ is in rw (thrifty_stmts fs both.0, thrifty_handlers hs both.1) refl
 
@@ -174,13 +174,13 @@ simple_frugal frugal b is =
     ) refl
 
 -- It is so where bodies free no object with controlled parts.
-pub simple_thrifty : (marks : Marks) (b : BodyForm) → is_simple_body marks.types true b ≡ true → is_thrifty_body marks b ≡ true
-simple_thrifty marks b is =
-    let parts = simple_parts marks.types b is in
+pub simple_thrifty : (allowance : Allowance) (b : BodyForm) → is_simple_body allowance.types true b ≡ true → is_thrifty_body allowance b ≡ true
+simple_thrifty allowance b is =
+    let parts = simple_parts allowance.types b is in
     rw (
-      frugal_declarations marks.types marks.begun b.declarations parts.declarations,
-      thrifty_stmts marks b.statements parts.statements,
-      thrifty_handlers marks b.handlers parts.handlers,
+      frugal_declarations allowance.types allowance.begun b.declarations parts.declarations,
+      thrifty_stmts allowance b.statements parts.statements,
+      thrifty_handlers allowance b.handlers parts.handlers,
     ) refl
 
 -- It creates no collection, so it nests anywhere.

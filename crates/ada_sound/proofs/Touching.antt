@@ -1,6 +1,6 @@
--- The body of an operation runs that touches storage (7.6, 7.6.1, 13.11.2): an Initialize of an object that a declaration or an allocator creates, or a Finalize
--- of one at the leaving of its master, or where a variable or a component is freed that names it, or another record is assigned to it. What holds there, and what
--- is kept of all that waits for it.
+-- The body of an operation runs that touches storage (7.6, 7.6.1, 13.11.2): an Initialize of an object that a declaration or an allocator creates, or a
+-- Finalize of one at the leaving of its master, or where a variable or a component is freed that names it, or another record is assigned to it. What holds
+-- there, and what is kept of all that waits for it.
 
 use Rattle.std.proofs.Common.{◌≡◌, ◌≢◌, ℕ, true, false, List, [], ◌∷◌, ◌++◌, ◌⊎◌, Option, drop, length, suc, take, not, ◌&&◌}
 use Rattle.std.specs.Prelude.{Bool, Some, None, ◌==◌}
@@ -28,7 +28,7 @@ use Rattle.ada_meaning.specs.Heap.{Home}
 use Rattle.ada_meaning.specs.State.{Master}
 use Rattle.ada_meaning.specs.Named.{Object, State, object_at}
 use Rattle.ada_typed.proofs.Kept.{behind_call}
-use Rattle.ada_sound.proofs.Marks.{Marks, marks_of}
+use Rattle.ada_sound.proofs.Allowance.{Allowance, allowance_of}
 use Rattle.ada_sound.proofs.Bodies.{IsBody}
 use Rattle.ada_sound.proofs.Callers.{Suspension, known_in, Stands, callers_of}
 use Rattle.ada_sound.proofs.Fits.{Fit, Outsiders, IsPlace, IsRelied, IsSaid, IsUnreferred, component_access, none_spared, outer_hold, outer_value, place_at, Reference, IsReferred}
@@ -69,8 +69,8 @@ pub record Resting (known : Known) (object : Id) (home : Home) (places : List Va
   pub unreferred : IsUnreferred (outers known) object
   pub untreated : NothingBegins (Names object) rest
 
--- What is behind the initialization of a record object that a declaration creates, whose variable owns it, or it is held: what is left goes on, and where an exception
--- comes out, it does so without the variable.
+-- What is behind the initialization of a record object that a declaration creates, whose variable owns it, or it is held: what is left goes on, and where an
+-- exception comes out, it does so without the variable.
 pub record Starting (known : Known) (held : Bool) (object : Id) (access : ℕ) (places : List Value) (after : Control) (rooms : Rooms) (holds : Holds) : Type 0 where
   pub x : ℕ
   pub owner : (held ≡ true) ⊎ (Owns (hold_at holds x) × (place_at places x ≡ Names object))
@@ -80,15 +80,16 @@ pub record Starting (known : Known) (held : Bool) (object : Id) (access : ℕ) (
   pub nowhere : IsNamedNowhere (outers known) places (slice_set holds x hold.Lost) object
   pub unreferred : IsUnreferred (outers known) object
 
--- The object whose component waits for the name of a new one is among those to which the activation that waits refers, so that it is there still behind the body.
+-- The object whose component waits for the name of a new one is among those to which the activation that waits refers, so that it is there still behind the
+-- body.
 abbrev pub AwaitsAmong : Known → (also : List Reference) → (access : ℕ) → Value → (c : ℕ) → Type 0
 AwaitsAmong known also access Null c = ⊥
 AwaitsAmong known also access (Names o) c = (t : ℕ) × IsReferred also o t × MayAwait known access o c t
 AwaitsAmong known also access (Scalar v) c = ⊥
 AwaitsAmong known also access (Part o first) c = ⊥
 
--- What is behind the initialization of an object that an allocator made: a variable or a component gets its name, and then what is left goes on; where an exception
--- comes out, it does so without the object (4.8, 7.6). The object is held until then.
+-- What is behind the initialization of an object that an allocator made: a variable or a component gets its name, and then what is left goes on; where an
+-- exception comes out, it does so without the object (4.8, 7.6). The object is held until then.
 pub record Naming (known : Known) (held : Bool) (object : Id) (access : ℕ) (places operands : List Value) (also : List Reference) (after : Control) (rooms : Rooms) (holds : Holds) : Type 0 where
   pub is_held : held ≡ true
   pub named : first_or Null operands ≡ Names object
@@ -112,8 +113,8 @@ pub record Undoes (known : Known) (object : Id) (access : ℕ) (home : Home) (pl
   pub unreferred : IsUnreferred (outers known) object
   pub untreated : NothingBegins (Names object) rest
 
--- What is behind the finalization of an object that a variable names which is freed: the end of the object, and then the variable becomes null. It names the object
--- still while a Finalize of that runs, and counts as lost then; once it is null, what is known of it is known again.
+-- What is behind the finalization of an object that a variable names which is freed: the end of the object, and then the variable becomes null. It names the
+-- object still while a Finalize of that runs, and counts as lost then; once it is null, what is known of it is known again.
 pub record Empties (known : Known) (object : Id) (access : ℕ) (home : Home) (places : List Value) (after : Control) (rooms : Rooms) (holds : Holds) : Type 0 where
   pub number : ℕ
   pub x : ℕ
@@ -150,8 +151,8 @@ abbrev pub is_unnamed : List TypeForm → Option Watch → Id → Bool
 is_unnamed types None o = false
 is_unnamed types (Some w) o = not (is_access types w.is.cell.access) && is_watched (Some w) o
 
--- What is behind the finalization of an object that a component names which is freed: the end of the object, and then the component becomes null. It owns the object
--- still while a Finalize of that runs, and lies in the object that is watched.
+-- What is behind the finalization of an object that a component names which is freed: the end of the object, and then the component becomes null. It owns the
+-- object still while a Finalize of that runs, and lies in the object that is watched.
 pub record Releases (known : Known) (watch : Option Watch) (object : Id) (access : ℕ) (home : Home) (places : List Value) (after : Control) (rooms : Rooms) (holds : Holds) : Type 0 where
   pub number : ℕ
   pub c : ℕ
@@ -177,8 +178,8 @@ RestsAtEnd known object access home places after lower rooms holds =
     Resting known object home places after lower rooms holds
     ⊎ (Undoes known object access home places after rooms holds ⊎ Empties known object access home places after rooms holds)
 
--- The components of a record of this type in the object get those of another one, which are Integers and Booleans, or Adjusts see to them, and then what is left
--- goes on (5.2).
+-- The components of a record of this type in the object get those of another one, which are Integers and Booleans, or Adjusts see to them, and then what is
+-- left goes on (5.2).
 abbrev pub StoresInto : Known → (object : Id) → (access record_type : ℕ) → Control → Rooms → Holds → Type 0
 StoresInto known object access t [] rooms holds = ⊥
 StoresInto known object access t (StoresRecord v first count ∷ k) rooms holds =
@@ -203,8 +204,8 @@ pub record Overwrites (known : Known) (object : Id) (access : ℕ) (operands : L
   pub into : StoresInto known object access record_type stores rooms holds
   pub well : AssignsWell known record_type holds
 
--- What is behind the finalization of an object whose collection goes, for whose objects such operations may be called: its end, and then what is left of the master.
--- Components may name it.
+-- What is behind the finalization of an object whose collection goes, for whose objects such operations may be called: its end, and then what is left of the
+-- master. Components may name it.
 pub record Departs (known : Known) (object : Id) (home : Home) (after : Control) (lower : List Master) (rooms : Rooms) (holds : Holds) : Type 0 where
   pub master : ℕ
   pub item : ℕ
@@ -218,8 +219,8 @@ pub record Departs (known : Known) (object : Id) (home : Home) (after : Control)
   pub unreferred : IsUnreferred (outers known) object
   pub untreated : NothingBegins (Names object) rest
 
--- What is behind the finalization of an object that ceases to exist then, by who owns it: it is held; or a component owns it, which is freed; or it goes with its
--- collection, whoever owns it.
+-- What is behind the finalization of an object that ceases to exist then, by who owns it: it is held; or a component owns it, which is freed; or it goes with
+-- its collection, whoever owns it.
 abbrev pub RestsAsOwned : Known → (held : Bool) → (watch : Option Watch) → (object : Id) → (access : ℕ) → Home → (places : List Value) → (after : Control) → (lower : List Master) → Rooms → Holds → Type 0
 RestsAsOwned known held watch object access home places after lower rooms holds =
     ((held ≡ true) × RestsAtEnd known object access home places after lower rooms holds)
@@ -241,8 +242,8 @@ Rests known (begins by done) held watch object access home places operands also 
     (by ≡ Creation) × (((also ≡ []) × Starting known held object access places after rooms holds) ⊎ Naming known held object access places operands also after rooms holds)
 Rests known (ends cause) held watch object access home places operands also after lower rooms holds = RestsBy known cause held watch object access home places operands also after lower rooms holds
 
--- What is known of the activation that waits, whatever the body is called for: the object has controlled parts, or is a declared one; and what each variable holds is as
--- it is said of it.
+-- What is known of the activation that waits, whatever the body is called for: the object has controlled parts, or is a declared one; and what each variable
+-- holds is as it is said of it.
 pub record Paused (known : Known) (object : Id) (access : ℕ) (places : List Value) (after : Control) (lower : List Master) (rooms : Rooms) (holds : Holds) : Type 0 where
   pub parted : has_bare_objects known.program.types access ≡ false
   pub roomed : Roomed (below known) lower rooms
@@ -274,8 +275,8 @@ abbrev pub treated_frees : Implicit → Treatment → (access : ℕ) → (behind
 treated_frees implicit (begins by done) access k t = implicit.start_frees access t
 treated_frees implicit (ends cause) access k t = ended_frees implicit cause access k t
 
--- While a Free ends an object, the one that is watched, if there is one, is there, and is another one; the end of the object reaches none of its type, if that is an
--- access type.
+-- While a Free ends an object, the one that is watched, if there is one, is there, and is another one; the end of the object reaches none of its type, if that
+-- is an access type.
 abbrev pub IsSpared : Known → Treatment → Id → (access : ℕ) → List Object → (watch : Option Watch) → Type 0
 IsSpared known treatment o access heap None = Unit {0}
 IsSpared known (begins by done) o access heap (Some w) = ⊥
@@ -283,8 +284,8 @@ IsSpared known (ends cause) o access heap (Some w) =
     (object_at heap w.holder ≡ Some w.is) × (w.holder ≢ o)
     × (is_access known.program.types w.is.cell.access ≡ true → known.implicit.end_reaches access w.is.cell.access ≡ false)
 
--- What is watched, if something is, is there as it was; and the bodies that run in front of this, of procedures among some that neither follow nor free values of its
--- type, if that is an access type, refer to nothing in it, and the operations of what they free are such procedures.
+-- What is watched, if something is, is there as it was; and the bodies that run in front of this, of procedures among some that neither follow nor free values
+-- of its type, if that is an access type, refer to nothing in it, and the operations of what they free are such procedures.
 abbrev pub Watched : Program → (watch : Option Watch) → (behind : Control) → State → Type 0
 Watched program None behind s = Unit {0}
 Watched program (Some w) behind s =
@@ -293,8 +294,8 @@ Watched program (Some w) behind s =
     × ((apart : Apart) × AreApart p program.types.items (watches p.types (Some w)) apart
     × IsReaching p (watches p.types (Some w)) apart (is_watched (Some w)) (is_unnamed p.types (Some w)) behind s)
 
--- What is known where such a body is called: what waits for it, whether the object is held, which is in hand then, and what it may free, of which there is no alias.
--- That is no other object to which the activation that waits refers.
+-- What is known where such a body is called: what waits for it, whether the object is held, which is in hand then, and what it may free, of which there is no
+-- alias. That is no other object to which the activation that waits refers.
 pub record Enters (known : Known) (treatment : Treatment) (o : Id) (x : Object) (after : Control) (heap : List Object) (places operands : List Value) (masters : List Master) : Type 0 where
   pub rooms : Rooms
   pub holds : Holds
@@ -342,13 +343,14 @@ abbrev pub IsEnding : Treatment → Type 0
 IsEnding (begins by done) = ⊥
 IsEnding (ends cause) = Unit {0}
 
--- What the body of such an operation may free: for an object that is initialized, none of its own access type; for one that is finalized, what its end may free.
+-- What the body of such an operation may free: for an object that is initialized, none of its own access type; for one that is finalized, what its end may
+-- free.
 abbrev pub CoversBy : ProgramForm → Treatment → (access freed : ℕ) → Type 0
 CoversBy p (begins by done) access t = is_access p.types t ≡ true → access ≢ t
 CoversBy p (ends cause) access t = (implicit_of p).end_frees access t ≡ true
 
--- The body of such an operation runs, or one that it has called, or the operation of an object that one of these frees: `depth` activations wait for these since then, and
--- behind them the one that waits for the operation.
+-- The body of such an operation runs, or one that it has called, or the operation of an object that one of these frees: `depth` activations wait for these
+-- since then, and behind them the one that waits for the operation.
 pub record Pause (program : Program) (depth : ℕ) (s : State) : Type 0 where
   pub number : ℕ
   pub is_body : IsBody (program_form program) (Some number)
@@ -393,9 +395,9 @@ abbrev pub IsCall : Suspension → Type 0
 IsCall g = (IsAwaited g.control → ⊥) × (g.under ≡ [])
 
 -- In what the outermost operation has called so far, by what bodies go, what is left to do behind it, and the masters that were entered before it.
-module _ (program : Program) (s : State) (marks : Marks) (back : Control) (lower : List Master) where
-  -- An activation waits, in front of these, for the operation of an object that it frees, whose body is this one (7.6.1, 13.11.2): behind that its own body goes on, in
-  -- masters of its own.
+module _ (program : Program) (s : State) (allowance : Allowance) (back : Control) (lower : List Master) where
+  -- An activation waits, in front of these, for the operation of an object that it frees, whose body is this one (7.6.1, 13.11.2): behind that its own body
+  -- goes on, in masters of its own.
   pub record IsOperation (running : Option ℕ) (depth : ℕ) (others : List Suspension) (g : Suspension) : Type 0 where
     pub pause : Pause program depth s
     pub is : g ≡ origin program depth s pause
@@ -405,21 +407,22 @@ module _ (program : Program) (s : State) (marks : Marks) (back : Control) (lower
     pub upper : List Master
     pub masters : pause.lower ≡ upper ++ lower
     pub own : OwnVariables upper
-    pub leads : FrugalLeads marks back pause.behind upper
+    pub leads : FrugalLeads allowance back pause.behind upper
 
-  -- These activations wait, in front of others, the nearest one first, for calls or for such operations: the first one for the body that runs, and the last one is
-  -- the body of the outermost operation, if none waits, that is the one that runs.
+  -- These activations wait, in front of others, the nearest one first, for calls or for such operations: the first one for the body that runs, and the last one
+  -- is the body of the outermost operation, if none waits, that is the one that runs.
   abbrev pub AreInner : (running : Option ℕ) (depth : ℕ) (outermost : Option ℕ) (others : List Suspension) → List Suspension → Type 0
   AreInner running depth outermost others [] = running ≡ outermost
   AreInner running depth outermost others (g ∷ inner) = (IsCall g ⊎ IsOperation running depth (inner ++ others) g) × AreInner g.procedure (suc depth) outermost others inner
 
--- An operation that touches storage is under way: `inner` are the activations that wait since then, the nearest one first; and behind the outermost operation none runs.
+-- An operation that touches storage is under way: `inner` are the activations that wait since then, the nearest one first; and behind the outermost operation
+-- none runs.
 pub record Within (program : Program) (gs : List Suspension) (s : State) : Type 0 where
   pub inner : List Suspension
   pub outermost : Pause program (length inner) s
   pub are : gs ≡ inner ++ origin program (length inner) s outermost ∷ outermost.suspensions
-  pub within : AreInner program s (marks_of (program_form program)) outermost.behind outermost.lower (running_procedure s) 0 (Some outermost.number) (origin program (length inner) s outermost ∷ outermost.suspensions) inner
-  pub frugal : Frugally (marks_of (program_form program)) outermost.lower outermost.behind s
+  pub within : AreInner program s (allowance_of (program_form program)) outermost.behind outermost.lower (running_procedure s) 0 (Some outermost.number) (origin program (length inner) s outermost ∷ outermost.suspensions) inner
+  pub frugal : Frugally (allowance_of (program_form program)) outermost.lower outermost.behind s
   pub untreated : (v : Value) → v ≢ Names outermost.object → NothingBegins v outermost.after
   pub calm : IsCalm (behind_call outermost.behind)
   pub settled : under_in (callers_of program outermost.suspensions) ≡ []

@@ -13,7 +13,7 @@ use Rattle.ada_meaning.specs.Step.{halts, moves, tells, asks, picks, older, oper
 use Rattle.ada_meaning.specs.Named.{Object, State, Next, next}
 use Rattle.ada_meaning.specs.Run.{Event}
 use Rattle.ada_typed.proofs.Kept.{behind_call, Each}
-use Rattle.ada_sound.proofs.Marks.{marks_of}
+use Rattle.ada_sound.proofs.Allowance.{allowance_of}
 use Rattle.ada_sound.specs.Agreement.{running_procedure}
 use Rattle.ada_sound.proofs.Alters.{Alters}
 use Rattle.ada_sound.proofs.Callers.{Suspension, callers_of, known_in}
@@ -84,18 +84,18 @@ module _ (program : Program) (s : State) (f : Touching program s) where
 
   -- What waits for operations since then, in a state.
   abbrev pub InnerIn : State → (running : Option ℕ) → List Suspension → Type 0
-  InnerIn after running inner = AreInner program after (marks_of (program_form program)) outermost.behind outermost.lower running 0 (Some outermost.number) behind_it inner
+  InnerIn after running inner = AreInner program after (allowance_of (program_form program)) outermost.behind outermost.lower running 0 (Some outermost.number) behind_it inner
 
   -- What is watched is so still.
   abbrev pub Still : State → Type 0
   Still after =
       Watched program outermost.watch outermost.behind after
-      × AllWatched program s (marks_of (program_form program)) outermost.behind outermost.lower after (running_procedure s) 0 (Some outermost.number) behind_it w.inner w.within
+      × AllWatched program s (allowance_of (program_form program)) outermost.behind outermost.lower after (running_procedure s) 0 (Some outermost.number) behind_it w.inner w.within
 
   -- Whatever is called from now on, and whoever goes on: the outermost operation is the same.
   pub within_on :
       (inner : List Suspension) (e : Event) (after : State) → InnerIn after (running_procedure after) inner
-      → operands_of (drop (suc (length inner)) after.activations) ≡ operands_of (drop (suc (length w.inner)) s.activations) → Frugally (marks_of (program_form program)) outermost.lower outermost.behind after
+      → operands_of (drop (suc (length inner)) after.activations) ≡ operands_of (drop (suc (length w.inner)) s.activations) → Frugally (allowance_of (program_form program)) outermost.lower outermost.behind after
       → Watched program outermost.watch outermost.behind after → Alters s.heap e after.heap → Within program (inner ++ behind_it) after
   within_on inner e after are same goes still alters = record {
     inner = inner;
@@ -111,7 +111,7 @@ module _ (program : Program) (s : State) (f : Touching program s) where
 
   pub touching_on :
       (inner : List Suspension) (e : Event) (after : State) → InnerIn after (running_procedure after) inner
-      → operands_of (drop (suc (length inner)) after.activations) ≡ operands_of (drop (suc (length w.inner)) s.activations) → Frugally (marks_of (program_form program)) outermost.lower outermost.behind after
+      → operands_of (drop (suc (length inner)) after.activations) ≡ operands_of (drop (suc (length w.inner)) s.activations) → Frugally (allowance_of (program_form program)) outermost.lower outermost.behind after
       → Watched program outermost.watch outermost.behind after → CrossesTo program (inner ++ behind_it) s.heap e after → InTouching program s.heap e after
   touching_on inner e after are same goes still c = record {
     body = record {
@@ -128,10 +128,10 @@ module _ (program : Program) (s : State) (f : Touching program s) where
   pub inner_stays : (e : Event) (after : State) → SameBody s after → Alters s.heap e after.heap → Still after → InnerIn after (running_procedure after) w.inner
   inner_stays e after same alters still =
       subst (λ (running : Option ℕ). InnerIn after running w.inner) (sym same.procedure)
-      (inner_on program s (marks_of (program_form program)) outermost.behind outermost.lower after e (running_procedure s) 0 0 (Some outermost.number) behind_it w.inner w.within alters
+      (inner_on program s (allowance_of (program_form program)) outermost.behind outermost.lower after e (running_procedure s) 0 0 (Some outermost.number) behind_it w.inner w.within alters
       (λ n. operands_behind (0 + n) after.activations s.activations same.suspended) still.1)
 
-  pub stays_on : (e : Event) (after : State) → SameBody s after → Stepped (known_in program (running_procedure s) f.suspensions) s.heap e after → Frugally (marks_of (program_form program)) outermost.lower outermost.behind after → Still after → InTouching program s.heap e after
+  pub stays_on : (e : Event) (after : State) → SameBody s after → Stepped (known_in program (running_procedure s) f.suspensions) s.heap e after → Frugally (allowance_of (program_form program)) outermost.lower outermost.behind after → Still after → InTouching program s.heap e after
   stays_on e after same st goes still =
       touching_on w.inner e after (inner_stays e after same st.alters still) (operands_behind (length w.inner) after.activations s.activations same.suspended) goes still.0
       (subst (λ (all : List Suspension). CrossesTo program all s.heap e after) w.are (record {
@@ -139,7 +139,7 @@ module _ (program : Program) (s : State) (f : Touching program s) where
         stands = stands_kept program s after f.suspensions f.stands e same st.alters;
       }))
 
-  pub stays_next : (n : Next) → Each (SameBody s) n → Fine (known_in program (running_procedure s) f.suspensions) s.heap s.masters n → GoesFrugally (marks_of (program_form program)) outermost.lower outermost.behind n → Each Still n → GoesTouching program s n
+  pub stays_next : (n : Next) → Each (SameBody s) n → Fine (known_in program (running_procedure s) f.suspensions) s.heap s.masters n → GoesFrugally (allowance_of (program_form program)) outermost.lower outermost.behind n → Each Still n → GoesTouching program s n
   stays_next (halts halt) same fine goes still = fine
   stays_next (moves e after) same fine goes still = inl (stays_on e after same fine goes still)
   stays_next (tells request e after) same fine goes still = inl (stays_on e after same fine goes still)
@@ -148,8 +148,8 @@ module _ (program : Program) (s : State) (f : Touching program s) where
 
   -- The body of no operation ends next.
   module _ (grounds : Grounds program s) (on : (k : Control) → IsAwaited k → s.control ≡ Returns [] [] ∷ k → ⊥) where
-    pub none_end : (running : Option ℕ) (depth : ℕ) (last : Option ℕ) (others inner : List Suspension) (are : AreInner program s (marks_of (program_form program)) outermost.behind outermost.lower running depth last others inner)
-        → AllGoOnInside program f.suspensions s w grounds (marks_of (program_form program)) outermost.behind outermost.lower running depth last others inner are
+    pub none_end : (running : Option ℕ) (depth : ℕ) (last : Option ℕ) (others inner : List Suspension) (are : AreInner program s (allowance_of (program_form program)) outermost.behind outermost.lower running depth last others inner)
+        → AllGoOnInside program f.suspensions s w grounds (allowance_of (program_form program)) outermost.behind outermost.lower running depth last others inner are
     none_end running depth last others [] are = tt
     none_end running depth last others (g ∷ inner) (inl call, more) = none_end g.procedure (suc depth) last others inner more
     none_end running depth last others (g ∷ inner) (inr operation, more) =
@@ -160,9 +160,9 @@ module _ (program : Program) (s : State) (f : Touching program s) where
     pub still_on : Each Still (next program.types.items (body_forms program) s)
     still_on =
         each_and (Watched program outermost.watch outermost.behind)
-        (λ after. AllWatched program s (marks_of (program_form program)) outermost.behind outermost.lower after (running_procedure s) 0 (Some outermost.number) behind_it w.inner w.within)
+        (λ after. AllWatched program s (allowance_of (program_form program)) outermost.behind outermost.lower after (running_procedure s) 0 (Some outermost.number) behind_it w.inner w.within)
         (next program.types.items (body_forms program) s)
         (watched_stays program f.suspensions s w grounds outermost.watch outermost.behind outermost.still
         (on outermost.behind (is_awaited p.types outermost.object outermost.of outermost.treatment outermost.tasks outermost.after outermost.behind outermost.awaited)))
-        (all_watched program f.suspensions s w grounds (marks_of (program_form program)) outermost.behind outermost.lower (running_procedure s) 0 (Some outermost.number) behind_it w.inner w.within
+        (all_watched program f.suspensions s w grounds (allowance_of (program_form program)) outermost.behind outermost.lower (running_procedure s) 0 (Some outermost.number) behind_it w.inner w.within
         (none_end (running_procedure s) 0 (Some outermost.number) behind_it w.inner w.within))

@@ -10,7 +10,7 @@ use Rattle.ada_meaning.specs.Frame.{Leaves}
 use Rattle.ada_meaning.specs.Named.{State}
 use Rattle.ada_meaning.specs.State.{Master, Item, Owned, declared, collection, record_object, storage_pool}
 use Rattle.ada_meaning.specs.Step.{places_of, operands_of}
-use Rattle.ada_sound.proofs.Marks.{marks_of}
+use Rattle.ada_sound.proofs.Allowance.{allowance_of}
 use Rattle.ada_sound.proofs.Callers.{known_in}
 use Rattle.ada_sound.proofs.Touching.{Touching}
 use Rattle.ada_sound.proofs.FrugalLeaves.{frugal_stays, held_in_none, leaves_own}
@@ -38,7 +38,7 @@ variables_in_order ahead types (i ∷ is) own =
 pub leaves_variables : (program : Program) (s : State) (f : Touching program s) (left : Mode) (k : Control) → s.control ≡ Leaves left ∷ k → AreVariables (innermost s.masters)
 leaves_variables program s f left k leaves =
     let w = f.within in
-    let inner = leaves_own (marks_of (program_form program)) w.outermost.behind s.heap s.mode left k w.frugal.upper w.outermost.lower (rw leaves at w.frugal.frugal) w.frugal.own in
+    let inner = leaves_own (allowance_of (program_form program)) w.outermost.behind s.heap s.mode left k w.frugal.upper w.outermost.lower (rw leaves at w.frugal.frugal) w.frugal.own in
     rw w.frugal.masters inner
 
 -- So its items go in order.
@@ -48,7 +48,8 @@ leaves_in_order program s f left k leaves =
     let known = known_in program (running_procedure s) f.suspensions in
     variables_in_order known.ahead known.program.types (innermost s.masters) (leaves_variables program s f left k leaves)
 
--- While the body of an operation that touches storage runs, or one since then, the master that is left holds nothing; and what callers rely on lies in outer ones.
+-- While the body of an operation that touches storage runs, or one since then, the master that is left holds nothing; and what callers rely on lies in outer
+-- ones.
 pub touching_leaves : (program : Program) (s : State) (f : Touching program s) → s.mode ≡ Running → (left : Mode) (k : Control) → s.control ≡ Leaves left ∷ k → HeldIn s.heap s.masters × NamedBelow (outers (known_in program (running_procedure s) f.suspensions)) s.heap s.masters
 touching_leaves program s f runs left k leaves =
     let known = known_in program (running_procedure s) f.suspensions in
@@ -64,4 +65,4 @@ touching_stays program s f runs =
     let known = known_in program (running_procedure s) f.suspensions in
     let ready : ReadyIn known Running s.control s.heap (places_of s.activations) (operands_of s.activations) (w.frugal.upper ++ w.outermost.lower) = rw (runs, w.frugal.masters) at f.ready.1 in
     subst (λ (ms : List Master). departs_next (departs known.ahead (innermost ms)) s.control ≡ false) (sym w.frugal.masters)
-    (frugal_stays known (marks_of (program_form program)) w.outermost.behind s.mode s.control s.heap (places_of s.activations) (operands_of s.activations) w.frugal.upper w.outermost.lower w.frugal.frugal w.frugal.own ready)
+    (frugal_stays known (allowance_of (program_form program)) w.outermost.behind s.mode s.control s.heap (places_of s.activations) (operands_of s.activations) w.frugal.upper w.outermost.lower w.frugal.frugal w.frugal.own ready)

@@ -1,5 +1,5 @@
--- The end of a body while an operation that touches storage is under way (6.5, 7.6.1): that of the outermost operation, of the operation of an object that is freed, or of
--- a procedure that was called.
+-- The end of a body while an operation that touches storage is under way (6.5, 7.6.1): that of the outermost operation, of the operation of an object that is
+-- freed, or of a procedure that was called.
 
 use Rattle.std.proofs.Common.{◌≡◌, ℕ, true, List, [], ◌∷◌, refl, sym, ap, subst, ◌∙◌, inl, inr, ◌++◌, ◌+◌, drop, length, suc}
 use Rattle.std.specs.Prelude.{Option, Some}
@@ -27,7 +27,7 @@ use Rattle.ada_meaning.specs.Named.{Object, State, named, next}
 use Rattle.ada_typed.specs.Holding.{Cells, cells_of}
 use Rattle.ada_typed.proofs.Control as typed
 use Rattle.ada_typed.proofs.Kept.{behind_call, Each}
-use Rattle.ada_sound.proofs.Marks.{Marks, marks_of}
+use Rattle.ada_sound.proofs.Allowance.{Allowance, allowance_of}
 use Rattle.ada_sound.proofs.Alters.{alters_same}
 use Rattle.ada_sound.proofs.CallBegins.{placed_in}
 use Rattle.ada_sound.proofs.Callers.{Suspension, callers_of, known_in, Stands, AreOf}
@@ -46,13 +46,13 @@ use Rattle.ada_sound.proofs.TouchingStands.{finalized_by, frees_not, none_in, to
 use Rattle.ada_sound.proofs.TouchingWatched.{AllGoOnInside, all_watched, watched_stays}
 
 -- Where components get something back, that goes on in front.
-storing_leads : (frugal : Marks) (behind : Control) (references : List Value) (k : Control) (ms : List Master) → FrugalLeads frugal behind k ms → FrugalLeads frugal behind (storing named references k) ms
+storing_leads : (frugal : Allowance) (behind : Control) (references : List Value) (k : Control) (ms : List Master) → FrugalLeads frugal behind k ms → FrugalLeads frugal behind (storing named references k) ms
 storing_leads frugal behind [] k ms q = q
 storing_leads frugal behind (v ∷ vs) k ms q = (tt, storing_leads frugal behind vs k ms q)
 
 -- Behind the end of a body that was called, the body goes on that called it.
 back_frugal :
-    (frugal : Marks) (behind : Control) (heap : List Object) (mode : Mode) (references : List Value) (k : Control) (ms : List Master)
+    (frugal : Allowance) (behind : Control) (heap : List Object) (mode : Mode) (references : List Value) (k : Control) (ms : List Master)
     → FrugalLeads frugal behind k ms → Frugal frugal behind heap (behind_mode mode) (behind_frames mode references k) ms
 back_frugal frugal behind heap Running references k ms q = inl (storing_leads frugal behind references k ms q)
 back_frugal frugal behind heap (Raising e) references k ms q = inl q
@@ -123,9 +123,9 @@ module _ (program : Program) (s : State) (depth : ℕ) (f : Pause program depth 
           ∙ treating_before (Names f.object) cause f.tasks f.after (finalized_by (known_in program f.procedure f.suspensions) cause f.held f.watch f.object f.access f.home f.places f.operands f.also f.after f.lower f.rooms f.holds rests)
 
   -- Where that is left to do in frugal bodies, the body that waits may free objects of the type.
-  module _ (marks : Marks) (back : Control) (ms : List Master) where
+  module _ (allowance : Allowance) (back : Control) (ms : List Master) where
     -- What is behind what is treated is left to do, too.
-    treating_led : (v : Value) (treatment : Treatment) (tasks : List Task) (k : Control) → FrugalLeads marks back (treating v treatment tasks k) ms → FrugalLeads marks back k ms
+    treating_led : (v : Value) (treatment : Treatment) (tasks : List Task) (k : Control) → FrugalLeads allowance back (treating v treatment tasks k) ms → FrugalLeads allowance back k ms
     treating_led v treatment [] k leads = leads
     treating_led v treatment (task ∷ tasks) k leads = leads.1
 
@@ -134,17 +134,17 @@ module _ (program : Program) (s : State) (depth : ℕ) (f : Pause program depth 
     Frees = CoveredIn (implicit_of p) (seen_in f.procedure p) f.access × (is_access (seen_in f.procedure p).types f.access ≡ true)
 
     -- No master is left there, and no exception goes on.
-    ends_covered : RestsAtEnd (known_in program f.procedure f.suspensions) f.object f.access f.home f.places f.after f.lower f.rooms f.holds → FrugalLeads marks back f.after ms → Frees
+    ends_covered : RestsAtEnd (known_in program f.procedure f.suspensions) f.object f.access f.home f.places f.after f.lower f.rooms f.holds → FrugalLeads allowance back f.after ms → Frees
     ends_covered (inl resting) leads = let never = rw (resting.is) at leads in absurd never.1.1.0
     ends_covered (inr (inl undoes)) leads = let never = rw (undoes.is) at leads in absurd never.1.1.0
     ends_covered (inr (inr empties)) leads = empties.covered
 
-    owned_covered : RestsAsOwned (known_in program f.procedure f.suspensions) f.held f.watch f.object f.access f.home f.places f.after f.lower f.rooms f.holds → FrugalLeads marks back f.after ms → Frees
+    owned_covered : RestsAsOwned (known_in program f.procedure f.suspensions) f.held f.watch f.object f.access f.home f.places f.after f.lower f.rooms f.holds → FrugalLeads allowance back f.after ms → Frees
     owned_covered (inl (held, rests)) leads = ends_covered rests leads
     owned_covered (inr (inl releases)) leads = releases.covered
     owned_covered (inr (inr (unheld, departing))) leads = let never = rw (departing.is) at leads in absurd never.1.1.0
 
-    pub freed_covered : IsFreed f.treatment → FrugalLeads marks back f.behind ms → Frees
+    pub freed_covered : IsFreed f.treatment → FrugalLeads allowance back f.behind ms → Frees
     freed_covered freed leads = by f.treatment freed f.awaited f.rests
       where
         by : (treatment : Treatment) → IsFreed treatment → WaitsFor p.types f.object f.of treatment f.tasks f.after f.behind
@@ -152,7 +152,7 @@ module _ (program : Program) (s : State) (depth : ℕ) (f : Pause program depth 
         by (begins birth done) freed' waits rests = absurd freed'
         by (ends (Leaving m item)) freed' waits rests = absurd freed'
         by (ends (Freeing number)) freed' (waits, inside) rests =
-            let there : FrugalLeads marks back (frame.Confines ∷ treating (Names f.object) (ends (Freeing number)) f.tasks f.after) ms = subst (λ (k : Control). FrugalLeads marks back k ms) waits leads in
+            let there : FrugalLeads allowance back (frame.Confines ∷ treating (Names f.object) (ends (Freeing number)) f.tasks f.after) ms = subst (λ (k : Control). FrugalLeads allowance back k ms) waits leads in
             owned_covered rests.1 (treating_led (Names f.object) (ends (Freeing number)) f.tasks f.after there.1)
         by (ends (Assigning number)) freed' waits rests = absurd freed'
         by (ends (Undoing number)) freed' waits rests = absurd freed'
@@ -195,18 +195,18 @@ module _ (program : Program) (a : Activation Value) (k : Control) (s : State) (m
       operation = outermost program ending f
 
       abbrev Inner : (running : Option ℕ) (depth : ℕ) → List Suspension → Type 0
-      Inner running depth inner = AreInner program ending (marks_of (program_form program)) operation.behind operation.lower running depth (Some operation.number) waiting inner
+      Inner running depth inner = AreInner program ending (allowance_of (program_form program)) operation.behind operation.lower running depth (Some operation.number) waiting inner
 
       -- What is watched behind the end.
       outermost_watched : (ending.control ≡ Returns [] [] ∷ operation.behind → ⊥) → Watched program operation.watch operation.behind back
       outermost_watched on = subst (Each (Watched program operation.watch operation.behind)) is (watched_stays program f.suspensions ending f.within grounds operation.watch operation.behind operation.still on)
 
       inner_watched : (running : Option ℕ) (depth : ℕ) (inner : List Suspension) (are : Inner running depth inner)
-          → AllGoOnInside program f.suspensions ending f.within grounds (marks_of (program_form program)) operation.behind operation.lower running depth (Some operation.number) waiting inner are
-          → AllWatched program ending (marks_of (program_form program)) operation.behind operation.lower back running depth (Some operation.number) waiting inner are
+          → AllGoOnInside program f.suspensions ending f.within grounds (allowance_of (program_form program)) operation.behind operation.lower running depth (Some operation.number) waiting inner are
+          → AllWatched program ending (allowance_of (program_form program)) operation.behind operation.lower back running depth (Some operation.number) waiting inner are
       inner_watched running depth inner are on =
-          subst (Each (λ (after : State). AllWatched program ending (marks_of (program_form program)) operation.behind operation.lower after running depth (Some operation.number) waiting inner are)) is
-          (all_watched program f.suspensions ending f.within grounds (marks_of (program_form program)) operation.behind operation.lower running depth (Some operation.number) waiting inner are on)
+          subst (Each (λ (after : State). AllWatched program ending (allowance_of (program_form program)) operation.behind operation.lower after running depth (Some operation.number) waiting inner are)) is
+          (all_watched program f.suspensions ending f.within grounds (allowance_of (program_form program)) operation.behind operation.lower running depth (Some operation.number) waiting inner are on)
 
       -- The masters of the body have been left.
       left_masters : (g : Suspension) (gs : List Suspension) (rooms : Rooms) (holds : Holds) → Roomed (below (known_in program a.procedure (g ∷ gs))) s.masters rooms → GoesOn (known_in program a.procedure (g ∷ gs)) mode (Returns actuals references ∷ k) rooms holds → s.masters ≡ g.masters
@@ -220,10 +220,10 @@ module _ (program : Program) (a : Activation Value) (k : Control) (s : State) (m
           by Returning never = never
 
       -- That of the operation of an object that is freed: what is left of its end goes on.
-      module _ (g : Suspension) (gs : List Suspension) (o : IsOperation program ending (marks_of (program_form program)) operation.behind operation.lower a.procedure 0 (gs ++ waiting) g) where
+      module _ (g : Suspension) (gs : List Suspension) (o : IsOperation program ending (allowance_of (program_form program)) operation.behind operation.lower a.procedure 0 (gs ++ waiting) g) where
         -- The operations further out are those of other objects, so that their ends are not next.
         ends_other : (running : Option ℕ) (depth : ℕ) (inner : List Suspension) (are : Inner running depth inner) → k ≡ o.pause.behind → (IsUnder (under_in (callers_of program (inner ++ waiting))) o.pause.object → ⊥)
-            → AllGoOnInside program f.suspensions ending f.within grounds (marks_of (program_form program)) operation.behind operation.lower running depth (Some operation.number) waiting inner are
+            → AllGoOnInside program f.suspensions ending f.within grounds (allowance_of (program_form program)) operation.behind operation.lower running depth (Some operation.number) waiting inner are
         ends_other running depth [] are at other = tt
         ends_other running depth (h ∷ inner) (inl call, more) at other = ends_other h.procedure (suc depth) inner more at (λ under. other (later_under h.under (under_in (callers_of program (inner ++ waiting))) o.pause.object under))
         ends_other running depth (h ∷ inner) (inr outer, more) at other =
@@ -247,13 +247,13 @@ module _ (program : Program) (a : Activation Value) (k : Control) (s : State) (m
         others_none more stands under =
             let w = f.within in
             let pause = o.pause in
-            let frees = freed_covered program ending 0 pause (marks_of (program_form program)) operation.behind o.upper o.freed o.leads in
+            let frees = freed_covered program ending 0 pause (allowance_of (program_form program)) operation.behind o.upper o.freed o.leads in
             let of_type : pause.x.cell.access ≡ pause.access = pause.of_access in
             let accessed : is_access form.types pause.x.cell.access ≡ true = rw of_type (subst (λ (types : List TypeForm). is_access types pause.access ≡ true) (same_types pause.procedure form) frees.1) in
             let runs : pause.procedure ≡ g.procedure = sym (ap (λ (waits : Suspension). waits.procedure) o.is) in
             let covered : CoveredIn (implicit_of form) (seen_in g.procedure form) pause.x.cell.access =
             rw of_type (subst (λ (procedure : Option ℕ). CoveredIn (implicit_of form) (seen_in procedure form) pause.access) runs frees.0) in
-            none_in program grounds.spares_own ending (marks_of (program_form program)) operation.behind operation.lower g.procedure (suc 0) operation.number waiting gs more stands.standing.waiting.1 pause.object pause.x pause.found accessed covered
+            none_in program grounds.spares_own ending (allowance_of (program_form program)) operation.behind operation.lower g.procedure (suc 0) operation.number waiting gs more stands.standing.waiting.1 pause.object pause.x pause.found accessed covered
             (λ outer there. frees_not program grounds.spares_own ending (length w.inner) operation pause.object pause.x pause.found (under_outermost program ending grounds f.suspensions w f.stands pause.object there) outer accessed)
             under
 
@@ -266,17 +266,17 @@ module _ (program : Program) (a : Activation Value) (k : Control) (s : State) (m
             let reached : back ≡ after = sym same ∙ t_is in
             let c : CrossesTo program (gs ++ waiting) s.heap Quiet after =
             subst (λ (others : List Suspension). CrossesTo program others s.heap Quiet after) (sym o.behind_it) (subst (λ (u : State). CrossesTo program o.pause.suspensions s.heap Quiet u) t_is crosses) in
-            let watched = subst (λ (u : State). AllWatched program ending (marks_of (program_form program)) operation.behind operation.lower u g.procedure (suc 0) (Some operation.number) waiting gs more) reached
+            let watched = subst (λ (u : State). AllWatched program ending (allowance_of (program_form program)) operation.behind operation.lower u g.procedure (suc 0) (Some operation.number) waiting gs more) reached
             (inner_watched g.procedure (suc 0) gs more (ends_other g.procedure (suc 0) gs more control (others_none more stands))) in
-            let are = inner_on program ending (marks_of (program_form program)) operation.behind operation.lower after Quiet g.procedure (suc 0) 0 (Some operation.number) waiting gs more c.stepped.alters
+            let are = inner_on program ending (allowance_of (program_form program)) operation.behind operation.lower after Quiet g.procedure (suc 0) 0 (Some operation.number) waiting gs more c.stepped.alters
             (λ n. operands_deeper n rest a b) watched in
             let further : ending.control ≡ Returns [] [] ∷ operation.behind → ⊥ = λ last. (
             let one : k ≡ operation.behind = cc last in
-            shorter (marks_of (program_form program)) operation.behind o.pause.behind o.upper o.leads (sym control ∙ one)
+            shorter (allowance_of (program_form program)) operation.behind o.pause.behind o.upper o.leads (sym control ∙ one)
             ) in
             subst (λ (u : State). InTouching program s.heap Quiet u) (sym reached)
             (touching_on program ending f gs Quiet after
-            (subst (λ (running : Option ℕ). AreInner program after (marks_of (program_form program)) operation.behind operation.lower running 0 (Some operation.number) waiting gs) (sym stands.bodies.0) are)
+            (subst (λ (running : Option ℕ). AreInner program after (allowance_of (program_form program)) operation.behind operation.lower running 0 (Some operation.number) waiting gs) (sym stands.bodies.0) are)
             (sym (ap (λ (all : List Suspension). operands_of (drop (suc (length all)) (a ∷ b ∷ rest))) inner_is))
             (record { upper = o.upper; masters = o.masters; own = o.own; frugal = inl o.leads })
             (subst (λ (u : State). Watched program operation.watch operation.behind u) reached (outermost_watched further))
@@ -309,18 +309,18 @@ module _ (program : Program) (a : Activation Value) (k : Control) (s : State) (m
           let awaits = is_awaited form.types operation.object operation.of operation.treatment operation.tasks operation.after operation.behind operation.awaited in
           let placed = placed_in (seen_in a.procedure form) a (b ∷ rest) ending refl grounds.typed.inside in
           let watched = inner_watched g.procedure (suc 0) gs more (none_end program ending f grounds on g.procedure (suc 0) (Some operation.number) waiting gs more) in
-          let leads = frugal_returns (marks_of (program_form program)) operation.behind s.heap mode actuals references k f.within.frugal.upper awaits none f.within.frugal.frugal in
+          let leads = frugal_returns (allowance_of (program_form program)) operation.behind s.heap mode actuals references k f.within.frugal.upper awaits none f.within.frugal.frugal in
           let c = left_to program a actuals references k s mode b rest g (gs ++ waiting) (restand (b ∷ rest) (g ∷ gs ++ waiting) stands) none placed w in
-          let are = inner_on program ending (marks_of (program_form program)) operation.behind operation.lower back Quiet g.procedure (suc 0) 0 (Some operation.number) waiting gs more c.stepped.alters
+          let are = inner_on program ending (allowance_of (program_form program)) operation.behind operation.lower back Quiet g.procedure (suc 0) 0 (Some operation.number) waiting gs more c.stepped.alters
           (λ n. back_operands (0 + n) mode actuals a.places b rest ∙ operands_deeper n rest a b) watched in
           touching_on program ending f gs Quiet back
-          (subst (λ (running : Option ℕ). AreInner program back (marks_of (program_form program)) operation.behind operation.lower running 0 (Some operation.number) waiting gs) (sym (back_runs mode actuals a.places b rest ∙ stands.bodies.0)) are)
+          (subst (λ (running : Option ℕ). AreInner program back (allowance_of (program_form program)) operation.behind operation.lower running 0 (Some operation.number) waiting gs) (sym (back_runs mode actuals a.places b rest ∙ stands.bodies.0)) are)
           (back_operands (length gs) mode actuals a.places b rest ∙ sym (ap (λ (all : List Suspension). operands_of (drop (suc (length all)) (a ∷ b ∷ rest))) inner_is))
           (record {
             upper = f.within.frugal.upper;
             masters = f.within.frugal.masters;
             own = f.within.frugal.own;
-            frugal = back_frugal (marks_of (program_form program)) operation.behind s.heap mode references k f.within.frugal.upper leads;
+            frugal = back_frugal (allowance_of (program_form program)) operation.behind s.heap mode references k f.within.frugal.upper leads;
           })
           (outermost_watched (on operation.behind awaits))
           c
@@ -339,7 +339,7 @@ module _ (program : Program) (a : Activation Value) (k : Control) (s : State) (m
       own_ends none w =
           let pause = pause_on program (length f.within.inner) 0 ending ending Quiet operation (alters_same s.heap Quiet) (ap (λ (all : List Suspension). operands_of (drop (suc (length all)) (a ∷ b ∷ rest))) (sym none)) operation.still in
           let control : k ≡ operation.behind = same_control program a.procedure (origin program (length f.within.inner) ending operation) operation.suspensions mode actuals references k w.rooms w.holds w.rest in
-          let end = frugal_ends (marks_of (program_form program)) operation.behind s.heap mode actuals references k f.within.frugal.upper control f.within.frugal.frugal in
+          let end = frugal_ends (allowance_of (program_form program)) operation.behind s.heap mode actuals references k f.within.frugal.upper control f.within.frugal.frugal in
           let next_is : ending.control ≡ Returns [] [] ∷ operation.behind = last_end actuals references k operation.behind end.0 end.1 control in
           let masters_are : ending.masters ≡ operation.lower = f.within.frugal.masters ∙ ap (λ (upper : List Master). upper ++ operation.lower) end.2 in
           let all_are : f.suspensions ≡ waiting = f.within.are ∙ ap (λ (inner : List Suspension). inner ++ waiting) none in

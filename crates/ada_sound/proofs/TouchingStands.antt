@@ -1,5 +1,5 @@
--- What the laws of finalization say while the body of an operation runs that touches storage (7.6, 7.6.1), or one in front of it: of the objects that stand, and of those
--- that are treated. None of those is freed meanwhile (13.11.2).
+-- What the laws of finalization say while the body of an operation runs that touches storage (7.6, 7.6.1), or one in front of it: of the objects that stand,
+-- and of those that are treated. None of those is freed meanwhile (13.11.2).
 
 use Rattle.std.proofs.Common.{◌≡◌, ℕ, suc, Bool, true, false, List, [], ◌∷◌, ◌++◌, length, refl, sym, ap, ◌∙◌, subst, ◌⊎◌, inl, inr, ◌≢◌, Option, Some}
 use Rattle.std.proofs.lemmas.Bool.{and_parts, false_from_ne_true}
@@ -29,7 +29,7 @@ use Rattle.ada_meaning.specs.Named.{State, Object, object_at, next}
 use Rattle.ada_meaning.specs.Run.{Halts}
 use Rattle.ada_typed.proofs.Bodies.{own_bodies}
 use Rattle.ada_typed.proofs.Kept.{behind_call}
-use Rattle.ada_sound.proofs.Marks.{Marks, marks_of}
+use Rattle.ada_sound.proofs.Allowance.{Allowance, allowance_of}
 use Rattle.ada_sound.specs.Agreement.{running_procedure}
 use Rattle.ada_sound.specs.Always.{SparesOwn}
 use Rattle.ada_sound.proofs.Below.{either_one}
@@ -49,7 +49,7 @@ use Rattle.ada_sound.proofs.Touching.{AreInner, CoversBy, IsCall, IsOperation, P
 use Rattle.ada_sound.proofs.TouchingRests.{IsEnd}
 
 -- In front of the end of a frugal body, nothing begins: what is treated there is finalized.
-module _ (frugal : Marks) where
+module _ (frugal : Allowance) where
   leads_begin : (v : Value) (behind k : Control) (ms : List Master) → NothingBegins v behind → FrugalLeads frugal behind k ms → NothingBegins v k
   leads_begin v behind [] ms none q = absurd q
   leads_begin v behind (frame.Returns actuals references ∷ k) ms none (inl q) = subst (NothingBegins v) (sym q.2) none
@@ -228,10 +228,10 @@ module _ (program : Program) (spares : SparesOwn program) (s : State) where
   treated_is (ends (Undoing number)) object o (inl same) = same
   treated_is (ends (Undoing number)) object o (inr none) = absurd none
 
-  module _ (marks : Marks) (back : Control) (lower : List Master) where
+  module _ (allowance : Allowance) (back : Control) (lower : List Master) where
     -- What the running body may free, that of the outermost operation may free.
     pub covers_outermost :
-        (procedure : Option ℕ) (depth number : ℕ) (others inner : List Suspension) → AreInner program s marks back lower procedure depth (Some number) others inner
+        (procedure : Option ℕ) (depth number : ℕ) (others inner : List Suspension) → AreInner program s allowance back lower procedure depth (Some number) others inner
         → AllWait (implicit_of p) (seen_in procedure p) (callers_of program (inner ++ others)) → (t : ℕ) → Covers procedure t → Covers (Some number) t
     covers_outermost procedure depth number others [] w waits t covered = subst (λ (own : Option ℕ). Covers own t) w covered
     covers_outermost procedure depth number others (g ∷ inner) w waits t covered =
@@ -239,7 +239,7 @@ module _ (program : Program) (spares : SparesOwn program) (s : State) where
 
     -- No object under way in the activations that wait is one that the running body may free, if none is in those behind them.
     pub none_in :
-        (procedure : Option ℕ) (depth number : ℕ) (others inner : List Suspension) → AreInner program s marks back lower procedure depth (Some number) others inner
+        (procedure : Option ℕ) (depth number : ℕ) (others inner : List Suspension) → AreInner program s allowance back lower procedure depth (Some number) others inner
         → AllWait (implicit_of p) (seen_in procedure p) (callers_of program (inner ++ others)) → (o : Id) (x : Object) → object_at s.heap o ≡ Some x → is_access p.types x.cell.access ≡ true
         → Covers procedure x.cell.access → (Covers (Some number) x.cell.access → IsUnder (under_in (callers_of program others)) o → ⊥) → IsUnder (under_in (callers_of program (inner ++ others))) o → ⊥
     none_in procedure depth number others [] w waits o x found of covered behind under = behind (subst (λ (own : Option ℕ). Covers own x.cell.access) w covered) under
@@ -247,7 +247,7 @@ module _ (program : Program) (spares : SparesOwn program) (s : State) where
         by w.0 (λ later. none_in g.procedure (suc depth) number others inner w.1 waits.1 o x found of (waits_covers waits.0 x.cell.access covered) behind later)
         (either_one g.under (under_in (callers_of program (inner ++ others))) o under)
       where
-        by : IsCall g ⊎ IsOperation program s marks back lower procedure depth (inner ++ others) g → (IsUnder (under_in (callers_of program (inner ++ others))) o → ⊥) → IsUnder g.under o ⊎ IsUnder (under_in (callers_of program (inner ++ others))) o → ⊥
+        by : IsCall g ⊎ IsOperation program s allowance back lower procedure depth (inner ++ others) g → (IsUnder (under_in (callers_of program (inner ++ others))) o → ⊥) → IsUnder g.under o ⊎ IsUnder (under_in (callers_of program (inner ++ others))) o → ⊥
         by v further (inr later) = further later
         by (inl call) further (inl here) = subst (λ (under' : List Id). IsUnder under' o) call.1 here
         by (inr operation) further (inl here) =
@@ -286,7 +286,7 @@ module _ (program : Program) (s : State) (grounds : Grounds program s) (gs : Lis
   not_freed : (o : Id) (x : Object) → IsUnder (under_in (callers_of program gs)) o → object_at s.heap o ≡ Some x → may_free program s x.cell.access ≡ true → ⊥
   not_freed o x under found may =
       let so = may_cover program s x.cell.access may in
-      none_in program grounds.spares_own s (marks_of (program_form program)) outermost.behind outermost.lower (running_procedure s) 0 outermost.number behind_it w.inner w.within waiting o x found so.0 so.1
+      none_in program grounds.spares_own s (allowance_of (program_form program)) outermost.behind outermost.lower (running_procedure s) 0 outermost.number behind_it w.inner w.within waiting o x found so.0 so.1
       (λ covered there. frees_not program grounds.spares_own s (length w.inner) outermost o x found (under_outermost o there) covered so.0)
       (subst (λ (all : List Suspension). IsUnder (under_in (callers_of program all)) o) w.are under)
 
@@ -301,19 +301,19 @@ module _ (program : Program) (s : State) (grounds : Grounds program s) (gs : Lis
   -- What is left to do initializes and adjusts no other object, if none begins first.
   pub begins_nothing : begins_first s.control ≡ false → (v : Value) → (v ≢ Names outermost.object) → NothingBegins v s.control
   begins_nothing other v ne =
-      frugal_begin (marks_of (program_form program)) v outermost.behind s.heap s.mode s.control w.frugal.upper other (waits_begin v ne outermost.treatment outermost.awaited) w.frugal.frugal
+      frugal_begin (allowance_of (program_form program)) v outermost.behind s.heap s.mode s.control w.frugal.upper other (waits_begin v ne outermost.treatment outermost.awaited) w.frugal.frugal
 
   -- So it is of an object that is treated next, behind its treatment.
   pub treated_begin : (v : Value) (treatment : Treatment) (tasks : List Task) (k : Control) → s.control ≡ frame.Treats v treatment tasks ∷ k → NothingBegins v k
   treated_begin v treatment tasks k is =
-      by treatment w.frugal.upper (subst (λ (all : Control). Frugal (marks_of (program_form program)) outermost.behind s.heap s.mode all w.frugal.upper) is w.frugal.frugal)
+      by treatment w.frugal.upper (subst (λ (all : Control). Frugal (allowance_of (program_form program)) outermost.behind s.heap s.mode all w.frugal.upper) is w.frugal.frugal)
     where
-      behind : (ms : List Master) → NoOperationRunsOn v k → FrugalLeads (marks_of (program_form program)) outermost.behind k ms → NothingBegins v k
+      behind : (ms : List Master) → NoOperationRunsOn v k → FrugalLeads (allowance_of (program_form program)) outermost.behind k ms → NothingBegins v k
       behind ms alone q =
-          let other = other_treated program (length w.inner) s outermost v (leads_alone (marks_of (program_form program)) v outermost.behind k ms alone q) in
-          leads_begin (marks_of (program_form program)) v outermost.behind k ms (waits_begin v other outermost.treatment outermost.awaited) q
+          let other = other_treated program (length w.inner) s outermost v (leads_alone (allowance_of (program_form program)) v outermost.behind k ms alone q) in
+          leads_begin (allowance_of (program_form program)) v outermost.behind k ms (waits_begin v other outermost.treatment outermost.awaited) q
 
-      by : (way : Treatment) (ms : List Master) → Frugal (marks_of (program_form program)) outermost.behind s.heap s.mode (frame.Treats v way tasks ∷ k) ms → NothingBegins v k
+      by : (way : Treatment) (ms : List Master) → Frugal (allowance_of (program_form program)) outermost.behind s.heap s.mode (frame.Treats v way tasks ∷ k) ms → NothingBegins v k
       by way ms (inl q) = behind ms q.0.3 q.1
       by way ms (inr (runs, inl leaving)) = absurd leaving
       by (begins birth done) ms (inr (runs, inr starting)) = behind ms starting.0.1 starting.1
@@ -323,7 +323,7 @@ module _ (program : Program) (s : State) (grounds : Grounds program s) (gs : Lis
   other_object : (o : Id) (x : Object) → object_at s.heap o ≡ Some x → may_free program s x.cell.access ≡ true → Names o ≡ Names outermost.object → ⊥
   other_object o x found may same =
       let so = may_cover program s x.cell.access may in
-      let covered = covers_outermost program grounds.spares_own s (marks_of (program_form program)) outermost.behind outermost.lower (running_procedure s) 0 outermost.number behind_it w.inner w.within waiting x.cell.access so.1 in
+      let covered = covers_outermost program grounds.spares_own s (allowance_of (program_form program)) outermost.behind outermost.lower (running_procedure s) 0 outermost.number behind_it w.inner w.within waiting x.cell.access so.1 in
       frees_not program grounds.spares_own s (length w.inner) outermost o x found (cc same) covered so.0
 
   -- Nothing begins of an object that the running body may free.
@@ -340,7 +340,7 @@ module _ (program : Program) (s : State) (grounds : Grounds program s) (gs : Lis
   waits_operated (ends cause) (is, inside) none = let waits = (subst NoOperationRuns is none).0 in cc waits
 
   pub touching_runs : IsCalm (behind_call s.control) → ⊥
-  touching_runs calm = waits_operated outermost.treatment outermost.awaited (frugal_calm (marks_of (program_form program)) outermost.behind s.heap s.mode s.control w.frugal.upper calm w.frugal.frugal)
+  touching_runs calm = waits_operated outermost.treatment outermost.awaited (frugal_calm (allowance_of (program_form program)) outermost.behind s.heap s.mode s.control w.frugal.upper calm w.frugal.frugal)
 
   -- Each object that may be freed stands.
   stand : begins_first s.control ≡ false → (forms : List TypeForm) → AllStand (may_free program s) forms s.heap
@@ -361,7 +361,7 @@ module _ (program : Program) (s : State) (grounds : Grounds program s) (gs : Lis
       (subst (λ (t : State). Halts program t (Erroneous FinalizesTwice)) (sym (state_is Running (frame.Treats v treatment tasks ∷ k) runs is)) twice)
 
   by_frame :
-      (g : Frame Value) (k : Control) (ms : List Master) → s.mode ≡ Running → s.control ≡ g ∷ k → Frugal (marks_of (program_form program)) outermost.behind s.heap Running (g ∷ k) ms → (forms : List TypeForm)
+      (g : Frame Value) (k : Control) (ms : List Master) → s.mode ≡ Running → s.control ≡ g ∷ k → Frugal (allowance_of (program_form program)) outermost.behind s.heap Running (g ∷ k) ms → (forms : List TypeForm)
       → FinalizesBy (may_free program s) forms types bodies g (record s { mode = Running; control = k })
   by_frame (frame.Does fs) k ms runs is q forms = stand (ap begins_first is) forms
   by_frame (frame.FreesIn access c) k ms runs is q forms = stand (ap begins_first is) forms
@@ -371,7 +371,7 @@ module _ (program : Program) (s : State) (grounds : Grounds program s) (gs : Lis
   by_frame (frame.Treats v (ends cause) tasks) k ms runs is (inr (now, inr starting)) forms = absurd starting
   by_frame g k ms runs is q forms = tt
 
-  by_mode : (mode : Mode) (k : Control) (ms : List Master) → s.mode ≡ mode → s.control ≡ k → Frugal (marks_of (program_form program)) outermost.behind s.heap mode k ms → (forms : List TypeForm) → FinalizesIn (may_free program s) forms types bodies mode k s
+  by_mode : (mode : Mode) (k : Control) (ms : List Master) → s.mode ≡ mode → s.control ≡ k → Frugal (allowance_of (program_form program)) outermost.behind s.heap mode k ms → (forms : List TypeForm) → FinalizesIn (may_free program s) forms types bodies mode k s
   by_mode Running [] ms runs is q forms = tt
   by_mode Running (g ∷ k) ms runs is q forms = by_frame g k ms runs is q forms
   by_mode (Raising e) k ms runs is q forms = tt

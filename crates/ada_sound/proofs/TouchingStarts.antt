@@ -1,5 +1,5 @@
--- The treatment of an object calls an operation that touches storage: its body begins in a sound state (7.6, 7.6.1), where no operation runs, or inside another one, which
--- frees the object (13.11.2).
+-- The treatment of an object calls an operation that touches storage: its body begins in a sound state (7.6, 7.6.1), where no operation runs, or inside another
+-- one, which frees the object (13.11.2).
 
 use Rattle.std.proofs.Common.{◌≡◌, ◌≢◌, ℕ, Bool, true, false, not, ◌&&◌, List, ◌∷◌, refl, sym, ap, subst, ◌∙◌, []}
 use Rattle.std.specs.Prelude.{Option, Some, None}
@@ -42,7 +42,7 @@ use Rattle.ada_typed.proofs.Bodies.{seen_as}
 use Rattle.ada_typed.proofs.Control as typed
 use Rattle.ada_typed.proofs.Kept.{behind_call}
 use Rattle.ada_typed.proofs.Overridings.{OperationFor, beginning_for, ending_for}
-use Rattle.ada_sound.proofs.Marks.{body_thrifty, marks_of}
+use Rattle.ada_sound.proofs.Allowance.{body_thrifty, allowance_of}
 use Rattle.ada_sound.proofs.Alters.{Alters}
 use Rattle.ada_sound.proofs.Callers.{Suspension, known_in, Stands, callers_of}
 use Rattle.ada_sound.proofs.FrugalControl.{Frugally, IsFreed, frugal_starts}
@@ -330,7 +330,7 @@ module _ (program : Program) (a : Activation Value) (rest : List (Activation Val
           let started = begins_so whole same grounds lone_outermost stands (treats_in_use program whole grounds (Treats v treatment tasks ∷ k) is tt) (treats_made program whole grounds v treatment tasks k is) e after c touches may silent frugal stores typing in
           let begun = started.0 in
           let waits : WaitsFor p.types c.o c.of c.treatment c.tasks k c.behind = subst (λ (types : List TypeForm). WaitsFor types c.o c.of c.treatment c.tasks k c.behind) (same_types a.procedure p) c.waits in
-          let runs : Frugally (marks_of p) s.masters c.behind after = rw c.is (frugal_starts (marks_of p) c.number c.b (body_thrifty p c.b frugal) (Part c.o c.place) c.behind (record s { activations = a ∷ rest; heap = c.heap; mode = Running; control = k })) in
+          let runs : Frugally (allowance_of p) s.masters c.behind after = rw c.is (frugal_starts (allowance_of p) c.number c.b (body_thrifty p c.b frugal) (Part c.o c.place) c.behind (record s { activations = a ∷ rest; heap = c.heap; mode = Running; control = k })) in
           record {
             suspensions = origin program 0 after begun.pause ∷ gs;
             ready = begun.ready;

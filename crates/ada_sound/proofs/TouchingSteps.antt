@@ -1,5 +1,5 @@
--- Each step while an operation that touches storage is under way: of its body, or of one that it has called, or of the operation of an object that one of these frees; their
--- ends included (7.6, 7.6.1, 13.11.2).
+-- Each step while an operation that touches storage is under way: of its body, or of one that it has called, or of the operation of an object that one of these
+-- frees; their ends included (7.6, 7.6.1, 13.11.2).
 
 use Rattle.std.proofs.Common.{◌≡◌, ℕ, true, false, List, [], ◌∷◌, refl, sym, ap, subst, ◌∙◌, inl, inr, suc}
 use Rattle.std.specs.Prelude.{Some}
@@ -21,7 +21,7 @@ use Rattle.ada_scopes.proofs.Components.{collect_two}
 use Rattle.ada_typed.proofs.Bodies.{own_bodies}
 use Rattle.ada_typed.proofs.Kept.{crosses, is_treatment, Each, Keeps}
 use Rattle.ada_typed.proofs.KeptSteps.{step_keeps, pass_keeps}
-use Rattle.ada_sound.proofs.Marks.{Marks, marks_of}
+use Rattle.ada_sound.proofs.Allowance.{Allowance, allowance_of}
 use Rattle.ada_sound.specs.Agreement.{running_procedure}
 use Rattle.ada_sound.proofs.CallBegins.{runs_called}
 use Rattle.ada_sound.proofs.Callers.{Suspension, known_in, Stands}
@@ -60,7 +60,7 @@ module _ (program : Program) (s : State) (f : Touching program s) (grounds : Gro
   coming = next program.types.items (body_forms program) s
 
   -- What is left to do is so behind each step but the end of a body, and the treatment of an object.
-  goes_on : (s.mode ≡ Running → TreatsNothing s.control) → GoesFrugally (marks_of (program_form program)) f.within.outermost.lower f.within.outermost.behind coming
+  goes_on : (s.mode ≡ Running → TreatsNothing s.control) → GoesFrugally (allowance_of (program_form program)) f.within.outermost.lower f.within.outermost.behind coming
   goes_on plain =
       let w = f.within in
       frugal_goes program grounds.frees_own w.outermost.lower w.outermost.behind s w.frugal
@@ -148,7 +148,7 @@ module _ (program : Program) (a : Activation Value) (k : Control) (s : State) (r
       (runs_called program number b given k a gs s grounds.well grounds.obeys (called_apart program before number b given k refl grounds.obeys.0 grounds.apart) works stands.body ready.rest.1 rest stands) in
       inl (touching_on program before f (waits ∷ w.inner) Quiet _ (
         inl (runs_unawaited caller k works.rooms _ works.rest.1, refl),
-        inner_on program before (marks_of (program_form program)) w.outermost.behind w.outermost.lower _ Quiet a.procedure 0 (suc 0) (Some w.outermost.number) (behind_it program before f) w.inner w.within c.stepped.alters
+        inner_on program before (allowance_of (program_form program)) w.outermost.behind w.outermost.lower _ Quiet a.procedure 0 (suc 0) (Some w.outermost.number) (behind_it program before f) w.inner w.within c.stepped.alters
             (λ n. sym (operands_deeper n rest a _)) still.1,
       )
       refl
@@ -194,7 +194,7 @@ module _ (program : Program) (a : Activation Value) (k : Control) (s : State) (r
   returning_step g grounds f = passed_on Returning (λ runs. cc runs) g refl refl _ refl refl grounds f
 
 -- Nothing is left to do of no body.
-nothing_left : (frugal : Marks) (behind : Control) (heap : List Object) (mode : Mode) (ms : List Master) → Frugal frugal behind heap mode [] ms → ⊥
+nothing_left : (frugal : Allowance) (behind : Control) (heap : List Object) (mode : Mode) (ms : List Master) → Frugal frugal behind heap mode [] ms → ⊥
 nothing_left frugal behind heap mode ms (inl q) = q
 nothing_left frugal behind heap mode ms (inr (runs, inl leaving)) = leaving
 nothing_left frugal behind heap mode ms (inr (runs, inr beginning)) = beginning
@@ -202,7 +202,7 @@ nothing_left frugal behind heap mode ms (inr (runs, inr beginning)) = beginning
 -- Any step while such an operation is under way.
 step_by : (program : Program) (mode : Mode) (k : Control) (all : List (Activation Value)) (s : State) → (grounds : Grounds program (with_parts mode k all s)) (f : Touching program (with_parts mode k all s)) → GoesTouching program (with_parts mode k all s) (mode_next named program.types.items (body_forms program) mode (with_parts mode k all s))
 step_by program mode k [] s grounds f = absurd f.ready.0
-step_by program mode [] (a ∷ rest) s grounds f = absurd (nothing_left (marks_of (program_form program)) f.within.outermost.behind s.heap mode f.within.frugal.upper f.within.frugal.frugal)
+step_by program mode [] (a ∷ rest) s grounds f = absurd (nothing_left (allowance_of (program_form program)) f.within.outermost.behind s.heap mode f.within.frugal.upper f.within.frugal.frugal)
 step_by program Running (g ∷ k) (a ∷ rest) s grounds f = running_step program a k s rest g grounds f
 step_by program (Raising e) (g ∷ k) (a ∷ rest) s grounds f = raising_step program a k s rest e g grounds f
 step_by program Exiting (g ∷ k) (a ∷ rest) s grounds f = exiting_step program a k s rest g grounds f

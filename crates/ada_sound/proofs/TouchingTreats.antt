@@ -36,7 +36,7 @@ use Rattle.ada_reaching.specs.Reaching.{IsReaching}
 use Rattle.ada_typed.proofs.Control as typed
 use Rattle.ada_typed.proofs.Kept.{Each}
 use Rattle.ada_typed.proofs.Runs.{step_typed}
-use Rattle.ada_sound.proofs.Marks.{Marks, body_thrifty, is_thrifty_body, marks_of}
+use Rattle.ada_sound.proofs.Allowance.{Allowance, body_thrifty, is_thrifty_body, allowance_of}
 use Rattle.ada_sound.specs.Agreement.{running_procedure}
 use Rattle.ada_sound.proofs.Alters.{Alters}
 use Rattle.ada_sound.proofs.Callers.{Suspension, known_in, Stands, AreOf}
@@ -92,11 +92,11 @@ none_raised types b none e =
 
 -- What is behind its Finalize is left to do in such bodies.
 freed_leads :
-    (types : List TypeForm) (marks : Marks) (back : Control) (o : Id) (of : ℕ) (treatment : Treatment) (tasks : List Task) (k behind : Control) (ms : List Master) → EndsFreed marks (Names o) treatment k → FrugalLeads marks back k ms
-    → WaitsFor types o of treatment tasks k behind → FrugalLeads marks back behind ms
-freed_leads types marks back o of (begins by done) tasks k behind ms ending leads waits = absurd ending.0
-freed_leads types marks back o of (ends cause) tasks k behind ms ending leads (is, inside) =
-    subst (λ (j : Control). FrugalLeads marks back j ms) (sym is) (ends_leads marks back (Names o) (ends cause) tasks k ms ending leads)
+    (types : List TypeForm) (allowance : Allowance) (back : Control) (o : Id) (of : ℕ) (treatment : Treatment) (tasks : List Task) (k behind : Control) (ms : List Master) → EndsFreed allowance (Names o) treatment k → FrugalLeads allowance back k ms
+    → WaitsFor types o of treatment tasks k behind → FrugalLeads allowance back behind ms
+freed_leads types allowance back o of (begins by done) tasks k behind ms ending leads waits = absurd ending.0
+freed_leads types allowance back o of (ends cause) tasks k behind ms ending leads (is, inside) =
+    subst (λ (j : Control). FrugalLeads allowance back j ms) (sym is) (ends_leads allowance back (Names o) (ends cause) tasks k ms ending leads)
 
 module _ (program : Program) (a : Activation Value) (rest : List (Activation Value)) (k : Control) (s : State) (v : Value) (treatment : Treatment) (tasks : List Task) where
   abbrev whole : State
@@ -106,8 +106,8 @@ module _ (program : Program) (a : Activation Value) (rest : List (Activation Val
     abbrev p : ProgramForm
     p = program_form program
 
-    abbrev marks : Marks
-    marks = (marks_of (program_form program))
+    abbrev allowance : Allowance
+    allowance = (allowance_of (program_form program))
 
     abbrev operation : Pause program (length f.within.inner) whole
     operation = outermost program whole f
@@ -134,14 +134,14 @@ module _ (program : Program) (a : Activation Value) (rest : List (Activation Val
 
     -- The object is freed, or begins quietly, and no operation of it runs behind.
     abbrev IsTreated : Treatment → Type 0
-    IsTreated (begins by done) = BeginsQuietly marks s.heap v by k
-    IsTreated (ends cause) = EndsFreed marks v (ends cause) k
+    IsTreated (begins by done) = BeginsQuietly allowance s.heap v by k
+    IsTreated (ends cause) = EndsFreed allowance v (ends cause) k
 
-    treated_here : IsTreated treatment × FrugalLeads marks operation.behind k f.within.frugal.upper
+    treated_here : IsTreated treatment × FrugalLeads allowance operation.behind k f.within.frugal.upper
     treated_here = by treatment f.within.frugal.frugal
       where
-        by : (way : Treatment) → Frugal marks operation.behind s.heap Running (Treats v way tasks ∷ k) f.within.frugal.upper
-            → IsTreated way × FrugalLeads marks operation.behind k f.within.frugal.upper
+        by : (way : Treatment) → Frugal allowance operation.behind s.heap Running (Treats v way tasks ∷ k) f.within.frugal.upper
+            → IsTreated way × FrugalLeads allowance operation.behind k f.within.frugal.upper
         by (begins how done) (inl leads) = absurd leads.0.0
         by (begins how done) (inr (runs, inl leaving)) = absurd leaving
         by (begins how done) (inr (runs, inr beginning)) = beginning
@@ -157,11 +157,11 @@ module _ (program : Program) (a : Activation Value) (rest : List (Activation Val
     inside_so (ends cause) ending = ending.0
 
     -- It goes on in the body that frees or allocates it.
-    goes_here : (e : Event) (after : State) → Stepped treater s.heap e after × StaysHere treater a rest s program.types.items (body_forms program) k Operated after → GoesOrBegins marks operation.lower operation.behind program.types.items (body_forms program) whole after → Still program whole f after → InTouching program s.heap e after
+    goes_here : (e : Event) (after : State) → Stepped treater s.heap e after × StaysHere treater a rest s program.types.items (body_forms program) k Operated after → GoesOrBegins allowance operation.lower operation.behind program.types.items (body_forms program) whole after → Still program whole f after → InTouching program s.heap e after
     goes_here e after (st, (acts, behind)) goes still =
         stays_on program whole f e after (record { procedure = ap procedure_of acts; suspended = ap older acts }) st (by goes) still
       where
-        by : GoesOrBegins marks operation.lower operation.behind program.types.items (body_forms program) whole after → Frugally marks operation.lower operation.behind after
+        by : GoesOrBegins allowance operation.lower operation.behind program.types.items (body_forms program) whole after → Frugally allowance operation.lower operation.behind after
         by (inl frugal) = frugal
         by (inr more) =
             let same : length after.activations ≡ length (a ∷ rest) = ap length acts in
@@ -182,30 +182,30 @@ module _ (program : Program) (a : Activation Value) (rest : List (Activation Val
       alters_here = rw c.is c.alters
 
       -- Where the object is freed, what is behind its Finalize is left to do.
-      leads_behind : IsFreed c.treatment → FrugalLeads marks operation.behind c.behind f.within.frugal.upper
+      leads_behind : IsFreed c.treatment → FrugalLeads allowance operation.behind c.behind f.within.frugal.upper
       leads_behind freed = by c.treatment freed is_treated waits_here
         where
           by : (way : Treatment) → IsFreed way → IsTreated way → WaitsFor p.types c.o c.of way c.tasks k c.behind
-              → FrugalLeads marks operation.behind c.behind f.within.frugal.upper
+              → FrugalLeads allowance operation.behind c.behind f.within.frugal.upper
           by (begins how done) freed' quietly waits = absurd freed'
           by (ends cause) freed' ending waits =
-              freed_leads p.types marks operation.behind c.o c.of (ends cause) c.tasks k c.behind f.within.frugal.upper
-              (subst (λ (u : Value). EndsFreed marks u (ends cause) k) c.operated.3 ending) treated_here.1 waits
+              freed_leads p.types allowance operation.behind c.o c.of (ends cause) c.tasks k c.behind f.within.frugal.upper
+              (subst (λ (u : Value). EndsFreed allowance u (ends cause) k) c.operated.3 ending) treated_here.1 waits
 
       -- So it is where the object begins.
-      frugal_behind : Frugal marks operation.behind after.heap Running c.behind f.within.frugal.upper
+      frugal_behind : Frugal allowance operation.behind after.heap Running c.behind f.within.frugal.upper
       frugal_behind = by c.treatment is_treated waits_here
         where
           by : (way : Treatment) → IsTreated way → WaitsFor p.types c.o c.of way c.tasks k c.behind
-              → Frugal marks operation.behind after.heap Running c.behind f.within.frugal.upper
+              → Frugal allowance operation.behind after.heap Running c.behind f.within.frugal.upper
           by (begins how done) quietly (part, is) =
-              let kept = quietly_kept marks s.heap after.heap e v how k alters_here quietly in
-              let begun = subst (λ (u : Value). BeginsQuietly marks after.heap u how k) c.operated.3 kept in
-              subst (λ (j : Control). Frugal marks operation.behind after.heap Running j f.within.frugal.upper) (sym is)
+              let kept = quietly_kept allowance s.heap after.heap e v how k alters_here quietly in
+              let begun = subst (λ (u : Value). BeginsQuietly allowance after.heap u how k) c.operated.3 kept in
+              subst (λ (j : Control). Frugal allowance operation.behind after.heap Running j f.within.frugal.upper) (sym is)
               (inr (refl, inr (begun, treated_here.1)))
           by (ends cause) ending waits =
-              inl (freed_leads p.types marks operation.behind c.o c.of (ends cause) c.tasks k c.behind f.within.frugal.upper
-              (subst (λ (u : Value). EndsFreed marks u (ends cause) k) c.operated.3 ending) treated_here.1 waits)
+              inl (freed_leads p.types allowance operation.behind c.o c.of (ends cause) c.tasks k c.behind f.within.frugal.upper
+              (subst (λ (u : Value). EndsFreed allowance u (ends cause) k) c.operated.3 ending) treated_here.1 waits)
 
       -- What is behind its operation.
       abbrev behind_it_all : State
@@ -276,9 +276,9 @@ module _ (program : Program) (a : Activation Value) (rest : List (Activation Val
 
       all_behind :
           (procedure : Option ℕ) (depth : ℕ) (last : Option ℕ) (others inner : List Suspension)
-          (are : AreInner program whole marks operation.behind operation.lower procedure depth last others inner)
-          → AllWatched program whole marks operation.behind operation.lower after procedure depth last others inner are
-          → AllWatched program whole marks operation.behind operation.lower behind_it_all procedure depth last others inner are
+          (are : AreInner program whole allowance operation.behind operation.lower procedure depth last others inner)
+          → AllWatched program whole allowance operation.behind operation.lower after procedure depth last others inner are
+          → AllWatched program whole allowance operation.behind operation.lower behind_it_all procedure depth last others inner are
       all_behind procedure depth last others [] are begun = tt
       all_behind procedure depth last others (g ∷ inner) (inl call, more) begun = all_behind g.procedure (suc depth) last others inner more begun
       all_behind procedure depth last others (g ∷ inner) (inr outer, more) begun =
@@ -372,7 +372,7 @@ module _ (program : Program) (a : Activation Value) (rest : List (Activation Val
               let bodies : AreOf program (a ∷ rest) (waits_for ∷ f.suspensions) = subst (λ (all : List (Activation Value)). AreOf program all (waits_for ∷ f.suspensions)) (ap (λ (t : State). older t.activations) c.is) begun.stands.bodies in
               bodies.0
 
-          inner_begun : AreInner program after marks operation.behind operation.lower (running_procedure after) 0 (Some operation.number) waiting (waits_for ∷ f.within.inner)
+          inner_begun : AreInner program after allowance operation.behind operation.lower (running_procedure after) 0 (Some operation.number) waiting (waits_for ∷ f.within.inner)
           inner_begun = (
             inr (record {
               pause = begun.pause;
@@ -383,18 +383,18 @@ module _ (program : Program) (a : Activation Value) (rest : List (Activation Val
               upper = f.within.frugal.upper;
               masters = begun.is_lower ∙ f.within.frugal.masters;
               own = f.within.frugal.own;
-              leads = subst (λ (j : Control). FrugalLeads marks operation.behind j f.within.frugal.upper) (sym begun.is_behind) (leads_behind ends_it);
+              leads = subst (λ (j : Control). FrugalLeads allowance operation.behind j f.within.frugal.upper) (sym begun.is_behind) (leads_behind ends_it);
             }),
-            subst (λ (procedure : Option ℕ). AreInner program after marks operation.behind operation.lower procedure (suc 0) (Some operation.number) waiting f.within.inner) of_body
-                (inner_on program whole marks operation.behind operation.lower after e a.procedure 0 (suc 0) (Some operation.number) waiting f.within.inner f.within.within alters_here deeper still.1),
+            subst (λ (procedure : Option ℕ). AreInner program after allowance operation.behind operation.lower procedure (suc 0) (Some operation.number) waiting f.within.inner) of_body
+                (inner_on program whole allowance operation.behind operation.lower after e a.procedure 0 (suc 0) (Some operation.number) waiting f.within.inner f.within.within alters_here deeper still.1),
           )
 
           -- Its body is frugal as the others are.
-          runs_begun : Frugally marks operation.lower operation.behind after
+          runs_begun : Frugally allowance operation.lower operation.behind after
           runs_begun =
-              let body : is_thrifty_body marks c.b ≡ true = body_thrifty p c.b frugal in
-              subst (λ (t : State). Frugally marks operation.lower operation.behind t) (sym c.is)
-              (frugal_starts_inside marks operation.behind f.within.frugal.upper operation.lower c.number c.b body (Part c.o c.place) c.behind (record (running k a rest s) { heap = c.heap }) f.within.frugal.masters f.within.frugal.own (leads_behind ends_it))
+              let body : is_thrifty_body allowance c.b ≡ true = body_thrifty p c.b frugal in
+              subst (λ (t : State). Frugally allowance operation.lower operation.behind t) (sym c.is)
+              (frugal_starts_inside allowance operation.behind f.within.frugal.upper operation.lower c.number c.b body (Part c.o c.place) c.behind (record (running k a rest s) { heap = c.heap }) f.within.frugal.masters f.within.frugal.own (leads_behind ends_it))
 
           begins_inside : InTouching program s.heap e after
           begins_inside =
@@ -443,7 +443,7 @@ module _ (program : Program) (a : Activation Value) (rest : List (Activation Val
 
     -- Whatever comes next.
     treated_went : (n : Next) → next program.types.items (body_forms program) whole ≡ n → TreatedIn treater a rest s program.types.items (body_forms program) k Operated v n
-        → Each (GoesOrBegins marks operation.lower operation.behind program.types.items (body_forms program) whole) n → Each (Still program whole f) n → GoesTouching program whole n
+        → Each (GoesOrBegins allowance operation.lower operation.behind program.types.items (body_forms program) whole) n → Each (Still program whole f) n → GoesTouching program whole n
     treated_went (halts halt) is t goes still = t
     treated_went (moves e after) is (inl st) goes still = inl (goes_here e after st goes still)
     treated_went (moves e after) is (inr (inl c)) goes still = begins_there e after c still is
@@ -457,5 +457,5 @@ module _ (program : Program) (a : Activation Value) (rest : List (Activation Val
     unfolding next
     treats_step =
         treated_went _ refl (treated_next program a rest k s v treatment tasks grounds f.suspensions (touching_stands program whole grounds f.suspensions f.within f.stands treater.program.types) f.ready.1)
-        (treats_frugally marks operation.lower operation.behind program.types.items (body_forms program) whole f.within.frugal refl v treatment tasks k refl)
+        (treats_frugally allowance operation.lower operation.behind program.types.items (body_forms program) whole f.within.frugal refl v treatment tasks k refl)
         (still_on program whole f grounds (λ j awaited last. cc last))

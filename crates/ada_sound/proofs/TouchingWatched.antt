@@ -1,5 +1,5 @@
--- While the body of an operation runs that touches storage, the object stays as it is in which a component lies that is freed (7.6, 13.11.2): each step of that body,
--- and of those since then, leaves it alone.
+-- While the body of an operation runs that touches storage, the object stays as it is in which a component lies that is freed (7.6, 13.11.2): each step of that
+-- body, and of those since then, leaves it alone.
 
 use Rattle.std.proofs.Common.{◌≡◌, ℕ, List, [], ◌∷◌, ◌++◌, ◌∙◌, refl, inl, inr, suc}
 use Rattle.std.proofs.lemmas.Bool.{eq-eqb}
@@ -16,7 +16,7 @@ use Rattle.ada_reaching.specs.Law.{AllGoOn, AreApart, FirstTakesNone, GoesOn}
 use Rattle.ada_tracked.specs.Law as tracked
 use Rattle.ada_typed.proofs.Kept.{Each}
 use Rattle.ada_untouched.specs.Untouched.{InnermostHousesNone, NewestHousesNone}
-use Rattle.ada_sound.proofs.Marks.{Marks, marks_of}
+use Rattle.ada_sound.proofs.Allowance.{Allowance, allowance_of}
 use Rattle.ada_sound.proofs.Callers.{Suspension}
 use Rattle.ada_sound.proofs.FrugalLeaves.{innermost_houses_none, leaves_own}
 use Rattle.ada_sound.proofs.Invariant.{Control}
@@ -74,7 +74,7 @@ module _ (program : Program) (gs : List Suspension) (s : State) (w : Within prog
   pub takes_none : (k : Control) → s.control ≡ k → FirstTakesNone k s.masters
   takes_none [] is = tt
   takes_none (Leaves left ∷ k) is =
-      let inner = leaves_own (marks_of (program_form program)) w.outermost.behind s.heap s.mode left k w.frugal.upper w.outermost.lower (rw is at w.frugal.frugal) w.frugal.own in
+      let inner = leaves_own (allowance_of (program_form program)) w.outermost.behind s.heap s.mode left k w.frugal.upper w.outermost.lower (rw is at w.frugal.frugal) w.frugal.own in
       rw w.frugal.masters (innermost_so (w.frugal.upper ++ w.outermost.lower) (innermost_houses_none (w.frugal.upper ++ w.outermost.lower) inner))
   takes_none (g ∷ k) is = tt
 
@@ -86,22 +86,22 @@ module _ (program : Program) (gs : List Suspension) (s : State) (w : Within prog
         each_watched program x apart are behind s.heap found (next program.types.items (body_forms program) s)
         (stays_reaching program grounds.well (watches (program_form program).types (Some x)) apart are (is_watched (Some x)) (is_unnamed (program_form program).types (Some x)) behind s grounds.typed reaching (record { on = on; takes = takes_none s.control refl })).1
 
-    module _ (marks : Marks) (back : Control) (lower : List Master) where
+    module _ (allowance : Allowance) (back : Control) (lower : List Master) where
       -- The end of the body of none of the operations for which these activations wait is next.
-      abbrev pub AllGoOnInside : (running : Option ℕ) (depth : ℕ) (outermost : Option ℕ) (others inner : List Suspension) → AreInner program s marks back lower running depth outermost others inner → Type 0
+      abbrev pub AllGoOnInside : (running : Option ℕ) (depth : ℕ) (outermost : Option ℕ) (others inner : List Suspension) → AreInner program s allowance back lower running depth outermost others inner → Type 0
       AllGoOnInside running depth outermost others [] are = Unit {0}
       AllGoOnInside running depth outermost others (g ∷ inner) (inl call, more) = AllGoOnInside g.procedure (suc depth) outermost others inner more
       AllGoOnInside running depth outermost others (g ∷ inner) (inr operation, more) =
           (s.control ≡ Returns [] [] ∷ operation.pause.behind → ⊥) × AllGoOnInside g.procedure (suc depth) outermost others inner more
 
       -- So it is with what is watched in each of these.
-      pub all_watched : (running : Option ℕ) (depth : ℕ) (outermost : Option ℕ) (others inner : List Suspension) (are : AreInner program s marks back lower running depth outermost others inner)
+      pub all_watched : (running : Option ℕ) (depth : ℕ) (outermost : Option ℕ) (others inner : List Suspension) (are : AreInner program s allowance back lower running depth outermost others inner)
           → AllGoOnInside running depth outermost others inner are
-          → Each (λ after. AllWatched program s marks back lower after running depth outermost others inner are) (next program.types.items (body_forms program) s)
+          → Each (λ after. AllWatched program s allowance back lower after running depth outermost others inner are) (next program.types.items (body_forms program) s)
       all_watched running depth outermost others [] are on =
-          each_so (λ after. AllWatched program s marks back lower after running depth outermost others [] are) (λ after. tt) (next program.types.items (body_forms program) s)
+          each_so (λ after. AllWatched program s allowance back lower after running depth outermost others [] are) (λ after. tt) (next program.types.items (body_forms program) s)
       all_watched running depth outermost others (g ∷ inner) (inl call, more) on = all_watched g.procedure (suc depth) outermost others inner more on
       all_watched running depth outermost others (g ∷ inner) (inr operation, more) on =
           each_and (Watched program operation.pause.watch operation.pause.behind)
-          (λ after. AllWatched program s marks back lower after g.procedure (suc depth) outermost others inner more) (next program.types.items (body_forms program) s)
+          (λ after. AllWatched program s allowance back lower after g.procedure (suc depth) outermost others inner more) (next program.types.items (body_forms program) s)
           (watched_stays operation.pause.watch operation.pause.behind operation.pause.still on.0) (all_watched g.procedure (suc depth) outermost others inner more on.1)

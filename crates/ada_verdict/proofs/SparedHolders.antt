@@ -58,25 +58,6 @@ marked_all implicit types n marks past before t =
     ∙ ap (λ (rest : List TypeForm). is_marked marks t || reaches_one implicit types t n rest) (sym (drop_all n types past))
     ∙ before t
 
--- Where nothing is marked yet, all types are left.
-pub marked_none : (implicit : Implicit) (types : List TypeForm) (marks : List Bool) → marks ≡ [] →
-    (t : ℕ) → (is_marked marks t || reaches_from implicit types t 0) ≡ reaches_holder implicit types t
-marked_none implicit types marks none t = rw none refl
-
--- The access type of a component is marked, where this end reaches its holder.
-pub one_access : (reaches : ℕ → Bool) (a t : ℕ) → reaches a ≡ true → (a == t) ≡ (reaches t && (a == t))
-one_access reaches a t is = go (a == t) refl
-  where
-    go : (same : Bool) → (a == t) ≡ same → same ≡ (reaches t && same)
-    go true here =
-        let one : a ≡ t = grind (arith, here) in
-        ap (λ (b : Bool). b && true) (sym (ap reaches (sym one) ∙ is))
-    go false here = and_nothing (reaches t)
-      where
-        and_nothing : (b : Bool) → false ≡ (b && false)
-        and_nothing true = refl
-        and_nothing false = refl
-
 -- The types that are marked are those that are asked about.
 same_asked : (p : ProgramForm) (implicit : Implicit) (marks : List Bool) → implicit ≡ implicit_of p → ((t : ℕ) → is_marked marks t ≡ reaches_holder implicit p.types t) →
     first_spot (text_frees_inside (is_marked marks) p) ≡ first_spot (text_frees_inside (reaches_holder (implicit_of p) p.types) p)

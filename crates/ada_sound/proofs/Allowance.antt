@@ -13,24 +13,24 @@ use Rattle.ada_quiet.specs.Calm.{quietly_begun_types}
 use Rattle.ada_quiet.specs.Frugal.{allocates_quietly, are_frugal_declarations, frugal_procedures, is_frugal_stmt, are_frugal, are_frugal_branches, are_frugal_handlers, is_frugal_body, thrift_of}
 
 -- What such bodies go by: as frugal ones do, and whether they may free objects with controlled parts.
-pub record Marks : Type 0 where
+pub record Allowance : Type 0 where
   pub types : List TypeForm
   pub begun : List Bool
   pub ends_parts : Bool
   pub procedures : List Bool
 
 -- Such a body may free objects of an access type (13.11.2): they have no controlled parts, or it may free those that have some.
-abbrev pub may_end : Marks → (access : ℕ) → Bool
-may_end marks access = marks.ends_parts || has_bare_objects marks.types access
+abbrev pub may_end : Allowance → (access : ℕ) → Bool
+may_end allowance access = allowance.ends_parts || has_bare_objects allowance.types access
 
-module _ (marks : Marks) where
+module _ (allowance : Allowance) where
   abbrev mutual
     -- A statement is frugal, and frees no object with controlled parts unless it may (13.11.2).
     pub is_thrifty_stmt : StmtForm → Bool
     is_thrifty_stmt skips = true
-    is_thrifty_stmt (assigns target right) = allocates_quietly marks.types marks.begun right
-    is_thrifty_stmt (assigns_record target items) = not (is_some (finalization_of marks.types target.record_type))
-    is_thrifty_stmt (frees access path) = may_end marks access
+    is_thrifty_stmt (assigns target right) = allocates_quietly allowance.types allowance.begun right
+    is_thrifty_stmt (assigns_record target items) = not (is_some (finalization_of allowance.types target.record_type))
+    is_thrifty_stmt (frees access path) = may_end allowance access
     is_thrifty_stmt (gets target) = true
     is_thrifty_stmt (writes e) = true
     is_thrifty_stmt (writes_text text) = true
@@ -38,10 +38,10 @@ module _ (marks : Marks) where
     is_thrifty_stmt (repeats condition fs spot) = are_thrifty fs
     is_thrifty_stmt (counts x low high fs spot) = are_thrifty fs
     is_thrifty_stmt (exits condition spot) = true
-    is_thrifty_stmt (calls procedure actuals) = slice_index_or marks.procedures procedure false
+    is_thrifty_stmt (calls procedure actuals) = slice_index_or allowance.procedures procedure false
     is_thrifty_stmt (returns spot) = true
     is_thrifty_stmt (raises e) = true
-    is_thrifty_stmt (encloses ds fs hs) = are_frugal_declarations marks.types marks.begun ds && are_thrifty fs && are_thrifty_handlers hs
+    is_thrifty_stmt (encloses ds fs hs) = are_frugal_declarations allowance.types allowance.begun ds && are_thrifty fs && are_thrifty_handlers hs
 
     -- So it is with statements.
     pub are_thrifty : StmtsForm → Bool
@@ -59,17 +59,17 @@ module _ (marks : Marks) where
     are_thrifty_handlers (a_handler choices fs hs) = are_thrifty fs && are_thrifty_handlers hs
 
 -- All of a body is so.
-abbrev pub is_thrifty_body : Marks → BodyForm → Bool
-is_thrifty_body marks b = are_frugal_declarations marks.types marks.begun b.declarations && are_thrifty marks b.statements && are_thrifty_handlers marks b.handlers
+abbrev pub is_thrifty_body : Allowance → BodyForm → Bool
+is_thrifty_body allowance b = are_frugal_declarations allowance.types allowance.begun b.declarations && are_thrifty allowance b.statements && are_thrifty_handlers allowance b.handlers
 
 -- Those of a program, which may free some.
-abbrev pub marks_of : ProgramForm → Marks
-marks_of p = record { types = p.types; begun = quietly_begun_types p; ends_parts = true; procedures = frugal_procedures p }
+abbrev pub allowance_of : ProgramForm → Allowance
+allowance_of p = record { types = p.types; begun = quietly_begun_types p; ends_parts = true; procedures = frugal_procedures p }
 
 -- What is frugal is so.
 module _ (p : ProgramForm) where
   mutual
-    stmt_thrifty : (f : StmtForm) → is_frugal_stmt (thrift_of p) f ≡ true → is_thrifty_stmt (marks_of p) f ≡ true
+    stmt_thrifty : (f : StmtForm) → is_frugal_stmt (thrift_of p) f ≡ true → is_thrifty_stmt (allowance_of p) f ≡ true
     stmt_thrifty skips is = refl
     stmt_thrifty (assigns target right) is = is
     stmt_thrifty (assigns_record target items) is = (and_parts (not (is_some (finalization_of p.types target.record_type))) (list_all (is_bare_item p.types) items) is).0
@@ -89,37 +89,37 @@ module _ (p : ProgramForm) where
         let three = and_parts (are_frugal_declarations p.types (quietly_begun_types p) ds) (are_frugal (thrift_of p) fs) two.0 in
         rw (three.0, stmts_thrifty fs three.1, handlers_thrifty hs two.1) refl
 
-    stmts_thrifty : (fs : StmtsForm) → are_frugal (thrift_of p) fs ≡ true → are_thrifty (marks_of p) fs ≡ true
+    stmts_thrifty : (fs : StmtsForm) → are_frugal (thrift_of p) fs ≡ true → are_thrifty (allowance_of p) fs ≡ true
     stmts_thrifty no_stmts is = refl
     stmts_thrifty (a_stmt f fs) is = let both = and_parts (is_frugal_stmt (thrift_of p) f) (are_frugal (thrift_of p) fs) is in rw (stmt_thrifty f both.0, stmts_thrifty fs both.1) refl
 
-    branches_thrifty : (branches : BranchesForm) → are_frugal_branches (thrift_of p) branches ≡ true → are_thrifty_branches (marks_of p) branches ≡ true
+    branches_thrifty : (branches : BranchesForm) → are_frugal_branches (thrift_of p) branches ≡ true → are_thrifty_branches (allowance_of p) branches ≡ true
     branches_thrifty (otherwise fs) is = stmts_thrifty fs is
     branches_thrifty (a_branch e fs branches) is =
         let both = and_parts (are_frugal (thrift_of p) fs) (are_frugal_branches (thrift_of p) branches) is in
         rw (stmts_thrifty fs both.0, branches_thrifty branches both.1) refl
 
-    handlers_thrifty : (hs : HandlersForm) → are_frugal_handlers (thrift_of p) hs ≡ true → are_thrifty_handlers (marks_of p) hs ≡ true
+    handlers_thrifty : (hs : HandlersForm) → are_frugal_handlers (thrift_of p) hs ≡ true → are_thrifty_handlers (allowance_of p) hs ≡ true
     handlers_thrifty no_handlers is = refl
     handlers_thrifty (a_handler choices fs hs) is =
         let both = and_parts (are_frugal (thrift_of p) fs) (are_frugal_handlers (thrift_of p) hs) is in
         rw (stmts_thrifty fs both.0, handlers_thrifty hs both.1) refl
 
   -- So is a body.
-  pub body_thrifty : (b : BodyForm) → is_frugal_body (thrift_of p) b ≡ true → is_thrifty_body (marks_of p) b ≡ true
+  pub body_thrifty : (b : BodyForm) → is_frugal_body (thrift_of p) b ≡ true → is_thrifty_body (allowance_of p) b ≡ true
   body_thrifty b is =
       let two = and_parts (are_frugal_declarations p.types (quietly_begun_types p) b.declarations && are_frugal (thrift_of p) b.statements) (are_frugal_handlers (thrift_of p) b.handlers) is in
       let three = and_parts (are_frugal_declarations p.types (quietly_begun_types p) b.declarations) (are_frugal (thrift_of p) b.statements) two.0 in
       rw (three.0, stmts_thrifty b.statements three.1, handlers_thrifty b.handlers two.1) refl
 
 -- The declarations, the statements and the handlers of such a body are so.
-pub thrifty_parts : (marks : Marks) (b : BodyForm) → is_thrifty_body marks b ≡ true
-    → (are_frugal_declarations marks.types marks.begun b.declarations ≡ true) × (are_thrifty marks b.statements ≡ true) × (are_thrifty_handlers marks b.handlers ≡ true)
-thrifty_parts marks b is =
+pub thrifty_parts : (allowance : Allowance) (b : BodyForm) → is_thrifty_body allowance b ≡ true
+    → (are_frugal_declarations allowance.types allowance.begun b.declarations ≡ true) × (are_thrifty allowance b.statements ≡ true) × (are_thrifty_handlers allowance b.handlers ≡ true)
+thrifty_parts allowance b is =
     let three = and_parts _ _ is in
     let two = and_parts _ _ three.0 in
     (two.0, two.1, three.1)
 
 -- What a body goes by that calls nothing, frees no object with controlled parts, and allocates none.
-abbrev pub simple_marks : List TypeForm → Marks
-simple_marks types = record { types = types; begun = []; ends_parts = false; procedures = [] }
+abbrev pub simple_allowance : List TypeForm → Allowance
+simple_allowance types = record { types = types; begun = []; ends_parts = false; procedures = [] }
