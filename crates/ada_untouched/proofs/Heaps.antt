@@ -1,7 +1,7 @@
 -- Heaps that are alike: what is found there, and what becomes of them.
 
 use Rattle.std.proofs.Common.{◌≡◌, ◌≢◌, ◌⊎◌, ℕ, ◌+◌, zero, suc, Bool, true, false, List, [], ◌∷◌, ◌++◌, length, take, drop, Option, Some, None, is_some, refl, sym, ap, ◌∙◌, inl, inr, subst, arith, length-set}
-use Rattle.std.specs.Prelude.{◌==◌, ◌&&◌, if◌then◌else◌}
+use Rattle.std.specs.Prelude.{◌==◌, ◌&&◌, if◌then◌else◌, map}
 use Rattle.std.specs.List.{slice_get, slice_set}
 use Rattle.std.proofs.lemmas.Bool.Decides.{eqb_tells}
 use Rattle.ada_meaning.specs.declared.state.Id.{Id}
@@ -10,10 +10,10 @@ use Rattle.ada_meaning.specs.declared.state.Stage.TheVariants.{Building, Existin
 use Rattle.ada_meaning.specs.declared.state.Value.{Value}
 use Rattle.ada_meaning.specs.declared.state.Value.TheVariants.{Null, Names, Scalar, Part}
 use Rattle.ada_meaning.specs.Heap.{PartState, Cell, Found, on_null, on_gone, on_other, finds}
-use Rattle.ada_meaning.specs.Step.{if_whole, record_in, stored_from}
-use Rattle.ada_meaning.specs.Named.{Object, named, object_at, changed, existing, seen, look, lent_by, lent, all_alive, standing_by, standing, new_object, create, created, parted, finished, returned, filled, with_part, treated, on_object, store}
+use Rattle.ada_meaning.specs.Step.{if_whole, record_in}
+use Rattle.ada_meaning.specs.Named.{Object, object_at, changed, existing, seen, look, lent_by, lent, all_alive, standing_by, standing, new_object, create, created, parted, finished, returned, filled, with_part, treated, on_object, store, is_member, members_from, members}
 use Rattle.ada_untouched.specs.Alike.{ValuesAlike, UnlessGhost, ObjectsAlike, FoundAlike, HeapsAlike}
-use Rattle.ada_untouched.specs.Untouched.{hides, IsInSight}
+use Rattle.ada_untouched.specs.Untouched.{hides, IsInSight, AreNone}
 
 -- Lists.
 
@@ -80,14 +80,14 @@ set_alike (x ∷ xs) (y ∷ ys) (suc c) zero v e same = same
 set_alike (x ∷ xs) (y ∷ ys) (suc c) (suc i) v e same = set_alike xs ys c i v (omega (arith, e)) same
 
 -- The next element comes to both.
-added : {X : Type 0} (P : Option X → Option X → Type 0) → ((a : Option X) → P a a) → (x : X) (xs ys : List X) (i : ℕ) → length xs ≡ length ys → P (slice_get xs i) (slice_get ys i) → P (slice_get (xs ++ x ∷ []) i) (slice_get (ys ++ x ∷ []) i)
+pub added : {X : Type 0} (P : Option X → Option X → Type 0) → ((a : Option X) → P a a) → (x : X) (xs ys : List X) (i : ℕ) → length xs ≡ length ys → P (slice_get xs i) (slice_get ys i) → P (slice_get (xs ++ x ∷ []) i) (slice_get (ys ++ x ∷ []) i)
 added P self x [] [] i e p = self (slice_get (x ∷ []) i)
 added P self x [] (y ∷ ys) i e p = absurd (omega (arith, e))
 added P self x (z ∷ xs) [] i e p = absurd (omega (arith, e))
 added P self x (z ∷ xs) (y ∷ ys) zero e p = p
 added P self x (z ∷ xs) (y ∷ ys) (suc i) e p = added P self x xs ys i (omega (arith, e)) p
 
-added_length : {X : Type 0} (x : X) (xs ys : List X) → length xs ≡ length ys → length (xs ++ x ∷ []) ≡ length (ys ++ x ∷ [])
+pub added_length : {X : Type 0} (x : X) (xs ys : List X) → length xs ≡ length ys → length (xs ++ x ∷ []) ≡ length (ys ++ x ∷ [])
 added_length x [] [] e = refl
 added_length x [] (y ∷ ys) e = absurd (omega (arith, e))
 added_length x (z ∷ xs) [] e = absurd (omega (arith, e))
@@ -107,7 +107,7 @@ set_there (z ∷ xs) (suc i) (suc j) y ne = set_there xs i j y (λ e. ne (ap suc
 
 -- Values, and objects.
 
-same_values : (hiding : ℕ → Bool) (vs : List Value) → ValuesAlike hiding vs vs
+pub same_values : (hiding : ℕ → Bool) (vs : List Value) → ValuesAlike hiding vs vs
 same_values hiding vs = record { count = refl; values = λ c e. refl }
 
 set_values : (hiding : ℕ → Bool) (vs us : List Value) (c : ℕ) (v : Value) → ValuesAlike hiding vs us → ValuesAlike hiding (slice_set vs c v) (slice_set us c v)
@@ -180,6 +180,17 @@ life_of false e p = p
 is_but_for_values : (hiding : ℕ → Bool) (ghost : Bool) (x y : Object) → ghost ≡ false → ObjectsAlike hiding ghost x y → y ≡ record x { cell = record (x.cell) { values = y.cell.values } }
 is_but_for_values hiding ghost x y plain a = life_of ghost plain a.life ∙ ap (λ (cell : Cell Value). record x { cell = cell }) a.cell
 
+-- Is the object of a name in the collection of an item, if there is one?
+abbrev pub member_by : (item : ℕ) → Option Object → Bool
+member_by item None = false
+member_by item (Some x) = is_member item x
+
+member_alike : (hiding : ℕ → Bool) (ghost : Bool) → ghost ≡ false → (item : ℕ) (f g : Option Object) → FoundAlike hiding ghost f g → member_by item g ≡ member_by item f
+member_alike hiding ghost plain item None None a = refl
+member_alike hiding ghost plain item None (Some y) a = absurd a
+member_alike hiding ghost plain item (Some x) None a = absurd a
+member_alike hiding ghost plain item (Some x) (Some y) a = ap (is_member item) (is_but_for_values hiding ghost x y plain a)
+
 -- What is looked for, in whatever way, is found in both, where a test on the rest of the object decides.
 module _ (hiding : ℕ → Bool) (look_at : Object → Found (Cell Value))
     (each : (x : Object) (us : List Value) → ValuesAlike hiding x.cell.values us → CellsAlike hiding (look_at x) (look_at (record x { cell = record (x.cell) { values = us } }))) where
@@ -221,6 +232,54 @@ module _ (hiding : ℕ → Bool) (ghost : Bool) (plain : ghost ≡ false) where
 pub one_or_other : (p o : Id) → (p ≡ o) ⊎ (p.0 ≢ o.0)
 one_or_other p o = elim (eqb_tells p.0 o.0) [ inl h ↦ inl (ap (λ (i : ℕ). record { 0 = i }) h.1) | inr h ↦ inr h.1 ]
 
+-- An object changes in two heaps, as many objects as there are in each: what holds of the objects of each name does so again.
+pub on_length : (change : Object → Object) (h : List Object) (v : Value) → length (on_object change h v) ≡ length h
+on_length change h Null = refl
+on_length change h (Names o) = changed_length (object_at h o)
+  where
+    changed_length : (f : Option Object) → length (changed change f h o) ≡ length h
+    changed_length None = refl
+    changed_length (Some x) = length-set h o.0 (change x)
+on_length change h (Scalar v) = refl
+on_length change h (Part o place) = refl
+
+module _ (P : Id → Option Object → Option Object → Type 0) (change : Object → Object)
+    (keeps : (o : Id) (x y : Object) → P o (Some x) (Some y) → P o (Some (change x)) (Some (change y)))
+    (h k : List Object) (count : length h ≡ length k) (objects : (o : Id) → P o (object_at h o) (object_at k o)) where
+  at_name : (o : Id) (x y : Object) → object_at h o ≡ Some x → object_at k o ≡ Some y → P o (Some x) (Some y) → (p : Id) → P p (slice_get (slice_set h o.0 (change x)) p.0) (slice_get (slice_set k o.0 (change y)) p.0)
+  at_name o x y there there_too so p = elim (one_or_other p o) as (λ w. P p (slice_get (slice_set h o.0 (change x)) p.0) (slice_get (slice_set k o.0 (change y)) p.0)) [
+    | inl e ↦ subst (λ (q : Id). P q (slice_get (slice_set h o.0 (change x)) q.0) (slice_get (slice_set k o.0 (change y)) q.0)) (sym e)
+        (subst (λ (f : Option Object). P o f (slice_get (slice_set k o.0 (change y)) o.0)) (sym (set_here h o.0 x (change x) there))
+        (subst (λ (f : Option Object). P o (Some (change x)) f) (sym (set_here k o.0 y (change y) there_too)) (keeps o x y so)))
+    | inr ne ↦ subst (λ (f : Option Object). P p f (slice_get (slice_set k o.0 (change y)) p.0)) (sym (set_there h o.0 p.0 (change x) ne))
+        (subst (λ (f : Option Object). P p (slice_get h p.0) f) (sym (set_there k o.0 p.0 (change y) ne)) (objects p))
+  ]
+
+  by_name : (o : Id) (f g : Option Object) → object_at h o ≡ f → object_at k o ≡ g → is_some f ≡ is_some g → P o f g → (p : Id) → P p (object_at (changed change f h o) p) (object_at (changed change g k o) p)
+  by_name o None None there there_too both so = objects
+  by_name o None (Some y) there there_too both so = absurd (cc)
+  by_name o (Some x) None there there_too both so = absurd (cc)
+  by_name o (Some x) (Some y) there there_too both so = at_name o x y there there_too so
+
+  pub on_both : (v : Value) (p : Id) → P p (object_at (on_object change h v) p) (object_at (on_object change k v) p)
+  on_both Null = objects
+  on_both (Names o) = by_name o (object_at h o) (object_at k o) refl refl (both_there h k o.0 count) (objects o)
+  on_both (Scalar v) = objects
+  on_both (Part o place) = objects
+
+-- Collections have the same members where each object is in both or in none.
+same_members_from : (item n : ℕ) (h k : List Object) → length h ≡ length k → ((i : ℕ) → member_by item (slice_get k i) ≡ member_by item (slice_get h i)) → members_from item n k ≡ members_from item n h
+same_members_from item n [] [] e each = refl
+same_members_from item n [] (y ∷ ys) e each = absurd (omega (arith, e))
+same_members_from item n (x ∷ xs) [] e each = absurd (omega (arith, e))
+same_members_from item n (x ∷ xs) (y ∷ ys) e each =
+    ap (λ (b : Bool). members_from item (suc n) ys ++ (if b then record { 0 = n } ∷ [] else [])) (each 0)
+    ∙ ap (λ (ids : List Id). ids ++ (if is_member item x then record { 0 = n } ∷ [] else []))
+    (same_members_from item (suc n) xs ys (omega (arith, e)) (λ i. each (suc i)))
+
+pub same_members : (item : ℕ) (h k : List Object) → length h ≡ length k → ((o : Id) → member_by item (object_at k o) ≡ member_by item (object_at h o)) → members k item ≡ members h item
+same_members item h k e each = ap (λ (ids : List Id). map Names ids) (same_members_from item 0 h k e (λ i. each (record { 0 = i })))
+
 module _ (hidden : Id → (component : ℕ) → Bool) (ghosts : Id → Bool) (h k : List Object) (a : HeapsAlike hidden ghosts h k) where
   pub look_alike : (v : Value) → IsInSight ghosts v → CellsAlike (hides hidden v) (look h v) (look k v)
   look_alike Null plain = refl
@@ -241,30 +300,11 @@ module _ (hidden : Id → (component : ℕ) → Bool) (ghosts : Id → Bool) (h 
   standing_alike (Part o place) plain = refl
 
   -- An object changes in both heaps.
-  module _ (change : Object → Object) (keeps : KeepsAlike change) where
-    at_name : (o : Id) (x y : Object) → object_at h o ≡ Some x → object_at k o ≡ Some y → ObjectsAlike (hidden o) (ghosts o) x y → HeapsAlike hidden ghosts (slice_set h o.0 (change x)) (slice_set k o.0 (change y))
-    at_name o x y there there_too alike = record {
-      count = length-set h o.0 (change x) ∙ a.count ∙ sym (length-set k o.0 (change y));
-      objects = λ p. elim (one_or_other p o) as (λ w. FoundAlike (hidden p) (ghosts p) (slice_get (slice_set h o.0 (change x)) p.0) (slice_get (slice_set k o.0 (change y)) p.0)) [
-        | inl e ↦ subst (λ (q : Id). FoundAlike (hidden q) (ghosts q) (slice_get (slice_set h o.0 (change x)) q.0) (slice_get (slice_set k o.0 (change y)) q.0)) (sym e)
-            (subst (λ (f : Option Object). FoundAlike (hidden o) (ghosts o) f (slice_get (slice_set k o.0 (change y)) o.0)) (sym (set_here h o.0 x (change x) there))
-            (subst (λ (f : Option Object). FoundAlike (hidden o) (ghosts o) (Some (change x)) f) (sym (set_here k o.0 y (change y) there_too)) (keeps (hidden o) (ghosts o) x y alike)))
-        | inr ne ↦ subst (λ (f : Option Object). FoundAlike (hidden p) (ghosts p) f (slice_get (slice_set k o.0 (change y)) p.0)) (sym (set_there h o.0 p.0 (change x) ne))
-            (subst (λ (f : Option Object). FoundAlike (hidden p) (ghosts p) (slice_get h p.0) f) (sym (set_there k o.0 p.0 (change y) ne)) (a.objects p))
-      ];
-    }
-
-    by_name : (o : Id) (f g : Option Object) → object_at h o ≡ f → object_at k o ≡ g → FoundAlike (hidden o) (ghosts o) f g → HeapsAlike hidden ghosts (changed change f h o) (changed change g k o)
-    by_name o None None there there_too alike = a
-    by_name o None (Some y) there there_too alike = absurd alike
-    by_name o (Some x) None there there_too alike = absurd alike
-    by_name o (Some x) (Some y) there there_too alike = at_name o x y there there_too alike
-
-    pub on_alike : (v : Value) → HeapsAlike hidden ghosts (on_object change h v) (on_object change k v)
-    on_alike Null = a
-    on_alike (Names o) = by_name o (object_at h o) (object_at k o) refl refl (a.objects o)
-    on_alike (Scalar v) = a
-    on_alike (Part o place) = a
+  pub on_alike : (change : Object → Object) → KeepsAlike change → (v : Value) → HeapsAlike hidden ghosts (on_object change h v) (on_object change k v)
+  on_alike change keeps v = record {
+    count = on_length change h v ∙ a.count ∙ sym (on_length change k v);
+    objects = on_both (λ o f g. FoundAlike (hidden o) (ghosts o) f g) change (λ o x y. keeps (hidden o) (ghosts o) x y) h k a.count a.objects v;
+  }
 
   pub store_alike : (v : Value) (c : ℕ) (u : Value) → HeapsAlike hidden ghosts (store h v c u) (store k v c u)
   store_alike v c u = on_alike (filled c u) (filled_alike c u) v
@@ -279,10 +319,6 @@ module _ (hidden : Id → (component : ℕ) → Bool) (ghosts : Id → Bool) (h 
   pub created_alike : (words : ℕ) → created k words ≡ created h words
   created_alike words = ap (λ (n : ℕ). Names (record { 0 = n })) (sym a.count)
 
--- Components from one on get these values in both.
-pub stored_alike :
-    (hidden : Id → (component : ℕ) → Bool) (ghosts : Id → Bool) (us : List Value) (h k : List Object) (v : Value) (c : ℕ) → HeapsAlike hidden ghosts h k
-    → HeapsAlike hidden ghosts (stored_from named h v c us) (stored_from named k v c us)
-stored_alike hidden ghosts [] h k v c a = a
-stored_alike hidden ghosts (u ∷ us) h k v c a =
-    stored_alike hidden ghosts us (store h v c u) (store k v c u) v (c + 1) (store_alike hidden ghosts h k a v c u)
+  -- Where there are no ghosts, collections have the same members.
+  pub members_alike : AreNone ghosts → (item : ℕ) → members k item ≡ members h item
+  members_alike none item = same_members item h k a.count (λ o. member_alike (hidden o) (ghosts o) (none o) item (object_at h o) (object_at k o) (a.objects o))

@@ -19,14 +19,14 @@ use Rattle.ada_meaning.specs.Frame.{Frame, is_loop, is_return, is_master, Landin
 use Rattle.ada_meaning.specs.Frame as frame
 use Rattle.ada_meaning.specs.Step.{at, resumed, returned, unwound, undone, undo_next, broken_off, landed, pass_next, running_next, jump_next, mode_next}
 use Rattle.ada_meaning.specs.Named.{Object, State, named, look, on_object, parted, next}
-use Rattle.ada_untouched.specs.Alike.{HeapsAlike, NextAlike}
-use Rattle.ada_untouched.specs.Untouched.{IsInSight, JumpIsOpen, FirstIsOpen}
+use Rattle.ada_untouched.specs.Alike.{HeapsAlike, StatesBy}
+use Rattle.ada_untouched.specs.Untouched.{IsInSight, JumpIsOpen, FirstIsOpen, Untouched}
 use Rattle.ada_untouched.specs.Law.{UntouchedPartsDoNotMatter}
-use Rattle.ada_untouched.proofs.Heaps.{parted_alike, on_alike}
+use Rattle.ada_untouched.proofs.Relation.{Keeps, NextSo, heaps_alike_keep}
 use Rattle.ada_untouched.proofs.Forms.{over, goes, Same, by_look}
 use Rattle.ada_untouched.proofs.Frames.{frame_same}
 
-module _ (types : List TypeDefinition) (bodies : List BodyForm) (hidden : Id → (component : ℕ) → Bool) (ghosts : Id → Bool) where
+module _ (types : List TypeDefinition) (bodies : List BodyForm) {hidden : Id → (component : ℕ) → Bool} {ghosts : Id → Bool} {AreSo : List Object → List Object → Type 0} (keeps : Keeps hidden ghosts AreSo) where
   -- Where a jump lands, no ghost is looked for.
   abbrev LandsClear : Landing Value → Type 0
   LandsClear (breaks_off v by done) = IsInSight ghosts v
@@ -56,14 +56,14 @@ module _ (types : List TypeDefinition) (bodies : List BodyForm) (hidden : Id →
   landing_clear s Returning f clear = test_clear (is_return f) (operation_landing f) (operation_clear s f clear)
 
   -- It comes out of an operation that was to begin a part of an object (7.6.1).
-  undo_same : (e : Exception) (v : Value) (done : List Part) (s : State) (k : List Object) → HeapsAlike hidden ghosts s.heap k → IsInSight ghosts v → NextAlike hidden ghosts (undo_next named e v done (look s.heap v) s) (undo_next named e v done (look k v) (over k s))
+  undo_same : (e : Exception) (v : Value) (done : List Part) (s : State) (k : List Object) → AreSo s.heap k → IsInSight ghosts v → NextSo ghosts AreSo (undo_next named e v done (look s.heap v) s) (undo_next named e v done (look k v) (over k s))
   undo_same e v done s k a clear =
-      by_look hidden ghosts v (λ f g. NextAlike hidden ghosts (undo_next named e v done f s) (undo_next named e v done g (over k s)))
+      by_look keeps v (λ f g. NextSo ghosts AreSo (undo_next named e v done f s) (undo_next named e v done g (over k s)))
       refl refl refl
-      (λ cell us both. goes hidden ghosts Quiet tt (undone named e v done cell s) (on_object parted k v) (on_alike hidden ghosts s.heap k a parted parted_alike v))
+      (λ cell us both. goes keeps Quiet tt (undone named e v done cell s) (on_object parted k v) (keeps.parts s.heap k a v))
       s.heap k a clear
 
-  broken_same : (m : Mode) (v : Value) (by : Birth) (done : List Part) (s : State) (k : List Object) → HeapsAlike hidden ghosts s.heap k → IsInSight ghosts v → NextAlike hidden ghosts (broken_off named m v by done s) (broken_off named m v by done (over k s))
+  broken_same : (m : Mode) (v : Value) (by : Birth) (done : List Part) (s : State) (k : List Object) → AreSo s.heap k → IsInSight ghosts v → NextSo ghosts AreSo (broken_off named m v by done s) (broken_off named m v by done (over k s))
   broken_same Running v by done s k a clear = refl
   broken_same (Raising e) v Creation done s k a clear = undo_same e v done s k a clear
   broken_same (Raising e) v Copy done s k a clear = refl
@@ -71,54 +71,61 @@ module _ (types : List TypeDefinition) (bodies : List BodyForm) (hidden : Id →
   broken_same Exiting v by done s k a clear = refl
   broken_same Returning v by done s k a clear = refl
 
-  landed_same : (l : Landing Value) (m : Mode) → LandsClear l → Same hidden ghosts (landed named l m)
-  landed_same passes_on m clear s k a = goes hidden ghosts Quiet tt s k a
-  landed_same goes_behind m clear s k a = goes hidden ghosts Quiet tt (record s { mode = Running }) k a
+  landed_same : (l : Landing Value) (m : Mode) → LandsClear l → Same keeps (landed named l m)
+  landed_same passes_on m clear s k a = goes keeps Quiet tt s k a
+  landed_same goes_behind m clear s k a = goes keeps Quiet tt (record s { mode = Running }) k a
   landed_same (goes_in no_stmts) m clear s k a = refl
-  landed_same (goes_in (a_stmt f fs)) m clear s k a = goes hidden ghosts Quiet tt (record s { control = frame.Does (a_stmt f fs) ∷ s.control; mode = Running }) k a
+  landed_same (goes_in (a_stmt f fs)) m clear s k a = goes keeps Quiet tt (record s { control = frame.Does (a_stmt f fs) ∷ s.control; mode = Running }) k a
   landed_same (breaks_off v by done) m clear s k a = broken_same m v by done s k a clear
   landed_same escapes m clear s k a = refl
 
-  passed_same : (master : Bool) (l : Landing Value) (m : Mode) → LandsClear l → Same hidden ghosts (pass_next named master l m)
-  passed_same true l m clear s k a = goes hidden ghosts Quiet tt (record s { control = frame.Leaves m ∷ s.control; mode = Running }) k a
+  passed_same : (master : Bool) (l : Landing Value) (m : Mode) → LandsClear l → Same keeps (pass_next named master l m)
+  passed_same true l m clear s k a = goes keeps Quiet tt (record s { control = frame.Leaves m ∷ s.control; mode = Running }) k a
   passed_same false l m clear s k a = landed_same l m clear s k a
 
   -- It comes to the end of a call's body (6.4.1, 6.5).
-  ended_same : (m : Mode) (actuals : List ActualForm) (references : List Value) → Same hidden ghosts (λ s. landed named (landing m (frame.Returns actuals references)) m (unwound named m (frame.Returns actuals references) s))
-  ended_same Running actuals references s k a = goes hidden ghosts Quiet tt (resumed s) k a
-  ended_same (Raising e) actuals references s k a = goes hidden ghosts Quiet tt (resumed s) k a
-  ended_same Exiting actuals references s k a = goes hidden ghosts Quiet tt (resumed s) k a
-  ended_same Returning actuals references s k a = goes hidden ghosts Quiet tt (record (returned named actuals references s) { mode = Running }) k a
+  ended_same : (m : Mode) (actuals : List ActualForm) (references : List Value) → Same keeps (λ s. landed named (landing m (frame.Returns actuals references)) m (unwound named m (frame.Returns actuals references) s))
+  ended_same Running actuals references s k a = goes keeps Quiet tt (resumed s) k a
+  ended_same (Raising e) actuals references s k a = goes keeps Quiet tt (resumed s) k a
+  ended_same Exiting actuals references s k a = goes keeps Quiet tt (resumed s) k a
+  ended_same Returning actuals references s k a = goes keeps Quiet tt (record (returned named actuals references s) { mode = Running }) k a
 
   -- It comes to a frame.
-  frame_passed : (m : Mode) (f : Frame Value) (s : State) (k : List Object) → HeapsAlike hidden ghosts s.heap k → LandsClear (landing m f) → NextAlike hidden ghosts (pass_next named (is_master f) (landing m f) m (unwound named m f s)) (pass_next named (is_master f) (landing m f) m (unwound named m f (over k s)))
+  frame_passed : (m : Mode) (f : Frame Value) (s : State) (k : List Object) → AreSo s.heap k → LandsClear (landing m f) → NextSo ghosts AreSo (pass_next named (is_master f) (landing m f) m (unwound named m f s)) (pass_next named (is_master f) (landing m f) m (unwound named m f (over k s)))
   frame_passed m (frame.Returns actuals references) s k a clear = ended_same m actuals references s k a
   frame_passed m f s k a clear = passed_same (is_master f) (landing m f) m clear s k a
 
-  running_same : (l : List (Frame Value)) (s : State) (k : List Object) → HeapsAlike hidden ghosts s.heap k → FirstIsOpen hidden ghosts s Running l → NextAlike hidden ghosts (running_next named types bodies l s) (running_next named types bodies l (over k s))
+  running_same : (l : List (Frame Value)) (s : State) (k : List Object) → AreSo s.heap k → FirstIsOpen hidden ghosts s Running l → NextSo ghosts AreSo (running_next named types bodies l s) (running_next named types bodies l (over k s))
   running_same [] s k a clear = refl
-  running_same (f ∷ l) s k a clear = frame_same hidden ghosts types bodies f (at l s) k a clear
+  running_same (f ∷ l) s k a clear = frame_same keeps types bodies f (at l s) k a clear
 
-  raising_same : (e : Exception) (l : List (Frame Value)) (s : State) (k : List Object) → HeapsAlike hidden ghosts s.heap k → FirstIsOpen hidden ghosts s (Raising e) l → NextAlike hidden ghosts (jump_next named (Raising e) l s) (jump_next named (Raising e) l (over k s))
+  raising_same : (e : Exception) (l : List (Frame Value)) (s : State) (k : List Object) → AreSo s.heap k → FirstIsOpen hidden ghosts s (Raising e) l → NextSo ghosts AreSo (jump_next named (Raising e) l s) (jump_next named (Raising e) l (over k s))
   raising_same e [] s k a clear = refl
   raising_same e (f ∷ l) s k a clear = frame_passed (Raising e) f (at l s) k a (landing_clear s (Raising e) f clear)
 
-  exiting_same : (l : List (Frame Value)) (s : State) (k : List Object) → HeapsAlike hidden ghosts s.heap k → FirstIsOpen hidden ghosts s Exiting l → NextAlike hidden ghosts (jump_next named Exiting l s) (jump_next named Exiting l (over k s))
+  exiting_same : (l : List (Frame Value)) (s : State) (k : List Object) → AreSo s.heap k → FirstIsOpen hidden ghosts s Exiting l → NextSo ghosts AreSo (jump_next named Exiting l s) (jump_next named Exiting l (over k s))
   exiting_same [] s k a clear = refl
   exiting_same (f ∷ l) s k a clear = frame_passed Exiting f (at l s) k a (landing_clear s Exiting f clear)
 
-  returning_same : (l : List (Frame Value)) (s : State) (k : List Object) → HeapsAlike hidden ghosts s.heap k → FirstIsOpen hidden ghosts s Returning l → NextAlike hidden ghosts (jump_next named Returning l s) (jump_next named Returning l (over k s))
+  returning_same : (l : List (Frame Value)) (s : State) (k : List Object) → AreSo s.heap k → FirstIsOpen hidden ghosts s Returning l → NextSo ghosts AreSo (jump_next named Returning l s) (jump_next named Returning l (over k s))
   returning_same [] s k a clear = refl
   returning_same (f ∷ l) s k a clear = frame_passed Returning f (at l s) k a (landing_clear s Returning f clear)
 
-  mode_same : (m : Mode) (s : State) (k : List Object) → HeapsAlike hidden ghosts s.heap k → FirstIsOpen hidden ghosts s m s.control → NextAlike hidden ghosts (mode_next named types bodies m s) (mode_next named types bodies m (over k s))
+  mode_same : (m : Mode) (s : State) (k : List Object) → AreSo s.heap k → FirstIsOpen hidden ghosts s m s.control → NextSo ghosts AreSo (mode_next named types bodies m s) (mode_next named types bodies m (over k s))
   mode_same Running s k a clear = running_same s.control s k a clear
   mode_same (Raising e) s k a clear = raising_same e s.control s k a clear
   mode_same Exiting s k a clear = exiting_same s.control s k a clear
   mode_same Returning s k a clear = returning_same s.control s k a clear
 
-pub steps_alike : UntouchedPartsDoNotMatter
+-- States whose heaps are related so do so next, where the step looks at nothing in which these may differ.
+pub steps_so :
+    {hidden : Id → (component : ℕ) → Bool} {ghosts : Id → Bool} {AreSo : List Object → List Object → Type 0} (keeps : Keeps hidden ghosts AreSo)
+    (types : List TypeDefinition) (bodies : List BodyForm) (s t : State)
+    → Untouched hidden ghosts s → StatesBy AreSo s t → NextSo ghosts AreSo (next types bodies s) (next types bodies t)
 unfolding next
-steps_alike types bodies hidden ghosts s t clear both =
-    subst (λ (z : State). NextAlike hidden ghosts (mode_next named types bodies s.mode s) (mode_next named types bodies z.mode z)) (sym both.rest)
-    (mode_same types bodies hidden ghosts s.mode s t.heap both.heaps clear)
+steps_so {ghosts = ghosts} {AreSo = AreSo} keeps types bodies s t clear both =
+    subst (λ (z : State). NextSo ghosts AreSo (mode_next named types bodies s.mode s) (mode_next named types bodies z.mode z)) (sym both.rest)
+    (mode_same types bodies keeps s.mode s t.heap both.heaps clear)
+
+pub steps_alike : UntouchedPartsDoNotMatter
+steps_alike types bodies hidden ghosts s t clear both = steps_so (heaps_alike_keep hidden ghosts) types bodies s t clear both

@@ -2,6 +2,8 @@
 
 -- heaps that are alike, and what is found there
 pub mod Heaps
+-- what the law needs of a relation on heaps
+pub mod Relation
 -- what forms do
 pub mod Forms
 -- what is done as an object is treated
@@ -10,6 +12,8 @@ pub mod Treats
 pub mod Frames
 -- a jump passes frames; the law
 pub mod Law
+-- heaps that are the same but for past objects; the laws of these
+pub mod Past
 -- hidden components stay, whatever becomes of the objects
 pub mod Kept
 -- they stay where forms do something
