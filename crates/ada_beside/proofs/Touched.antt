@@ -120,7 +120,7 @@ module _ (w : View) (reaches beside : ℕ → Bool) (apart : LieBeside w reaches
         (f : Frame Value) (k : List (Frame Value)) → FrameIsConfined w reaches f → OperandsAreConfined w reaches Running (f ∷ k) (operands s)
         → TreatsNone f → TakesNone f s.masters → FrameIsOpen (hidden_beside w beside) no_ghosts s f
     frame_open (frame.Does fs) k confined others untreated none = statements_open fs confined
-    frame_open (frame.Leaves mode) k confined others untreated none = none
+    frame_open (frame.Leaves mode) k confined others untreated none = inl none
     frame_open (frame.Evaluates right) k confined others untreated none = right_open right confined
     frame_open (frame.Computes e) k confined others untreated none = expression_open e confined
     frame_open (frame.Follows cs) k confined others untreated none = followed_open cs (newest named s) (other_first w.object (operands s) others)

@@ -1,6 +1,6 @@
 -- What a step looks at of bodies that shun some access types: at no ghost.
 
-use Rattle.std.proofs.Common.{◌≡◌, ℕ, true, List, [], ◌∷◌, Option, Some, None, refl, sym, ap, ◌∙◌, subst}
+use Rattle.std.proofs.Common.{◌≡◌, ℕ, true, List, [], ◌∷◌, Option, Some, None, refl, sym, ap, ◌∙◌, inl, subst}
 use Rattle.std.specs.List.{list_all, slice_get}
 use Rattle.std.proofs.lemmas.Bool.{and_parts}
 use Rattle.ada_program.specs.declared.program.TypeNo.{TypeNo}
@@ -151,7 +151,7 @@ module _ (w : World) (s : State) (sound : Sound w s) (r : Runs w s) where
       (f : Frame Value) (k : List (Frame Value)) → Left w (f ∷ k) → FrameIsRooted w.p.types (variables_in w) f
       → ValueSeeks w s.heap (newest named s) (f ∷ k) → TakesNone f s.masters → FrameIsOpen none_hidden w.ghosts s f
   frame_open (frame.Does fs) k h root seeks none = statements_open fs (h.0) root
-  frame_open (frame.Leaves mode) k h root seeks none = none
+  frame_open (frame.Leaves mode) k h root seeks none = inl none
   frame_open (frame.Evaluates right) k h root seeks none = right_open right (h.0) root
   frame_open (frame.Computes e) k h root seeks none = expression_open e (h.0) root
   frame_open (frame.Follows cs) k h root seeks none = followed_open cs (newest named s) k seeks

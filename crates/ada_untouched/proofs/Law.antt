@@ -19,7 +19,7 @@ use Rattle.ada_meaning.specs.Frame.{Frame, is_loop, is_return, is_master, Landin
 use Rattle.ada_meaning.specs.Frame as frame
 use Rattle.ada_meaning.specs.Step.{at, resumed, returned, unwound, undone, undo_next, broken_off, landed, pass_next, running_next, jump_next, mode_next}
 use Rattle.ada_meaning.specs.Named.{Object, State, named, look, on_object, parted, next}
-use Rattle.ada_untouched.specs.Alike.{HeapsAlike, StatesBy}
+use Rattle.ada_untouched.specs.Alike.{StatesBy}
 use Rattle.ada_untouched.specs.Untouched.{IsInSight, JumpIsOpen, FirstIsOpen, Untouched}
 use Rattle.ada_untouched.specs.Law.{UntouchedPartsDoNotMatter}
 use Rattle.ada_untouched.proofs.Relation.{Keeps, NextSo, heaps_alike_keep}

@@ -1,12 +1,11 @@
 -- Heaps that are the same but for what lies in past objects: these are found gone in both, whatever becomes of an object; they weigh nothing, and may be
 -- forgotten.
 
-use Rattle.std.proofs.Common.{◌≡◌, ℕ, suc, ◌+◌, ◌*◌, Bool, true, false, List, [], ◌∷◌, length, Option, Some, None, refl, sym, ap, ◌∙◌, inl, inr, subst, arith, length-set}
+use Rattle.std.proofs.Common.{◌≡◌, ℕ, suc, ◌+◌, Bool, true, false, List, [], ◌∷◌, length, Option, Some, None, refl, sym, ap, ◌∙◌, inl, inr, subst, arith, length-set}
 use Rattle.std.specs.Prelude.{not, ◌&&◌, if◌then◌else◌}
 use Rattle.std.specs.List.{slice_get, slice_set}
 use Rattle.ada_program.specs.declared.program.TypeDefinition.{TypeDefinition}
-use Rattle.ada_program.specs.Form.{RecordPathForm, ExpressionForm, integer, boolean, reads, is_null, applied_to, chained, ItemForm, null_item, item_of_path, item_of_value, item_of_record, RightForm, nothing, value_of, allocates, allocates_default, computes, StmtForm, skips, assigns, assigns_record, frees, gets, writes, writes_text, chooses, repeats, counts, exits, calls, returns, raises, encloses, StmtsForm, no_stmts, a_stmt}
-use Rattle.ada_program.specs.ProgramForm.{BodyForm, body_forms}
+use Rattle.ada_program.specs.Form.{ExpressionForm, reads, is_null, ItemForm, item_of_path, item_of_record, RightForm, value_of, StmtForm, assigns, assigns_record, frees, gets, StmtsForm, no_stmts, a_stmt}
 use Rattle.ada_meaning.specs.declared.state.Id.{Id}
 use Rattle.ada_meaning.specs.declared.state.Mode.{Mode}
 use Rattle.ada_meaning.specs.declared.state.Mode.TheVariants.{Running, Raising, Exiting, Returning}
@@ -20,9 +19,9 @@ use Rattle.ada_meaning.specs.Frame as frame
 use Rattle.ada_meaning.specs.Heap.{Cell, Found, on_null, on_gone, on_other, finds}
 use Rattle.ada_meaning.specs.Pace.{object_operations, heap_operations, operations_left, full_weight}
 use Rattle.ada_meaning.specs.Step.{halts, moves, tells, asks, picks, held, newest, selected, before_last}
-use Rattle.ada_meaning.specs.Named.{Object, State, Next, named, object_at, changed, existing, seen, look, lent_by, lent, all_alive, standing_by, standing, new_object, create, created, parted, finished, returned, filled, treated, on_object, whole, inside, next}
-use Rattle.ada_untouched.specs.Alike.{StatesBy, NextBy}
-use Rattle.ada_untouched.specs.Untouched.{hides, IsInSight, IsReadable, IsOpen, LeadsToHolder, MayBeSought, MayBeFreed, AreNone, ExpressionIsOpen, ItemIsOpen, ItemsAreOpen, RightIsOpen, FreedIsOpen, StatementIsOpen, StatementsAreOpen, FrameIsOpen, JumpIsOpen, FirstIsOpen, Untouched}
+use Rattle.ada_meaning.specs.Named.{Object, State, Next, named, object_at, changed, existing, seen, look, lent_by, lent, all_alive, standing_by, standing, new_object, create, parted, finished, returned, filled, treated, on_object, whole, inside, next}
+use Rattle.ada_untouched.specs.Alike.{NextBy}
+use Rattle.ada_untouched.specs.Untouched.{hides, IsInSight, IsReadable, IsOpen, LeadsToHolder, MayBeSought, MayBeFreed, ExpressionIsOpen, ItemIsOpen, ItemsAreOpen, RightIsOpen, FreedIsOpen, StatementIsOpen, StatementsAreOpen, FrameIsOpen, JumpIsOpen, FirstIsOpen}
 use Rattle.ada_untouched.specs.Past.{is_gone, is_past, is_past_at, SameOrPast, HeapsButForPast, StatesButForPast, nothing_left, forgotten, forgetting}
 use Rattle.ada_untouched.specs.Law.{PastObjectsDoNotMatter, PastObjectsWeighNothing, ForgettingChangesPastAlone}
 use Rattle.ada_untouched.proofs.Heaps.{CellsAlike, same_values, member_by, same_members, on_length, on_both, added, added_length, one_or_other, set_here, set_there}

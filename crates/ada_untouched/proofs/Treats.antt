@@ -22,7 +22,7 @@ use Rattle.ada_meaning.specs.Frame as frame
 use Rattle.ada_meaning.specs.Heap.{PartState}
 use Rattle.ada_meaning.specs.State.{counted}
 use Rattle.ada_meaning.specs.Step.{halts, picks, at, treating, treated_on, direction_of, picked_task, beginning, operating, operation_next, part_reference, born_next, awaited_next, begun_next, ended_next, finalized_next, performed_next, treats_next}
-use Rattle.ada_meaning.specs.Named.{Object, State, named, look, bear, finalize, treated, born_part, finalized_part}
+use Rattle.ada_meaning.specs.Named.{Object, State, named, look, bear, finalize, born_part, finalized_part}
 use Rattle.ada_untouched.specs.Alike.{SparesGhosts}
 use Rattle.ada_untouched.specs.Untouched.{IsInSight}
 use Rattle.ada_untouched.proofs.Relation.{Keeps, NextSo}
