@@ -1,7 +1,7 @@
 -- A path is followed, beside a hidden component and a ghost, and into them; a component is written, beside a hidden one, and a hidden one is; and a
--- record is copied as a whole, beside a hidden component and a ghost.
+-- record is copied as a whole, beside a hidden component and a ghost. A path is followed to an object that is past; and words go back of one that is not.
 
-use Rattle.std.proofs.Common.{◌≡◌, ℕ, zero, suc, Bool, true, false, List, [], ◌∷◌, Some, None, refl, ap, ◌∙◌, arith}
+use Rattle.std.proofs.Common.{◌≡◌, ◌≢◌, ℕ, zero, suc, Bool, true, false, List, [], ◌∷◌, Some, None, refl, ap, ◌∙◌, inl, inr, arith}
 use Rattle.std.specs.Prelude.{◌==◌, ◌&&◌}
 use Rattle.std.specs.List.{slice_get}
 use Rattle.ada_program.specs.Form.{value_of}
@@ -11,6 +11,7 @@ use Rattle.ada_program.specs.declared.program.ComponentKind.TheVariants as compo
 use Rattle.ada_program.specs.declared.program.PartKind.TheVariants as part
 use Rattle.ada_program.specs.declared.program.TypeDefinition.{TypeDefinition}
 use Rattle.ada_program.specs.declared.program.TypeDefinition.TheVariants as definition
+use Rattle.ada_meaning.specs.declared.event.Cause.TheVariants.{Freeing}
 use Rattle.ada_meaning.specs.declared.state.Id.{Id}
 use Rattle.ada_meaning.specs.declared.state.Mode.TheVariants.{Running}
 use Rattle.ada_meaning.specs.declared.state.Stage.{Stage}
@@ -23,10 +24,11 @@ use Rattle.ada_meaning.specs.Frame as frame
 use Rattle.ada_meaning.specs.Step.{halts, moves, tells, asks, picks, computed, newest}
 use Rattle.ada_meaning.specs.Named.{Object, State, Next, named, next}
 use Rattle.ada_meaning.proofs.OperationExamples.{vec, no_name, component_of}
-use Rattle.ada_untouched.specs.Alike.{ValuesAlike, ObjectsAlike, FoundAlike, HeapsAlike, NextAlike}
+use Rattle.ada_untouched.specs.Alike.{ValuesAlike, ObjectsAlike, FoundAlike, HeapsAlike, NextBy, NextAlike}
+use Rattle.ada_untouched.specs.Past.{SameOrPast, HeapsButForPast}
 use Rattle.ada_untouched.specs.Untouched.{hides}
 use Rattle.ada_untouched.specs.Unwritten.{AreShown}
-use Rattle.ada_untouched.specs.Example.{FollowsBeside, PremisesAreMet, LooksAtGhost, LooksAtHidden, PremiseIsNeeded, WritesShown, WritesHidden, WritesBeside, CopiesRecord, CopiesBeside, RecordsAreCopiedBeside}
+use Rattle.ada_untouched.specs.Example.{FollowsBeside, PremisesAreMet, LooksAtGhost, LooksAtHidden, PremiseIsNeeded, WritesShown, WritesHidden, WritesBeside, CopiesRecord, CopiesBeside, RecordsAreCopiedBeside, FollowsPast, GivesBackDiffering, PastObjectsDiffer}
 
 abbrev holder : Id
 holder = record { 0 = 0 }
@@ -355,4 +357,67 @@ copies_beside = (
   doing [] [] (one_with (Names holder) (Names other)),
   doing [] [] (other_with (Names holder) (Names other)),
   copies_with,
+)
+
+-- The first object names the second one, which is past, and in which this lies.
+abbrev past_with : Value → List Object
+past_with v = an_object (Names other ∷ []) Existing true ∷ an_object (v ∷ []) Gone false ∷ []
+
+past_alike : HeapsButForPast (past_with Null) (past_with (Names holder))
+past_alike = record { count = refl; objects = λ o. under o.0 }
+  where
+    under : (i : ℕ) → SameOrPast (slice_get (past_with Null) i) (slice_get (past_with (Names holder)) i)
+    under zero = inl refl
+    under (suc zero) = inr (refl, refl)
+    under (suc (suc i)) = inl refl
+
+follows_past : FollowsPast [] [] other 0 (before (past_with Null)) (before (past_with (Names holder))) (after (past_with Null)) (after (past_with (Names holder)))
+unfolding next
+follows_past = record {
+  differ = record { alike = record { rest = refl; heaps = past_alike }; differs = λ e. absurd (cc) };
+  followed = holder;
+  follows = refl;
+  follows_too = refl;
+  finds = refl;
+  differ_behind = record { alike = record { rest = refl; heaps = past_alike }; differs = λ e. absurd (cc) };
+  ends = refl;
+  ends_too = refl;
+}
+
+-- An object with this trace number that is gone, and whose words are still out: they go back next.
+abbrev lent_still : (number : ℕ) → Object
+lent_still number = record {
+  cell = record { access = 0; number = number; home = record { item = 0; pool = Some 0; subpool = None }; values = []; parts = [] };
+  stage = Gone;
+  listed = false;
+  out = true;
+}
+
+abbrev giving_back : (number : ℕ) → State
+giving_back number = doing [] (frame.GivesBack (Names holder) (Freeing 0) (Some 0) ∷ []) (lent_still number ∷ [])
+
+told_apart : NextBy HeapsButForPast (λ event. Unit {0}) (next [] [] (giving_back 1)) (next [] [] (giving_back 2)) → ⊥
+unfolding next
+told_apart p = let same = p.1 in absurd (cc same)
+
+gives_back_differing : GivesBackDiffering [] [] (giving_back 1) (giving_back 2) holder (lent_still 1) (lent_still 2)
+gives_back_differing = record {
+  rest = refl;
+  others = λ p. elsewhere p.0;
+  found = refl;
+  found_too = refl;
+  same_life = refl;
+  gone = (refl, refl);
+  out = refl;
+  goes_apart = told_apart;
+}
+  where
+    elsewhere : (i : ℕ) → i ≢ 0 → slice_get (lent_still 2 ∷ []) i ≡ slice_get (lent_still 1 ∷ []) i
+    elsewhere zero ne = absurd (ne refl)
+    elsewhere (suc i) ne = refl
+
+pub past_objects_differ : PastObjectsDiffer
+past_objects_differ = (
+  ([], [], other, 0, before (past_with Null), before (past_with (Names holder)), after (past_with Null), after (past_with (Names holder)), follows_past),
+  ([], [], giving_back 1, giving_back 2, holder, lent_still 1, lent_still 2, gives_back_differing),
 )

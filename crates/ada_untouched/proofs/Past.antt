@@ -85,7 +85,7 @@ finished_past x e = let past = past_is x e in rw (past.back)
 returned_past : StaysPast returned
 returned_past x e = let past = past_is x e in rw (past.gone, past.unlisted)
 
-pub changed_so : (change : Object → Object) → StaysPast change → (x y : Object) → SameOrPast (Some x) (Some y) → SameOrPast (Some (change x)) (Some (change y))
+changed_so : (change : Object → Object) → StaysPast change → (x y : Object) → SameOrPast (Some x) (Some y) → SameOrPast (Some (change x)) (Some (change y))
 changed_so change stays x y (inl e) = inl (cc e)
 changed_so change stays x y (inr both) = inr (stays x both.0, stays y both.1)
 

@@ -8,15 +8,17 @@ use Rattle.ada_meaning.specs.declared.event.Halt.TheVariants.{Erroneous}
 use Rattle.ada_meaning.specs.declared.event.Why.TheVariants.{FollowsGone}
 use Rattle.ada_meaning.specs.declared.state.Id.{Id}
 use Rattle.ada_meaning.specs.declared.state.Mode.TheVariants.{Running}
+use Rattle.ada_meaning.specs.declared.state.Stage.TheVariants.{Gone}
 use Rattle.ada_meaning.specs.declared.state.Value.{Value}
 use Rattle.ada_meaning.specs.declared.state.Value.TheVariants.{Names}
 use Rattle.ada_meaning.specs.Event.{Followed, Quiet}
 use Rattle.ada_meaning.specs.Frame as frame
 use Rattle.ada_meaning.specs.Step.{halts, moves, newest}
-use Rattle.ada_meaning.specs.Named.{State, named, object_at, look, next}
+use Rattle.ada_meaning.specs.Named.{Object, State, named, object_at, look, next}
 use Rattle.ada_meaning.specs.Records.{component_in}
 use Rattle.ada_meaning.specs.Run.{Event}
-use Rattle.ada_untouched.specs.Alike.{StatesAlike, NextAlike}
+use Rattle.ada_untouched.specs.Alike.{StatesAlike, NextBy, NextAlike}
+use Rattle.ada_untouched.specs.Past.{HeapsButForPast, StatesButForPast}
 use Rattle.ada_untouched.specs.Untouched.{Untouched}
 use Rattle.ada_untouched.specs.Unwritten.{Unwritten}
 
@@ -146,3 +148,39 @@ abbrev pub RecordsAreCopiedBeside : Type 0
 RecordsAreCopiedBeside =
     (types : List TypeDefinition) × (bodies : List BodyForm) × (hidden : (Id → (component : ℕ) → Bool)) × (ghosts : (Id → Bool)) × (s : State) × (t : State)
     × (after : State) × (behind : State) × CopiesBeside types bodies hidden ghosts s t after behind
+
+-- Two states are the same but for what lies in past objects, and a component of one of these holds something else in the other state.
+pub record DifferInPast (s t : State) (o : Id) (component : ℕ) : Type 0 where
+  pub alike : StatesButForPast s t
+  pub differs : component_in (object_at s.heap o) component ≡ component_in (object_at t.heap o) component → ⊥
+
+-- Both follow a path to the past object: they take one step, and behind it differ so again; the next one finds the object gone in both.
+pub record FollowsPast (types : List TypeDefinition) (bodies : List BodyForm) (o : Id) (component : ℕ) (s t after behind : State) : Type 0 where
+  pub differ : DifferInPast s t o component
+  pub followed : Id
+  pub follows : next types bodies s ≡ moves (Followed (Names followed)) after
+  pub follows_too : next types bodies t ≡ moves (Followed (Names followed)) behind
+  pub finds : newest named after ≡ Names o
+  pub differ_behind : DifferInPast after behind o component
+  pub ends : next types bodies after ≡ halts (Erroneous FollowsGone)
+  pub ends_too : next types bodies behind ≡ halts (Erroneous FollowsGone)
+
+-- Two states are the same but for what lies in one object, which is gone in both and in no collection, but has its words out. They do not do the same next:
+-- what is told of the object as its words go back is not the same.
+pub record GivesBackDiffering (types : List TypeDefinition) (bodies : List BodyForm) (s t : State) (o : Id) (x y : Object) : Type 0 where
+  pub rest : t ≡ record s { heap = t.heap }
+  pub others : (p : Id) → p.0 ≢ o.0 → object_at t.heap p ≡ object_at s.heap p
+  pub found : object_at s.heap o ≡ Some x
+  pub found_too : object_at t.heap o ≡ Some y
+  pub same_life : y ≡ record x { cell = y.cell }
+  pub gone : (x.stage ≡ Gone) × (x.listed ≡ false)
+  pub out : x.out ≡ true
+  pub goes_apart : NextBy HeapsButForPast (λ event. Unit {0}) (next types bodies s) (next types bodies t) → ⊥
+
+-- Each of them is somewhere.
+abbrev pub PastObjectsDiffer : Type 0
+PastObjectsDiffer =
+    ((types : List TypeDefinition) × (bodies : List BodyForm) × (o : Id) × (component : ℕ) × (s : State) × (t : State) × (after : State) × (behind : State)
+    × FollowsPast types bodies o component s t after behind)
+    × ((types : List TypeDefinition) × (bodies : List BodyForm) × (s : State) × (t : State) × (o : Id) × (x : Object) × (y : Object)
+    × GivesBackDiffering types bodies s t o x y)

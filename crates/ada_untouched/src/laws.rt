@@ -1,7 +1,7 @@
 //! The laws of what a step does not touch, or does not write. Each is a function that does nothing, and whose contract is the
 //! theorem.
 
-ghost use Rattle.ada_untouched.specs.Example.{PremisesAreMet, PremiseIsNeeded, WritesBeside, RecordsAreCopiedBeside};
+ghost use Rattle.ada_untouched.specs.Example.{PremisesAreMet, PremiseIsNeeded, WritesBeside, RecordsAreCopiedBeside, PastObjectsDiffer};
 ghost use Rattle.ada_untouched.specs.Law.{UntouchedPartsDoNotMatter, HiddenPartsStay, PastObjectsDoNotMatter, PastObjectsWeighNothing, ForgettingChangesPastAlone};
 
 /// Where a step looks neither at a hidden component nor at a ghost, a state that is alike but for these takes the same step: the
@@ -56,4 +56,11 @@ pub fn past_objects_weigh_nothing()
 /// So a machine may forget such an object at any time.
 pub fn forgetting_changes_past_objects_alone()
     ensures { ForgettingChangesPastAlone }
+{}
+
+/// Two states differ so: a path is followed to such an object, and it is found gone in both, whatever lies in it. And that its
+/// storage is back is needed: of an object that is gone, but whose storage is not yet back, something else may be told as it
+/// goes back.
+pub fn past_objects_differ()
+    ensures { PastObjectsDiffer }
 {}
