@@ -232,7 +232,7 @@ module _ (hiding : ℕ → Bool) (ghost : Bool) (plain : ghost ≡ false) where
 pub one_or_other : (p o : Id) → (p ≡ o) ⊎ (p.0 ≢ o.0)
 one_or_other p o = elim (eqb_tells p.0 o.0) [ inl h ↦ inl (ap (λ (i : ℕ). record { 0 = i }) h.1) | inr h ↦ inr h.1 ]
 
--- An object changes in two heaps, as many objects as there are in each: what holds of the objects of each name does so again.
+-- As many objects are there as before, where one changes.
 pub on_length : (change : Object → Object) (h : List Object) (v : Value) → length (on_object change h v) ≡ length h
 on_length change h Null = refl
 on_length change h (Names o) = changed_length (object_at h o)
@@ -243,6 +243,7 @@ on_length change h (Names o) = changed_length (object_at h o)
 on_length change h (Scalar v) = refl
 on_length change h (Part o place) = refl
 
+-- An object changes in two heaps of as many objects: what holds of the objects of each name does so again.
 module _ (P : Id → Option Object → Option Object → Type 0) (change : Object → Object)
     (keeps : (o : Id) (x y : Object) → P o (Some x) (Some y) → P o (Some (change x)) (Some (change y)))
     (h k : List Object) (count : length h ≡ length k) (objects : (o : Id) → P o (object_at h o) (object_at k o)) where
