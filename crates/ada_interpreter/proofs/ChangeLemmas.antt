@@ -1,21 +1,10 @@
 -- One element of a list that changes, in what the list is seen as; and a list that grows by what stands behind its end anyway.
 
-use Rattle.std.proofs.Common.{◌≡◌, ℕ, zero, suc, ◌<◌, List, [], ◌∷◌, ◌++◌, length, map, Some, refl, ap, ◌∙◌, sym, arith}
+use Rattle.std.proofs.Common.{◌≡◌, ℕ, zero, suc, ◌<◌, List, [], ◌∷◌, ◌++◌, length, map, refl, ap, ◌∙◌, sym, arith}
 use Rattle.std.proofs.Math.ListN.{set, get_or}
-use Rattle.std.specs.List.{slice_get}
-use Rattle.std.proofs.lemmas.List.{map-set}
-use Rattle.ada_meaning.specs.declared.state.Id.{Id}
-use Rattle.ada_meaning.specs.Named.{Object, object_at, changed}
-use Rattle.ada_interpreter.specs.declared.objects.Object.{Object as HeldObject}
-use Rattle.ada_interpreter.specs.Objects.{object_of}
 
 module _ {X Y : Type 0} (f : X → Y) where
   -- the element at an index, as it is seen
-  pub get_form : (xs : List X) (i : ℕ) (x : X) → i < length xs → x ≡ get_or xs i x → slice_get (map f xs) i ≡ Some (f x)
-  get_form [] i x within here = absurd (omega arith)
-  get_form (y ∷ xs) zero x within here = ap (λ (z : X). Some (f z)) (sym here)
-  get_form (y ∷ xs) (suc i) x within here = get_form xs i x (omega arith) here
-
   pub get_form_or : (xs : List X) (i : ℕ) (x : X) (d : Y) → i < length xs → x ≡ get_or xs i x → get_or (map f xs) i d ≡ f x
   get_form_or [] i x d within here = absurd (omega arith)
   get_form_or (y ∷ xs) zero x d within here = ap f (sym here)
@@ -32,11 +21,6 @@ module _ {X Y : Type 0} (f : X → Y) where
   same_form [] i x y within here after = absurd (omega arith)
   same_form (z ∷ xs) zero x y within here after = ap (λ (t : Y). t ∷ map f xs) (after ∙ ap f here)
   same_form (z ∷ xs) (suc i) x y within here after = ap (λ (ts : List Y). f z ∷ ts) (same_form xs i x y (omega arith) here after)
-
--- the object of a name changes
-pub changed_object : (change : Object → Object) (xs : List HeldObject) (o : Id) (x y : HeldObject) → o.0 < length xs → x ≡ get_or xs o.0 x → object_of y ≡ change (object_of x) → map object_of (set xs o.0 y) ≡ changed change (object_at (map object_of xs) o) (map object_of xs) o
-changed_object change xs o x y within here after =
-    rw (get_form object_of xs o.0 x within here) (map-set object_of xs o.0 y ∙ ap (λ (t : Object). set (map object_of xs) o.0 t) after)
 
 -- a list that grows by what stands behind its end anyway
 pub push_default : {X : Type 0} (xs : List X) (d : X) (i : ℕ) → get_or (xs ++ d ∷ []) i d ≡ get_or xs i d

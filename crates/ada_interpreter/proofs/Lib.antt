@@ -4,6 +4,8 @@ pub mod StackLemmas
 pub mod MemberLemmas
 -- masters, as items come and go on their one stack
 pub mod MasterLemmas
+-- all objects that there ever were, as some are kept and some are forgotten
+pub mod RememberedLemmas
 -- one element that changes, in what the list is seen as
 pub mod ChangeLemmas
 -- turns that leave nothing open, and treatments that go on

@@ -11,7 +11,8 @@ use Rattle.ada_meaning.specs.declared.state.Value.{Value}
 use Rattle.ada_meaning.specs.declared.state.Value.TheVariants.{Names}
 use Rattle.ada_meaning.specs.Heap.{Cell, PartState}
 use Rattle.ada_meaning.specs.Named.{Object, object_at, changed, parted, finished, returned, filled, new_object, is_member, members_from, members_of}
-use Rattle.ada_interpreter.specs.Objects.{is_member_by, is_member_at, members_among, Kept, nothing_kept, kept_at, AreGiven, Shows, AreShelved, entered, discounted, discounted_at, listed_home, gone, filled_from, with_part_state, IsTidied}
+use Rattle.ada_interpreter.specs.Objects.{is_member_by, is_member_at, members_among, Kept, nothing_kept, kept_at, AreGiven, Shows, AreShelved, entered, discounted, discounted_at, listed_home, gone, filled_from, with_part_state, Trims, IsTidied}
+use Rattle.ada_untouched.specs.Past.{is_gone, is_past, nothing_left, forgotten}
 
 -- a name other than the one of this number
 abbrev is_other : ℕ → Id → Bool
@@ -271,6 +272,45 @@ filled_from_shelved first vs xs kept o shelved = same_by (filled_from first vs) 
 
 pub part_state_shelved : (part : ℕ) (state : PartState) (xs : List Object) (kept : List Kept) (o : Id) → AreShelved xs kept → AreShelved (changed (with_part_state part state) (object_at xs o) xs o) kept
 part_state_shelved part state xs kept o shelved = same_by (with_part_state part state) xs kept o (object_at xs o) (λ x i. refl) refl shelved
+
+-- a past object is in no collection
+not_listed : (gone listed out : Bool) → (gone && (not listed && not out)) ≡ true → listed ≡ false
+not_listed true false out past = refl
+not_listed true true out past = absurd (cc)
+not_listed false listed out past = absurd (cc)
+
+left_where_it_is : (x : Object) (i : ℕ) (past : Bool) → is_past x ≡ past → is_member i (cond past nothing_left x) ≡ is_member i x
+left_where_it_is x i false is = refl
+left_where_it_is x i true is = rw (not_listed (is_gone x.stage) x.listed x.out is) refl
+
+pub forgotten_shelved : (xs : List Object) (kept : List Kept) (o : Id) → AreShelved xs kept → AreShelved (changed forgotten (object_at xs o) xs o) kept
+forgotten_shelved xs kept o shelved = same_by forgotten xs kept o (object_at xs o) (λ (x : Object) (i : ℕ). left_where_it_is x i (is_past x) refl) refl shelved
+
+-- the members alone are left of some entries
+module _ (passes : Id → Bool) where
+  filter_reverse_by : (o : Id) (names : List Id) (b : Bool) → passes o ≡ b → filter passes (reverse (filter passes names)) ≡ filter passes (reverse names) → filter passes (reverse (cond b (o ∷ filter passes names) (filter passes names))) ≡ filter passes (reverse (o ∷ names))
+  filter_reverse_by o names true is same =
+      rw (reverse-append (o ∷ []) (filter passes names), reverse-append (o ∷ []) names, filter-append passes (reverse (filter passes names)) (o ∷ []), filter-append passes (reverse names) (o ∷ []), same) refl
+  filter_reverse_by o names false is same =
+      rw (reverse-append (o ∷ []) names, filter-append passes (reverse names) (o ∷ []), is, append-nil (filter passes (reverse names))) same
+
+  filter_reverse : (names : List Id) → filter passes (reverse (filter passes names)) ≡ filter passes (reverse names)
+  filter_reverse [] = refl
+  filter_reverse (o ∷ names) = filter_reverse_by o names (passes o) refl (filter_reverse names)
+
+  given_by : (n : ℕ) (o : Id) (names : List Id) (b : Bool) → o.0 < n → AreGiven n names → AreGiven n (cond b (o ∷ names) names)
+  given_by n o names true one others = (one, others)
+  given_by n o names false one others = others
+
+  given-filter : (n : ℕ) (names : List Id) → AreGiven n names → AreGiven n (filter passes names)
+  given-filter n [] given = tt
+  given-filter n (o ∷ names) given = given_by n o (filter passes names) (passes o) given.0 (given-filter n names given.1)
+
+pub members_left : (xs : List Object) (item : ℕ) (before after : List Id) → after ≡ filter (is_member_at xs item) before → Trims xs item before after
+members_left xs item before after left = record {
+  members = rw left (filter_reverse (is_member_at xs item) before);
+  given = λ (n : ℕ) (given : AreGiven n before). rw left (given-filter (is_member_at xs item) n before given);
+}
 
 -- entries are taken away that are no members
 pub tidied_shelved : (xs : List Object) (before after : List Kept) → ((i : ℕ) → IsTidied xs i (kept_at before i) (kept_at after i)) → AreShelved xs before → AreShelved xs after

@@ -1,7 +1,8 @@
 -- Objects by name, and the members of each collection.
 
-use Rattle.std.specs.Prelude.{◌≡◌, ℕ, ◌+◌, ◌-◌, ◌<◌, Bool, false, if◌then◌else◌, List, [], ◌∷◌, ◌++◌, reverse, length, map, Option, Some, None}
-use Rattle.std.specs.List.{slice_get, slice_index_or, slice_set, filter}
+use Rattle.std.specs.Prelude.{◌≡◌, ◌⊎◌, ℕ, nat_eq, ◌+◌, ◌-◌, ◌^◌, ◌<◌, Bool, false, if◌then◌else◌, List, [], ◌∷◌, ◌++◌, reverse, length, map, Option, Some, None}
+use Rattle.std.specs.HashMap.{get, spare}
+use Rattle.std.specs.List.{slice_get, slice_index_or, slice_set, filter, range_with_len}
 use Rattle.ada_meaning.specs.declared.state.Id.{Id}
 use Rattle.ada_meaning.specs.declared.state.Value.{Value}
 use Rattle.ada_meaning.specs.declared.state.Stage.TheVariants.{Gone}
@@ -9,9 +10,11 @@ use Rattle.ada_meaning.specs.Heap.{Home, PartState, Cell, Found, on_null, on_gon
 use Rattle.ada_meaning.specs.Named.{Object, object_at, seen, is_member, members_of, inside}
 use Rattle.ada_interpreter.specs.declared.objects.Home.{Home as HeldHome}
 use Rattle.ada_interpreter.specs.declared.objects.Cell.{Cell as HeldCell}
-use Rattle.ada_interpreter.specs.declared.objects.Object.{Object as HeldObject}
+use Rattle.ada_interpreter.specs.declared.remembered.Object.{Object as HeldObject}
+use Rattle.ada_interpreter.specs.declared.remembered.Remembered.{Remembered}
 use Rattle.ada_interpreter.specs.declared.shelves.Shelf.{Shelf}
 use Rattle.ada_interpreter.specs.Treatment.{part_form}
+use Rattle.ada_untouched.specs.Past.{nothing_left}
 
 -- The home, the cell and the object that the machine keeps.
 abbrev pub home_form : HeldHome → Home
@@ -29,6 +32,24 @@ declared_cell t item values parts =
 -- An object, as the code keeps it.
 abbrev pub object_of : HeldObject → Object
 object_of object = record { cell = cell_of object.cell; stage = object.stage; listed = object.listed; out = object.out }
+
+-- An object of which the code may keep nothing: of that only is known that it is past.
+abbrev pub left_of : Option HeldObject → Object
+left_of None = nothing_left
+left_of (Some object) = object_of object
+
+-- All objects that there ever were, by name.
+abbrev pub all_of : Remembered → List Object
+all_of objects = map (λ n. left_of (get nat_eq objects.kept n)) (range_with_len 0 objects.created)
+
+-- There is memory for one object more, and a name.
+pub record HasRoom (objects : Remembered) : Type 0 where
+  pub place : 0 < spare objects.kept
+  pub name : objects.created + 1 < 2 ^ 64
+
+-- A name that was not given yet, or of whose object nothing is remembered.
+abbrev pub IsForgotten : Option Object → Type 0
+IsForgotten found = (found ≡ None) ⊎ (found ≡ Some nothing_left)
 
 -- Is a name that of a member of this collection?
 abbrev pub is_member_by : ℕ → Option Object → Bool

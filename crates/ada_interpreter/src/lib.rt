@@ -14,6 +14,11 @@
 //! which a call begins cost as much as it has actual parameters and its procedure has variables, and the step in which it
 //! ends costs as much as it has actual parameters. Once the machine's stacks have grown, a call takes no memory; that of
 //! an operation does where operands of its caller wait.
+//!
+//! Memory follows the objects that there are, and not all that ever were, if past ones are forgotten by
+//! [`Machine::forget`]. Objects lie in a hash table by their names, and a collection drops the names of those that left it
+//! once they are more than its members: so where a step looks for an object, or one leaves its collection, the constant
+//! time is that on the average.
 #![tactic(auto)]
 
 mod activations;
@@ -52,6 +57,7 @@ mod parameters;
 mod pools;
 mod process;
 mod records;
+mod remembered;
 mod rights;
 mod shelves;
 mod stack;

@@ -5,13 +5,14 @@ ghost use Rattle.std.specs.List.{slice_index_or};
 ghost use Rattle.ada_meaning.specs.Heap.{on_gone, finds};
 ghost use Rattle.ada_meaning.specs.Step.{initial_value, stored_from};
 ghost use Rattle.ada_meaning.specs.Named.{named, object_at, seen, lent_by, standing_by, all_alive, new_object, changed, parted, finished, returned, filled, born_part, finalized_part, treated, members};
-ghost use Rattle.ada_interpreter.specs.Objects.{cell_of, declared_cell, object_of, kept_of, kept_at, listed_home, gone, filled_from, part_at, with_part_state, is_member_at, members_among, Trims, IsTidied};
+ghost use Rattle.ada_interpreter.specs.Objects.{cell_of, declared_cell, all_of, kept_of, kept_at, part_at, with_part_state, is_member_at, members_among, Trims, IsTidied};
 ghost use Rattle.ada_interpreter.specs.Treatment.{part_form};
 ghost use Rattle.ada_untouched.specs.Past.{forgotten};
 
+use crate::remembered::{Object, Remembered};
 use crate::shelves::{Shelf, discount, enter, entries_at, live_at, make_shelves};
-use crate::treatment::{PartState, set_part};
-use crate::values::{initial_values, set_value, set_values};
+use crate::treatment::PartState;
+use crate::values::initial_values;
 use ada_meaning::{Id, Stage, Value};
 use ada_program::TypeNo;
 use ada_program::program::{ComponentKind, ComponentNo};
@@ -41,22 +42,11 @@ pub(crate) struct Cell {
     pub(crate) parts: Vec<PartState>,
 }
 
-/// An object: an allocated one, or a declared one.
-#[derive(Drop)]
-pub(crate) struct Object {
-    cell: Cell,
-    stage: Stage,
-    /// Whether it is in its collection.
-    listed: bool,
-    /// Whether its words are out.
-    out: bool,
-}
-
 /// The objects that were ever created, seen as the list of them by name.
 #[derive(Drop)]
 pub(crate) struct Objects {
     alloc: Global,
-    objects: Vec<Object>,
+    objects: Remembered,
     /// By the number of the item that is their home. Those behind the last one have no members.
     shelves: Vec<Shelf>,
 }
@@ -67,11 +57,11 @@ impl Model for Objects {
 
     ghost Value = { List NamedObject };
 
-    ghost use Rattle.ada_interpreter.specs.Objects.{object_of, kept_of, AreShelved};
+    ghost use Rattle.ada_interpreter.specs.Objects.{all_of, kept_of, AreShelved};
 
-    ghost view = { λ s. map object_of s.objects.items };
+    ghost view = { λ s. all_of s.objects };
 
-    ghost invariant = { λ s. AreShelved (map object_of s.objects.items) (map kept_of s.shelves.items) };
+    ghost invariant = { λ s. AreShelved (all_of s.objects) (map kept_of s.shelves.items) };
 }
 
 impl Objects {
@@ -81,7 +71,7 @@ impl Objects {
     {
         Objects {
             alloc,
-            objects: Vec::new(alloc),
+            objects: Remembered::new(alloc),
             shelves: Vec::new(alloc),
         }
     }
@@ -91,7 +81,7 @@ impl Objects {
         ensures { let found = seen (object_at self.now o) in
             MatchOption result (found ≡ on_gone) (λ cell. found ≡ finds (cell_of cell.now)) }
     {
-        let object = self.objects.get(o.0)?;
+        let object = self.objects.get(o)?;
         match object.stage {
             Stage::Building => Some(&object.cell),
             Stage::Existing => Some(&object.cell),
@@ -104,7 +94,7 @@ impl Objects {
         ensures { let found = lent_by (object_at self.now o) in
             MatchOption result (found ≡ on_gone) (λ cell. found ≡ finds (cell_of cell.now)) }
     {
-        let object = self.objects.get(o.0)?;
+        let object = self.objects.get(o)?;
         if object.out { Some(&object.cell) } else { None }
     }
 
@@ -113,7 +103,7 @@ impl Objects {
         ensures { let found = standing_by (object_at self.now o) in
             MatchOption result (found ≡ on_gone) (λ cell. found ≡ finds (cell_of cell.now)) }
     {
-        let object = self.objects.get(o.0)?;
+        let object = self.objects.get(o)?;
         if object.listed && all_alive(object.cell.parts.as_slice()) {
             Some(&object.cell)
         } else {
@@ -125,7 +115,7 @@ impl Objects {
     pub(crate) fn next_name(&self) -> Id
         ensures { result ≡ record { 0 = length self.now } }
     {
-        Id(self.objects.len())
+        Id(self.objects.count())
     }
 
     /// A new object, in the collection of its home; it has the next name.
@@ -133,10 +123,10 @@ impl Objects {
         ensures name { IfOk result (λ o. o ≡ record { 0 = length self.old }) }
         ensures object { OnOk result (self.new ≡ self.old ++ new_object (cell_of cell) ∷ []) }
     {
-        let o = Id(self.objects.len());
+        let o = Id(self.objects.count());
         let item = cell.home.item;
         make_shelves(self.alloc, &mut self.shelves, item)?;
-        self.objects.reserve(1)?;
+        self.objects.reserve()?;
         enter(&mut self.shelves, item, o)?;
         self.objects.push_reserved(Object {
             cell,
@@ -187,8 +177,9 @@ impl Objects {
     pub(crate) fn part(&mut self, o: Id)
         ensures { self.new ≡ changed parted (object_at self.old o) self.old o }
     {
-        let home = unlist(&mut self.objects, o);
+        let home = self.objects.unlist(o);
         discount(&mut self.shelves, home);
+        sweep(&self.objects, &mut self.shelves, home);
     }
 
     /// The object of a name ceases to exist.
@@ -196,35 +187,35 @@ impl Objects {
         ensures { self.new ≡ changed finished (object_at self.old o) self.old o }
     {
         self.part(o);
-        set_gone(&mut self.objects, o);
+        self.objects.set_gone(o);
     }
 
     /// The words of the object of a name go back.
     pub(crate) fn give_back(&mut self, o: Id)
         ensures { self.new ≡ changed returned (object_at self.old o) self.old o }
     {
-        set_returned(&mut self.objects, o);
+        self.objects.set_returned(o);
     }
 
     /// Nothing more is remembered of the object of a name, if it is past.
     pub(crate) fn forget(&mut self, o: Id)
         ensures { self.new ≡ changed forgotten (object_at self.old o) self.old o }
     {
-        forget_object(&mut self.objects, o);
+        self.objects.forget(o);
     }
 
     /// A component of the object of a name gets another value (5.2).
     pub(crate) fn store(&mut self, o: Id, component: ComponentNo, value: Value)
         ensures { self.new ≡ changed (filled component.0 value) (object_at self.old o) self.old o }
     {
-        set_component(&mut self.objects, o, component, value);
+        self.objects.set_component(o, component, value);
     }
 
     /// The components of the object of a name get other values, from one on (5.2).
     pub(crate) fn store_from(&mut self, o: Id, first: ComponentNo, values: &[Value])
         ensures { self.new ≡ stored_from named self.old (Value.Names o) first.0 values.now }
     {
-        set_components(&mut self.objects, o, first, values);
+        self.objects.set_components(o, first, values);
     }
 
     /// A controlled part of the object of a name, if that exists and has this part (7.6).
@@ -266,7 +257,7 @@ impl Objects {
         ensures { let xs = self.old in
             self.new ≡ changed (with_part_state part (part_form state)) (object_at xs o) xs o }
     {
-        set_part_state(&mut self.objects, o, part, state);
+        self.objects.set_part_state(o, part, state);
     }
 
     /// How many members the collection of an item has.
@@ -281,9 +272,13 @@ impl Objects {
         ensures value { result ≡ slice_index_or (members self.old item) i Value.Null }
         ensures same { self.new ≡ self.old }
     {
-        tidy(self.objects.as_slice(), &mut self.shelves, item);
-        let objects = self.objects.as_slice();
-        member_at(objects, item, entries_at(self.shelves.as_slice(), item), i)
+        tidy(&self.objects, &mut self.shelves, item);
+        member_at(
+            &self.objects,
+            item,
+            entries_at(self.shelves.as_slice(), item),
+            i,
+        )
     }
 }
 
@@ -299,101 +294,43 @@ fn all_alive(parts: &[PartState]) -> bool
     true
 }
 
-/// The object of a name leaves its collection: tells which, if it was in it.
-fn unlist(objects: &mut Vec<Object>, o: Id) -> Option<usize>
-    ensures home { result ≡ listed_home (object_at (map object_of objects.old.items) o) }
-    ensures parted { let xs = map object_of objects.old.items in
-        map object_of objects.new.items ≡ changed parted (object_at xs o) xs o }
-{
-    if o.0 >= objects.len() {
-        return None;
-    }
-    let object = &mut objects[o.0];
-    let was_listed = object.listed;
-    object.listed = false;
-    if was_listed {
-        Some(object.cell.home.item)
-    } else {
-        None
-    }
-}
-
-/// The object of a name is gone.
-fn set_gone(objects: &mut Vec<Object>, o: Id)
-    ensures { let xs = map object_of objects.old.items in
-        map object_of objects.new.items ≡ changed gone (object_at xs o) xs o }
-{
-    if o.0 < objects.len() {
-        let object = &mut objects[o.0];
-        object.stage = Stage::Gone;
-    }
-}
-
-/// Nothing more is remembered of the object of a name, if it is past.
-fn forget_object(objects: &mut Vec<Object>, o: Id)
-    ensures { let xs = map object_of objects.old.items in
-        map object_of objects.new.items ≡ changed forgotten (object_at xs o) xs o }
-{
-}
-
-/// The words of the object of a name are back.
-fn set_returned(objects: &mut Vec<Object>, o: Id)
-    ensures { let xs = map object_of objects.old.items in
-        map object_of objects.new.items ≡ changed returned (object_at xs o) xs o }
-{
-    if o.0 < objects.len() {
-        let object = &mut objects[o.0];
-        object.out = false;
-    }
-}
-
-/// A component of the object of a name has another value.
-fn set_component(objects: &mut Vec<Object>, o: Id, component: ComponentNo, value: Value)
-    ensures { let xs = map object_of objects.old.items in
-        map object_of objects.new.items ≡ changed (filled component.0 value) (object_at xs o) xs o }
-{
-    if o.0 < objects.len() {
-        let object = &mut objects[o.0];
-        set_value(object.cell.values.as_mut_slice(), component.0, value);
-    }
-}
-
-/// The components of the object of a name have other values, from one on.
-fn set_components(objects: &mut Vec<Object>, o: Id, first: ComponentNo, values: &[Value])
-    ensures { let xs = map object_of objects.old.items in
-        map object_of objects.new.items ≡ changed (filled_from first.0 values.now) (object_at xs o) xs o }
-{
-    if o.0 < objects.len() {
-        let object = &mut objects[o.0];
-        set_values(object.cell.values.as_mut_slice(), first.0, values);
-    }
-}
-
-/// A controlled part of the object of a name has another state.
-fn set_part_state(objects: &mut Vec<Object>, o: Id, part: usize, state: PartState)
-    ensures { let xs = map object_of objects.old.items in
-        map object_of objects.new.items ≡ changed (with_part_state part (part_form state)) (object_at xs o) xs o }
-{
-    if o.0 < objects.len() {
-        let object = &mut objects[o.0];
-        set_part(object.cell.parts.as_mut_slice(), part, state);
-    }
-}
-
 /// Is a name that of a member of the collection of an item?
-fn is_member(objects: &[Object], item: usize, o: Id) -> bool
-    ensures { result ≡ is_member_at (map object_of objects.now) item o }
+fn is_member(objects: &Remembered, item: usize, o: Id) -> bool
+    ensures { result ≡ is_member_at (all_of objects.now) item o }
 {
-    match objects.get(o.0) {
+    match objects.get(o) {
         Some(object) => object.listed && object.cell.home.item == item,
         None => false,
     }
 }
 
-/// Takes the newest entries of a collection off, up to one that is a member: so no step passes them again.
-fn tidy(objects: &[Object], shelves: &mut Vec<Shelf>, item: usize)
+/// Drops the entries of a collection that are no members, once they are more than the members by two. It looks at the entries only
+/// then, and more than half of them left the collection since it did so before: so an object that leaves costs constant time on the
+/// average, as one more element of a `Vec` does.
+fn sweep(objects: &Remembered, shelves: &mut Vec<Shelf>, home: Option<usize>)
     ensures { let kept = map kept_of shelves.old.items in (i : ℕ) →
-        IsTidied (map object_of objects.now) i (kept_at kept i) (kept_at (map kept_of shelves.new.items) i) }
+        IsTidied (all_of objects.now) i (kept_at kept i) (kept_at (map kept_of shelves.new.items) i) }
+{
+    if let Some(item) = home
+        && item < shelves.len()
+        && shelves[item].live < shelves[item].entries.len() / 2
+    {
+        let shelf = &mut shelves[item];
+        drop_past(objects, item, &mut shelf.entries);
+    }
+}
+
+/// Drops the entries that are no members.
+fn drop_past(objects: &Remembered, item: usize, entries: &mut Vec<Id>)
+    ensures { Trims (all_of objects.now) item entries.old.items entries.new.items }
+{
+    entries.retain(|o| is_member(objects, item, *o));
+}
+
+/// Takes the newest entries of a collection off, up to one that is a member: so no step passes them again.
+fn tidy(objects: &Remembered, shelves: &mut Vec<Shelf>, item: usize)
+    ensures { let kept = map kept_of shelves.old.items in (i : ℕ) →
+        IsTidied (all_of objects.now) i (kept_at kept i) (kept_at (map kept_of shelves.new.items) i) }
 {
     if item < shelves.len() {
         let shelf = &mut shelves[item];
@@ -402,8 +339,8 @@ fn tidy(objects: &[Object], shelves: &mut Vec<Shelf>, item: usize)
 }
 
 /// Takes the newest entries off, up to one that is a member.
-fn trim(objects: &[Object], item: usize, entries: &mut Vec<Id>)
-    ensures { Trims (map object_of objects.now) item entries.old.items entries.new.items }
+fn trim(objects: &Remembered, item: usize, entries: &mut Vec<Id>)
+    ensures { Trims (all_of objects.now) item entries.old.items entries.new.items }
 {
     let mut n = entries.len();
     'entries: while n > 0 {
@@ -417,8 +354,8 @@ fn trim(objects: &[Object], item: usize, entries: &mut Vec<Id>)
 }
 
 /// The member among entries that is so far from the newest; null, if there are not so many.
-fn member_at(objects: &[Object], item: usize, entries: &[Id], i: usize) -> Value
-    ensures { let names = members_among (map object_of objects.now) item (reverse entries.now) in
+fn member_at(objects: &Remembered, item: usize, entries: &[Id], i: usize) -> Value
+    ensures { let names = members_among (all_of objects.now) item (reverse entries.now) in
         result ≡ slice_index_or (map Value.Names names) i Value.Null }
 {
     let mut k = entries.len();

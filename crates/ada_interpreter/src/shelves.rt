@@ -10,7 +10,7 @@ use std::alloc::{AllocError, Global};
 /// The members of one collection, or the object of one declaration.
 #[derive(Drop)]
 pub(crate) struct Shelf {
-    /// Every member is among these, oldest first. Some of them have left the collection.
+    /// Every member is among these, oldest first. The others have left the collection: at most one more than there are members.
     pub(crate) entries: Vec<Id>,
     /// How many members there are.
     pub(crate) live: usize,

@@ -1,8 +1,8 @@
 -- The object stays in its collection, or out of it.
 use Rattle.std.proofs.Common.{map}
-use Rattle.ada_interpreter.specs.Objects.{object_of, kept_of}
+use Rattle.ada_interpreter.specs.Objects.{all_of, kept_of}
 use Rattle.ada_interpreter.proofs.MemberLemmas.{returned_shelved}
 use Rattle.ada_interpreter.proofs.objects.Objects.give_back.Goals as goal
 
 pub invariant_of-self : goal.invariant_of-self
-invariant_of-self c = rw c.set_returned.ensures (returned_shelved (map object_of c.self.inside.objects.items) (map kept_of c.self.inside.shelves.items) c.args.o c.self.invariant)
+invariant_of-self c = rw c.set_returned.ensures (returned_shelved (all_of c.self.inside.objects) (map kept_of c.self.inside.shelves.items) c.args.o c.self.invariant)

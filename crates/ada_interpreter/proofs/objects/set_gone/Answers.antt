@@ -1,8 +1,0 @@
--- The object of the name is the only one that changes.
-use Rattle.std.proofs.Common.{refl, arith}
-use Rattle.ada_interpreter.specs.Objects.{gone}
-use Rattle.ada_interpreter.proofs.ChangeLemmas.{changed_object}
-use Rattle.ada_interpreter.proofs.objects.set_gone.Goals as goal
-
-pub returns-then-o-len : goal.returns-then-o-len
-returns-then-o-len c = changed_object gone c.args.objects.now.items c.args.o c.index_mut-object.result.now _ (omega arith) c.index_mut-object.ensures.value refl
