@@ -2,6 +2,8 @@
 pub mod Reading
 -- calls one after another, and what is written piece by piece
 pub mod Writing
+-- a turn where past objects are other ones
+pub mod Past
 -- the runner's run, step by step
 pub mod Steps
 -- operations that are in use create nothing with controlled parts in their declarations

@@ -1,6 +1,6 @@
 -- The runner's run, turn by turn, up to its end or to the limit of statements.
 
-use Rattle.std.proofs.Common.{◌≡◌, ◌⊎◌, inl, inr, ℕ, ℤ, zero, suc, ◌+◌, ◌-◌, ◌<◌, ◌≤◌, Bool, true, false, List, [], ◌∷◌, ◌++◌, append_assoc, append-nil, add-zero, arith, refl, sym, ◌∙◌, ap, subst, Option, Result, Ok, Err}
+use Rattle.std.proofs.Common.{◌≡◌, ◌⊎◌, inl, inr, ℕ, ℤ, zero, suc, ◌+◌, ◌-◌, ◌<◌, ◌≤◌, Bool, true, false, List, [], ◌∷◌, ◌++◌, append_assoc, append-nil, add-zero, arith, refl, sym, ◌∙◌, ap, subst, Option, None, Result, Ok, Err}
 use Rattle.std.specs.Prelude.{IfOk}
 use Rattle.std.proofs.lemmas.Grind.{flat_map-append}
 use Rattle.std.specs.Io.KnownBytes.{Appends}
@@ -17,9 +17,11 @@ use Rattle.ada_meaning.specs.Run.{Event, Choice, settled, grants, takes, Leads, 
 use Rattle.ada_meaning.specs.Chosen.{begun_with, begun, goes_on}
 use Rattle.ada_meaning.specs.Ending.{GoesOn, StatesGoOn}
 use Rattle.ada_meaning.specs.Pace.{OperationsDeclareNoParts, full_weight, StepsMakeFullyLighter}
+use Rattle.ada_untouched.specs.Law.{PastObjectsDoNotMatter, PastObjectsWeighNothing}
+use Rattle.ada_untouched.specs.Past.{StatesButForPast}
 use Rattle.ada_interpreter.specs.declared.machine.Machine.{Machine}
 use Rattle.ada_interpreter.specs.CommonSteps.{GoesQuietly, stays, goes_on as goes_quietly_on}
-use Rattle.ada_interpreter.specs.Machine.{Answers, Makes, EndsRun, program_of, state_in}
+use Rattle.ada_interpreter.specs.Machine.{Answers, Makes, EndsRun, program_of, state_in, choices_of}
 use Rattle.ada_pools.specs.declared.choices.PoolChoices.{PoolChoices}
 use Rattle.ada_pools.specs.Runner.{Runner, Request, Grants, Picks, answer_to}
 use Rattle.ada_pools.specs.View.{runner_of}
@@ -27,8 +29,9 @@ use Rattle.ada_serve.specs.declared.serve.Status.{Status}
 use Rattle.ada_serve.specs.declared.serve.Status.TheVariants.{Stopped}
 use Rattle.ada_serve.specs.declared.serve.ServeFault.{ServeFault}
 use Rattle.ada_serve.specs.Texts.{exceptions_of, stopped_text}
-use Rattle.ada_serve.specs.Runner.{RunnerAnswers, RunnerRun, event_text, lines_of, end_text, status_of, HasWritten, StepsOn, EndsIn, BreaksOff, before_it, in_line, in_end, HasRun, ended, stopped}
+use Rattle.ada_serve.specs.Runner.{RunnerAnswers, RunnerRun, event_text, lines_of, end_text, status_of, HasWritten, StepsOn, EndsIn, BreaksOff, before_it, in_line, in_end, TurnsOn, HasRun, ended, stopped}
 use Rattle.ada_serve.specs.Written.{AppendsFront, Writes, Begins, Says, SaysFront}
+use Rattle.ada_serve.proofs.Past.{same_state, states_behind, begins_alike, steps_alike, ends_alike, breaks_alike}
 use Rattle.ada_serve.proofs.Writing.{appends_none, appends_both}
 
 -- The answers of the runner's choices.
@@ -235,91 +238,131 @@ has_stopped program trace numbers limit start statements runner s (Err fault) ol
   written = front_more (lines_of program trace h.events) old mid new (stopped_text limit) h.lines a;
 })
 
+-- Some steps of the runner's run, and what they write: the run comes to a state that is the same as this one but for past objects.
+pub record ComesTo (program : Program) (trace : Bool) (start : Runner) (first : State) (statements : ℕ) (runner : Runner) (t : State) (old new : Option (List ℕ)) : Type 0 where
+  pub s : State
+  pub alike : StatesButForPast s t
+  pub written : HasWritten program trace start first statements runner s old new
+
+comes_more : PastObjectsDoNotMatter → (program : Program) (trace : Bool) (start : Runner) (first t last : State) (statements begun_now : ℕ) (runner after : Runner) (old mid new : Option (List ℕ)) → ComesTo program trace start first statements runner t old mid → StepsOn program trace runner after t last mid new → begun_now ≡ begun_with (begins t) statements → ComesTo program trace start first begun_now after last old new
+comes_more past program trace start first t last statements begun_now runner after old mid new h m e =
+    let made = steps_alike past program h.s t h.alike trace runner after last mid new m in
+    record {
+      s = made.mid;
+      alike = made.alike;
+      written = written_more program trace start first h.s made.mid statements begun_now runner after old mid new h.written made.step (e ∙ ap (λ (starts : Bool). begun_with starts statements) (begins_alike h.s t h.alike));
+    }
+
+comes_behind : (program : Program) (trace : Bool) (start : Runner) (first reached last : State) (statements : ℕ) (runner : Runner) (old new : Option (List ℕ)) → ComesTo program trace start first statements runner reached old new → StatesButForPast reached last → ComesTo program trace start first statements runner last old new
+comes_behind program trace start first reached last statements runner old new h forgets = record {
+  s = h.s;
+  alike = states_behind h.s reached last h.alike forgets;
+  written = h.written;
+}
+
 -- The loop of a run: all statements but those that are left began, and the lines so far are written.
-pub record Reaches (program : Program) (trace : Bool) (numbers : List ℤ) (limit : ℕ) (start : Runner) (left : ℕ) (runner : Runner) (s : State) (old new : Option (List ℕ)) : Type 0 where
+pub record Reaches (program : Program) (trace : Bool) (numbers : List ℤ) (limit : ℕ) (start : Runner) (left : ℕ) (runner : Runner) (t : State) (old new : Option (List ℕ)) : Type 0 where
   pub statements : ℕ
   pub count : statements + left ≡ limit
-  pub written : HasWritten program trace start (first_state program numbers) statements runner s old new
+  pub comes : ComesTo program trace start (first_state program numbers) statements runner t old new
 
-pub reaches_first : (program : Program) (trace : Bool) (numbers : List ℤ) (limit : ℕ) (start runner : Runner) (s : State) (old : Option (List ℕ)) → s ≡ first_state program numbers → runner ≡ start → Reaches program trace numbers limit start limit runner s old old
-reaches_first program trace numbers limit start runner s old e same = record {
+pub reaches_first : (program : Program) (trace : Bool) (numbers : List ℤ) (limit : ℕ) (start runner : Runner) (t : State) (old : Option (List ℕ)) → t ≡ first_state program numbers → runner ≡ start → Reaches program trace numbers limit start limit runner t old old
+reaches_first program trace numbers limit start runner t old e same = record {
   statements = 0;
   count = omega arith;
-  written = subst (λ (r : Runner). HasWritten program trace start (first_state program numbers) 0 r s old old) (sym same) (written_first program trace start (first_state program numbers) s old e);
+  comes = record {
+    s = t;
+    alike = same_state t;
+    written = subst (λ (r : Runner). HasWritten program trace start (first_state program numbers) 0 r t old old) (sym same) (written_first program trace start (first_state program numbers) t old e);
+  };
 }
 
 -- A turn in which no statement begins, and one in which one does.
-pub reaches_step : (program : Program) (trace : Bool) (numbers : List ℤ) (limit : ℕ) (start : Runner) (left : ℕ) (runner after : Runner) (s last : State) (old mid new : Option (List ℕ)) → Reaches program trace numbers limit start left runner s old mid → begins s ≡ false → StepsOn program trace runner after s last mid new → Reaches program trace numbers limit start left after last old new
-reaches_step program trace numbers limit start left runner after s last old mid new h b m = record {
-  statements = h.statements;
-  count = h.count;
-  written = written_more program trace start (first_state program numbers) s last h.statements h.statements runner after old mid new h.written m (sym (ap (λ (starts : Bool). begun_with starts h.statements) b));
-}
+pub reaches_step : PastObjectsDoNotMatter → (program : Program) (trace : Bool) (numbers : List ℤ) (limit : ℕ) (start : Runner) (left : ℕ) (before after : Machine PoolChoices) (old mid new : Option (List ℕ)) → Reaches program trace numbers limit start left (runner_of (choices_of before)) (state_in before) old mid → begins (state_in before) ≡ false → TurnsOn program trace before after mid new (Ok None) → Reaches program trace numbers limit start left (runner_of (choices_of after)) (state_in after) old new
+reaches_step past program trace numbers limit start left before after old mid new h b m =
+    let first : State = first_state program numbers in
+    record {
+      statements = h.statements;
+      count = h.count;
+      comes = comes_behind program trace start first m.reached (state_in after) h.statements (runner_of (choices_of after)) old new
+          (comes_more past program trace start first (state_in before) m.reached h.statements h.statements (runner_of (choices_of before)) (runner_of (choices_of after)) old mid new h.comes m.turn (sym (ap (λ (starts : Bool). begun_with starts h.statements) b)))
+          m.forgets;
+    }
 
-pub reaches_statement : (program : Program) (trace : Bool) (numbers : List ℤ) (limit : ℕ) (start : Runner) (left : ℕ) (runner after : Runner) (s last : State) (old mid new : Option (List ℕ)) → Reaches program trace numbers limit start left runner s old mid → begins s ≡ true → 0 < left → StepsOn program trace runner after s last mid new → Reaches program trace numbers limit start (left - 1) after last old new
-reaches_statement program trace numbers limit start left runner after s last old mid new h b some m = record {
-  statements = h.statements + 1;
-  count = omega (arith, some, h.count);
-  written = written_more program trace start (first_state program numbers) s last h.statements (h.statements + 1) runner after old mid new h.written m (sym (ap (λ (starts : Bool). begun_with starts h.statements) b));
-}
+pub reaches_statement : PastObjectsDoNotMatter → (program : Program) (trace : Bool) (numbers : List ℤ) (limit : ℕ) (start : Runner) (left : ℕ) (before after : Machine PoolChoices) (old mid new : Option (List ℕ)) → Reaches program trace numbers limit start left (runner_of (choices_of before)) (state_in before) old mid → begins (state_in before) ≡ true → 0 < left → TurnsOn program trace before after mid new (Ok None) → Reaches program trace numbers limit start (left - 1) (runner_of (choices_of after)) (state_in after) old new
+reaches_statement past program trace numbers limit start left before after old mid new h b some m =
+    let first : State = first_state program numbers in
+    record {
+      statements = h.statements + 1;
+      count = omega (arith, some, h.count);
+      comes = comes_behind program trace start first m.reached (state_in after) (h.statements + 1) (runner_of (choices_of after)) old new
+          (comes_more past program trace start first (state_in before) m.reached h.statements (h.statements + 1) (runner_of (choices_of before)) (runner_of (choices_of after)) old mid new h.comes m.turn (sym (ap (λ (starts : Bool). begun_with starts h.statements) b)))
+          m.forgets;
+    }
+
+-- A turn in which no statement begins makes the state lighter, and what it forgets weighs nothing.
+pub turn_lightens : PastObjectsWeighNothing → (program : Program) → Lightens program → (trace : Bool) (before after : Machine PoolChoices) (old new : Option (List ℕ)) → begins (state_in before) ≡ false → TurnsOn program trace before after old new (Ok None) → full_weight program (state_in after) < full_weight program (state_in before)
+turn_lightens weighs program lightens trace before after old new b m =
+    rw (weighs program m.reached (state_in after) m.forgets) (lightens (state_in before) m.turn.choice m.turn.event m.reached b m.turn.step)
 
 -- A turn that broke off, where a statement may begin if one does.
 room : (starts : Bool) (statements left limit : ℕ) → statements + left ≡ limit → begun_with starts 0 ≤ left → begun_with starts statements ≤ limit
 room true statements left limit count h = omega (arith, count, h)
 room false statements left limit count h = omega (arith, count)
 
-reaches_broken : StatesGoOn → (program : Program) → Lightens program → (trace : Bool) (numbers : List ℤ) (limit : ℕ) (start : Runner) (left : ℕ) (runner : Runner) (s : State) (starts : Bool) (old mid new : Option (List ℕ)) → Reaches program trace numbers limit start left runner s old mid → begins s ≡ starts → begun_with starts 0 ≤ left → BreaksOff program trace runner s mid new → Begins (HasRun program trace numbers limit start) old new
-reaches_broken goes program lightens trace numbers limit start left runner s starts old mid new h b some m =
-    let later : begun_with (begins s) h.statements ≤ limit = rw b (room starts h.statements left limit h.count some) in
-    broken goes program lightens trace numbers limit start h.statements runner s old mid new h.written (omega (arith, h.count)) later m
+reaches_broken : PastObjectsDoNotMatter → StatesGoOn → (program : Program) → Lightens program → (trace : Bool) (numbers : List ℤ) (limit : ℕ) (start : Runner) (left : ℕ) (runner : Runner) (t : State) (starts : Bool) (old mid new : Option (List ℕ)) → Reaches program trace numbers limit start left runner t old mid → begins t ≡ starts → begun_with starts 0 ≤ left → BreaksOff program trace runner t mid new → Begins (HasRun program trace numbers limit start) old new
+reaches_broken past goes program lightens trace numbers limit start left runner t starts old mid new h b some m =
+    let same : begins h.comes.s ≡ starts = sym (begins_alike h.comes.s t h.comes.alike) ∙ b in
+    let later : begun_with (begins h.comes.s) h.statements ≤ limit = rw same (room starts h.statements left limit h.count some) in
+    broken goes program lightens trace numbers limit start h.statements runner h.comes.s old mid new h.comes.written (omega (arith, h.count)) later (breaks_alike past program h.comes.s t h.comes.alike trace runner mid new m)
 
-pub step_broken : StatesGoOn → (program : Program) → Lightens program → (trace : Bool) (numbers : List ℤ) (limit : ℕ) (start : Runner) (left : ℕ) (runner : Runner) (s : State) (old mid new : Option (List ℕ)) → Reaches program trace numbers limit start left runner s old mid → begins s ≡ false → BreaksOff program trace runner s mid new → Begins (HasRun program trace numbers limit start) old new
-step_broken goes program lightens trace numbers limit start left runner s old mid new h b m = reaches_broken goes program lightens trace numbers limit start left runner s false old mid new h b (omega arith) m
+pub step_broken : PastObjectsDoNotMatter → StatesGoOn → (program : Program) → Lightens program → (trace : Bool) (numbers : List ℤ) (limit : ℕ) (start : Runner) (left : ℕ) (runner : Runner) (t : State) (old mid new : Option (List ℕ)) → Reaches program trace numbers limit start left runner t old mid → begins t ≡ false → BreaksOff program trace runner t mid new → Begins (HasRun program trace numbers limit start) old new
+step_broken past goes program lightens trace numbers limit start left runner t old mid new h b m = reaches_broken past goes program lightens trace numbers limit start left runner t false old mid new h b (omega arith) m
 
-pub statement_broken : StatesGoOn → (program : Program) → Lightens program → (trace : Bool) (numbers : List ℤ) (limit : ℕ) (start : Runner) (left : ℕ) (runner : Runner) (s : State) (old mid new : Option (List ℕ)) → Reaches program trace numbers limit start left runner s old mid → begins s ≡ true → 0 < left → BreaksOff program trace runner s mid new → Begins (HasRun program trace numbers limit start) old new
-statement_broken goes program lightens trace numbers limit start left runner s old mid new h b some m = reaches_broken goes program lightens trace numbers limit start left runner s true old mid new h b (omega (arith, some)) m
+pub statement_broken : PastObjectsDoNotMatter → StatesGoOn → (program : Program) → Lightens program → (trace : Bool) (numbers : List ℤ) (limit : ℕ) (start : Runner) (left : ℕ) (runner : Runner) (t : State) (old mid new : Option (List ℕ)) → Reaches program trace numbers limit start left runner t old mid → begins t ≡ true → 0 < left → BreaksOff program trace runner t mid new → Begins (HasRun program trace numbers limit start) old new
+statement_broken past goes program lightens trace numbers limit start left runner t old mid new h b some m = reaches_broken past goes program lightens trace numbers limit start left runner t true old mid new h b (omega (arith, some)) m
 
 -- The end, and the limit.
-pub reaches_end : (program : Program) (trace : Bool) (numbers : List ℤ) (limit : ℕ) (start : Runner) (left : ℕ) (runner : Runner) (s : State) (ending : Status) (old mid new : Option (List ℕ)) → Reaches program trace numbers limit start left runner s old mid → EndsIn program s mid new ending → Says (HasRun program trace numbers limit start) old new ending
-reaches_end program trace numbers limit start left runner s ending old mid new h e = finished program trace numbers limit start h.statements runner s ending old mid new h.written (omega (arith, h.count)) e
+pub reaches_end : PastObjectsDoNotMatter → (program : Program) (trace : Bool) (numbers : List ℤ) (limit : ℕ) (start : Runner) (left : ℕ) (runner : Runner) (t : State) (ending : Status) (old mid new : Option (List ℕ)) → Reaches program trace numbers limit start left runner t old mid → EndsIn program t mid new ending → Says (HasRun program trace numbers limit start) old new ending
+reaches_end past program trace numbers limit start left runner t ending old mid new h e = finished program trace numbers limit start h.statements runner h.comes.s ending old mid new h.comes.written (omega (arith, h.count)) (ends_alike past program h.comes.s t h.comes.alike ending mid new e)
 
-pub reaches_limit : (program : Program) (trace : Bool) (numbers : List ℤ) (limit : ℕ) (start : Runner) (left : ℕ) (runner : Runner) (s : State) (result : Result Status ServeFault) (old mid new : Option (List ℕ)) → Reaches program trace numbers limit start left runner s old mid → begins s ≡ true → left ≡ 0 → Writes mid new (stopped_text limit) result → IfOk result (λ ending. ending ≡ Stopped) → SaysFront (HasRun program trace numbers limit start) old new result
-reaches_limit program trace numbers limit start left runner s result old mid new h b none a e = has_stopped program trace numbers limit start h.statements runner s result old mid new h.written (omega (arith, h.count, none)) b a e
+pub reaches_limit : (program : Program) (trace : Bool) (numbers : List ℤ) (limit : ℕ) (start : Runner) (left : ℕ) (runner : Runner) (t : State) (result : Result Status ServeFault) (old mid new : Option (List ℕ)) → Reaches program trace numbers limit start left runner t old mid → begins t ≡ true → left ≡ 0 → Writes mid new (stopped_text limit) result → IfOk result (λ ending. ending ≡ Stopped) → SaysFront (HasRun program trace numbers limit start) old new result
+reaches_limit program trace numbers limit start left runner t result old mid new h b none a e = has_stopped program trace numbers limit start h.statements runner h.comes.s result old mid new h.comes.written (omega (arith, h.count, none)) (sym (begins_alike h.comes.s t h.comes.alike) ∙ b) a e
 
 -- A quiet step, and quiet steps one after another: nothing is asked, and nothing is written.
-quiet_step : (program : Program) (trace : Bool) (start : Runner) (first s last : State) (statements begun_now : ℕ) (runner : Runner) (old new : Option (List ℕ)) → HasWritten program trace start first statements runner s old new → next program.types.items (body_forms program) s ≡ moves Quiet last → begun_now ≡ begun_with (begins s) statements → HasWritten program trace start first begun_now runner last old new
-quiet_step program trace start first s last statements begun_now runner old new h is count =
-    let made : StepsOn program trace runner runner s last new new = record {
+quiet_step : PastObjectsDoNotMatter → (program : Program) (trace : Bool) (start : Runner) (first t last : State) (statements begun_now : ℕ) (runner : Runner) (old new : Option (List ℕ)) → ComesTo program trace start first statements runner t old new → next program.types.items (body_forms program) t ≡ moves Quiet last → begun_now ≡ begun_with (begins t) statements → ComesTo program trace start first begun_now runner last old new
+quiet_step past program trace start first t last statements begun_now runner old new h is count =
+    let made : StepsOn program trace runner runner t last new new = record {
       choice = settled;
       event = Quiet;
       runners = subst (λ (coming : Next). RunnerAnswers runner coming settled runner) (sym is) refl;
       step = subst (λ (coming : Next). Leads coming settled Quiet last) (sym is) (refl, refl);
       line = appends_none new;
     } in
-    written_more program trace start first s last statements begun_now runner runner old new new h made count
+    comes_more past program trace start first t last statements begun_now runner runner old new new h made count
 
 begun_both : (starts : Bool) (n k : ℕ) → n + begun_with starts k ≡ begun_with starts (n + k)
 begun_both true n k = omega arith
 begun_both false n k = refl
 
-quiet_steps : (program : Program) (trace : Bool) (start : Runner) (first s last : State) (statements more : ℕ) (runner : Runner) (old new : Option (List ℕ)) → HasWritten program trace start first statements runner s old new → GoesQuietly program s more last → HasWritten program trace start first (statements + more) runner last old new
-quiet_steps program trace start first s last statements more runner old new h stays =
-    subst (λ (n : ℕ). HasWritten program trace start first n runner s old new) (sym (add-zero statements)) h
-quiet_steps program trace start first s last statements more runner old new h (goes_quietly_on counted mid so_far is count) =
-    quiet_step program trace start first mid last (statements + counted) (statements + more) runner old new
-    (quiet_steps program trace start first s mid statements counted runner old new h so_far) is
+quiet_steps : PastObjectsDoNotMatter → (program : Program) (trace : Bool) (start : Runner) (first t last : State) (statements more : ℕ) (runner : Runner) (old new : Option (List ℕ)) → ComesTo program trace start first statements runner t old new → GoesQuietly program t more last → ComesTo program trace start first (statements + more) runner last old new
+quiet_steps past program trace start first t last statements more runner old new h stays =
+    subst (λ (n : ℕ). ComesTo program trace start first n runner t old new) (sym (add-zero statements)) h
+quiet_steps past program trace start first t last statements more runner old new h (goes_quietly_on counted mid so_far is count) =
+    quiet_step past program trace start first mid last (statements + counted) (statements + more) runner old new
+    (quiet_steps past program trace start first t mid statements counted runner old new h so_far) is
     (ap (λ (n : ℕ). statements + n) count ∙ begun_both (begins mid) statements counted)
 
 -- Quiet steps in which so many statements begin that these are left.
-pub reaches_quietly : (program : Program) (trace : Bool) (numbers : List ℤ) (limit : ℕ) (start : Runner) (left after : ℕ) (runner : Runner) (s last : State) (old new : Option (List ℕ)) → Reaches program trace numbers limit start left runner s old new → GoesQuietly program s (left - after) last → after ≤ left → Reaches program trace numbers limit start after runner last old new
-reaches_quietly program trace numbers limit start left after runner s last old new h quiet within = record {
+pub reaches_quietly : PastObjectsDoNotMatter → (program : Program) (trace : Bool) (numbers : List ℤ) (limit : ℕ) (start : Runner) (left after : ℕ) (runner : Runner) (t last : State) (old new : Option (List ℕ)) → Reaches program trace numbers limit start left runner t old new → GoesQuietly program t (left - after) last → after ≤ left → Reaches program trace numbers limit start after runner last old new
+reaches_quietly past program trace numbers limit start left after runner t last old new h quiet within = record {
   statements = h.statements + (left - after);
   count = omega (arith, h.count, within);
-  written = quiet_steps program trace start (first_state program numbers) s last h.statements (left - after) runner old new h.written quiet;
+  comes = quiet_steps past program trace start (first_state program numbers) t last h.statements (left - after) runner old new h.comes quiet;
 }
 
 -- A fault between two turns.
-pub reaches_fault : StatesGoOn → (program : Program) → Lightens program → (trace : Bool) (numbers : List ℤ) (limit : ℕ) (start : Runner) (left : ℕ) (runner : Runner) (s : State) (old new : Option (List ℕ)) → Reaches program trace numbers limit start left runner s old new → Begins (HasRun program trace numbers limit start) old new
-reaches_fault goes program lightens trace numbers limit start left runner s old new h =
-    let lines : List ℕ = lines_of program trace h.written.events in
-    begins_run goes program lightens trace numbers limit start h.statements runner s h.written.events lines [] old new (omega (arith, h.count)) h.written.run (sym (append-nil lines)) h.written.lines
+pub reaches_fault : StatesGoOn → (program : Program) → Lightens program → (trace : Bool) (numbers : List ℤ) (limit : ℕ) (start : Runner) (left : ℕ) (runner : Runner) (t : State) (old new : Option (List ℕ)) → Reaches program trace numbers limit start left runner t old new → Begins (HasRun program trace numbers limit start) old new
+reaches_fault goes program lightens trace numbers limit start left runner t old new h =
+    let lines : List ℕ = lines_of program trace h.comes.written.events in
+    begins_run goes program lightens trace numbers limit start h.statements runner h.comes.s h.comes.written.events lines [] old new (omega (arith, h.count)) h.comes.written.run (sym (append-nil lines)) h.comes.written.lines

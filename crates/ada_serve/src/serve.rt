@@ -27,6 +27,9 @@ use ada_meaning::laws::{operations_grow_fewer, states_go_on};
 use ada_meaning::{Event, Halt};
 use ada_pools::{PoolChoices, name_pools};
 use ada_program::Program;
+use ada_untouched::laws::{
+    forgetting_changes_past_objects_alone, past_objects_do_not_matter, past_objects_weigh_nothing,
+};
 use ada_verdict::{Accepted, Verdict, check};
 use std::alloc::{AllocError, AllocFailed, Global};
 use thiserror::Error;
@@ -288,6 +291,8 @@ fn take_turns<W: ByteWriter>(
 {
     operations_grow_fewer();
     states_go_on();
+    past_objects_do_not_matter();
+    past_objects_weigh_nothing();
     let mut left = options.steps;
     'statements: loop {
         'steps: while !machine.begins() {
@@ -306,7 +311,8 @@ fn take_turns<W: ByteWriter>(
     }
 }
 
-/// Makes one step and writes its line; or writes how the run ended, and returns that status.
+/// Makes one step and writes its line, and then forgets the object whose storage is back by it, if one's is; or writes how the
+/// run ended, and returns that status.
 fn take_turn<W: ByteWriter>(
     machine: &mut Machine<'_, PoolChoices>,
     program: &Program,
@@ -339,6 +345,7 @@ fn forget_past(machine: &mut Machine<'_, PoolChoices>, event: Event)
     ensures halted { halt_of machine.new ≡ halt_of machine.old }
     ensures program { program_of machine.new ≡ program_of machine.old }
 {
+    forgetting_changes_past_objects_alone();
     if let Event::Back { object, .. } = event {
         machine.forget(object);
     }
