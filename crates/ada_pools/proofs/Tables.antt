@@ -1,9 +1,11 @@
 -- Entries by number, as functions.
 
 use Rattle.std.proofs.Common.{◌≡◌, ◌≢◌, ℕ, zero, suc, ◌<◌, inl, inr, Bool, List, [], ◌∷◌, ◌++◌, length, refl, sym, ap, ◌∙◌, arith, Option, None}
-use Rattle.std.specs.Prelude.{if◌then◌else◌}
+use Rattle.std.specs.Prelude.{nat_eq, if◌then◌else◌}
+use Rattle.std.specs.HashMap.{HashMap, get, Updates}
 use Rattle.std.specs.List.{slice_set}
 use Rattle.std.proofs.Math.Path.{fun_ext}
+use Rattle.std.proofs.lemmas.Bool.{ne_eqb}
 use Rattle.std.proofs.lemmas.Bool.Decides.{eqb_tells}
 use Rattle.std.proofs.lemmas.List.{get_or-set_same, get_or-set_other}
 use Rattle.std.proofs.Math.Seq.{get_or-append_seam}
@@ -30,6 +32,11 @@ updated_else before n e i away = elim (eqb_tells i n) [
   | inl same ↦ absurd (away same.1)
   | inr other ↦ ap (λ (b : Bool). if b then e else before i) other.0
 ]
+
+-- a map that is updated at a key
+pub map_updated : {X S : Type 0} (old new : HashMap ℕ X S) (n : ℕ) (e : Option X) → Updates nat_eq old new n e → get nat_eq new ≡ updated (get nat_eq old) n e
+map_updated old new n e updates =
+    is_updated (get nat_eq new) (get nat_eq old) n e updates.1 (λ i away. updates.2 i (ne_eqb n i (λ same. away (sym same))))
 
 -- one more entry at the end
 pub pushed_else : {X : Type 0} (xs : List (Option X)) (e : Option X) (i : ℕ) → i ≢ length xs → entries_of (xs ++ e ∷ []) i ≡ entries_of xs i

@@ -85,42 +85,52 @@ else_same pools p q name old new e there changes before after b = elim (eqb_tell
       ∙ at_place ∙ ap (λ (h : Option Held). is_of name (object_of h b.place)) (sym there)
 
 -- an object is given a block
-pub blocks_taken : (pools : List Held) (p q name : ℕ) (old new : Held) (blocks given : List (Option Block)) → slice_get pools p ≡ Some old
+pub blocks_taken : (pools : List Held) (p q name : ℕ) (old new : Held) (blocks given : ℕ → Option Block) → slice_get pools p ≡ Some old
     → entries_of old.objects q ≡ None → entries_of new.objects ≡ updated (entries_of old.objects) q (Some name)
-    → entries_of given ≡ updated (entries_of blocks) name (Some (record { pool = p; place = q }))
+    → given ≡ updated blocks name (Some (record { pool = p; place = q }))
     → blocks_in (slice_set pools p new) given ≡ updated (blocks_in pools blocks) name (Some (record { pool = p; place = q }))
 blocks_taken pools p q name old new blocks given there free changes gives =
     is_updated (blocks_in (slice_set pools p new) given) (blocks_in pools blocks) name (Some (record { pool = p; place = q })) mine others where
       mine : blocks_in (slice_set pools p new) given name ≡ Some (record { pool = p; place = q })
       mine =
-          ap (still (slice_set pools p new) name) (ap (λ (f : ℕ → Option Block). f name) gives ∙ updated_here (entries_of blocks) name (Some (record { pool = p; place = q })))
+          ap (still (slice_set pools p new) name) (ap (λ (f : ℕ → Option Block). f name) gives ∙ updated_here blocks name (Some (record { pool = p; place = q })))
           ∙ ap (λ (h : Option Held). if is_of name (object_of h q) then Some (record { pool = p; place = q }) else None) (get_set_here pools p old new there)
           ∙ ap (λ (o : Option ℕ). if is_of name o then Some (record { pool = p; place = q }) else None) (ap (λ (f : ℕ → Option ℕ). f q) changes ∙ updated_here (entries_of old.objects) q (Some name))
           ∙ ap (λ (b : Bool). if b then Some (record { pool = p; place = q }) else None) (eq-eqb name name refl)
 
       others : (other : ℕ) → other ≢ name → blocks_in (slice_set pools p new) given other ≡ blocks_in pools blocks other
       others other away =
-          ap (still (slice_set pools p new) other) (ap (λ (f : ℕ → Option Block). f other) gives ∙ updated_else (entries_of blocks) name (Some (record { pool = p; place = q })) other away)
-          ∙ still_same pools (slice_set pools p new) other (entries_of blocks other)
+          ap (still (slice_set pools p new) other) (ap (λ (f : ℕ → Option Block). f other) gives ∙ updated_else blocks name (Some (record { pool = p; place = q })) other away)
+          ∙ still_same pools (slice_set pools p new) other (blocks other)
           (else_same pools p q other old new (Some name) there changes (ap (is_of other) free) (ne_eqb name other (λ same. away (sym same))))
 
 -- the block of an object is put back
-pub blocks_put_back : (pools : List Held) (p q name : ℕ) (old new : Held) (blocks : List (Option Block)) → slice_get pools p ≡ Some old
+pub blocks_put_back : (pools : List Held) (p q name : ℕ) (old new : Held) (blocks left : ℕ → Option Block) → slice_get pools p ≡ Some old
     → entries_of old.objects q ≡ Some name → entries_of new.objects ≡ updated (entries_of old.objects) q None
-    → entries_of blocks name ≡ Some (record { pool = p; place = q })
-    → blocks_in (slice_set pools p new) blocks ≡ updated (blocks_in pools blocks) name None
-blocks_put_back pools p q name old new blocks there owned changes given =
-    is_updated (blocks_in (slice_set pools p new) blocks) (blocks_in pools blocks) name None mine others where
-      mine : blocks_in (slice_set pools p new) blocks name ≡ None
-      mine =
-          ap (still (slice_set pools p new) name) given
-          ∙ ap (λ (h : Option Held). if is_of name (object_of h q) then Some (record { pool = p; place = q }) else None) (get_set_here pools p old new there)
-          ∙ ap (λ (o : Option ℕ). if is_of name o then Some (record { pool = p; place = q }) else None) (ap (λ (f : ℕ → Option ℕ). f q) changes ∙ updated_here (entries_of old.objects) q None)
+    → left ≡ updated blocks name None
+    → blocks_in (slice_set pools p new) left ≡ updated (blocks_in pools blocks) name None
+blocks_put_back pools p q name old new blocks left there owned changes leaves =
+    is_updated (blocks_in (slice_set pools p new) left) (blocks_in pools blocks) name None mine others where
+      mine : blocks_in (slice_set pools p new) left name ≡ None
+      mine = ap (still (slice_set pools p new) name) (ap (λ (f : ℕ → Option Block). f name) leaves ∙ updated_here blocks name None)
 
-      others : (other : ℕ) → other ≢ name → blocks_in (slice_set pools p new) blocks other ≡ blocks_in pools blocks other
+      others : (other : ℕ) → other ≢ name → blocks_in (slice_set pools p new) left other ≡ blocks_in pools blocks other
       others other away =
-          still_same pools (slice_set pools p new) other (entries_of blocks other)
+          ap (still (slice_set pools p new) other) (ap (λ (f : ℕ → Option Block). f other) leaves ∙ updated_else blocks name None other away)
+          ∙ still_same pools (slice_set pools p new) other (blocks other)
           (else_same pools p q other old new None there changes (ap (is_of other) owned ∙ ne_eqb name other (λ same. away (sym same))) refl)
+
+-- a block that is not its object's any more is forgotten
+pub blocks_dropped : (pools : List Held) (name : ℕ) (blocks left : ℕ → Option Block) → left ≡ updated blocks name None → blocks_in pools blocks name ≡ None
+    → blocks_in pools left ≡ blocks_in pools blocks
+blocks_dropped pools name blocks left leaves lost = fun_ext at where
+  at : (other : ℕ) → blocks_in pools left other ≡ blocks_in pools blocks other
+  at other = elim (eqb_tells other name) [
+    | inl same ↦
+        ap (still pools other) (ap (λ (f : ℕ → Option Block). f other) leaves ∙ ap (updated blocks name None) same.1 ∙ updated_here blocks name None)
+        ∙ sym (ap (blocks_in pools blocks) same.1 ∙ lost)
+    | inr away ↦ ap (still pools other) (ap (λ (f : ℕ → Option Block). f other) leaves ∙ updated_else blocks name None other away.1)
+  ]
 
 -- a pool that begins has no block
 object_new : (pools : List Held) (words p q : ℕ) → object_at (pools ++ new_pool words ∷ []) p q ≡ object_at pools p q
@@ -129,9 +139,9 @@ object_new [] words (suc p) q = refl
 object_new (h ∷ pools) words zero q = refl
 object_new (h ∷ pools) words (suc p) q = object_new pools words p q
 
-pub blocks_begun : (pools : List Held) (words : ℕ) (blocks : List (Option Block)) → blocks_in (pools ++ new_pool words ∷ []) blocks ≡ blocks_in pools blocks
+pub blocks_begun : (pools : List Held) (words : ℕ) (blocks : ℕ → Option Block) → blocks_in (pools ++ new_pool words ∷ []) blocks ≡ blocks_in pools blocks
 blocks_begun pools words blocks =
-    fun_ext (λ name. still_same pools (pools ++ new_pool words ∷ []) name (entries_of blocks name) (λ b. ap (is_of name) (object_new pools words b.pool b.place)))
+    fun_ext (λ name. still_same pools (pools ++ new_pool words ∷ []) name (blocks name) (λ b. ap (is_of name) (object_new pools words b.pool b.place)))
 
 -- what is left of the pools
 object_left : (pools : List Held) (k p q : ℕ) → p < k → object_at (take k pools) p q ≡ object_at pools p q
@@ -163,8 +173,8 @@ still_left pools k name (Some b) = elim (leb_tells (suc b.pool) k) [
   below_mine false e true = ap (λ (t : Bool). if t then Some b else None) e
   below_mine false e false = refl
 
-pub blocks_left : (pools : List Held) (k : ℕ) (blocks : List (Option Block)) → blocks_in (take k pools) blocks ≡ (λ name. below k (blocks_in pools blocks name))
-blocks_left pools k blocks = fun_ext (λ name. still_left pools k name (entries_of blocks name))
+pub blocks_left : (pools : List Held) (k : ℕ) (blocks : ℕ → Option Block) → blocks_in (take k pools) blocks ≡ (λ name. below k (blocks_in pools blocks name))
+blocks_left pools k blocks = fun_ext (λ name. still_left pools k name (blocks name))
 
 -- The answers.
 
@@ -178,9 +188,9 @@ is_none None not_some = refl
 is_none (Some p) not_some = absurd (not_some p refl)
 
 -- an allocator gets its block
-pub allocates : (until : ℕ) (sizes : List ℕ) (pools others : List Held) (blocks given : List (Option Block)) (pool words place : ℕ) (object : Id)
+pub allocates : (until : ℕ) (sizes : List ℕ) (pools others : List Held) (blocks given : ℕ → Option Block) (pool words place : ℕ) (object : Id)
     → TakesIn pool words object.0 pools (slice_get pools pool) (Some place) others
-    → entries_of given ≡ updated (entries_of blocks) object.0 (Some (record { pool = pool; place = place }))
+    → given ≡ updated blocks object.0 (Some (record { pool = pool; place = place }))
     → let r = runner_with until sizes pools blocks in
     allocated pool (Names object) (fit 0 (block_words words) (tiling pool r)) r ≡ (true, runner_with until sizes others given)
 allocates until sizes pools others blocks given pool words place object takes gives = by_pool (slice_get pools pool) refl takes where
@@ -196,7 +206,7 @@ allocates until sizes pools others blocks given pool words place object takes gi
       rw (found, blocks_are, tilings_are) refl
 
 -- or the pool has no room
-pub refuses : (until : ℕ) (sizes : List ℕ) (pools others : List Held) (blocks : List (Option Block)) (pool words : ℕ) (object : Id)
+pub refuses : (until : ℕ) (sizes : List ℕ) (pools others : List Held) (blocks : ℕ → Option Block) (pool words : ℕ) (object : Id)
     → TakesIn pool words object.0 pools (slice_get pools pool) None others
     → let r = runner_with until sizes pools blocks in
     allocated pool (Names object) (fit 0 (block_words words) (tiling pool r)) r ≡ (false, runner_with until sizes others blocks)
@@ -212,43 +222,51 @@ refuses until sizes pools others blocks pool words object takes = by_pool (slice
       rw (found, same) refl
 
 -- an object's block goes back
-pub gives_back : (until : ℕ) (sizes : List ℕ) (pools : List Held) (blocks : List (Option Block)) (object : Id)
+pub gives_back : (until : ℕ) (sizes : List ℕ) (pools : List Held) (blocks left : ℕ → Option Block) (object : Id)
+    → left ≡ updated blocks object.0 None
     → let r = runner_with until sizes pools blocks in
-    runner_with until sizes (all_put_back object.0 (entries_of blocks object.0) pools) blocks ≡ given_back (Names object) (r.blocks object.0) r
-gives_back until sizes pools blocks object = by_block (entries_of blocks object.0) refl where
-  by_owner : (b : Block) (old : Held) → entries_of blocks object.0 ≡ Some b → slice_get pools b.pool ≡ Some old → (owner : Option ℕ) → entries_of old.objects b.place ≡ owner
+    runner_with until sizes (all_put_back object.0 (blocks object.0) pools) left ≡ given_back (Names object) (r.blocks object.0) r
+gives_back until sizes pools blocks left object leaves = by_block (blocks object.0) refl where
+  drops : (given : Option Block) → blocks object.0 ≡ given → still pools object.0 given ≡ None
+      → runner_with until sizes pools left ≡ runner_with until sizes pools blocks
+  drops given is lost = ap (λ (f : ℕ → Option Block). record { until = until; sizes = sizes; tilings = map tiles_of pools; blocks = f }) (blocks_dropped pools object.0 blocks left leaves (ap (still pools object.0) is ∙ lost))
+
+  by_owner : (b : Block) (old : Held) → blocks object.0 ≡ Some b → slice_get pools b.pool ≡ Some old → (owner : Option ℕ) → entries_of old.objects b.place ≡ owner
       → (mine : Bool) → is_of object.0 owner ≡ mine
-      → runner_with until sizes (slice_set pools b.pool (if mine then record { tiles = put_back b.place old.tiles; objects = slice_set old.objects b.place None } else old)) blocks
+      → runner_with until sizes (slice_set pools b.pool (if mine then record { tiles = put_back b.place old.tiles; objects = slice_set old.objects b.place None } else old)) left
       ≡ given_back (Names object) (if mine then Some b else None) (runner_with until sizes pools blocks)
-  by_owner b old given there owner entry false is = rw (set_same pools b.pool old there) refl
+  by_owner b old given there owner entry false is =
+      rw (set_same pools b.pool old there)
+      (drops (Some b) given
+      (ap (λ (h : Option Held). if is_of object.0 (object_of h b.place) then Some b else None) there ∙ ap (λ (mine : Bool). if mine then Some b else None) (ap (is_of object.0) entry ∙ is)))
   by_owner b old given there None entry true is = absurd (cc is)
   by_owner b old given there (Some name) entry true is =
       let owned : entries_of old.objects b.place ≡ Some object.0 = entry ∙ ap Some (eqb-true name object.0 is) in
-      let blocks_are : blocks_in (slice_set pools b.pool (record { tiles = put_back b.place old.tiles; objects = slice_set old.objects b.place None })) blocks ≡ updated (blocks_in pools blocks) object.0 None =
-      blocks_put_back pools b.pool b.place object.0 old (record { tiles = put_back b.place old.tiles; objects = slice_set old.objects b.place None }) blocks there owned
-      (set_one old.objects b.place None (within old.objects b.place object.0 owned)) given in
+      let blocks_are : blocks_in (slice_set pools b.pool (record { tiles = put_back b.place old.tiles; objects = slice_set old.objects b.place None })) left ≡ updated (blocks_in pools blocks) object.0 None =
+      blocks_put_back pools b.pool b.place object.0 old (record { tiles = put_back b.place old.tiles; objects = slice_set old.objects b.place None }) blocks left there owned
+      (set_one old.objects b.place None (within old.objects b.place object.0 owned)) leaves in
       let tilings_are : map tiles_of (slice_set pools b.pool (record { tiles = put_back b.place old.tiles; objects = slice_set old.objects b.place None })) ≡ slice_set (map tiles_of pools) b.pool (put_back b.place old.tiles) =
       map-set tiles_of pools b.pool (record { tiles = put_back b.place old.tiles; objects = slice_set old.objects b.place None }) in
       rw (blocks_are, tilings_are, tiling_here pools b.pool old there) refl
 
-  by_pool : (b : Block) → entries_of blocks object.0 ≡ Some b → (found : Option Held) → slice_get pools b.pool ≡ found
-      → runner_with until sizes (changed_pool (put_back_of object.0 b.place) b.pool found pools) blocks
+  by_pool : (b : Block) → blocks object.0 ≡ Some b → (found : Option Held) → slice_get pools b.pool ≡ found
+      → runner_with until sizes (changed_pool (put_back_of object.0 b.place) b.pool found pools) left
       ≡ given_back (Names object) (if is_of object.0 (object_of found b.place) then Some b else None) (runner_with until sizes pools blocks)
-  by_pool b given None there = refl
+  by_pool b given None there = drops (Some b) given (ap (λ (h : Option Held). if is_of object.0 (object_of h b.place) then Some b else None) there)
   by_pool b given (Some old) there = by_owner b old given there (entries_of old.objects b.place) refl (is_of object.0 (entries_of old.objects b.place)) refl
 
-  by_block : (given : Option Block) → entries_of blocks object.0 ≡ given
-      → runner_with until sizes (all_put_back object.0 given pools) blocks ≡ given_back (Names object) (still pools object.0 given) (runner_with until sizes pools blocks)
-  by_block None e = refl
+  by_block : (given : Option Block) → blocks object.0 ≡ given
+      → runner_with until sizes (all_put_back object.0 given pools) left ≡ given_back (Names object) (still pools object.0 given) (runner_with until sizes pools blocks)
+  by_block None e = drops None e refl
   by_block (Some b) e = by_pool b e (slice_get pools b.pool) refl
 
 -- a declared pool begins
-pub begins_one : (until : ℕ) (sizes : List ℕ) (pools : List Held) (blocks : List (Option Block)) (declaration : ℕ)
+pub begins_one : (until : ℕ) (sizes : List ℕ) (pools : List Held) (blocks : ℕ → Option Block) (declaration : ℕ)
     → runner_with until sizes (pools ++ new_pool (slice_index_or sizes declaration 0) ∷ []) blocks ≡ begun declaration (runner_with until sizes pools blocks)
 begins_one until sizes pools blocks declaration =
     rw (blocks_begun pools (slice_index_or sizes declaration 0) blocks, map-append tiles_of pools (new_pool (slice_index_or sizes declaration 0) ∷ [])) refl
 
 -- the newest pool is gone
-pub ends_one : (until : ℕ) (sizes : List ℕ) (pools : List Held) (blocks : List (Option Block)) (pool : ℕ)
+pub ends_one : (until : ℕ) (sizes : List ℕ) (pools : List Held) (blocks : ℕ → Option Block) (pool : ℕ)
     → runner_with until sizes (take pool pools) blocks ≡ gone pool (runner_with until sizes pools blocks)
 ends_one until sizes pools blocks pool = rw (blocks_left pools pool blocks, sym (take-map tiles_of pool pools)) refl

@@ -6,13 +6,13 @@ ghost use Rattle.ada_pools.specs.Sizes.{sizes_of};
 ghost use Rattle.ada_pools.specs.Runner.{first_runner, counted, granted, allocated, given_back, begun, gone};
 ghost use Rattle.ada_pools.specs.View.{runner_of};
 
-use crate::entries::{entry, set_entry};
 use crate::held::{Block, HeldPool, put_back_in, take_in};
 use crate::sizes::{PoolSize, size_at, sizes_of};
 use ada_interpreter::Choices;
 use ada_meaning::{Id, Request};
 use ada_program::{PoolNo, Program};
 use std::alloc::{AllocError, Global};
+use std::collections::HashMap;
 
 /// The runner's choices: a first-fit pool for each pool of the run, and the newest member of a collection.
 pub struct PoolChoices {
@@ -23,8 +23,8 @@ pub struct PoolChoices {
     sizes: Vec<u32>,
     /// The pools that exist. Their numbers grow along the stack of masters, so the newest one goes first.
     pools: Vec<HeldPool>,
-    /// The block that an object was given, by its name. It is another object's, or none, once it is back.
-    blocks: Vec<Option<Block>>,
+    /// The block of each object that has one, by the object's name. Where the pool is gone it stays until it is given back.
+    blocks: HashMap<usize, Block>,
 }
 
 impl Drop for PoolChoices {
@@ -62,7 +62,7 @@ impl PoolChoices {
             until: refuse,
             sizes: sizes_of(alloc, program, sizes)?,
             pools,
-            blocks: Vec::new(alloc),
+            blocks: HashMap::new(alloc),
         })
     }
 
@@ -87,7 +87,7 @@ impl PoolChoices {
         let Some(place) = take_in(&mut self.pools, pool, words, object.0)? else {
             return Ok(false);
         };
-        set_entry(&mut self.blocks, object.0, Block { pool, place })?;
+        self.blocks.insert(object.0, Block { pool, place })?;
         Ok(true)
     }
 
@@ -95,7 +95,7 @@ impl PoolChoices {
     fn give_back(&mut self, object: Id)
         ensures { runner_of self.new ≡ given_back (Names object) ((runner_of self.old).blocks object.0) (runner_of self.old) }
     {
-        let block = entry(&self.blocks, object.0);
+        let block = self.blocks.remove(&object.0);
         put_back_in(&mut self.pools, object.0, block);
     }
 
