@@ -23,7 +23,7 @@ pub struct PoolChoices {
     sizes: Vec<u32>,
     /// The pools that exist. Their numbers grow along the stack of masters, so the newest one goes first.
     pools: Vec<HeldPool>,
-    /// The block of each object that has one, by the object's name. Where the pool is gone it stays until it is given back.
+    /// The block that an object was given and has not given back, by its name. Its pool may be gone.
     blocks: HashMap<usize, Block>,
 }
 
