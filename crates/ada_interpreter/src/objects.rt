@@ -316,12 +316,12 @@ fn sweep(objects: &Remembered, shelves: &mut Vec<Shelf>, home: Option<usize>)
         && shelves[item].live < shelves[item].entries.len() / 2
     {
         let shelf = &mut shelves[item];
-        drop_past(objects, item, &mut shelf.entries);
+        keep_members(objects, item, &mut shelf.entries);
     }
 }
 
-/// Drops the entries that are no members.
-fn drop_past(objects: &Remembered, item: usize, entries: &mut Vec<Id>)
+/// Keeps the entries that are members, and drops the others.
+fn keep_members(objects: &Remembered, item: usize, entries: &mut Vec<Id>)
     ensures { Trims (all_of objects.now) item entries.old.items entries.new.items }
 {
     entries.retain(|o| is_member(objects, item, *o));

@@ -11,4 +11,4 @@ returns-then-index-len c =
     let kept = map kept_of c.args.shelves.now.items in
     let shelf = c.index_mut-shelf.result.now in
     rw (map-set kept_of c.args.shelves.now.items c.in-Some.item)
-    (tidied_one (all_of c.args.objects.now) kept c.in-Some.item (kept_of shelf) (record { entries = c.drop_past.new.entries.items; live = shelf.live }) (omega (arith, length-map c.args.shelves.now.items kept_of)) (get_form_or kept_of c.args.shelves.now.items c.in-Some.item shelf nothing_kept (omega arith) c.index_mut-shelf.ensures.value) (record { trims = c.drop_past.ensures; live = refl }))
+    (tidied_one (all_of c.args.objects.now) kept c.in-Some.item (kept_of shelf) (record { entries = c.keep_members.new.entries.items; live = shelf.live }) (omega (arith, length-map c.args.shelves.now.items kept_of)) (get_form_or kept_of c.args.shelves.now.items c.in-Some.item shelf nothing_kept (omega arith) c.index_mut-shelf.ensures.value) (record { trims = c.keep_members.ensures; live = refl }))
