@@ -12,6 +12,8 @@ pub mod Silence
 pub mod Parts
 -- what they spare
 pub mod Spared
+-- no exception comes out of an Adjust or a Finalize
+pub mod Propagating
 -- the laws
 pub mod Proved
 -- the examples

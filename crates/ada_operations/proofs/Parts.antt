@@ -125,11 +125,11 @@ module _ (p : ProgramForm) (d : Deed) where
   record_done known each operation inner t (Some (object_of record_type)) at h = absurd (cc h)
 
   -- What is done, by its callee.
-  abbrev Told : Callee → Type 0
+  abbrev pub Told : Callee → Type 0
   Told (callee.Procedure q) = Unit {0}
   Told (callee.Parts operation t) = SomePartDoes p operation d t.0
 
-  told : (c : Callee) → Does p d c → Told c
+  pub told : (c : Callee) → Does p d c → Told c
   told (callee.Procedure q) h = tt
   told (callee.Parts operation t) (does of known each h) =
       record_done known each operation (λ v is. told (callee.Parts operation v) (each (callee.Parts operation v) is)) t.0 (slice_get p.types t.0) refl h

@@ -26,7 +26,7 @@ not_so true h = absurd (h refl)
 not_so false h = refl
 
 -- What does something has a body.
-body_there : (p : ProgramForm) (d : Deed) (q : ProcedureNo) → Does p d (callee.Procedure q) → (b : BodyForm) × (slice_get p.bodies q.0 ≡ Some b)
+pub body_there : (p : ProgramForm) (d : Deed) (q : ProcedureNo) → Does p d (callee.Procedure q) → (b : BodyForm) × (slice_get p.bodies q.0 ≡ Some b)
 body_there p d q (does of known each h) = go (slice_get p.bodies q.0) refl
   where
     go : (o : Option BodyForm) → slice_get p.bodies q.0 ≡ o → (b : BodyForm) × (slice_get p.bodies q.0 ≡ Some b)

@@ -10,7 +10,7 @@ use Rattle.ada_deeds.specs.declared.deed.Deed.TheVariants.{Raises, Frees, Follow
 use Rattle.ada_deeds.specs.declared.deed.Operation.{Operation}
 use Rattle.ada_deeds.specs.declared.deed.Operation.TheVariants.{Initialize, Adjust, Finalize}
 use Rattle.ada_effects.specs.Effects.{no_implicit}
-use Rattle.ada_operations.specs.Operations.{Overrides, HasPart, IsFirstFault}
+use Rattle.ada_operations.specs.Operations.{Overrides, HasPart, IsFirstFault, PropagatesNothing}
 use Rattle.ada_operations.specs.declared.rule.OperationRule.{OperationRule}
 use Rattle.ada_program.specs.declared.program.Exception.{Exception}
 use Rattle.ada_program.specs.declared.program.ProcedureNo.{ProcedureNo}
@@ -78,3 +78,7 @@ EndsReachWhatPartsUse = (p : ProgramForm) (u t : ℕ) →
 abbrev pub EndsSpareTheirOwn : Type 0
 EndsSpareTheirOwn = (p : ProgramForm) → IsFirstFault p None → (t : ℕ) → is_access p.types t ≡ true →
     ((implicit_of p).end_reaches t t ≡ false) × ((implicit_of p).adjust_frees t t ≡ false)
+
+-- Where no body breaks a rule, no exception comes out where a record is adjusted or finalized (7.6.1).
+abbrev pub ObeyingPropagatesNothing : Type 0
+ObeyingPropagatesNothing = (p : ProgramForm) → IsFirstFault p None → PropagatesNothing p

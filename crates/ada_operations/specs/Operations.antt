@@ -17,6 +17,7 @@ use Rattle.ada_program.specs.declared.program.Finalization.{Finalization}
 use Rattle.ada_program.specs.declared.program.PartKind.{PartKind}
 use Rattle.ada_program.specs.declared.program.PartKind.TheVariants as part
 use Rattle.ada_program.specs.declared.program.ProcedureNo.{ProcedureNo}
+use Rattle.ada_program.specs.declared.program.TypeNo.{TypeNo}
 use Rattle.ada_program.specs.ProgramForm.{TypeForm, record_of, access_to, object_of, BodyForm, ProgramForm}
 use Rattle.ada_program.specs.WellFormed.{designated_type, finalization_of}
 
@@ -88,3 +89,8 @@ HasFault p f = (procedure : ProcedureNo) × (b : BodyForm) × (slice_get p.bodie
 abbrev pub IsFirstFault : ProgramForm → Option (Spot × OperationRule) → Type 0
 IsFirstFault p None = (f : Spot × OperationRule) → ¬ (HasFault p f)
 IsFirstFault p (Some f) = HasFault p f × ((g : Spot × OperationRule) → HasFault p g → is_before g f ≡ false)
+
+-- No exception comes out where a record is adjusted or finalized (7.6.1): out of no operation of a part of it.
+pub record PropagatesNothing (p : ProgramForm) : Type 0 where
+  pub adjusts : (e : Exception) (t : TypeNo) → ¬ (Does p (deed.Raises e) (callee.Parts Adjust t))
+  pub finalizes : (e : Exception) (t : TypeNo) → ¬ (Does p (deed.Raises e) (callee.Parts Finalize t))

@@ -4,7 +4,7 @@
 ghost use Rattle.ada_operations.specs.Example.{AllAreBroken, NoneIsBroken, PartsOfPartsCount};
 ghost use Rattle.ada_operations.specs.Laws.{OneIsFirst, QuietOperationsDoNothing, QuietOperationsObey};
 ghost use Rattle.ada_operations.specs.Laws.{AdjustsFreeWhatPartsFree, EndsFreeWhatPartsFree, EndsReachWhatPartsUse, EndsSpareTheirOwn};
-ghost use Rattle.ada_operations.specs.Laws.{StartsFreeWhatPartsFree, StartsRaiseWhatPartsRaise};
+ghost use Rattle.ada_operations.specs.Laws.{ObeyingPropagatesNothing, StartsFreeWhatPartsFree, StartsRaiseWhatPartsRaise};
 
 /// A program has its first fault, or none: not two of these.
 pub fn one_is_first()
@@ -41,6 +41,12 @@ pub fn implicit_calls_are_those_of_all_parts()
 /// its adjustment frees none: what they use lies in a collection that is created before its own (S8).
 pub fn ends_spare_their_own()
     ensures { EndsSpareTheirOwn }
+{}
+
+/// Where no body breaks a rule, no exception comes out where a record is adjusted or finalized: out of no Adjust and no Finalize of a part
+/// of it, at any depth (S9).
+pub fn obeying_propagates_nothing()
+    ensures { ObeyingPropagatesNothing }
 {}
 
 /// That is not empty: the operations of a part that lies within a part count, each for itself.

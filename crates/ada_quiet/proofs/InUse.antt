@@ -8,8 +8,8 @@ use Rattle.ada_program.specs.declared.program.Finalization.{Finalization}
 use Rattle.ada_program.specs.declared.program.ProcedureNo.{ProcedureNo}
 use Rattle.ada_program.specs.ProgramForm.{TypeForm, BodyForm, ProgramForm}
 use Rattle.ada_program.specs.WellFormed.{finalization_in}
-use Rattle.ada_quiet.specs.Quiet.{is_plain_body, is_plain_procedure, is_quiet_procedure, is_plain_operation, is_quiet_operation, has_quiet_operations, has_access, operation_body, adjust_body, adjusts_access, operations_are_quiet}
-use Rattle.ada_quiet.specs.Frugal.{is_frugal_operation, is_silent_operation}
+use Rattle.ada_quiet.specs.Quiet.{is_plain_body, is_quiet_body, is_plain_procedure, is_quiet_procedure, is_plain_operation, is_quiet_operation, has_quiet_operations, has_access, operation_body, adjust_body, adjusts_access, operations_are_quiet}
+use Rattle.ada_quiet.specs.Frugal.{is_frugal_operation}
 use Rattle.ada_quiet.specs.Simple.{is_simple_operation}
 use Rattle.ada_quiet.specs.InUse.{adjusts_alone, adjusts_nothing, uses_called_adjust, may_be_frugal, may_track, uses_initialize, uses_adjust, uses_finalize, uses_operations, operations_are_idle, operations_may_be_called, operations_are_in_use}
 
@@ -28,9 +28,12 @@ not_true true h = absurd (cc h)
 not_true false h = refl
 
 -- A quiet body is plain.
+pub plain_body : (types : List TypeForm) (b : BodyForm) → is_quiet_body types b ≡ true → is_plain_body types b ≡ true
+plain_body types b h = first_of_both (is_plain_body types b) (not (body_raises no_calls b (λ e. true))) h
+
 pub plain_procedure : (types : List TypeForm) (o : Option BodyForm) → is_quiet_procedure types o ≡ true → is_plain_procedure types o ≡ true
 plain_procedure types None h = refl
-plain_procedure types (Some b) h = first_of_both (is_plain_body types b) (not (body_raises no_calls b (λ e. true))) h
+plain_procedure types (Some b) h = plain_body types b h
 
 pub plain_operation : (p : ProgramForm) (o : Option ProcedureNo) → is_quiet_operation p o ≡ true → is_plain_operation p o ≡ true
 plain_operation p None h = refl
@@ -52,7 +55,7 @@ pub uses_quiet_initialize : (p : ProgramForm) (o : Option ProcedureNo) → is_qu
 uses_quiet_initialize p o h = uses_plain_initialize p o (plain_operation p o h)
 
 pub uses_quiet_finalize : (p : ProgramForm) (o : Option ProcedureNo) → is_quiet_operation p o ≡ true → uses_finalize p o ≡ true
-uses_quiet_finalize p o h = either_first (is_quiet_operation p o) (may_be_frugal p && is_frugal_operation p o && is_silent_operation p o) h
+uses_quiet_finalize p o h = either_first (is_quiet_operation p o) (may_be_frugal p && is_frugal_operation p o) h
 
 -- A quiet Adjust is in use, but where it overrides that of a type which declares a component of an access type.
 other_chosen : (which one other : Bool) → which ≡ false → other ≡ true → (if which then one else other) ≡ true
@@ -63,7 +66,7 @@ pub uses_quiet_adjust : (p : ProgramForm) (owns : Bool) (o : Option ProcedureNo)
     uses_adjust p owns o ≡ true
 uses_quiet_adjust p owns o h none =
     either_second (adjusts_nothing p && is_frugal_operation p o) (uses_called_adjust p owns o)
-    (other_chosen (owns && is_some (operation_body p o)) (may_track p && is_simple_operation p (adjusts_alone p) o && is_silent_operation p o) (is_quiet_operation p o)
+    (other_chosen (owns && is_some (operation_body p o)) (may_track p && is_simple_operation p (adjusts_alone p) o) (is_quiet_operation p o)
     none h)
 
 -- Both of two tests may be replaced by what follows from them.

@@ -4,7 +4,7 @@ pub mod Firsts
 pub mod Unused
 -- operations that are quiet are in use
 pub mod InUse
--- quiet bodies are frugal
+-- plain bodies are frugal
 pub mod QuietFrugal
 -- quiet bodies are simple
 pub mod QuietSimple

@@ -1,17 +1,16 @@
 -- Quiet bodies are simple, whether objects may be freed or not.
 
 use Rattle.std.proofs.Common.{◌≡◌, refl}
-use Rattle.std.specs.Prelude.{Bool, true, not, ◌&&◌, List, [], ◌∷◌, drop}
+use Rattle.std.specs.Prelude.{Bool, true, ◌&&◌, List, [], ◌∷◌, drop}
 use Rattle.std.specs.List.{list_all}
-use Rattle.ada_effects.specs.Effects.{no_calls, body_raises}
 use Rattle.ada_program.specs.Form.{RightForm, nothing, value_of, allocates, allocates_default, computes, StmtForm, skips, assigns, assigns_record, frees, gets, writes, writes_text, chooses, repeats, counts, exits, calls, returns, raises, encloses, StmtsForm, no_stmts, a_stmt, BranchesForm, otherwise, a_branch, HandlersForm, no_handlers, a_handler, DeclarationForm, creates_pool, collects, declares, declares_record}
 use Rattle.ada_program.specs.declared.program.VariableKind.{VariableKind}
 use Rattle.ada_program.specs.declared.program.VariableKind.TheVariants as variable
 use Rattle.ada_program.specs.ProgramForm.{TypeForm, VariableForm, BodyForm}
 use Rattle.ada_program.specs.WellFormed.{variable_kind}
 use Rattle.ada_quiet.specs.Simple.{is_simple_right, is_simple_declaration, are_simple_declarations, is_simple_stmt, are_simple, are_simple_branches, are_simple_handlers, is_bare_kind, is_simple_body}
-use Rattle.ada_quiet.specs.Quiet.{is_elementary, holds_elementary, is_quiet_path, is_quiet_expression, is_quiet_condition, is_quiet_right, is_quiet_declaration, are_quiet_declarations, is_quiet_stmt, are_quiet, are_quiet_branches, are_quiet_handlers, is_plain_body, is_quiet_body}
-use Rattle.ada_quiet.proofs.InUse.{first_of_both, second_of_both, others}
+use Rattle.ada_quiet.specs.Quiet.{is_elementary, holds_elementary, is_quiet_path, is_quiet_expression, is_quiet_condition, is_quiet_right, is_quiet_declaration, are_quiet_declarations, is_quiet_stmt, are_quiet, are_quiet_branches, are_quiet_handlers, is_quiet_body}
+use Rattle.ada_quiet.proofs.InUse.{plain_body, second_of_both, others}
 
 module _ (types known : List TypeForm) (may_free : Bool) (variables : List VariableForm) where
   right_simple : (right : RightForm) → is_quiet_right types variables right ≡ true → is_simple_right known right ≡ true
@@ -103,7 +102,7 @@ simple_body types known may_free b quiet =
     (others elementary declarations plain (are_simple_declarations known b.declarations) (bare_kinds known (drop 1 b.variables)) (declarations_simple types known may_free b.variables b.declarations))
     (stmts_simple types known may_free b.variables b.statements))
     (handlers_simple types known may_free b.variables b.handlers)
-    (first_of_both (is_plain_body types b) (not (body_raises no_calls b (λ e. true))) quiet)
+    (plain_body types b quiet)
   where
     elementary : Bool
     elementary = list_all (λ x. is_elementary x.kind) (drop 1 b.variables)

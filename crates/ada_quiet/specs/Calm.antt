@@ -16,11 +16,6 @@ abbrev pub ends_calmly : ProgramForm → Option Finalization → Bool
 ends_calmly p None = true
 ends_calmly p (Some f) = is_plain_operation p f.operations.initialize && is_quiet_operation p f.operations.finalize
 
--- What overrides Initialize of a type is quiet: it touches no storage, and no exception comes out of it (7.6).
-abbrev pub begins_quietly : ProgramForm → Option Finalization → Bool
-begins_quietly p None = true
-begins_quietly p (Some f) = is_quiet_operation p f.operations.initialize
-
 -- It is known that a record type is calm, by how its objects are finalized: one without controlled parts is, and of one with some it is told by its number (7.6).
 abbrev pub is_known_calm : (calm : List Bool) → Option Finalization → Bool
 is_known_calm calm None = true
@@ -59,10 +54,6 @@ calm_by own types = calm_up_to own types (numbered_types types)
 -- Of those of a program, where objects begin and end: no operation is called there that touches storage.
 abbrev pub calm_types : ProgramForm → List Bool
 calm_types p = calm_by (λ t. ends_calmly p (finalization_in (Some t))) p.types
-
--- Where objects begin: no operation is called there that touches storage, or lets an exception out.
-abbrev pub quietly_begun_types : ProgramForm → List Bool
-quietly_begun_types p = calm_by (λ t. begins_quietly p (finalization_in (Some t))) p.types
 
 -- And where objects are copied: no Adjust is called there that tracks components.
 abbrev pub calmly_copied_types : ProgramForm → List Bool

@@ -1,8 +1,7 @@
 -- Bodies of Initialize and Finalize that touch storage, and of procedures that they call (7.6, 4.8, 5.2, 6.4, 13.11.2): they allocate, move, follow and free objects, assign
--- records without controlled parts, and declare variables alone, which may be given what they allocate. The objects with controlled parts that they allocate begin
--- quietly.
+-- records without controlled parts, and declare variables alone, which may be given what they allocate.
 
-use Rattle.std.specs.Prelude.{ℕ, Bool, true, false, not, ◌&&◌, List, [], ◌∷◌, ◌++◌, Option, Some, None, is_some}
+use Rattle.std.specs.Prelude.{Bool, true, false, not, ◌&&◌, List, [], ◌∷◌, ◌++◌, Option, Some, None, is_some}
 use Rattle.std.specs.List.{list_all, slice_get, slice_index_or}
 use Rattle.ada_program.specs.Form.{RightForm, nothing, value_of, allocates, allocates_default, computes, StmtForm, skips, assigns, assigns_record, frees, gets, writes, writes_text, chooses, repeats, counts, exits, calls, returns, raises, encloses, StmtsForm, no_stmts, a_stmt, BranchesForm, otherwise, a_branch, HandlersForm, no_handlers, a_handler, DeclarationForm, creates_pool, collects, declares, declares_record}
 use Rattle.ada_program.specs.declared.program.ProcedureNo.{ProcedureNo}
@@ -10,45 +9,39 @@ use Rattle.ada_program.specs.ProgramForm.{TypeForm, BodyForm, ProgramForm}
 use Rattle.ada_program.specs.WellFormed.{finalization_of}
 use Rattle.ada_quiet.specs.Apart.{is_bare_item}
 use Rattle.ada_quiet.specs.Bare.{has_bare_objects}
-use Rattle.ada_quiet.specs.Calm.{has_calm_objects, quietly_begun_types}
 use Rattle.ada_quiet.specs.Idle.{declarations_make_parts}
-use Rattle.ada_effects.specs.Effects.{Effects, no_implicit, effects_of, body_raises}
 
--- What is assigned is no new object (4.8), or one for which no operation is called that touches storage, or lets an exception out: it has no controlled parts, or it is
--- initialized by default, and begins quietly (7.6).
-abbrev pub allocates_quietly : List TypeForm → (begun : List Bool) → RightForm → Bool
-allocates_quietly types begun nothing = true
-allocates_quietly types begun (value_of path) = true
-allocates_quietly types begun (allocates access items) = has_bare_objects types access
-allocates_quietly types begun (allocates_default access) = has_calm_objects types begun access
-allocates_quietly types begun (computes e) = true
+-- What is assigned is no new object (4.8), or one without controlled parts, or one that is initialized by default (7.6).
+abbrev pub allocates_frugally : List TypeForm → RightForm → Bool
+allocates_frugally types nothing = true
+allocates_frugally types (value_of path) = true
+allocates_frugally types (allocates access items) = has_bare_objects types access
+allocates_frugally types (allocates_default access) = true
+allocates_frugally types (computes e) = true
 
--- A declaration is that of a variable (3.3.1), and what that is given at first begins quietly, if it is a new object: no record object, no collection and no pool is
--- created.
-abbrev pub is_frugal_declaration : List TypeForm → (begun : List Bool) → DeclarationForm → Bool
-is_frugal_declaration types begun (creates_pool p) = false
-is_frugal_declaration types begun (collects access) = false
-is_frugal_declaration types begun (declares x right) = allocates_quietly types begun right
-is_frugal_declaration types begun (declares_record x t initial) = false
+-- A declaration is that of a variable (3.3.1), and so it is with what that is given at first: no record object, no collection and no pool is created.
+abbrev pub is_frugal_declaration : List TypeForm → DeclarationForm → Bool
+is_frugal_declaration types (creates_pool p) = false
+is_frugal_declaration types (collects access) = false
+is_frugal_declaration types (declares x right) = allocates_frugally types right
+is_frugal_declaration types (declares_record x t initial) = false
 
 -- So is each of these.
-abbrev pub are_frugal_declarations : List TypeForm → (begun : List Bool) → List DeclarationForm → Bool
-are_frugal_declarations types begun ds = list_all (is_frugal_declaration types begun) ds
+abbrev pub are_frugal_declarations : List TypeForm → List DeclarationForm → Bool
+are_frugal_declarations types ds = list_all (is_frugal_declaration types) ds
 
--- What frugal bodies go by: the types of the program, of each record type with controlled parts, by its number among these, whether its objects begin quietly, and of
--- each procedure, by its number, whether its body is frugal.
+-- What frugal bodies go by: the types of the program, and of each procedure, by its number, whether its body is frugal.
 pub record Thrift : Type 0 where
   pub types : List TypeForm
-  pub begun : List Bool
   pub procedures : List Bool
 
 module _ (thrift : Thrift) where
   abbrev mutual
-    -- A statement assigns no record with controlled parts as a whole, and copies none into another one (5.2), allocates no object that begins otherwise (4.8), and calls
-    -- procedures with frugal bodies alone (6.4).
+    -- A statement assigns no record with controlled parts as a whole, and copies none into another one (5.2), gives values to the components of no new object with such
+    -- parts (4.8), and calls procedures with frugal bodies alone (6.4).
     pub is_frugal_stmt : StmtForm → Bool
     is_frugal_stmt skips = true
-    is_frugal_stmt (assigns target right) = allocates_quietly thrift.types thrift.begun right
+    is_frugal_stmt (assigns target right) = allocates_frugally thrift.types right
     is_frugal_stmt (assigns_record target items) = not (is_some (finalization_of thrift.types target.record_type)) && list_all (is_bare_item thrift.types) items
     is_frugal_stmt (frees access path) = true
     is_frugal_stmt (gets target) = true
@@ -61,7 +54,7 @@ module _ (thrift : Thrift) where
     is_frugal_stmt (calls procedure actuals) = slice_index_or thrift.procedures procedure false
     is_frugal_stmt (returns spot) = true
     is_frugal_stmt (raises e) = true
-    is_frugal_stmt (encloses ds fs hs) = are_frugal_declarations thrift.types thrift.begun ds && are_frugal fs && are_frugal_handlers hs
+    is_frugal_stmt (encloses ds fs hs) = are_frugal_declarations thrift.types ds && are_frugal fs && are_frugal_handlers hs
 
     -- So it is with statements.
     pub are_frugal : StmtsForm → Bool
@@ -80,20 +73,20 @@ module _ (thrift : Thrift) where
 
 -- All of a body is so.
 abbrev pub is_frugal_body : Thrift → BodyForm → Bool
-is_frugal_body thrift b = are_frugal_declarations thrift.types thrift.begun b.declarations && are_frugal thrift b.statements && are_frugal_handlers thrift b.handlers
+is_frugal_body thrift b = are_frugal_declarations thrift.types b.declarations && are_frugal thrift b.statements && are_frugal_handlers thrift b.handlers
 
 -- Of these procedures, behind others: each calls those before it.
-abbrev pub frugal_from : List TypeForm → (begun : List Bool) → (frugal : List Bool) → List BodyForm → List Bool
-frugal_from types begun frugal [] = frugal
-frugal_from types begun frugal (b ∷ bs) = frugal_from types begun (frugal ++ is_frugal_body (record { types = types; begun = begun; procedures = frugal }) b ∷ []) bs
+abbrev pub frugal_from : List TypeForm → (frugal : List Bool) → List BodyForm → List Bool
+frugal_from types frugal [] = frugal
+frugal_from types frugal (b ∷ bs) = frugal_from types (frugal ++ is_frugal_body (record { types = types; procedures = frugal }) b ∷ []) bs
 
 -- Of the procedures of a program.
 abbrev pub frugal_procedures : ProgramForm → List Bool
-frugal_procedures p = frugal_from p.types (quietly_begun_types p) [] p.bodies
+frugal_procedures p = frugal_from p.types [] p.bodies
 
 -- What the frugal bodies of a program go by.
 abbrev pub thrift_of : ProgramForm → Thrift
-thrift_of p = record { types = p.types; begun = quietly_begun_types p; procedures = frugal_procedures p }
+thrift_of p = record { types = p.types; procedures = frugal_procedures p }
 
 -- The declarations of a body, if there is one, create no object with controlled parts (3.3.1): a statement begins before another operation is called.
 abbrev pub declares_no_parts : List TypeForm → Option BodyForm → Bool
@@ -105,21 +98,3 @@ abbrev pub is_frugal_operation : ProgramForm → Option ProcedureNo → Bool
 is_frugal_operation p None = true
 is_frugal_operation p (Some procedure) =
     slice_index_or (frugal_procedures p) procedure.0 false && declares_no_parts p.types (slice_get p.bodies procedure.0)
-
--- What the procedures of a program may raise, but for what is called implicitly: in frugal bodies that is Finalize alone, out of which no exception comes.
-abbrev pub own_effects : ProgramForm → Effects
-own_effects p = effects_of no_implicit p
-
--- No exception comes out of a body (11.4).
-abbrev pub is_silent_body : Effects → BodyForm → Bool
-is_silent_body effects b = not (body_raises effects b (λ e. true))
-
--- A procedure that was found has a body that lets no exception out.
-abbrev pub is_silent_procedure : Effects → Option BodyForm → Bool
-is_silent_procedure effects None = true
-is_silent_procedure effects (Some b) = is_silent_body effects b
-
--- So has what overrides an operation, if one is overridden (7.6).
-abbrev pub is_silent_operation : ProgramForm → Option ProcedureNo → Bool
-is_silent_operation p None = true
-is_silent_operation p (Some procedure) = is_silent_procedure (own_effects p) (slice_get p.bodies procedure.0)

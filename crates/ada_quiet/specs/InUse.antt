@@ -1,6 +1,6 @@
 -- Which operations of controlled types are in use.
 
-use Rattle.std.specs.Prelude.{ℕ, ◌+◌, Bool, true, false, not, ◌&&◌, ◌||◌, ◌==◌, if◌then◌else◌, List, [], ◌∷◌, length, Option, Some, None, is_some}
+use Rattle.std.specs.Prelude.{ℕ, ◌+◌, Bool, true, not, ◌&&◌, ◌||◌, ◌==◌, if◌then◌else◌, List, [], ◌∷◌, length, Option, Some, None, is_some}
 use Rattle.std.specs.List.{list_all, list_any}
 use Rattle.ada_program.specs.declared.program.ComponentKind.{ComponentKind}
 use Rattle.ada_program.specs.declared.program.Finalization.{Finalization}
@@ -11,7 +11,7 @@ use Rattle.ada_program.specs.WellFormed.{finalization_in, finalization_of, compo
 use Rattle.ada_quiet.specs.Quiet.{is_quiet_operation, is_plain_operation, has_access, operation_body}
 use Rattle.ada_quiet.specs.Bare.{collections_in_order}
 use Rattle.ada_quiet.specs.Calm.{names_no_trackers}
-use Rattle.ada_quiet.specs.Frugal.{is_frugal_operation, is_silent_operation}
+use Rattle.ada_quiet.specs.Frugal.{is_frugal_operation}
 use Rattle.ada_quiet.specs.Simple.{is_simple_operation}
 use Rattle.ada_quiet.specs.Apart.{operations_stand_apart}
 use Rattle.ada_quiet.specs.Idle.{makes_parts, copies_parts}
@@ -75,9 +75,9 @@ has_one_part (Some f) = f.parts == 1
 abbrev pub adjusts_alone : ProgramForm → Bool
 adjusts_alone p = list_all (λ t. has_one_part (finalization_in (Some t))) p.types
 
--- Finalize is quiet, or frugal and silent, where it may be.
+-- Finalize is quiet, or frugal, where it may be.
 abbrev pub uses_finalize : ProgramForm → Option ProcedureNo → Bool
-uses_finalize p finalize = is_quiet_operation p finalize || (may_be_frugal p && is_frugal_operation p finalize && is_silent_operation p finalize)
+uses_finalize p finalize = is_quiet_operation p finalize || (may_be_frugal p && is_frugal_operation p finalize)
 
 -- Initialize is plain, or frugal, where it may be; an exception may come out of it, behind which what has begun is finalized (7.6.1).
 abbrev pub uses_initialize : ProgramForm → Option ProcedureNo → Bool
@@ -91,13 +91,13 @@ operations_stand_in_order p = operations_stand_apart p && list_all (is_copied_in
 abbrev pub adjusts_nothing : ProgramForm → Bool
 adjusts_nothing p = not (copies_parts p) && operations_stand_in_order p
 
--- Where one may be called, Adjust is simple and silent, where it may track, if a body overrides it of a type that declares a component of an access type directly
+-- Where one may be called, Adjust is simple, where it may track, if a body overrides it of a type that declares a component of an access type directly
 -- (3.10, 7.6): behind it that component of a copy holds a value of its own, or null. It frees nothing where a record has two controlled parts: what the one that is
 -- adjusted later still shares with the source of the copy stays. Of another type it is quiet.
 abbrev pub uses_called_adjust : ProgramForm → (owns : Bool) → Option ProcedureNo → Bool
 uses_called_adjust p owns adjust =
     if owns && is_some (operation_body p adjust)
-    then may_track p && is_simple_operation p (adjusts_alone p) adjust && is_silent_operation p adjust
+    then may_track p && is_simple_operation p (adjusts_alone p) adjust
     else is_quiet_operation p adjust
 
 -- So Adjust is in use; and where none is called, a frugal one is, too.

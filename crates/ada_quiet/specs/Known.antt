@@ -1,26 +1,19 @@
--- What is known of all bodies of a program, as the code holds it, which procedures or types are marked, those of components among them, and which record types have
+-- What frugal bodies go by, as the code holds it, which procedures or types are marked, those of components among them, and which record types have
 -- which number.
 
 use Rattle.std.specs.Prelude.{◌≡◌, ◌<◌, ℕ, Bool, true, false, List, length, count_by, Option, Some, None}
 use Rattle.std.specs.List.{slice_index_or, slice_set}
-use Rattle.ada_effects.specs.Found.{effects_in}
 use Rattle.ada_program.specs.declared.program.TypeDefinition.{TypeDefinition}
 use Rattle.ada_program.specs.Controlled.{number_by, type_numbered, has_parts}
 use Rattle.ada_program.specs.Kept.{types_in}
-use Rattle.ada_program.specs.ProgramForm.{TypeForm, ProgramForm}
+use Rattle.ada_program.specs.ProgramForm.{TypeForm}
 use Rattle.ada_quiet.specs.Bare.{record_has_component_of}
 use Rattle.ada_quiet.specs.declared.components.Held.{Held}
-use Rattle.ada_quiet.specs.declared.known.Known.{Known}
-use Rattle.ada_quiet.specs.Frugal.{Thrift, frugal_procedures, own_effects}
+use Rattle.ada_quiet.specs.Frugal.{Thrift}
 
--- It is what the definitions say: which bodies are frugal, and what each may raise.
-abbrev pub IsKnown : ProgramForm → Known → Type 0
-IsKnown p known = (known.frugal.now ≡ frugal_procedures p) × (effects_in known.effects ≡ own_effects p)
-
--- What frugal bodies go by, as the code holds it: the types, of each record type with controlled parts whether its objects begin quietly, and of each procedure whether its
--- body is frugal.
-abbrev pub thrift_in : List TypeDefinition → (begun : List Bool) → (frugal : List Bool) → Thrift
-thrift_in types begun frugal = record { types = types_in types; begun = begun; procedures = frugal }
+-- What frugal bodies go by, as the code holds it: the types, and of each procedure whether its body is frugal.
+abbrev pub thrift_in : List TypeDefinition → (frugal : List Bool) → Thrift
+thrift_in types frugal = record { types = types_in types; procedures = frugal }
 
 -- The procedure or the type of a number is marked. None behind the last mark is.
 abbrev pub is_marked : (marks : List Bool) → (number : ℕ) → Bool

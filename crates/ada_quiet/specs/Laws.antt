@@ -7,14 +7,14 @@ use Rattle.ada_program.specs.ProgramForm.{TypeForm, BodyForm, ProgramForm}
 use Rattle.ada_program.specs.Walks.{Walks}
 use Rattle.ada_program.specs.WellFormed.{IsWellFormed, finalization_of}
 use Rattle.ada_quiet.specs.Calm.{is_known_calm, calm_by}
-use Rattle.ada_quiet.specs.Quiet.{is_quiet_body, operations_are_quiet}
+use Rattle.ada_quiet.specs.Quiet.{is_plain_body, is_quiet_body, operations_are_quiet}
 use Rattle.ada_quiet.specs.Frugal.{Thrift, is_frugal_body}
 use Rattle.ada_quiet.specs.Simple.{is_simple_body}
 use Rattle.ada_quiet.specs.InUse.{operations_are_in_use}
 
--- A quiet body is frugal, whatever is known of types and procedures: it allocates and frees nothing, and calls no procedure.
-abbrev pub QuietIsFrugal : Type 0
-QuietIsFrugal = (thrift : Thrift) (types : List TypeForm) (b : BodyForm) → is_quiet_body types b ≡ true → is_frugal_body thrift b ≡ true
+-- A plain body is frugal, whatever is known of types and procedures: it allocates and frees nothing, and calls no procedure.
+abbrev pub PlainIsFrugal : Type 0
+PlainIsFrugal = (thrift : Thrift) (types : List TypeForm) (b : BodyForm) → is_plain_body types b ≡ true → is_frugal_body thrift b ≡ true
 
 -- A quiet body is simple, whether objects may be freed or not: it calls nothing, copies no record, and frees nothing.
 abbrev pub QuietIsSimple : Type 0

@@ -18,7 +18,7 @@ pub mod Apart
 pub mod Releases
 -- what is in use
 pub mod InUse
--- what is known of all bodies, as the code holds it
+-- what frugal bodies go by, and marks and numbers of types, as the code holds them
 pub mod Known
 -- the first one in the text that is not in use
 pub mod First

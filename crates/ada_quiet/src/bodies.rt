@@ -1,4 +1,4 @@
-//! Bodies of procedures, where they are plain, silent or quiet.
+//! Bodies of procedures, where they are plain or quiet.
 
 ghost use Rattle.std.specs.Prelude.{◌≡◌, drop, true, IfOk};
 ghost use Rattle.std.specs.List.{list_all};
@@ -6,7 +6,6 @@ ghost use Rattle.ada_effects.specs.Effects.{body_raises};
 ghost use Rattle.ada_effects.specs.Found.{effects_in};
 ghost use Rattle.ada_program.specs.Kept.{types_in, variables_in};
 ghost use Rattle.ada_program.specs.ProgramForm.{body_form};
-ghost use Rattle.ada_quiet.specs.Frugal as frugal;
 ghost use Rattle.ada_quiet.specs.Quiet as rules;
 
 use crate::statements::{are_quiet, are_quiet_declarations, are_quiet_handlers};
@@ -37,7 +36,10 @@ fn has_elementary(variables: &[Variable]) -> bool
     }
 }
 
-/// Whether a body raises an exception that none of its handlers takes, where this is known of calls.
+/// Whether a body raises an exception that none of its handlers takes, where this is known of calls (11.4).
+///
+/// # Errors
+/// `AllocError` where memory for the exceptions that it raises was refused.
 fn raises_some(
     alloc: Global,
     types: &[TypeDefinition],
@@ -48,22 +50,6 @@ fn raises_some(
 {
     let effect = effect_of(alloc, types, effects, procedure)?;
     Ok(!effect.raises.is_empty())
-}
-
-/// Whether a body is silent: no exception comes out of it, where this is known of calls (11.4).
-///
-/// # Errors
-/// `AllocError` where memory for the exceptions that it raises was refused.
-pub(crate) fn is_silent_body(
-    alloc: Global,
-    types: &[TypeDefinition],
-    effects: Effects<'_>,
-    procedure: &Procedure,
-) -> Result<bool, AllocError>
-    ensures { IfOk result (λ answer. answer ≡ frugal.is_silent_body (effects_in effects.entry) (body_form procedure.now)) }
-{
-    let raises = raises_some(alloc, types, effects, procedure)?;
-    Ok(!raises)
 }
 
 /// Whether a body is plain: it touches Integers and Booleans alone, and calls nothing. Linear in the body.
@@ -96,5 +82,6 @@ pub(crate) fn is_quiet_body(
         implicit: &implicit,
         calls: &[],
     };
-    is_silent_body(alloc, types, effects, procedure)
+    let raises = raises_some(alloc, types, effects, procedure)?;
+    Ok(!raises)
 }

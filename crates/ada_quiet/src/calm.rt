@@ -133,64 +133,6 @@ pub(crate) fn calm_types(alloc: Global, program: &Program) -> Result<Vec<bool>, 
     Ok(calm)
 }
 
-/// Whether what overrides Initialize of a type is quiet: it touches no storage, and no exception comes out of it (7.6). Linear in its body.
-///
-/// # Errors
-/// `AllocError` where memory for the exceptions that it raises was refused.
-fn begins_quietly(
-    alloc: Global,
-    program: &Program,
-    finalization: Option<Finalization>,
-) -> Result<bool, AllocError>
-    ensures { IfOk result (λ answer. answer ≡ rules.begins_quietly (program_form program.now) finalization) }
-{
-    match finalization {
-        None => Ok(true),
-        Some(finalization) => {
-            is_quiet_operation(alloc, program, finalization.operations.initialize)
-        }
-    }
-}
-
-/// Whether a type that was found is a record type whose objects begin quietly. Linear in its components, and the bodies of their
-/// Initialize.
-///
-/// # Errors
-/// `AllocError` where memory for the exceptions that a body raises was refused.
-fn is_quietly_begun_found(
-    alloc: Global,
-    program: &Program,
-    begun: &[bool],
-    definition: Option<&TypeDefinition>,
-) -> Result<bool, AllocError>
-    ensures { IfOk result (λ answer. answer ≡ rules.is_calm_found (λ t. rules.begins_quietly (program_form program.now) (finalization_in (Some t)))
-        (program_form program.now).types begun.now (option_map type_form (option_copied definition.entry))) }
-{
-    let Some(definition) = definition else {
-        return Ok(false);
-    };
-    let own = begins_quietly(alloc, program, finalization_in(definition))?;
-    Ok(is_calm_type(own, &program.types, begun, definition))
-}
-
-/// Of each record type with controlled parts, by its number among these, whether its objects begin quietly: no operation is called there
-/// that touches storage, or lets an exception out. The types of its components have lesser numbers. Linear in the types, their components,
-/// and the bodies of their operations.
-///
-/// # Errors
-/// `AllocError` where memory was refused.
-pub(crate) fn quietly_begun_types(alloc: Global, program: &Program) -> Result<Vec<bool>, AllocError>
-    ensures { IfOk result (λ begun. begun.items ≡ rules.quietly_begun_types (program_form program.now)) }
-{
-    let numbered = numbered_types(alloc, &program.types)?;
-    let mut begun = Vec::new(alloc);
-    'numbered: for definition in &numbered {
-        let is_begun = is_quietly_begun_found(alloc, program, &begun, *definition)?;
-        begun.push(is_begun)?;
-    }
-    Ok(begun)
-}
-
 /// Whether a type that was found is a record type that is calm where objects are copied. Linear in its components.
 fn is_calmly_copied_found(
     program: &Program,

@@ -1,23 +1,22 @@
 //! The first body in the text that overrides an operation of a controlled type and is not in use, in a program that may call some:
 //! Initialize is neither plain nor frugal, where it may be, Adjust is not frugal, where none is called, and not quiet, or, of a type with a
-//! component of an access type, not simple and silent, or may not track, or frees objects where a record of the program has two controlled
-//! parts, or Finalize is neither quiet nor, where it may be, frugal and silent.
+//! component of an access type, not simple, or may not track, or frees objects where a record of the program has two controlled parts, or
+//! Finalize is neither quiet nor, where it may be, frugal.
 
 ghost use Rattle.std.specs.Prelude.{◌≡◌, ◌↔◌, None, true, IfOk};
 ghost use Rattle.ada_program.specs.ProgramForm.{program_form};
 ghost use Rattle.ada_quiet.specs.First as rules;
 ghost use Rattle.ada_quiet.specs.First.{BeginsUnused, IsFirst, IsFirstUnused};
+ghost use Rattle.ada_quiet.specs.Frugal as frugal;
 ghost use Rattle.ada_quiet.specs.InUse as in_use;
 ghost use Rattle.ada_quiet.specs.InUse.{operations_are_in_use, operations_may_be_called};
-ghost use Rattle.ada_quiet.specs.Known.{IsKnown};
 ghost use Rattle.ada_quiet.specs.Quiet as quiet;
 
+use crate::frugal::frugal_procedures;
 use crate::idle::{adjusts_nothing, are_idle};
-use crate::known::{Known, frugal_procedures, known_calls};
 use crate::operations::has_access;
 use crate::tracking::{adjusts_alone, may_track};
 use crate::uses::{may_be_frugal, uses_adjust, uses_finalize, uses_initialize};
-use ada_effects::{Effects, Implicit};
 use ada_program::parts::finalization_of;
 use ada_program::program::Finalization;
 use ada_program::{ProcedureNo, Program, Spot};
@@ -97,12 +96,12 @@ fn allowed_in(alloc: Global, program: &Program) -> Result<Allowed, AllocError>
 fn unused_in(
     alloc: Global,
     program: &Program,
-    known: Known<'_>,
+    procedures: &[bool],
     may: Allowed,
     owns: bool,
     finalization: Option<Finalization>,
 ) -> Result<Option<Spot>, AllocError>
-    requires { IsKnown (program_form program.now) known }
+    requires { procedures.now ≡ frugal.frugal_procedures (program_form program.now) }
     ensures { IfOk result (λ first. first
         ≡ rules.unused_in (program_form program.now) may.frugal may.nothing may.tracks may.alone owns finalization) }
 {
@@ -110,18 +109,18 @@ fn unused_in(
         return Ok(None);
     };
     let operations = finalization.operations;
-    let begins = uses_initialize(program, known, may.frugal, operations.initialize);
+    let begins = uses_initialize(program, procedures, may.frugal, operations.initialize);
     let adjusts = uses_adjust(
         alloc,
         program,
-        known,
+        procedures,
         may.nothing,
         may.tracks,
         may.alone,
         owns,
         operations.adjust,
     )?;
-    let ends = uses_finalize(alloc, program, known, may.frugal, operations.finalize)?;
+    let ends = uses_finalize(alloc, program, procedures, may.frugal, operations.finalize)?;
     let initialize = start_unless(program, begins, operations.initialize);
     let adjust = start_unless(program, adjusts, operations.adjust);
     let finalize = start_unless(program, ends, operations.finalize);
@@ -129,25 +128,16 @@ fn unused_in(
 }
 
 /// Where the first body in the text begins that overrides an operation and would not be in use, if it were called. Linear in the types,
-/// their components, and all bodies; a call costs the size of what is known of it.
+/// their components, and all bodies.
 ///
 /// # Errors
-/// `AllocError` where memory for what is known of procedures was refused.
+/// `AllocError` where memory was refused.
 #[tactic(auto, using(std::proofs::lemmas::Grind::common_steps, crate::proofs::Unused::first_steps))]
 fn first_uncallable(alloc: Global, program: &Program) -> Result<Option<Spot>, AllocError>
     ensures first { IfOk result (IsFirst (BeginsUnused (program_form program.now))) }
     ensures called { IfOk result (λ first. (first ≡ None) ↔ (operations_may_be_called (program_form program.now) ≡ true)) }
 {
-    let frugal = frugal_procedures(alloc, program)?;
-    let implicit = Implicit::nothing(alloc);
-    let calls = known_calls(alloc, program, &implicit)?;
-    let known = Known {
-        frugal: &frugal,
-        effects: Effects {
-            implicit: &implicit,
-            calls: &calls,
-        },
-    };
+    let procedures = frugal_procedures(alloc, program)?;
     let may = allowed_in(alloc, program)?;
     let mut first = None;
     'types: for number in 0..program.types.len() {
@@ -155,7 +145,7 @@ fn first_uncallable(alloc: Global, program: &Program) -> Result<Option<Spot>, Al
         let found = unused_in(
             alloc,
             program,
-            known,
+            &procedures,
             may,
             owns,
             finalization_of(&program.types, number),
@@ -168,13 +158,13 @@ fn first_uncallable(alloc: Global, program: &Program) -> Result<Option<Spot>, Al
 /// Where the first body in the text begins that overrides an operation of a controlled type (7.6) and is not in use, in a program
 /// whose operations are not idle: one that overrides Initialize and is not plain, since it touches storage or calls, nor frugal in a
 /// program in which operations may be; one that overrides Adjust, is not frugal in a program in which none is called, and is not quiet,
-/// since it is not plain or lets an exception out, or, of a type with a component of an access type, declared in it directly, is not simple
-/// and silent, stands in a program in which an Adjust may not track, or frees objects in one in which a record has two controlled parts; or
-/// one that overrides Finalize and is neither quiet nor, where operations may be frugal, frugal and silent. Linear in the types, their
-/// components, and all bodies; a call costs the size of what is known of it.
+/// since it is not plain or lets an exception out, or, of a type with a component of an access type, declared in it directly, is not
+/// simple, stands in a program in which an Adjust may not track, or frees objects in one in which a record has two controlled parts; or one
+/// that overrides Finalize and is neither quiet nor, where operations may be frugal, frugal. Linear in the types, their components, and all
+/// bodies.
 ///
 /// # Errors
-/// `AllocError` where memory for what is known of procedures was refused.
+/// `AllocError` where memory was refused.
 #[tactic(auto, using(std::proofs::lemmas::Grind::common_steps, crate::proofs::Unused::idle_steps))]
 pub fn first_unused(alloc: Global, program: &Program) -> Result<Option<Spot>, AllocError>
     ensures first { IfOk result (IsFirstUnused (program_form program.now)) }

@@ -1,11 +1,11 @@
 //! Laws of what is in use, and of calm types, by the definitions alone. Each is a function that does nothing, and whose contract is the
 //! theorem.
 
-ghost use Rattle.ada_quiet.specs.Laws.{CalmIsToldWithin, QuietIsFrugal, QuietIsInUse, QuietIsSimple};
+ghost use Rattle.ada_quiet.specs.Laws.{CalmIsToldWithin, PlainIsFrugal, QuietIsInUse, QuietIsSimple};
 
-/// A quiet body is frugal: what touches no storage allocates, moves, follows and frees nothing.
-pub fn quiet_is_frugal()
-    ensures { QuietIsFrugal }
+/// A plain body is frugal, whatever is known of types and procedures: what touches no storage allocates, moves, follows and frees nothing.
+pub fn plain_is_frugal()
+    ensures { PlainIsFrugal }
 {}
 
 /// A quiet body is simple, whether objects may be freed or not: it calls nothing, copies no record, and frees nothing.

@@ -3,9 +3,9 @@
 //! Adjust that is never called is frugal that allocates, moves, follows and frees objects, and calls procedures with frugal bodies, but
 //! assigns no record with controlled parts as a whole, and declares variables alone, which may be given what it allocates. What it frees
 //! may have controlled parts, whichever operation it is (13.11.2): the operations that end these run inside. What it allocates may have
-//! some, too, where it is initialized by default, and begins quietly: each Initialize that is called for it is quiet (4.8, 7.6); but the
-//! declarations of an operation's own body create none. An exception may come out of a frugal Initialize; a Finalize is to be silent too:
-//! none comes out. What procedures may raise, and which are frugal, is found once for all, in the order in which they call each other.
+//! some, too, where it is initialized by default (4.8, 7.6): the operations that begin these run inside as well; but the declarations of an
+//! operation's own body create none. An exception may come out of a frugal Initialize; that none comes out of an Adjust or a Finalize,
+//! `ada_operations` asks of a program before. Which procedures are frugal is found once for all, in the order in which they call each other.
 //!
 //! Where nothing in the text of a program creates an object with controlled parts (3.3.1, 4.8), or assigns a record with some (5.2), no
 //! operation is called: operations are idle, and each is in use, whatever its body does. Where nothing in it copies such a record, no
@@ -13,11 +13,11 @@
 //! the components of records in order, as below.
 //!
 //! In other programs `first_unused` finds the first body in the text that overrides an operation and is not in use: Initialize is to be
-//! plain or, where it may be, frugal, Finalize is to be quiet or, where it may be, frugal and silent, and Adjust is to be quiet; but of a
-//! type with a component of an access type, declared in it directly, Adjust is to be simple and silent, where it may track that component:
-//! a quiet one would leave it as it is. A simple body allocates objects without controlled parts, and frees some where it may, moves and
-//! follows, calls nothing, copies no record but into what it allocates, from another object than that of its formal parameter, and declares
-//! variables alone, none of which is of an access type whose objects have controlled parts.
+//! plain or, where it may be, frugal, Finalize is to be quiet or, where it may be, frugal, and Adjust is to be quiet; but of a type with a
+//! component of an access type, declared in it directly, Adjust is to be simple, where it may track that component: a quiet one would leave
+//! it as it is. A simple body allocates objects without controlled parts, and frees some where it may, moves and follows, calls nothing,
+//! copies no record but into what it allocates, from another object than that of its formal parameter, and declares variables alone, none
+//! of which is of an access type whose objects have controlled parts.
 //!
 //! An Initialize and a Finalize may be frugal in a program in which no access type designates a record type with controlled parts, so that
 //! these lie in declared objects alone. They may be frugal, too, in one whose access types designate such record types, if its collections
@@ -50,10 +50,10 @@
 //! stay, and do so where nothing is freed. Where each record has at most one controlled part, none is left to be adjusted later.
 //!
 //! A program with another body is refused (F23), since no theorem covers it so far: an Initialize, an Adjust or a Finalize that
-//! touches storage in another program, allocates objects with controlled parts that do not begin quietly, or declares some, or assigns
-//! records with some, an Adjust that may be called and frees such objects, one that touches storage of a type without such a component,
-//! operations that call procedures that are not frugal, an Adjust that calls, assigns to records as a whole, copies records out of its own
-//! object, or frees objects where a record has two controlled parts, and an Adjust or a Finalize that lets an exception out.
+//! touches storage in another program, gives values to the components of objects with controlled parts that it allocates, declares such
+//! objects, or assigns records with such parts, an Adjust that may be called and frees such objects, one that touches storage of a type
+//! without such a component, operations that call procedures that are not frugal, and an Adjust that calls, assigns to records as a whole,
+//! copies records out of its own object, or frees objects where a record has two controlled parts.
 #![tactic(auto)]
 
 mod apart;
@@ -65,7 +65,6 @@ mod components;
 mod first;
 mod frugal;
 mod idle;
-mod known;
 pub mod laws;
 mod marks;
 mod numbered;

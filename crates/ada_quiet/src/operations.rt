@@ -1,4 +1,4 @@
-//! The bodies that override operations of controlled types (7.6), where they are plain, quiet, frugal or silent.
+//! The bodies that override operations of controlled types (7.6), where they are plain, quiet, frugal or simple.
 
 ghost use Rattle.std.specs.Prelude.{◌≡◌, ◌&&◌, Some, is_some, map, not, IfOk};
 ghost use Rattle.std.specs.List.{list_any, slice_get};
@@ -6,14 +6,12 @@ ghost use Rattle.ada_program.specs.Kept.{types_in};
 ghost use Rattle.ada_program.specs.ProgramForm.{part_form, program_form, type_form};
 ghost use Rattle.ada_program.specs.WellFormed as fits;
 ghost use Rattle.ada_quiet.specs.Frugal as frugal;
-ghost use Rattle.ada_quiet.specs.Known.{IsKnown};
 ghost use Rattle.ada_quiet.specs.Quiet as rules;
 ghost use Rattle.ada_quiet.specs.Simple as simple;
 
-use crate::bodies::{is_plain_body, is_quiet_body, is_silent_body};
+use crate::bodies::{is_plain_body, is_quiet_body};
 use crate::frugal::is_frugal_call;
 use crate::idle::declarations_make_parts;
-use crate::known::Known;
 use crate::simple::is_simple_body;
 use ada_program::program::{ComponentKind, Finalization, Part, PartKind, TypeDefinition};
 use ada_program::{ProcedureNo, Program};
@@ -97,28 +95,6 @@ pub(crate) fn is_simple_operation(
         return true;
     };
     is_simple_body(&program.types, may_free, procedure)
-}
-
-/// Whether it has a silent one: no exception comes out of it.
-///
-/// # Errors
-/// `AllocError` where memory for the exceptions that it raises was refused.
-pub(crate) fn is_silent_operation(
-    alloc: Global,
-    program: &Program,
-    known: Known<'_>,
-    operation: Option<ProcedureNo>,
-) -> Result<bool, AllocError>
-    requires { IsKnown (program_form program.now) known }
-    ensures { IfOk result (λ answer. answer ≡ frugal.is_silent_operation (program_form program.now) operation) }
-{
-    let Some(number) = operation else {
-        return Ok(true);
-    };
-    let Some(procedure) = program.procedures.get(number.0) else {
-        return Ok(true);
-    };
-    is_silent_body(alloc, &program.types, known.effects, procedure)
 }
 
 /// Whether all those have a quiet one that override the operations of a type.

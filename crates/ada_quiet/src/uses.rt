@@ -3,15 +3,13 @@
 ghost use Rattle.std.specs.Prelude.{◌≡◌, IfOk};
 ghost use Rattle.ada_program.specs.ProgramForm.{program_form, type_form};
 ghost use Rattle.ada_quiet.specs.First as first;
+ghost use Rattle.ada_quiet.specs.Frugal.{frugal_procedures};
 ghost use Rattle.ada_quiet.specs.InUse as rules;
-ghost use Rattle.ada_quiet.specs.Known.{IsKnown};
 
 use crate::apart::operations_stand_apart;
 use crate::collections::collections_in_order;
-use crate::known::Known;
 use crate::operations::{
-    is_frugal_operation, is_overridden, is_plain_operation, is_quiet_operation,
-    is_silent_operation, is_simple_operation,
+    is_frugal_operation, is_overridden, is_plain_operation, is_quiet_operation, is_simple_operation,
 };
 use ada_program::parts::finalization_of;
 use ada_program::program::TypeDefinition;
@@ -61,68 +59,61 @@ pub fn may_be_frugal(alloc: Global, program: &Program) -> Result<bool, AllocErro
 /// Whether what overrides Initialize is plain, or frugal, where it may be.
 pub(crate) fn uses_initialize(
     program: &Program,
-    known: Known<'_>,
+    procedures: &[bool],
     frugal: bool,
     operation: Option<ProcedureNo>,
 ) -> bool
-    requires { IsKnown (program_form program.now) known }
+    requires { procedures.now ≡ frugal_procedures (program_form program.now) }
     ensures { result ≡ first.initializes (program_form program.now) frugal operation }
 {
     is_plain_operation(program, operation)
-        || frugal && is_frugal_operation(program, known.frugal, operation)
+        || frugal && is_frugal_operation(program, procedures, operation)
 }
 
-/// Whether what overrides Adjust is frugal, where no Adjust is called; else whether it is simple and silent, where it may track, if it is a
-/// body, and its type has a component of an access type, declared in it directly; of another type, whether it is quiet. What tracks may
-/// free objects where the copy of a record adjusts one controlled part alone, and there only.
+/// Whether what overrides Adjust is frugal, where no Adjust is called; else whether it is simple, where it may track, if it is a body, and
+/// its type has a component of an access type, declared in it directly; of another type, whether it is quiet. What tracks may free objects
+/// where the copy of a record adjusts one controlled part alone, and there only.
 ///
 /// # Errors
 /// `AllocError` where memory for the exceptions that it raises was refused.
 pub(crate) fn uses_adjust(
     alloc: Global,
     program: &Program,
-    known: Known<'_>,
+    procedures: &[bool],
     nothing: bool,
     tracks: bool,
     alone: bool,
     owns: bool,
     operation: Option<ProcedureNo>,
 ) -> Result<bool, AllocError>
-    requires { IsKnown (program_form program.now) known }
+    requires { procedures.now ≡ frugal_procedures (program_form program.now) }
     ensures { IfOk result (λ answer. answer ≡ first.adjusts (program_form program.now) nothing tracks alone owns operation) }
 {
-    if nothing && is_frugal_operation(program, known.frugal, operation) {
+    if nothing && is_frugal_operation(program, procedures, operation) {
         return Ok(true);
     }
     if !(owns && is_overridden(program, operation)) {
         return is_quiet_operation(alloc, program, operation);
     }
-    Ok(
-        tracks
-            && is_simple_operation(program, alone, operation)
-            && is_silent_operation(alloc, program, known, operation)?,
-    )
+    Ok(tracks && is_simple_operation(program, alone, operation))
 }
 
-/// Whether what overrides Finalize is quiet, or frugal and silent, where it may be.
+/// Whether what overrides Finalize is quiet, or frugal, where it may be.
 ///
 /// # Errors
 /// `AllocError` where memory for the exceptions that it raises was refused.
 pub(crate) fn uses_finalize(
     alloc: Global,
     program: &Program,
-    known: Known<'_>,
+    procedures: &[bool],
     frugal: bool,
     operation: Option<ProcedureNo>,
 ) -> Result<bool, AllocError>
-    requires { IsKnown (program_form program.now) known }
+    requires { procedures.now ≡ frugal_procedures (program_form program.now) }
     ensures { IfOk result (λ answer. answer ≡ first.finalizes (program_form program.now) frugal operation) }
 {
-    if is_quiet_operation(alloc, program, operation)? {
-        return Ok(true);
-    }
-    if !(frugal && is_frugal_operation(program, known.frugal, operation)) {
-        return Ok(false);
-    }
-    is_silent_operation(alloc, program, known, operation)
+    Ok(
+        is_quiet_operation(alloc, program, operation)?
+            || frugal && is_frugal_operation(program, procedures, operation),
+    )
 }

@@ -20,7 +20,7 @@ use Rattle.ada_quiet.specs.Quiet.{is_elementary, holds_elementary, is_quiet_righ
 use Rattle.ada_quiet.specs.Bare.{has_bare_objects}
 use Rattle.ada_quiet.specs.Idle.{has_parts, holds_parts, right_makes_parts, declaration_makes_parts, declarations_make_parts, stmts_make_parts, handlers_make_parts, body_makes_parts, makes_parts}
 use Rattle.ada_quiet.specs.InUse.{adjusts_alone, may_be_frugal, may_track, uses_initialize, uses_adjust, uses_finalize, uses_operations, operations_are_idle, operations_may_be_called, operations_are_in_use, adjusts_nothing, operations_stand_in_order, uses_called_adjust}
-use Rattle.ada_quiet.specs.Frugal.{declares_no_parts, frugal_procedures, is_frugal_operation, is_silent_operation}
+use Rattle.ada_quiet.specs.Frugal.{declares_no_parts, frugal_procedures, is_frugal_operation}
 use Rattle.ada_quiet.specs.Simple.{is_bare_kind, is_plain_item, is_simple_right, is_simple_declaration, are_simple_declarations, are_simple, are_simple_handlers, is_simple_procedure, is_simple_operation}
 use Rattle.ada_quiet.proofs.InUse.{plain_operation}
 use Rattle.ada_typed.proofs.Parts.{known_number, shown_number}
@@ -201,9 +201,8 @@ module _ (program : Program) (well : IsWellFormed (program_form program)) where
 
   finalize_used : (o : Option ProcedureNo) → uses_finalize p o ≡ true → operation_creates tds p.bodies o ≡ false
   finalize_used o used =
-      let frugal = may_be_frugal p && is_frugal_operation p o in
-      operation_either p tds o (is_quiet_operation p o) (frugal && is_silent_operation p o) (λ quiet. operation_plain p tds o (plain_operation p o quiet))
-      (λ both. operation_frugal o (right_of (may_be_frugal p) (is_frugal_operation p o) (left_of frugal (is_silent_operation p o) both))) used
+      operation_either p tds o (is_quiet_operation p o) (may_be_frugal p && is_frugal_operation p o) (λ quiet. operation_plain p tds o (plain_operation p o quiet))
+      (λ both. operation_frugal o (right_of (may_be_frugal p) (is_frugal_operation p o) both)) used
 
   -- So it is with an Adjust that is in use: it is simple, where it may track, or quiet.
   adjust_used : (owns : Bool) (o : Option ProcedureNo) → uses_adjust p owns o ≡ true → operation_creates tds p.bodies o ≡ false
@@ -213,11 +212,9 @@ module _ (program : Program) (well : IsWellFormed (program_form program)) where
       (λ called. by (owns && is_some (operation_body p o)) called) used
     where
       by : (tracks : Bool)
-          → (if tracks then may_track p && is_simple_operation p (adjusts_alone p) o && is_silent_operation p o else is_quiet_operation p o) ≡ true
+          → (if tracks then may_track p && is_simple_operation p (adjusts_alone p) o else is_quiet_operation p o) ≡ true
           → operation_creates tds p.bodies o ≡ false
-      by true simple =
-          let both = left_of (may_track p && is_simple_operation p (adjusts_alone p) o) (is_silent_operation p o) simple in
-          operation_simple (adjusts_alone p) o (right_of (may_track p) (is_simple_operation p (adjusts_alone p) o) both)
+      by true simple = operation_simple (adjusts_alone p) o (right_of (may_track p) (is_simple_operation p (adjusts_alone p) o) simple)
       by false quiet = operation_plain p tds o (plain_operation p o quiet)
 
   none_in : (owns : Bool) (f : Option Finalization) → uses_operations p owns f ≡ true → DeclareNone tds p.bodies (operations_in f)

@@ -97,7 +97,7 @@ pub record Adjusting (program : Program) (s : State) : Type 0 where
   pub kept : Keeping
   pub rooms : Rooms
   pub holds : Holds
-  pub frugal : Frugally (simple_allowance (program_form program).types) lower behind t
+  pub frugal : Frugally (simple_allowance (program_form program).types) lower behind [] t
   pub waits : Paused (known_in program procedure suspensions) object access places after lower rooms holds
   pub untreated : (v : Value) → v ≢ Names object → NothingBegins v after
   pub rests : RunsOn (known_in program procedure suspensions) after rooms holds

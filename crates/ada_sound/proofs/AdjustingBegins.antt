@@ -18,7 +18,6 @@ use Rattle.ada_program.specs.Form.{RightForm, nothing, value_of, allocates, allo
 use Rattle.ada_program.specs.ProgramForm.{TypeForm, VariableForm, BodyForm, ProgramForm, program_form, main_body, seen_in, seen_by}
 use Rattle.ada_program.specs.WellFormed.{access_of, is_access, selected_kind, variable_kind}
 use Rattle.ada_quiet.specs.Bare.{has_bare_objects}
-use Rattle.ada_quiet.specs.Frugal.{allocates_quietly, are_frugal_declarations}
 use Rattle.ada_quiet.specs.InUse.{may_be_frugal, may_track}
 use Rattle.ada_finalized.specs.Law.{NothingBegins}
 use Rattle.ada_flow.specs.declared.rule.Hold.TheVariants as hold
@@ -64,7 +63,7 @@ use Rattle.ada_sound.proofs.Operating.{IsCalm, WaitsFor, behind_operation}
 use Rattle.ada_sound.proofs.OperationStarts.{apart}
 use Rattle.ada_sound.proofs.Orderings.{as_good}
 use Rattle.ada_sound.proofs.Returns.{same_types}
-use Rattle.ada_sound.proofs.Allowance.{Allowance, is_thrifty_stmt, are_thrifty, are_thrifty_branches, are_thrifty_handlers, is_thrifty_body, simple_allowance}
+use Rattle.ada_sound.proofs.Allowance.{Allowance, allocates_thriftily, are_thrifty_declarations, is_thrifty_stmt, are_thrifty, are_thrifty_branches, are_thrifty_handlers, is_thrifty_body, simple_allowance}
 use Rattle.ada_sound.proofs.Stored.{stored_entered}
 use Rattle.ada_sound.proofs.Touching.{resting}
 use Rattle.ada_sound.proofs.TouchingBegins.{IsAlone}
@@ -72,14 +71,14 @@ use Rattle.ada_sound.proofs.Waiting.{stands_kept}
 
 -- A body is frugal as it is judged, where it is.
 module _ (allowance : Allowance) (tracks : Tracks) where
-  right_same : (right : RightForm) → allocates_quietly allowance.types allowance.begun (seen_right tracks right) ≡ allocates_quietly allowance.types allowance.begun right
+  right_same : (right : RightForm) → allocates_thriftily allowance (seen_right tracks right) ≡ allocates_thriftily allowance right
   right_same nothing = refl
   right_same (value_of path) = refl
   right_same (allocates access items) = refl
   right_same (allocates_default access) = refl
   right_same (computes e) = refl
 
-  declarations_same : (ds : List DeclarationForm) → are_frugal_declarations allowance.types allowance.begun (seen_declarations tracks ds) ≡ are_frugal_declarations allowance.types allowance.begun ds
+  declarations_same : (ds : List DeclarationForm) → are_thrifty_declarations allowance (seen_declarations tracks ds) ≡ are_thrifty_declarations allowance ds
   declarations_same [] = refl
   declarations_same (creates_pool p ∷ ds) = refl
   declarations_same (collects access ∷ ds) = refl
@@ -117,7 +116,7 @@ module _ (allowance : Allowance) (tracks : Tracks) where
     handlers_same (a_handler choices fs hs) = rw (stmts_same fs, handlers_same hs) refl
 
   pub thrifty_as_judged : (b : BodyForm) → is_thrifty_body allowance b ≡ true
-      → (are_frugal_declarations allowance.types allowance.begun (seen_declarations tracks b.declarations) ≡ true) × (are_thrifty allowance (seen_stmts tracks b.statements) ≡ true) × (are_thrifty_handlers allowance (seen_handlers tracks b.handlers) ≡ true)
+      → (are_thrifty_declarations allowance (seen_declarations tracks b.declarations) ≡ true) × (are_thrifty allowance (seen_stmts tracks b.statements) ≡ true) × (are_thrifty_handlers allowance (seen_handlers tracks b.handlers) ≡ true)
   thrifty_as_judged b is =
       let three = apart _ _ is in
       let two = apart _ _ three.0 in
@@ -380,7 +379,7 @@ module _ (program : Program) (number : ℕ) (b : BodyForm) (there : slice_get (p
             upper = record { number = s.next; items = [] } ∷ [];
             masters = refl;
             own = (tt, tt);
-            frugal = inl (thrifty_as_judged (simple_allowance p.types) w.tracks b frugal, inl ((refl, refl), refl, refl));
+            frugal = inl (thrifty_as_judged (simple_allowance p.types) w.tracks b frugal, inl ((refl, refl), refl, refl, refl));
           };
           waits = record {
             parted = at.parted;

@@ -162,13 +162,13 @@ module _ (program : Program) (s : State) (f : Adjusting program s) (ends_now : s
   stands_so : f.t ≡ seen_state f.w s
   stands_so = (plainly_at_end program.types.items (program_form program).bodies f.w s f.t [] [] f.behind f.seen ends_now).1
 
-  frugal_now : Frugally (simple_allowance (program_form program).types) f.lower f.behind (seen_state f.w s)
-  frugal_now = subst (Frugally (simple_allowance (program_form program).types) f.lower f.behind) stands_so f.frugal
+  frugal_now : Frugally (simple_allowance (program_form program).types) f.lower f.behind [] (seen_state f.w s)
+  frugal_now = subst (Frugally (simple_allowance (program_form program).types) f.lower f.behind []) stands_so f.frugal
 
   pub lower_left : s.masters ≡ f.lower
   lower_left =
-      let last : Frugal (simple_allowance (program_form program).types) f.behind (seen_state f.w s).heap s.mode (Returns [] [] ∷ f.behind) frugal_now.upper = subst (λ (k : Control). Frugal (simple_allowance (program_form program).types) f.behind (seen_state f.w s).heap s.mode (seen_control f.w k) frugal_now.upper) ends_now frugal_now.frugal in
-      let end = frugal_ends (simple_allowance (program_form program).types) f.behind (seen_state f.w s).heap s.mode [] [] f.behind frugal_now.upper refl last in
+      let last : Frugal (simple_allowance (program_form program).types) f.behind [] s.mode (Returns [] [] ∷ f.behind) frugal_now.upper = subst (λ (k : Control). Frugal (simple_allowance (program_form program).types) f.behind [] s.mode (seen_control f.w k) frugal_now.upper) ends_now frugal_now.frugal in
+      let end = frugal_ends (simple_allowance (program_form program).types) f.behind [] s.mode [] [] f.behind frugal_now.upper refl last in
       frugal_now.masters ∙ ap (λ (upper : List Master). upper ++ f.lower) end.2
 
 -- The activation that waits is the next one.

@@ -15,7 +15,7 @@ use Rattle.ada_meaning.specs.Frame as frame
 use Rattle.ada_meaning.specs.Frame.{Frame, Calls, Does, Elaborates, Follows, Leaves, Returns, is_master, is_return, landing}
 use Rattle.ada_meaning.specs.State.{Activation, Master}
 use Rattle.ada_meaning.specs.Step.{halts, moves, tells, asks, picks, older, procedure_of, pass_next, with_operands, with_places}
-use Rattle.ada_meaning.specs.Named.{Object, State, Next, named, next}
+use Rattle.ada_meaning.specs.Named.{State, Next, named, next}
 use Rattle.ada_finalized.specs.Law.{NothingBegins}
 use Rattle.ada_tracked.specs.Frames.{View, blanked, number_in, seen_control, standing, standing_activations, stored_as, cleared_as, tracked_values}
 use Rattle.ada_tracked.specs.Law.{InnermostHousesNone, NextIsSimple}
@@ -37,28 +37,28 @@ calls_or_copies (Elaborates (declares_record x t initial ∷ ds) fs hs ∷ k) = 
 calls_or_copies k = false
 
 -- Not in a frugal body, where no procedure is called frugal.
-leads_on : (types : List TypeForm) (behind k : Control) (ms : List Master) → FrugalLeads (simple_allowance types) behind k ms → calls_or_copies k ≡ false
-leads_on types behind (Does (a_stmt (calls procedure actuals) fs) ∷ k) ms q = absurd (cc (q.0))
-leads_on types behind (Elaborates (declares_record x t initial ∷ ds) fs hs ∷ k) [] q = absurd q
-leads_on types behind (Elaborates (declares_record x t initial ∷ ds) fs hs ∷ k) (m ∷ ms) q = absurd (cc (q.0.0))
-leads_on types behind k ms q = refl
+leads_on : (types : List TypeForm) (behind : Control) (among : List Value) (k : Control) (ms : List Master) → FrugalLeads (simple_allowance types) behind among k ms → calls_or_copies k ≡ false
+leads_on types behind among (Does (a_stmt (calls procedure actuals) fs) ∷ k) ms q = absurd (cc (q.0))
+leads_on types behind among (Elaborates (declares_record x t initial ∷ ds) fs hs ∷ k) [] q = absurd q
+leads_on types behind among (Elaborates (declares_record x t initial ∷ ds) fs hs ∷ k) (m ∷ ms) q = absurd (cc (q.0.0))
+leads_on types behind among k ms q = refl
 
-leaves_on : (types : List TypeForm) (behind k : Control) (ms : List Master) → FrugalLeaves (simple_allowance types) behind k ms → calls_or_copies k ≡ false
-leaves_on types behind [] ms q = refl
-leaves_on types behind (Leaves left ∷ k) ms q = refl
-leaves_on types behind (f ∷ k) ms q = absurd q
+leaves_on : (types : List TypeForm) (behind : Control) (among : List Value) (k : Control) (ms : List Master) → FrugalLeaves (simple_allowance types) behind among k ms → calls_or_copies k ≡ false
+leaves_on types behind among [] ms q = refl
+leaves_on types behind among (Leaves left ∷ k) ms q = refl
+leaves_on types behind among (f ∷ k) ms q = absurd q
 
 -- Nor is it where a new object begins first.
-begins_on : (types : List TypeForm) (behind : Control) (heap : List Object) (k : Control) (ms : List Master) → FrugalBegins (simple_allowance types) behind heap k ms → calls_or_copies k ≡ false
-begins_on types behind heap [] ms q = refl
-begins_on types behind heap (frame.Treats v (frame.begins by done) tasks ∷ k) ms q = refl
-begins_on types behind heap (frame.Awaits v by done of part tasks ∷ k) ms q = refl
-begins_on types behind heap (f ∷ k) ms q = absurd q
+begins_on : (types : List TypeForm) (behind : Control) (among : List Value) (k : Control) (ms : List Master) → FrugalBegins (simple_allowance types) behind among k ms → calls_or_copies k ≡ false
+begins_on types behind among [] ms q = refl
+begins_on types behind among (frame.Treats v (frame.begins by done) tasks ∷ k) ms q = refl
+begins_on types behind among (frame.Awaits v by done of part tasks ∷ k) ms q = refl
+begins_on types behind among (f ∷ k) ms q = absurd q
 
-pub frugal_alone : (types : List TypeForm) (behind : Control) (heap : List Object) (mode : Mode) (k : Control) (ms : List Master) → Frugal (simple_allowance types) behind heap mode k ms → calls_or_copies k ≡ false
-frugal_alone types behind heap mode k ms (inl q) = leads_on types behind k ms q
-frugal_alone types behind heap mode k ms (inr (runs, inl q)) = leaves_on types behind k ms q
-frugal_alone types behind heap mode k ms (inr (runs, inr q)) = begins_on types behind heap k ms q
+pub frugal_alone : (types : List TypeForm) (behind : Control) (among : List Value) (mode : Mode) (k : Control) (ms : List Master) → Frugal (simple_allowance types) behind among mode k ms → calls_or_copies k ≡ false
+frugal_alone types behind among mode k ms (inl q) = leads_on types behind among k ms q
+frugal_alone types behind among mode k ms (inr (inl q)) = leaves_on types behind among k ms q.1
+frugal_alone types behind among mode k ms (inr (inr q)) = begins_on types behind among k ms q.1
 
 -- A state with these parts.
 abbrev with_parts : Mode → Control → State → State
@@ -282,20 +282,20 @@ module _ (types : List TypeDefinition) (bodies : List BodyForm) (w : View) where
   no_treatment (freeing access) c k l v treatment tasks e = absurd (cc e)
 
   -- So none is, where the other one is frugal, and frees no objects with controlled parts.
-  treated_not : (allowance : Allowance) → allowance.ends_parts ≡ false → (back : Control) (s t : State) (ms : List Master) (v : Value) (treatment : frame.Treatment) (tasks : List Task) (k : Control) → Seen types bodies w s t → Frugal allowance back t.heap t.mode t.control ms → s.control ≡ frame.Treats v treatment tasks ∷ k → ⊥
-  treated_not allowance none_parts back s t ms v treatment tasks k (plainly others is) frugal e =
+  treated_not : (allowance : Allowance) → allowance.treats_parts ≡ false → (back : Control) (among : List Value) (s t : State) (ms : List Master) (v : Value) (treatment : frame.Treatment) (tasks : List Task) (k : Control) → Seen types bodies w s t → Frugal allowance back among t.mode t.control ms → s.control ≡ frame.Treats v treatment tasks ∷ k → ⊥
+  treated_not allowance none_parts back among s t ms v treatment tasks k (plainly others is) frugal e =
       let control : t.control ≡ frame.Treats v treatment tasks ∷ seen_control w k = rw (is, e) refl in
-      treats_none allowance none_parts back t.heap t.mode t.control ms frugal v treatment tasks (seen_control w k) control
-  treated_not allowance none_parts back s t ms v treatment tasks k (following c cs j running_is control_is others l vs is goes_on) frugal e = absurd (cc (control_is, e))
-  treated_not allowance none_parts back s t ms v treatment tasks k (elsewhere waiting c j vs running_is control_is operands_are others none is) frugal e =
+      treats_none allowance none_parts back among t.mode t.control ms frugal v treatment tasks (seen_control w k) control
+  treated_not allowance none_parts back among s t ms v treatment tasks k (following c cs j running_is control_is others l vs is goes_on) frugal e = absurd (cc (control_is, e))
+  treated_not allowance none_parts back among s t ms v treatment tasks k (elsewhere waiting c j vs running_is control_is operands_are others none is) frugal e =
       no_treatment waiting c j k v treatment tasks (sym control_is ∙ e)
-  treated_not allowance none_parts back s t ms v treatment tasks k (delayed waiting c x spot fs j vs running_is control_is operands_are others is stood) frugal e =
+  treated_not allowance none_parts back among s t ms v treatment tasks k (delayed waiting c x spot fs j vs running_is control_is operands_are others is stood) frugal e =
       no_treatment waiting c (Does fs ∷ j) k v treatment tasks (sym control_is ∙ e)
 
   -- So what is left to do stays simple.
-  pub simple_still : (allowance : Allowance) → allowance.ends_parts ≡ false → (back : Control) (s t : State) (ms : List Master) → Seen types bodies w s t → Frugal allowance back t.heap t.mode t.control ms → StaysSimple w.tracks.first s.control → BodyIsSimple w.tracks.first s.control
-  simple_still allowance none_parts back s t ms seen frugal (at_once simple) = simple
-  simple_still allowance none_parts back s t ms seen frugal (behind_treatment v treatment tasks k is simple) = absurd (treated_not allowance none_parts back s t ms v treatment tasks k seen frugal is)
+  pub simple_still : (allowance : Allowance) → allowance.treats_parts ≡ false → (back : Control) (among : List Value) (s t : State) (ms : List Master) → Seen types bodies w s t → Frugal allowance back among t.mode t.control ms → StaysSimple w.tracks.first s.control → BodyIsSimple w.tracks.first s.control
+  simple_still allowance none_parts back among s t ms seen frugal (at_once simple) = simple
+  simple_still allowance none_parts back among s t ms seen frugal (behind_treatment v treatment tasks k is simple) = absurd (treated_not allowance none_parts back among s t ms v treatment tasks k seen frugal is)
 
   -- Where the real state leaves a master, the other one does.
   no_leaving : (waiting : Waiting) (c : ℕ) (k l : Control) (mode : Mode) → waiting_frame waiting c ∷ k ≡ Leaves mode ∷ l → ⊥

@@ -23,7 +23,9 @@ use Rattle.ada_meaning.specs.declared.state.Place.{Place}
 use Rattle.ada_meaning.specs.declared.state.Stage.TheVariants.{Existing}
 use Rattle.ada_meaning.specs.declared.state.Value.TheVariants.{Names, Part}
 use Rattle.ada_meaning.specs.declared.state.Value.{Value}
+use Rattle.ada_operations.specs.Operations.{PropagatesNothing}
 use Rattle.ada_parts.specs.Task.{Task, performs}
+use Rattle.ada_program.specs.Controlled.{operations_of}
 use Rattle.ada_program.specs.ProgramForm.{ProgramForm, TypeForm, body_forms, main_body, program_form, seen_by, seen_in}
 use Rattle.ada_program.specs.WellFormed.{IsWellFormed, access_of, kind_among, reached_components, variable_kind, count_said, finalization_in, part_count, record_components}
 use Rattle.ada_program.specs.declared.program.ComponentKind.{ComponentKind}
@@ -38,7 +40,7 @@ use Rattle.ada_quiet.specs.Calm.{are_calmly_copied_in, calmly_copied_types, has_
 use Rattle.ada_sound.proofs.AdjustedParts.{adjusted_frees}
 use Rattle.ada_sound.proofs.Adjusting.{IsOfCopy, copied, assigned, AdjustingCopy, LeavesAlone, is_one_of}
 use Rattle.ada_sound.proofs.AdjustingBegins.{Copied, adjusting_begins, begins_as_judged, AdjustsIn}
-use Rattle.ada_sound.proofs.AdjustingEnters.{copied_type, copied_where_called, copy_among, copy_tracks, copy_view, called_left, copy_beside, copy_declares, copy_found, copy_heap, copy_left, copy_names_left, copy_object, copy_of_access, copy_owners, copy_record, copy_sees_to, formal_components, not_one}
+use Rattle.ada_sound.proofs.AdjustingEnters.{adjust_called, called_operable, copied_type, copied_where_called, copy_among, copy_tracks, copy_view, called_left, copy_beside, copy_declares, copy_found, copy_heap, copy_left, copy_names_left, copy_object, copy_of_access, copy_owners, copy_record, copy_sees_to, formal_components, not_one}
 use Rattle.ada_sound.proofs.AdjustingGoes.{in_a_row}
 use Rattle.ada_sound.proofs.Alters.{Alters, alters_set}
 use Rattle.ada_sound.proofs.BareObjects.{frugal_frees_bare}
@@ -50,6 +52,7 @@ use Rattle.ada_sound.proofs.CopiedOwners.{BeginsCopy, CopyLeft, hiding, owners_l
 use Rattle.ada_sound.proofs.Fits.{IsWithin}
 use Rattle.ada_sound.proofs.Invariant.{Control, CoveredIn, under_in}
 use Rattle.ada_sound.proofs.Judged.{judged_in}
+use Rattle.ada_sound.proofs.JudgedAdjusts.{judged_lets_none}
 use Rattle.ada_sound.proofs.JudgedApart.{judged_apart}
 use Rattle.ada_sound.proofs.JudgedForms.{judged_covers, orderly_seen, orderly_simple, tracks_seen}
 use Rattle.ada_sound.proofs.JudgedKinds.{tracks_components}
@@ -64,7 +67,6 @@ use Rattle.ada_sound.proofs.PartsApart.{PartWithin, alone_left}
 use Rattle.ada_sound.proofs.QuietOperations.{MayTrack}
 use Rattle.ada_sound.proofs.Returns.{same_types}
 use Rattle.ada_sound.proofs.SimpleBodies.{simple_thrifty, simple_with}
-use Rattle.ada_sound.proofs.SimpleEffects.{simple_silent}
 use Rattle.ada_sound.proofs.Starts.{Obeys}
 use Rattle.ada_sound.proofs.Touching.{resting}
 use Rattle.ada_sound.proofs.TouchingBegins.{IsAlone, alone}
@@ -108,7 +110,7 @@ alters_aside owners heap e o x found = rw found (alters_set heap e o x (blank_ob
 
 -- The body of such an Adjust is next.
 module _
-    (program : Program) (well : IsWellFormed (program_form program)) (obeys : Obeys program)
+    (program : Program) (well : IsWellFormed (program_form program)) (obeys : Obeys program) (propagates : PropagatesNothing (program_form program))
     (a : Activation Value) (rest : List (Activation Value)) (s : State) (gs : List Suspension) (v : Value) (k : Control) (IsOperated : Treatment → Id → ℕ → Type 0) (e : Event) (after : State)
     (c : BeginsAdjust (known_in program a.procedure gs) a rest s program.types.items (body_forms program) v k IsOperated e after)
     (tracks : MayTrack (program_form program) c.b) (filled : AreFilled (program_form program).types (cells_of s.heap) (cells_of s.heap)) (typing : typed.Typed (program_form program) after)
@@ -327,7 +329,8 @@ module _
         let waiting = resting a.procedure a.places (begins c.by c.done) o x.cell.access [] place behind s.masters kept at.works.rooms at.works.holds in
         adjusting_begins program c.number c.b c.there w lone components a rest gs s k o aside heap place refl within c.by c.done behind kept may_free r c.tasks at
         frees_no_more frees_bare (of_copy c.by c.copies) refl tracker orderly none_other tracks.0 sees_to may thrifty simple
-        (simple_silent program well c.number c.b c.there simple_so tracks.2 w.tracks components orderly)
+        (judged_lets_none program well propagates x.cell.access c.of c.part c.number c.b (called_operable program well x.cell.access r c.of c.part c.tasks left) c.there
+        (adjust_called c.by (operations_of program.types.items c.of) c.number c.copies c.called) w.tracks components orderly)
         (calls_apart behind_apart)
         (λ spares. judged_runs program c.number c.b w.tracks waiting gs well obeys.1 c.there refl components orderly spares refl)
         (begins_as_judged program c.number c.b c.there w lone components a rest gs s k o aside heap place refl within c.by c.done behind kept may_free r c.tasks at watches)
@@ -357,7 +360,7 @@ module _
 
 -- The body begins.
 pub adjusting_starts :
-    (program : Program) → IsWellFormed (program_form program) → Obeys program
+    (program : Program) → IsWellFormed (program_form program) → Obeys program → PropagatesNothing (program_form program)
     → (a : Activation Value) (rest : List (Activation Value)) (s : State) (gs : List Suspension) (v : Value) (k : Control) (IsOperated : Treatment → Id → ℕ → Type 0) (e : Event) (after : State)
     → (c : BeginsAdjust (known_in program a.procedure gs) a rest s program.types.items (body_forms program) v k IsOperated e after)
     → MayTrack (program_form program) c.b → is_tracker (program_form program) c.number ≡ true
@@ -365,6 +368,6 @@ pub adjusting_starts :
     → Stands program gs (record s { activations = a ∷ rest }) → IsCalm (behind_call k) → under_in (callers_of program gs) ≡ []
     → CallApart (program_form program).types (is_tracker (program_form program)) k → ((u : Value) → u ≢ Names c.to.o → NothingBegins u k)
     → AdjustingCopy program after
-adjusting_starts program well obeys a rest s gs v k IsOperated e after c tracks tracker filled typing stands calm settled behind_apart untreated =
+adjusting_starts program well obeys propagates a rest s gs v k IsOperated e after c tracks tracker filled typing stands calm settled behind_apart untreated =
     subst (AdjustingCopy program) (sym c.is)
-    (copy_so program well obeys a rest s gs v k IsOperated e after c tracks filled typing tracker stands calm settled behind_apart untreated)
+    (copy_so program well obeys propagates a rest s gs v k IsOperated e after c tracks filled typing tracker stands calm settled behind_apart untreated)

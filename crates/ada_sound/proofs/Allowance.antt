@@ -1,36 +1,53 @@
--- Frugal bodies (7.6, 13.11.2) that free no object with controlled parts, or may free some, as what is proved of them tells them apart.
+-- Frugal bodies (7.6, 4.8, 13.11.2) that neither allocate nor free objects with controlled parts, or may do so, as what is proved of them tells them apart.
 
-use Rattle.std.proofs.Common.{◌≡◌, ℕ, Bool, true, false, ◌&&◌, ◌||◌, List, refl, []}
+use Rattle.std.proofs.Common.{◌≡◌, ℕ, Bool, true, false, ◌&&◌, ◌||◌, List, refl, [], ◌∷◌}
 use Rattle.std.specs.Prelude.{not, is_some}
 use Rattle.std.specs.List.{list_all, slice_index_or}
 use Rattle.std.proofs.lemmas.Bool.{and_parts}
-use Rattle.ada_program.specs.Form.{StmtForm, skips, assigns, assigns_record, frees, gets, writes, writes_text, chooses, repeats, counts, exits, calls, returns, raises, encloses, StmtsForm, no_stmts, a_stmt, BranchesForm, otherwise, a_branch, HandlersForm, no_handlers, a_handler}
+use Rattle.ada_program.specs.Form.{RightForm, nothing, value_of, allocates, allocates_default, computes, DeclarationForm, creates_pool, collects, declares, declares_record, StmtForm, skips, assigns, assigns_record, frees, gets, writes, writes_text, chooses, repeats, counts, exits, calls, returns, raises, encloses, StmtsForm, no_stmts, a_stmt, BranchesForm, otherwise, a_branch, HandlersForm, no_handlers, a_handler}
 use Rattle.ada_program.specs.ProgramForm.{TypeForm, BodyForm, ProgramForm}
 use Rattle.ada_program.specs.WellFormed.{finalization_of}
 use Rattle.ada_quiet.specs.Apart.{is_bare_item}
 use Rattle.ada_quiet.specs.Bare.{has_bare_objects}
-use Rattle.ada_quiet.specs.Calm.{quietly_begun_types}
-use Rattle.ada_quiet.specs.Frugal.{allocates_quietly, are_frugal_declarations, frugal_procedures, is_frugal_stmt, are_frugal, are_frugal_branches, are_frugal_handlers, is_frugal_body, thrift_of}
+use Rattle.ada_quiet.specs.Frugal.{allocates_frugally, is_frugal_declaration, are_frugal_declarations, frugal_procedures, is_frugal_stmt, are_frugal, are_frugal_branches, are_frugal_handlers, is_frugal_body, thrift_of}
 
--- What such bodies go by: as frugal ones do, and whether they may free objects with controlled parts.
+-- What such bodies go by: as frugal ones do, and whether they may allocate and free objects with controlled parts.
 pub record Allowance : Type 0 where
   pub types : List TypeForm
-  pub begun : List Bool
-  pub ends_parts : Bool
+  pub treats_parts : Bool
   pub procedures : List Bool
 
--- Such a body may free objects of an access type (13.11.2): they have no controlled parts, or it may free those that have some.
-abbrev pub may_end : Allowance → (access : ℕ) → Bool
-may_end allowance access = allowance.ends_parts || has_bare_objects allowance.types access
+-- Such a body may allocate and free objects of an access type (4.8, 13.11.2): they have no controlled parts, or it may treat those that have some.
+abbrev pub may_treat : Allowance → (access : ℕ) → Bool
+may_treat allowance access = allowance.treats_parts || has_bare_objects allowance.types access
+
+-- What is assigned is allocated frugally, and is no new object with controlled parts unless that may be (4.8).
+abbrev pub allocates_thriftily : Allowance → RightForm → Bool
+allocates_thriftily allowance nothing = true
+allocates_thriftily allowance (value_of path) = true
+allocates_thriftily allowance (allocates access items) = has_bare_objects allowance.types access
+allocates_thriftily allowance (allocates_default access) = may_treat allowance access
+allocates_thriftily allowance (computes e) = true
+
+-- So it is with what a variable is given at first (3.3.1), and nothing but variables is declared.
+abbrev pub is_thrifty_declaration : Allowance → DeclarationForm → Bool
+is_thrifty_declaration allowance (creates_pool p) = false
+is_thrifty_declaration allowance (collects access) = false
+is_thrifty_declaration allowance (declares x right) = allocates_thriftily allowance right
+is_thrifty_declaration allowance (declares_record x t initial) = false
+
+-- So it is with declarations.
+abbrev pub are_thrifty_declarations : Allowance → List DeclarationForm → Bool
+are_thrifty_declarations allowance ds = list_all (is_thrifty_declaration allowance) ds
 
 module _ (allowance : Allowance) where
   abbrev mutual
-    -- A statement is frugal, and frees no object with controlled parts unless it may (13.11.2).
+    -- A statement is frugal, and allocates and frees no object with controlled parts unless it may (4.8, 13.11.2).
     pub is_thrifty_stmt : StmtForm → Bool
     is_thrifty_stmt skips = true
-    is_thrifty_stmt (assigns target right) = allocates_quietly allowance.types allowance.begun right
+    is_thrifty_stmt (assigns target right) = allocates_thriftily allowance right
     is_thrifty_stmt (assigns_record target items) = not (is_some (finalization_of allowance.types target.record_type))
-    is_thrifty_stmt (frees access path) = may_end allowance access
+    is_thrifty_stmt (frees access path) = may_treat allowance access
     is_thrifty_stmt (gets target) = true
     is_thrifty_stmt (writes e) = true
     is_thrifty_stmt (writes_text text) = true
@@ -41,7 +58,7 @@ module _ (allowance : Allowance) where
     is_thrifty_stmt (calls procedure actuals) = slice_index_or allowance.procedures procedure false
     is_thrifty_stmt (returns spot) = true
     is_thrifty_stmt (raises e) = true
-    is_thrifty_stmt (encloses ds fs hs) = are_frugal_declarations allowance.types allowance.begun ds && are_thrifty fs && are_thrifty_handlers hs
+    is_thrifty_stmt (encloses ds fs hs) = are_thrifty_declarations allowance ds && are_thrifty fs && are_thrifty_handlers hs
 
     -- So it is with statements.
     pub are_thrifty : StmtsForm → Bool
@@ -60,18 +77,37 @@ module _ (allowance : Allowance) where
 
 -- All of a body is so.
 abbrev pub is_thrifty_body : Allowance → BodyForm → Bool
-is_thrifty_body allowance b = are_frugal_declarations allowance.types allowance.begun b.declarations && are_thrifty allowance b.statements && are_thrifty_handlers allowance b.handlers
+is_thrifty_body allowance b = are_thrifty_declarations allowance b.declarations && are_thrifty allowance b.statements && are_thrifty_handlers allowance b.handlers
 
--- Those of a program, which may free some.
+-- Those of a program, which may do so.
 abbrev pub allowance_of : ProgramForm → Allowance
-allowance_of p = record { types = p.types; begun = quietly_begun_types p; ends_parts = true; procedures = frugal_procedures p }
+allowance_of p = record { types = p.types; treats_parts = true; procedures = frugal_procedures p }
 
 -- What is frugal is so.
 module _ (p : ProgramForm) where
+  right_thrifty : (right : RightForm) → allocates_frugally p.types right ≡ true → allocates_thriftily (allowance_of p) right ≡ true
+  right_thrifty nothing is = refl
+  right_thrifty (value_of path) is = refl
+  right_thrifty (allocates access items) is = is
+  right_thrifty (allocates_default access) is = refl
+  right_thrifty (computes e) is = refl
+
+  declaration_thrifty : (d : DeclarationForm) → is_frugal_declaration p.types d ≡ true → is_thrifty_declaration (allowance_of p) d ≡ true
+  declaration_thrifty (creates_pool pool) is = is
+  declaration_thrifty (collects access) is = is
+  declaration_thrifty (declares x right) is = right_thrifty right is
+  declaration_thrifty (declares_record x t initial) is = is
+
+  declarations_thrifty : (ds : List DeclarationForm) → are_frugal_declarations p.types ds ≡ true → are_thrifty_declarations (allowance_of p) ds ≡ true
+  declarations_thrifty [] is = refl
+  declarations_thrifty (d ∷ ds) is =
+      let both = and_parts (is_frugal_declaration p.types d) (are_frugal_declarations p.types ds) is in
+      rw (declaration_thrifty d both.0, declarations_thrifty ds both.1) refl
+
   mutual
     stmt_thrifty : (f : StmtForm) → is_frugal_stmt (thrift_of p) f ≡ true → is_thrifty_stmt (allowance_of p) f ≡ true
     stmt_thrifty skips is = refl
-    stmt_thrifty (assigns target right) is = is
+    stmt_thrifty (assigns target right) is = right_thrifty right is
     stmt_thrifty (assigns_record target items) is = (and_parts (not (is_some (finalization_of p.types target.record_type))) (list_all (is_bare_item p.types) items) is).0
     stmt_thrifty (frees access path) is = refl
     stmt_thrifty (gets target) is = refl
@@ -85,9 +121,9 @@ module _ (p : ProgramForm) where
     stmt_thrifty (returns spot) is = refl
     stmt_thrifty (raises e) is = refl
     stmt_thrifty (encloses ds fs hs) is =
-        let two = and_parts (are_frugal_declarations p.types (quietly_begun_types p) ds && are_frugal (thrift_of p) fs) (are_frugal_handlers (thrift_of p) hs) is in
-        let three = and_parts (are_frugal_declarations p.types (quietly_begun_types p) ds) (are_frugal (thrift_of p) fs) two.0 in
-        rw (three.0, stmts_thrifty fs three.1, handlers_thrifty hs two.1) refl
+        let two = and_parts (are_frugal_declarations p.types ds && are_frugal (thrift_of p) fs) (are_frugal_handlers (thrift_of p) hs) is in
+        let three = and_parts (are_frugal_declarations p.types ds) (are_frugal (thrift_of p) fs) two.0 in
+        rw (declarations_thrifty ds three.0, stmts_thrifty fs three.1, handlers_thrifty hs two.1) refl
 
     stmts_thrifty : (fs : StmtsForm) → are_frugal (thrift_of p) fs ≡ true → are_thrifty (allowance_of p) fs ≡ true
     stmts_thrifty no_stmts is = refl
@@ -108,18 +144,18 @@ module _ (p : ProgramForm) where
   -- So is a body.
   pub body_thrifty : (b : BodyForm) → is_frugal_body (thrift_of p) b ≡ true → is_thrifty_body (allowance_of p) b ≡ true
   body_thrifty b is =
-      let two = and_parts (are_frugal_declarations p.types (quietly_begun_types p) b.declarations && are_frugal (thrift_of p) b.statements) (are_frugal_handlers (thrift_of p) b.handlers) is in
-      let three = and_parts (are_frugal_declarations p.types (quietly_begun_types p) b.declarations) (are_frugal (thrift_of p) b.statements) two.0 in
-      rw (three.0, stmts_thrifty b.statements three.1, handlers_thrifty b.handlers two.1) refl
+      let two = and_parts (are_frugal_declarations p.types b.declarations && are_frugal (thrift_of p) b.statements) (are_frugal_handlers (thrift_of p) b.handlers) is in
+      let three = and_parts (are_frugal_declarations p.types b.declarations) (are_frugal (thrift_of p) b.statements) two.0 in
+      rw (declarations_thrifty b.declarations three.0, stmts_thrifty b.statements three.1, handlers_thrifty b.handlers two.1) refl
 
 -- The declarations, the statements and the handlers of such a body are so.
 pub thrifty_parts : (allowance : Allowance) (b : BodyForm) → is_thrifty_body allowance b ≡ true
-    → (are_frugal_declarations allowance.types allowance.begun b.declarations ≡ true) × (are_thrifty allowance b.statements ≡ true) × (are_thrifty_handlers allowance b.handlers ≡ true)
+    → (are_thrifty_declarations allowance b.declarations ≡ true) × (are_thrifty allowance b.statements ≡ true) × (are_thrifty_handlers allowance b.handlers ≡ true)
 thrifty_parts allowance b is =
     let three = and_parts _ _ is in
     let two = and_parts _ _ three.0 in
     (two.0, two.1, three.1)
 
--- What a body goes by that calls nothing, frees no object with controlled parts, and allocates none.
+-- What a body goes by that calls nothing, and neither allocates nor frees an object with controlled parts.
 abbrev pub simple_allowance : List TypeForm → Allowance
-simple_allowance types = record { types = types; begun = []; ends_parts = false; procedures = [] }
+simple_allowance types = record { types = types; treats_parts = false; procedures = [] }

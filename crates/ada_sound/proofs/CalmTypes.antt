@@ -54,17 +54,6 @@ bare_calm types calm (Some (access_to name designated pool)) bare = by (finaliza
     by (Some f) none = absurd (cc none)
 bare_calm types calm (Some (object_of record_type)) bare = absurd (cc bare)
 
--- Where no type is told to begin quietly, what begins so has no controlled parts.
-pub bare_if_calm : (types : List TypeForm) (o : Option TypeForm) → is_calm_access types [] o ≡ true → is_bare_access types o ≡ true
-bare_if_calm types None is = absurd (cc is)
-bare_if_calm types (Some (record_of name parts components finalization)) is = absurd (cc is)
-bare_if_calm types (Some (access_to name designated pool)) is = by (finalization_of types designated) is
-  where
-    by : (f : Option Finalization) → is_known_calm [] f ≡ true → not (is_some f) ≡ true
-    by None known = refl
-    by (Some f) known = absurd (cc known)
-bare_if_calm types (Some (object_of record_type)) is = absurd (cc is)
-
 module _ (types : List TypeForm) (calm : List Bool) where
   -- Where each component is to name calm objects, so it is with what one of them is to name.
   kind_calm : (components : List ComponentKind) (c own : ℕ) → list_all (is_calm_component types calm) components ≡ true → access_of (kind_among (Some components) c) ≡ Some own → has_calm_objects types calm own ≡ true

@@ -5,6 +5,15 @@ use Rattle.std.specs.Prelude.{◌&&◌, length, Option, Some, None, nat_lt}
 use Rattle.std.specs.List.{list_all, filter}
 use Rattle.std.proofs.lemmas.Bool.{and_parts, ltb-true}
 use Rattle.ada_deeds.specs.Implicit.{implicit_of}
+use Rattle.ada_deeds.specs.Within.{does_by}
+use Rattle.ada_deeds.specs.declared.deed.Callee.TheVariants as callee
+use Rattle.ada_deeds.specs.declared.deed.Deed.TheVariants.{Raises}
+use Rattle.ada_deeds.specs.declared.deed.Operation.TheVariants.{Finalize}
+use Rattle.ada_deeds.proofs.Within.{counts_are_enough}
+use Rattle.ada_operations.specs.Operations.{PropagatesNothing}
+use Rattle.ada_operations.proofs.Propagating.{propagates_nothing, propagates_by}
+use Rattle.ada_program.specs.declared.program.Exception.{Exception}
+use Rattle.ada_program.specs.declared.program.TypeNo.{TypeNo}
 use Rattle.ada_text.specs.declared.spot.Spot.{Spot}
 use Rattle.ada_program.specs.declared.program.Program.{Program}
 use Rattle.ada_program.specs.Form.{StmtsForm, HandlersForm, declaration_forms, stmt_forms, handler_forms}
@@ -24,7 +33,7 @@ use Rattle.ada_meaning.specs.Named.{State, Next, next}
 use Rattle.ada_meaning.specs.Run.{Event, Choice, settled, grants, takes, Leads, Run, here, there, Halts, first_state}
 use Rattle.ada_quiet.specs.InUse.{may_be_frugal, operations_are_in_use}
 use Rattle.ada_quiet.specs.Releases.{text_frees_inside}
-use Rattle.ada_sound.specs.Always.{IsChecked, reaches_holder, spare_own_types, starts_spare, SparesHolders, SparesOwn, SparesStarts, Breaks, IsIllFormed, IsIllNested, FreesOthers, NotInUse, UsesOwn, InSomeRun, is_seen, IsFineAtEnds, HaltsAfter, HaltsSomewhere}
+use Rattle.ada_sound.specs.Always.{IsChecked, reaches_holder, spare_own_types, starts_spare, SparesHolders, SparesOwn, SparesStarts, Breaks, IsIllFormed, IsIllNested, FreesOthers, NotInUse, PropagatesSome, UsesOwn, InSomeRun, is_seen, IsFineAtEnds, HaltsAfter, HaltsSomewhere}
 
 -- Events, and the state that they lead to.
 abbrev pub Came : Type 0
@@ -163,10 +172,10 @@ spares_types p =
     spare_own_types (implicit_of p) 0 p.types
     && (is_none (text_frees_inside (reaches_holder (implicit_of p) p.types) p) && starts_spare (implicit_of p) 0 p.types)
 
--- Whether what overrides its operations is in use, too, and spares these; whether its collections nest; and
--- whether it frees by the instances for what it frees.
+-- Whether what overrides its operations is in use, too, spares these, and lets no exception out where a record is adjusted or finalized; whether its
+-- collections nest; and whether it frees by the instances for what it frees.
 abbrev pub is_fine : ProgramForm → Bool
-is_fine p = operations_are_in_use p && (spares_types p && fits p)
+is_fine p = operations_are_in_use p && (spares_types p && (propagates_nothing p && fits p))
 
 abbrev pub is_nested : ProgramForm → Bool
 is_nested p =
@@ -214,11 +223,20 @@ fits_is p e =
       bodies_fit = j.1;
     }
 
+-- The last two of these.
+formed_is : (p : ProgramForm) → is_fine p ≡ true → (propagates_nothing p && fits p) ≡ true
+formed_is p e =
+    let used = and_parts (operations_are_in_use p) (spares_types p && (propagates_nothing p && fits p)) e in
+    (and_parts (spares_types p) (propagates_nothing p && fits p) used.1).1
+
 fine_is : (p : ProgramForm) → is_fine p ≡ true → IsWellFormed p
-fine_is p e = fits_is p (and_parts _ _ (and_parts _ _ e).1).1
+fine_is p e = fits_is p (and_parts (propagates_nothing p) (fits p) (formed_is p e)).1
 
 spares_is : (p : ProgramForm) → is_fine p ≡ true → spares_types p ≡ true
 spares_is p e = (and_parts _ _ (and_parts _ _ e).1).0
+
+propagates_is : (p : ProgramForm) → is_fine p ≡ true → propagates_nothing p ≡ true
+propagates_is p e = (and_parts (propagates_nothing p) (fits p) (formed_is p e)).0
 
 nested_is : (p : ProgramForm) → is_nested p ≡ true → CollectionsNest p
 nested_is p e =
@@ -268,6 +286,10 @@ module _ (program : Program) (bodies : List BodyForm) (fs : StmtsForm) (hs : Han
   spares_starts_in e may made =
       subst (λ (p : ProgramForm). starts_spare (implicit_of p) 0 p.types ≡ true) (sym form_is) (and_parts _ _ (and_parts _ _ e).1).1
 
+  -- And whether no exception comes out where a record of it is adjusted or finalized.
+  propagates_in : propagates_nothing (form_with program bodies fs hs) ≡ true → PropagatesNothing (program_form program)
+  propagates_in e = subst PropagatesNothing (sym form_is) (propagates_by (form_with program bodies fs hs) e)
+
   -- Nothing is asked of these where no Finalize may touch storage.
   pub never_frugal : may_be_frugal (form_with program bodies fs hs) ≡ false → SparesHolders program
   never_frugal never may made = absurd (cc (never, subst (λ (p : ProgramForm). may_be_frugal p ≡ true) form_is may))
@@ -293,6 +315,7 @@ module _ (program : Program) (bodies : List BodyForm) (fs : StmtsForm) (hs : Han
         nests = nested_in both.0;
         frees_own = own_in both.1;
         spares_own = spares_in (spares_is (form_with program bodies fs hs) fine);
+        propagates_nothing = propagates_in (propagates_is (form_with program bodies fs hs) fine);
         spares_holders = spares_holders_in (spares_is (form_with program bodies fs hs) fine);
         spares_starts = spares_starts_in (spares_is (form_with program bodies fs hs) fine);
         obeys = (normal, raising, flow_in (goes normal raising) e);
@@ -308,6 +331,7 @@ module _ (program : Program) (bodies : List BodyForm) (fs : StmtsForm) (hs : Han
         nests = nested_in both.0;
         frees_own = own_in both.1;
         spares_own = spares_in (spares_is (form_with program bodies fs hs) fine);
+        propagates_nothing = propagates_in (propagates_is (form_with program bodies fs hs) fine);
         spares_holders = spares_holders_in (spares_is (form_with program bodies fs hs) fine);
         spares_starts = spares_starts_in (spares_is (form_with program bodies fs hs) fine);
         spot = spot;
@@ -315,22 +339,46 @@ module _ (program : Program) (bodies : List BodyForm) (fs : StmtsForm) (hs : Han
       }
 
   pub not_in_use_in : (normal raising : Option Holds) → fits (form_with program bodies fs hs) ≡ true
-      → operations_are_in_use (form_with program bodies fs hs) ≡ false → is_kept (form_with program bodies fs hs) ≡ true
-      → flow_with program bodies fs hs ≡ goes normal raising → NotInUse program
-  not_in_use_in normal raising formed unused kept e =
+      → operations_are_in_use (form_with program bodies fs hs) ≡ false → propagates_nothing (form_with program bodies fs hs) ≡ true
+      → is_kept (form_with program bodies fs hs) ≡ true → flow_with program bodies fs hs ≡ goes normal raising → NotInUse program
+  not_in_use_in normal raising formed unused none kept e =
       let both = and_parts _ _ kept in
       record {
         well_formed = subst IsWellFormed (sym form_is) (fits_is (form_with program bodies fs hs) formed);
         not_in_use = subst (λ (p : ProgramForm). operations_are_in_use p ≡ false) (sym form_is) unused;
         nests = nested_in both.0;
         frees_own = own_in both.1;
+        propagates_nothing = propagates_in none;
         obeys = (normal, raising, flow_in (goes normal raising) e);
       }
 
+  pub propagates_some_in : (e : Exception) (record_type : TypeNo) (normal raising : Option Holds)
+      → does_by (form_with program bodies fs hs) (Raises e) (callee.Parts Finalize record_type) ≡ true
+      → operations_are_in_use (form_with program bodies fs hs) ≡ true → spares_types (form_with program bodies fs hs) ≡ true
+      → fits (form_with program bodies fs hs) ≡ true → is_kept (form_with program bodies fs hs) ≡ true
+      → flow_with program bodies fs hs ≡ goes normal raising → PropagatesSome program
+  propagates_some_in e record_type normal raising comes used spares formed kept h =
+      let both = and_parts _ _ kept in
+      let raised = (counts_are_enough (form_with program bodies fs hs) (Raises e) (callee.Parts Finalize record_type)).0 comes in
+      record {
+        well_formed = subst IsWellFormed (sym form_is) (fits_is (form_with program bodies fs hs) formed);
+        in_use = subst (λ (p : ProgramForm). operations_are_in_use p ≡ true) (sym form_is) used;
+        nests = nested_in both.0;
+        frees_own = own_in both.1;
+        spares_own = spares_in spares;
+        propagates_some = λ (none : PropagatesNothing (program_form program)).
+            let here : PropagatesNothing (form_with program bodies fs hs) = subst PropagatesNothing form_is none in
+            here.finalizes e record_type raised;
+        spares_holders = spares_holders_in spares;
+        spares_starts = spares_starts_in spares;
+        obeys = (normal, raising, flow_in (goes normal raising) h);
+      }
+
   pub uses_own_in : (normal raising : Option Holds) → fits (form_with program bodies fs hs) ≡ true → operations_are_in_use (form_with program bodies fs hs) ≡ true
-      → spare_own_types (implicit_of (form_with program bodies fs hs)) 0 (form_with program bodies fs hs).types ≡ false → is_kept (form_with program bodies fs hs) ≡ true
+      → spare_own_types (implicit_of (form_with program bodies fs hs)) 0 (form_with program bodies fs hs).types ≡ false
+      → propagates_nothing (form_with program bodies fs hs) ≡ true → is_kept (form_with program bodies fs hs) ≡ true
       → flow_with program bodies fs hs ≡ goes normal raising → UsesOwn program
-  uses_own_in normal raising formed used uses kept e =
+  uses_own_in normal raising formed used uses out kept e =
       let both = and_parts _ _ kept in
       let none = spares_with false uses in
       record {
@@ -339,6 +387,7 @@ module _ (program : Program) (bodies : List BodyForm) (fs : StmtsForm) (hs : Han
         nests = nested_in both.0;
         frees_own = own_in both.1;
         uses_own = λ spares. cc (none, spares);
+        propagates_nothing = propagates_in out;
         obeys = (normal, raising, flow_in (goes normal raising) e);
       }
 
@@ -397,8 +446,9 @@ module _ (program : Program) (fs : StmtsForm) (hs : HandlersForm) (is : stmt_for
 
   pub ill_formed_by : (normal raising : Option Holds)
       → stmts_fit whole.types whole.variables whole.texts whole.exceptions (callable_in whole) false fs ≡ false → operations_are_in_use whole ≡ true
-      → spares_types whole ≡ true → is_kept whole ≡ true → flow_of (implicit_of whole) whole ≡ goes normal raising → IsIllFormed program
-  ill_formed_by normal raising unfit uses spares kept e = record {
+      → spares_types whole ≡ true → propagates_nothing whole ≡ true → is_kept whole ≡ true → flow_of (implicit_of whole) whole ≡ goes normal raising
+      → IsIllFormed program
+  ill_formed_by normal raising unfit uses spares none kept e = record {
     ill_formed = λ w.
         let fits : stmts_fit whole.types whole.variables whole.texts whole.exceptions (callable_in whole) false fs ≡ true = rw is at (w.statements_fit) in
         cc (unfit, fits);
@@ -406,6 +456,7 @@ module _ (program : Program) (fs : StmtsForm) (hs : HandlersForm) (is : stmt_for
     nests = nested_in program (body_forms program) fs hs refl is has (and_parts _ _ kept).0;
     frees_own = own_in program (body_forms program) fs hs refl is has (and_parts _ _ kept).1;
     spares_own = spares_in program (body_forms program) fs hs refl is has spares;
+    propagates_nothing = propagates_in program (body_forms program) fs hs refl is has none;
     spares_holders = spares_holders_in program (body_forms program) fs hs refl is has spares;
     spares_starts = spares_starts_in program (body_forms program) fs hs refl is has spares;
     obeys = (normal, raising, flow_in program (body_forms program) fs hs refl is has (goes normal raising) e);
@@ -419,6 +470,7 @@ module _ (program : Program) (fs : StmtsForm) (hs : HandlersForm) (is : stmt_for
     ill_nested = λ w. cc (unnested, w.declarations);
     frees_own = own_in program (body_forms program) fs hs refl is has own;
     spares_own = spares_in program (body_forms program) fs hs refl is has (spares_is whole fine);
+    propagates_nothing = propagates_in program (body_forms program) fs hs refl is has (propagates_is whole fine);
     spares_holders = spares_holders_in program (body_forms program) fs hs refl is has (spares_is whole fine);
     spares_starts = spares_starts_in program (body_forms program) fs hs refl is has (spares_is whole fine);
     obeys = (normal, raising, flow_in program (body_forms program) fs hs refl is has (goes normal raising) e);
@@ -434,6 +486,7 @@ module _ (program : Program) (fs : StmtsForm) (hs : HandlersForm) (is : stmt_for
         let own : statements_free_own whole.types whole.variables fs ≡ true = rw is at (w.statements) in
         cc (other, own);
     spares_own = spares_in program (body_forms program) fs hs refl is has (spares_is whole fine);
+    propagates_nothing = propagates_in program (body_forms program) fs hs refl is has (propagates_is whole fine);
     spares_holders = spares_holders_in program (body_forms program) fs hs refl is has (spares_is whole fine);
     spares_starts = spares_starts_in program (body_forms program) fs hs refl is has (spares_is whole fine);
     obeys = (normal, raising, flow_in program (body_forms program) fs hs refl is has (goes normal raising) e);

@@ -121,7 +121,8 @@ pub record Backing (program : Program) (s : State) : Type 0 where
   pub going : IsGoing program access item pool s.masters
   pub ordinary : Ordinary program v
 
--- An operation runs for a member, or what it has called, or the operation of an object that one of these frees: none of these bodies uses a value of the access type.
+-- An operation runs for a member, or what it has called, or the operation of an object that one of these frees or allocates: none of these bodies uses a value of
+-- the access type.
 pub record Within (program : Program) (s : State) : Type 0 where
   pub access : ℕ
   pub master : ℕ

@@ -63,7 +63,7 @@ use Rattle.ada_sound.proofs.SeenStates.{seen_activations, seen_alters, seen_at, 
 use Rattle.ada_sound.proofs.Starts.{Sound}
 use Rattle.ada_sound.proofs.Stored.{Stored, exists_out}
 use Rattle.ada_sound.proofs.StoredStates.{ready_stored}
-use Rattle.ada_sound.proofs.Touching.{Pause, Rests, Touching, origin}
+use Rattle.ada_sound.proofs.Touching.{Pause, Rests, Touching, operated_among, origin}
 use Rattle.ada_sound.proofs.TouchingGoes.{GoesTouching, Went}
 use Rattle.ada_sound.proofs.TouchingReturns.{ended_in}
 use Rattle.ada_sound.proofs.TouchingStands.{covers_outermost, finalized_by, frees_not, treating_before}
@@ -152,7 +152,7 @@ module _ (program : Program) (s : State) (sound : Sound program s) (w : Within p
     -- The outermost one is the operation of the object.
     back_is : outermost.behind ≡ w.behind
     back_is =
-        same_end p shuns w.apart w.ghosts w.behind waits w.calm (allowance_of (program_form program)) outermost.behind (waits_behind outermost.treatment outermost.awaited) f.within.calm v.heap v.mode v.control f.within.frugal.upper
+        same_end p shuns w.apart w.ghosts w.behind waits w.calm (allowance_of (program_form program)) outermost.behind (waits_behind outermost.treatment outermost.awaited) f.within.calm (operated_among f.within.inner) v.mode v.control f.within.frugal.upper
         (procedure_of v.activations) (older v.activations) f.within.frugal.frugal reaching_too.control
 
     -- Its object is finalized behind that.
@@ -192,14 +192,14 @@ module _ (program : Program) (s : State) (sound : Sound program s) (w : Within p
 
     -- The home of its type is behind the masters of the bodies.
     own_first :
-        (mode : Mode) (c : Control) (upper : List Master) → Frugal (allowance_of (program_form program)) outermost.behind v.heap mode c upper → (ds : List DeclarationForm) (fs : StmtsForm) (hs : HandlersForm) (k : Control)
+        (mode : Mode) (c : Control) (upper : List Master) → Frugal (allowance_of (program_form program)) outermost.behind (operated_among f.within.inner) mode c upper → (ds : List DeclarationForm) (fs : StmtsForm) (hs : HandlersForm) (k : Control)
         → c ≡ frame.Elaborates ds fs hs ∷ k → (m : Master) × (ms : List Master) × (upper ≡ m ∷ ms)
-    own_first mode c upper frugal ds fs hs k is = by upper (subst (λ (j : Control). Frugal (allowance_of (program_form program)) outermost.behind v.heap mode j upper) is frugal)
+    own_first mode c upper frugal ds fs hs k is = by upper (subst (λ (j : Control). Frugal (allowance_of (program_form program)) outermost.behind (operated_among f.within.inner) mode j upper) is frugal)
       where
-        by : (ms : List Master) → Frugal (allowance_of (program_form program)) outermost.behind v.heap mode (frame.Elaborates ds fs hs ∷ k) ms → (m : Master) × (rest : List Master) × (ms ≡ m ∷ rest)
+        by : (ms : List Master) → Frugal (allowance_of (program_form program)) outermost.behind (operated_among f.within.inner) mode (frame.Elaborates ds fs hs ∷ k) ms → (m : Master) × (rest : List Master) × (ms ≡ m ∷ rest)
         by [] (inl q) = absurd q
-        by [] (inr (runs, inl leaving)) = absurd leaving
-        by [] (inr (runs, inr beginning)) = absurd beginning
+        by [] (inr (inl (runs, leaving))) = absurd leaving
+        by [] (inr (inr (may, beginning))) = absurd beginning
         by (m ∷ rest) q = (m, rest, refl)
 
     -- So the grounds of the real state say.
@@ -403,8 +403,8 @@ module _ (program : Program) (s : State) (sound : Sound program s) (w : Within p
     went_behind : Went program v.heap Quiet view → InDeparting program s.heap Quiet after
     went_behind (inl c) =
         let f = c.body in
-        absurd (none_frugal (allowance_of (program_form program)) f.within.outermost.behind view.heap view.mode w.mode w.object w.master w.item w.pool w.tasks w.k f.within.frugal.upper
-        (subst (λ (k : Control). Frugal (allowance_of (program_form program)) f.within.outermost.behind view.heap view.mode k f.within.frugal.upper) control_behind f.within.frugal.frugal))
+        absurd (none_frugal (allowance_of (program_form program)) f.within.outermost.behind (operated_among f.within.inner) view.mode w.mode w.object w.master w.item w.pool w.tasks w.k f.within.frugal.upper
+        (subst (λ (k : Control). Frugal (allowance_of (program_form program)) f.within.outermost.behind (operated_among f.within.inner) view.mode k f.within.frugal.upper) control_behind f.within.frugal.frugal))
     went_behind (inr (inl c)) =
         let o = c.operates in
         let sight : Sight = record { program = seen_in (Some o.procedure) p; object = o.object; access = o.access } in

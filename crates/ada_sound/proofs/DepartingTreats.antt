@@ -339,9 +339,9 @@ module _
         body_begins (inl quiet) =
             inl (begins_operation program grounds.well a rest o.suspensions seen_heap behind_it Operated e seen_after restood typing c
             (calm_around program a rest o.suspensions seen_heap behind_it Operated e seen_after c o.calm o.settled) quiet)
-        body_begins (inr (inl (may_touch, may, frugal, silent, touches))) =
+        body_begins (inr (inl (may_touch, may, frugal, touches))) =
             inr (touching_outermost program a rest seen_heap behind_it (Names object) leaving tasks o.suspensions view refl grounds (calm_here program a rest behind_it seen_heap (Names object) leaving tasks grounds o)
-            refl o.calm o.settled restood e seen_after c may_touch may silent frugal touches typing)
+            refl o.calm o.settled restood e seen_after c may_touch may frugal touches typing)
         body_begins (inr (inr (copies, tracks, own))) = absurd (none_copied copies)
 
         -- So it does as it is used.

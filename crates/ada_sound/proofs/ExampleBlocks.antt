@@ -370,7 +370,7 @@ mistyping_form = simp (statement_rules, expression_rules)
 
 pub mistyping_ill_formed : IsIllFormed mistyping
 unfolding uses_in
-mistyping_ill_formed = ill_formed_by mistyping mistyping_stmts no_handlers mistyping_form refl _ _ refl refl refl refl refl
+mistyping_ill_formed = ill_formed_by mistyping mistyping_stmts no_handlers mistyping_form refl _ _ refl refl refl refl refl refl
 
 -- X names what went with the block's collection.
 pub mistypes : HaltsAfter mistyping_events (Erroneous FollowsGone) mistyping

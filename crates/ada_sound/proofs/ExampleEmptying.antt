@@ -98,7 +98,7 @@ inside = last emptying [] emptying_bodies tidying_stmts no_handlers to_free
 
 neither : RunsPlainly emptying inside ⊎ RunsTracking emptying inside → ⊥
 unfolding next
-neither = runs_neither emptying inside emptying_bodies emptying_empty emptying_has refl refl refl refl
+neither = runs_neither emptying inside emptying_bodies 0 emptying_empty emptying_has refl refl refl refl
 
 pub is_spoken_of : InSomeRun emptying (λ events s. IsSpokenOfInside emptying s)
 unfolding next

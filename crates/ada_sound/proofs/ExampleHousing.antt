@@ -34,7 +34,7 @@ use Rattle.ada_sound.proofs.ExampleTidying.{holder_type}
 
 -- type Cell is record Value : Integer; end record; type Link is access Cell; Holder; type Chest is access Holder; Keeper; and what K and the formal parameters
 -- are known by.
-abbrev housing_types : List TypeDefinition
+abbrev pub housing_types : List TypeDefinition
 housing_types =
     record_of (an_integer ∷ []) (omega arith)
     ∷ access_to 0
@@ -106,7 +106,7 @@ inside = last housing [] housing_bodies housing_stmts no_handlers to_assignment
 
 neither : RunsPlainly housing inside ⊎ RunsTracking housing inside → ⊥
 unfolding next
-neither = runs_neither housing inside housing_bodies housing_initialize housing_has refl refl refl refl
+neither = runs_neither housing inside housing_bodies 0 housing_initialize housing_has refl refl refl refl
 
 pub is_spoken_of : InSomeRun housing (λ events s. IsSpokenOfInside housing s)
 unfolding next

@@ -33,22 +33,23 @@ use Rattle.ada_sound.proofs.ExampleOwners.{path, whole, part as component}
 use Rattle.ada_sound.proofs.ExampleOperations.{node_types, operation}
 use Rattle.ada_owners.specs.Places.{is_there}
 
--- Where the body of a program's first procedure runs, which is not plain and tracks nothing, none of these kinds does.
+-- Where the body of a program's procedure of this number runs, which is not plain and tracks nothing, none of these kinds does.
 pub runs_neither :
-    (program : Program) (s : State) (bodies : List BodyForm) (b : BodyForm) → body_forms program ≡ bodies → slice_get bodies 0 ≡ Some b → running_procedure s ≡ Some 0
-    → is_plain_body (program_form program).types b ≡ false → is_tracker (program_form program) 0 ≡ false → RunsPlainly program s ⊎ RunsTracking program s → ⊥
-runs_neither program s bodies b has at first not_plain tracks_nothing (inl (number, c, runs, there, plain)) =
-    let known : Some 0 ≡ Some number = sym first ∙ runs in
-    let same : 0 ≡ number = cc known in
+    (program : Program) (s : State) (bodies : List BodyForm) (q : ℕ) (b : BodyForm) → body_forms program ≡ bodies → slice_get bodies q ≡ Some b
+    → running_procedure s ≡ Some q → is_plain_body (program_form program).types b ≡ false → is_tracker (program_form program) q ≡ false
+    → RunsPlainly program s ⊎ RunsTracking program s → ⊥
+runs_neither program s bodies q b has at first not_plain tracks_nothing (inl (number, c, runs, there, plain)) =
+    let known : Some q ≡ Some number = sym first ∙ runs in
+    let same : q ≡ number = cc known in
     let here : Some b ≡ Some c =
-    sym at ∙ (sym (ap (λ (all : List BodyForm). slice_get all 0) has) ∙ subst (λ (n : ℕ). slice_get (body_forms program) n ≡ Some c) (sym same) there) in
+    sym at ∙ (sym (ap (λ (all : List BodyForm). slice_get all q) has) ∙ subst (λ (n : ℕ). slice_get (body_forms program) n ≡ Some c) (sym same) there) in
     let is : b ≡ c = cc here in
     let never : is_plain_body (program_form program).types b ≡ true = subst (λ (d : BodyForm). is_plain_body (program_form program).types d ≡ true) (sym is) plain in
     cc (not_plain, never)
-runs_neither program s bodies b has at first not_plain tracks_nothing (inr (number, runs, tracks)) =
-    let known : Some 0 ≡ Some number = sym first ∙ runs in
-    let same : 0 ≡ number = cc known in
-    let never : is_tracker (program_form program) 0 ≡ true = subst (λ (n : ℕ). is_tracker (program_form program) n ≡ true) (sym same) tracks in
+runs_neither program s bodies q b has at first not_plain tracks_nothing (inr (number, runs, tracks)) =
+    let known : Some q ≡ Some number = sym first ∙ runs in
+    let same : q ≡ number = cc known in
+    let never : is_tracker (program_form program) q ≡ true = subst (λ (n : ℕ). is_tracker (program_form program) n ≡ true) (sym same) tracks in
     cc (tracks_nothing, never)
 
 -- What a component of an object that is in its collection holds; and whether an object is gone.

@@ -144,7 +144,7 @@ inside = last leaving_three [] (leaving_finalize ∷ []) three_stmts no_handlers
 
 neither : RunsPlainly leaving_three inside ⊎ RunsTracking leaving_three inside → ⊥
 unfolding next
-neither = runs_neither leaving_three inside (leaving_finalize ∷ []) leaving_finalize three_has refl refl refl refl
+neither = runs_neither leaving_three inside (leaving_finalize ∷ []) 0 leaving_finalize three_has refl refl refl refl
 
 -- The second node names the third one, which is gone.
 pub is_spoken_of : InSomeRun leaving_three (λ events s. IsSpokenOfElsewhere leaving_three s)

@@ -128,7 +128,7 @@ inside = last nesting [] nesting_bodies nesting_stmts no_handlers to_free
 
 neither : RunsPlainly nesting inside ⊎ RunsTracking nesting inside → ⊥
 unfolding next
-neither = runs_neither nesting inside nesting_bodies inner_finalize nesting_has refl refl refl refl
+neither = runs_neither nesting inside nesting_bodies 0 inner_finalize nesting_has refl refl refl refl
 
 pub is_spoken_of : InSomeRun nesting (λ events s. IsSpokenOfInside nesting s)
 unfolding next

@@ -1,4 +1,5 @@
--- Programs whose types override operations: in one they are quiet, and it meets the premises of the laws; in the others a Finalize is not. With runs of them.
+-- Programs whose types override operations: in one they are quiet, and it meets the premises of the laws; in the others a Finalize is not, or lets an
+-- exception out. With runs of them.
 
 use Rattle.std.proofs.Common.{◌≡◌, ◌≤◌, ℕ, true, false, List, [], ◌∷◌, ◌++◌, length, refl, arith}
 use Rattle.std.specs.Prelude.{Some, None, pos}
@@ -31,13 +32,13 @@ use Rattle.ada_program.specs.Controlled.{operations_of}
 use Rattle.ada_program.specs.Form.{declaration_forms, stmt_forms, handler_forms, no_handlers, statement_rules, expression_rules}
 use Rattle.ada_program.specs.ProgramForm.{body_forms}
 use Rattle.ada_flow.specs.Flow.{uses_in}
-use Rattle.ada_meaning.specs.declared.event.Halt.TheVariants.{Finished, Erroneous}
+use Rattle.ada_meaning.specs.declared.event.Halt.TheVariants.{Finished, Escaped, Erroneous}
 use Rattle.ada_meaning.specs.declared.event.Why.TheVariants.{FollowsGone, FinalizesTwice}
 use Rattle.ada_meaning.specs.Named.{next}
 use Rattle.ada_meaning.specs.Run.{Choice, grants, takes}
-use Rattle.ada_sound.specs.Always.{IsChecked, FinishesAfter, NotInUse, UsesOwn, SparesHolders, SparesOwn, SparesStarts, HaltsAfter}
-use Rattle.ada_sound.specs.OperationExamples.{count_operations, count_bodies, operating_declarations, operating_stmts, operating_handlers, operating_events, node_operations, two_nodes, freeing_finalize, freed_events, following_finalize, node_and_cell, following_events}
-use Rattle.ada_sound.proofs.Choices.{accepted_in, never_frugal, never_frugal_starts, not_in_use_in, uses_own_in, spares_with, halts_after_in}
+use Rattle.ada_sound.specs.Always.{IsChecked, FinishesAfter, NotInUse, PropagatesSome, UsesOwn, SparesHolders, SparesOwn, SparesStarts, HaltsAfter}
+use Rattle.ada_sound.specs.OperationExamples.{count_operations, count_bodies, operating_declarations, operating_stmts, operating_handlers, operating_events, node_operations, two_nodes, freeing_finalize, freed_events, following_finalize, node_and_cell, following_events, escaping_operations, escaping_finalize, escaping_declarations, escaping_stmts, escaping_events}
+use Rattle.ada_sound.proofs.Choices.{accepted_in, never_frugal, never_frugal_starts, not_in_use_in, propagates_some_in, uses_own_in, spares_with, halts_after_in}
 use Rattle.ada_sound.proofs.Example.{steps, vec, no_name, spot, link, with_number}
 use Rattle.ada_sound.proofs.ExampleOwners.{record_of, access_to, an_integer, an_access, path, whole, part as component}
 use Rattle.ada_sound.proofs.ExampleRecords.{object, of_object, record_at, of_object_type}
@@ -180,10 +181,6 @@ node_program_with finalize = record {
   handlers = vec [] (omega arith);
 }
 
--- The same, where it does this statement
-abbrev node_program : Stmt → Program
-node_program statement = node_program_with (operation 2 (statement ∷ []) (omega arith) [] (omega arith))
-
 -- Both nodes are granted, and the second one is picked first at the leaving; this comes behind its Finalize.
 abbrev to_second : List Choice
 to_second = steps 10 ++ grants true ∷ steps 4 ++ grants true ∷ steps 11 ++ takes 0 ∷ []
@@ -211,7 +208,7 @@ freeing_form = simp statement_rules
 
 pub freeing_uses_own : UsesOwn freeing
 unfolding uses_in
-freeing_uses_own = uses_own_in freeing (freeing_finalize ∷ []) two_nodes no_handlers freeing_bodies freeing_form refl _ _ refl refl refl refl refl
+freeing_uses_own = uses_own_in freeing (freeing_finalize ∷ []) two_nodes no_handlers freeing_bodies freeing_form refl _ _ refl refl refl refl refl refl
 
 -- Finalize of the first node frees the second one, which is gone.
 pub frees_gone : HaltsAfter freed_events (Erroneous FinalizesTwice) freeing
@@ -244,9 +241,13 @@ following_statement =
     (record { condition = NullTest (of_object 0 1) false; statements = vec (stmt.PutImage (Reads value_behind) ∷ []) (omega arith) } ∷ []) (omega arith))
     (vec [] (omega arith))
 
+-- That; exception when others => null;
+abbrev following_procedure : Procedure
+following_procedure = operation 2 (following_statement ∷ []) (omega arith) (handles choice.Others stmt.Null ∷ []) (omega arith)
+
 -- Head := new Node; Second := new Cell; Head.Next := Second; where Finalize does that
 abbrev pub following : Program
-following = record (node_program following_statement) {
+following = record (node_program_with following_procedure) {
   types = vec node_and_cell_types (omega arith);
   variables = vec (link ∷ record link { kind = variable.Access (record { 0 = 4 }) } ∷ []) (omega arith);
   declarations = vec
@@ -268,7 +269,8 @@ following_form = simp statement_rules
 
 pub following_not_in_use : NotInUse following
 unfolding uses_in
-following_not_in_use = not_in_use_in following (following_finalize ∷ []) node_and_cell no_handlers following_bodies following_form refl _ _ refl refl refl refl
+following_not_in_use =
+    not_in_use_in following (following_finalize ∷ []) node_and_cell no_handlers following_bodies following_form refl _ _ refl refl refl refl refl
 
 -- It frees nothing.
 pub following_spares : SparesOwn following
@@ -288,3 +290,51 @@ unfolding next
 follows_gone =
     halts_after_in following (following_finalize ∷ []) node_and_cell no_handlers following_bodies following_form refl []
     (steps 11 ++ grants true ∷ steps 4 ++ grants true ∷ steps 10 ++ takes 0 ∷ steps 3 ++ takes 0 ∷ steps 8) following_events (Erroneous FollowsGone) refl refl refl
+
+-- type Count is new Controlled with record N : Integer; end record; and what X and the formal parameter are known by.
+abbrev escaping_types : List TypeDefinition
+escaping_types =
+    controlled_type (of_kind part.Parent 0 0 ∷ of_kind (part.Elementary an_integer) 0 1 ∷ []) (omega arith) (an_integer ∷ []) (omega arith) escaping_operations
+    ∷ definition.Object (record { 0 = 0 })
+    ∷ definition.Object (record { 0 = 0 })
+    ∷ []
+
+-- X : Count; begin null; where Finalize raises Constraint_Error
+abbrev pub escaping : Program
+escaping = record {
+  types = vec escaping_types (omega arith);
+  pools = vec [] (omega arith);
+  procedures = vec (operation 2 (stmt.Raise ConstraintError ∷ []) (omega arith) [] (omega arith) ∷ []) (omega arith);
+  variables = vec (of_object_type 1 ∷ []) (omega arith);
+  texts = vec [] (omega arith);
+  exceptions = vec [] (omega arith);
+  declarations = vec (declaration.Record (record { 0 = 0 }) (record { 0 = 1 }) None ∷ []) (omega arith);
+  statements = vec (stmt.Null ∷ []) (omega arith);
+  handlers = vec [] (omega arith);
+}
+
+pub escaping_overrides : operations_of escaping.types.items 0 ≡ escaping_operations
+escaping_overrides = refl
+
+pub escaping_bodies : body_forms escaping ≡ escaping_finalize ∷ []
+escaping_bodies = simp statement_rules
+
+pub escaping_declares : declaration_forms escaping ≡ escaping_declarations
+escaping_declares = refl
+
+pub escaping_form : stmt_forms escaping ≡ escaping_stmts
+escaping_form = simp statement_rules
+
+-- What a Finalize of the first type raises comes out.
+pub escaping_propagates : PropagatesSome escaping
+unfolding uses_in
+escaping_propagates =
+    propagates_some_in escaping (escaping_finalize ∷ []) escaping_stmts no_handlers escaping_bodies escaping_form refl ConstraintError (record { 0 = 0 }) _ _
+    refl refl refl refl refl refl
+
+-- X is picked at the leaving of the main procedure.
+pub escapes : HaltsAfter escaping_events (Escaped ConstraintError) escaping
+unfolding next
+escapes =
+    halts_after_in escaping (escaping_finalize ∷ []) escaping_stmts no_handlers escaping_bodies escaping_form refl []
+    (steps 7 ++ takes 0 ∷ steps 8) escaping_events (Escaped ConstraintError) refl refl refl

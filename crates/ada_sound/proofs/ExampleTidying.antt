@@ -97,7 +97,7 @@ inside = last tidying [] (tidying_finalize ∷ []) tidying_stmts no_handlers to_
 
 neither : RunsPlainly tidying inside ⊎ RunsTracking tidying inside → ⊥
 unfolding next
-neither = runs_neither tidying inside (tidying_finalize ∷ []) tidying_finalize tidying_bodies refl refl refl refl
+neither = runs_neither tidying inside (tidying_finalize ∷ []) 0 tidying_finalize tidying_bodies refl refl refl refl
 
 pub is_spoken_of : InSomeRun tidying (λ events s. IsSpokenOfInside tidying s)
 unfolding next

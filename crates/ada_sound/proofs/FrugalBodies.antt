@@ -6,22 +6,21 @@ use Rattle.std.proofs.lemmas.Bool.{and_parts}
 use Rattle.ada_program.specs.Form.{StmtForm, skips, assigns, assigns_record, frees, gets, writes, writes_text, chooses, repeats, counts, exits, calls, returns, raises, encloses, StmtsForm, no_stmts, a_stmt, BranchesForm, otherwise, a_branch, HandlersForm, no_handlers, a_handler, DeclarationForm, creates_pool, collects, declares, declares_record}
 use Rattle.ada_program.specs.Nested.{Callees, collected, record_objects, part_nests, call_nests, statement_nests, statements_nest, branches_nest, handlers_nest, body_nests, callees_from, callees_of}
 use Rattle.ada_program.specs.ProgramForm.{TypeForm, BodyForm, ProgramForm}
-use Rattle.ada_quiet.specs.Calm.{quietly_begun_types}
-use Rattle.ada_quiet.specs.Frugal.{allocates_quietly, are_frugal_declarations, is_frugal_stmt, are_frugal, are_frugal_branches, are_frugal_handlers, is_frugal_body, Thrift, frugal_from, frugal_procedures}
+use Rattle.ada_quiet.specs.Frugal.{allocates_frugally, are_frugal_declarations, is_frugal_stmt, are_frugal, are_frugal_branches, are_frugal_handlers, is_frugal_body, Thrift, frugal_from, frugal_procedures}
 
 -- The declarations, the statements and the handlers of a frugal body are frugal.
-pub frugal_parts : (frugal : Thrift) (b : BodyForm) → is_frugal_body frugal b ≡ true → (are_frugal_declarations frugal.types frugal.begun b.declarations ≡ true) × (are_frugal frugal b.statements ≡ true) × (are_frugal_handlers frugal b.handlers ≡ true)
+pub frugal_parts : (frugal : Thrift) (b : BodyForm) → is_frugal_body frugal b ≡ true → (are_frugal_declarations frugal.types b.declarations ≡ true) × (are_frugal frugal b.statements ≡ true) × (are_frugal_handlers frugal b.handlers ≡ true)
 frugal_parts frugal b is =
     let three = and_parts _ _ is in
     let two = and_parts _ _ three.0 in
     (two.0, two.1, three.1)
 
-none_collected : (types : List TypeForm) (begun : List Bool) (ds : List DeclarationForm) → are_frugal_declarations types begun ds ≡ true → (collected ds ≡ []) × (record_objects ds ≡ [])
-none_collected types begun [] is = (refl, refl)
-none_collected types begun (creates_pool p ∷ ds) is = absurd (cc is)
-none_collected types begun (collects access ∷ ds) is = absurd (cc is)
-none_collected types begun (declares x right ∷ ds) is = none_collected types begun ds (and_parts (allocates_quietly types begun right) (are_frugal_declarations types begun ds) is).1
-none_collected types begun (declares_record x t initial ∷ ds) is = absurd (cc is)
+none_collected : (types : List TypeForm) (ds : List DeclarationForm) → are_frugal_declarations types ds ≡ true → (collected ds ≡ []) × (record_objects ds ≡ [])
+none_collected types [] is = (refl, refl)
+none_collected types (creates_pool p ∷ ds) is = absurd (cc is)
+none_collected types (collects access ∷ ds) is = absurd (cc is)
+none_collected types (declares x right ∷ ds) is = none_collected types ds (and_parts (allocates_frugally types right) (are_frugal_declarations types ds) is).1
+none_collected types (declares_record x t initial ∷ ds) is = absurd (cc is)
 
 -- What calls of frugal procedures create nests.
 abbrev CalleesNest : (frugal : List Bool) → Callees → Type 0
@@ -42,8 +41,8 @@ step_nests (m ∷ ms) (n ∷ ns) step zero is around = step.0 is around
 step_nests (m ∷ ms) (n ∷ ns) step (suc number) is around = step_nests ms ns step.1 number is around
 
 module _ (types : List TypeForm) where
-  part_is : (bare : List TypeForm) (begun : List Bool) (around : List ℕ) (ds : List DeclarationForm) → are_frugal_declarations bare begun ds ≡ true → part_nests types around ds ≡ true
-  part_is bare begun around ds is = let none = none_collected bare begun ds is in rw (none.0, none.1) refl
+  part_is : (bare : List TypeForm) (around : List ℕ) (ds : List DeclarationForm) → are_frugal_declarations bare ds ≡ true → part_nests types around ds ≡ true
+  part_is bare around ds is = let none = none_collected bare ds is in rw (none.0, none.1) refl
 
   module _ (frugal : Thrift) (callees : Callees) (nest : CalleesNest frugal.procedures callees) where
     mutual
@@ -65,7 +64,7 @@ module _ (types : List TypeForm) where
       stmt_is around (encloses ds fs hs) is =
           let two = and_parts _ _ is in
           let three = and_parts _ _ two.0 in
-          rw (part_is frugal.types frugal.begun around ds three.0, stmts_are (collected ds ++ around) fs three.1, handlers_are (collected ds ++ around) hs two.1) refl
+          rw (part_is frugal.types around ds three.0, stmts_are (collected ds ++ around) fs three.1, handlers_are (collected ds ++ around) hs two.1) refl
 
       stmts_are : (around : List ℕ) (fs : StmtsForm) → are_frugal frugal fs ≡ true → statements_nest types callees around fs ≡ true
       stmts_are around no_stmts is = refl
@@ -84,7 +83,7 @@ module _ (types : List TypeForm) where
     body_is b around is =
         let three = frugal_parts frugal b is in
         rw (
-          part_is frugal.types frugal.begun around b.declarations three.0,
+          part_is frugal.types around b.declarations three.0,
           stmts_are (collected b.declarations ++ around) b.statements three.1,
           handlers_are (collected b.declarations ++ around) b.handlers three.2,
         ) refl
@@ -96,20 +95,20 @@ module _ (types : List TypeForm) where
   one_more (m ∷ ms) [] mark nest step more = absurd step
   one_more (m ∷ ms) (n ∷ ns) mark nest step more = (step.0, one_more ms ns mark nest step.1 more)
 
-  all_step : (begun : List Bool) (bodies : List BodyForm) (allowance : List Bool) (nests : Callees) → InStep allowance nests → InStep (frugal_from types begun allowance bodies) (callees_from types nests bodies)
-  all_step begun [] allowance nests step = step
-  all_step begun (b ∷ bodies) allowance nests step =
-      let frugal : Thrift = record { types = types; begun = begun; procedures = allowance } in
-      all_step begun bodies (allowance ++ is_frugal_body frugal b ∷ []) (nests ++ body_nests types nests b ∷ [])
+  all_step : (bodies : List BodyForm) (allowance : List Bool) (nests : Callees) → InStep allowance nests → InStep (frugal_from types allowance bodies) (callees_from types nests bodies)
+  all_step [] allowance nests step = step
+  all_step (b ∷ bodies) allowance nests step =
+      let frugal : Thrift = record { types = types; procedures = allowance } in
+      all_step bodies (allowance ++ is_frugal_body frugal b ∷ []) (nests ++ body_nests types nests b ∷ [])
       (one_more allowance nests (is_frugal_body frugal b) (body_nests types nests b) step (λ is around. body_is frugal nests (step_nests allowance nests step) b around is))
 
 -- The body of a frugal procedure nests wherever it is called, whatever it frees.
 pub frugal_nests : (p : ProgramForm) (number : ℕ) → slice_index_or (frugal_procedures p) number false ≡ true → (around : List ℕ) → call_nests (slice_get (callees_of p) number) around ≡ true
-frugal_nests p number is around = step_nests (frugal_procedures p) (callees_of p) (all_step p.types (quietly_begun_types p) p.bodies [] [] tt) number is around
+frugal_nests p number is around = step_nests (frugal_procedures p) (callees_of p) (all_step p.types p.bodies [] [] tt) number is around
 
--- What a body goes by that calls nothing, and allocates no object with controlled parts.
+-- What a body goes by that calls nothing.
 abbrev pub calling_none : List TypeForm → Thrift
-calling_none types = record { types = types; begun = []; procedures = [] }
+calling_none types = record { types = types; procedures = [] }
 
 -- Such a body nests whatever calls create.
 pub lone_nests : (types : List TypeForm) (callees : Callees) (b : BodyForm) (around : List ℕ) → is_frugal_body (calling_none types) b ≡ true → body_nests types callees b around ≡ true

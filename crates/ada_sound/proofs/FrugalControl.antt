@@ -1,51 +1,44 @@
 -- The body of an operation runs that touches storage, a frugal one (7.6, 7.6.1, 13.11.2), or one that it calls (6.4), or the operation of an object that it
--- frees: what is left before its end. Nothing in that is adjusted; what bodies allocate is initialized first, and begins quietly; where they may free objects
--- with controlled parts, these are finalized.
+-- frees or allocates: what is left before its end. Nothing in that is adjusted. Where bodies may allocate and free objects with controlled parts, these are
+-- initialized first, and finalized, also where an exception comes out of an Initialize.
 
-use Rattle.std.specs.Prelude.{Some}
-use Rattle.std.proofs.Common.{◌≡◌, ℕ, suc, ◌≤◌, Bool, true, false, List, [], ◌∷◌, ◌++◌, length, refl, sym, ap, subst, ◌⊎◌, inl, inr, arith, ◌∙◌}
+use Rattle.std.proofs.Common.{◌≡◌, ℕ, suc, ◌≤◌, Bool, true, false, List, [], ◌∷◌, ◌++◌, length, refl, sym, ap, subst, ◌⊎◌, inl, inr, arith}
 use Rattle.ada_program.specs.Form.{ActualForm}
 use Rattle.ada_finalized.specs.Law.{NoOperationRunsOn, finalized_before}
 use Rattle.ada_program.specs.ProgramForm.{BodyForm}
 use Rattle.ada_meaning.specs.declared.state.Value.{Value}
 use Rattle.ada_meaning.specs.declared.state.Mode.{Mode}
-use Rattle.ada_meaning.specs.declared.state.Mode.TheVariants.{Running}
+use Rattle.ada_meaning.specs.declared.state.Mode.TheVariants.{Running, Raising, Exiting, Returning}
 use Rattle.ada_meaning.specs.declared.event.Birth.{Birth}
 use Rattle.ada_meaning.specs.declared.event.Birth.TheVariants.{Creation, Copy, Adjustment}
-use Rattle.ada_meaning.specs.declared.state.Id.{Id}
-use Rattle.ada_meaning.specs.declared.state.Value.TheVariants.{Names}
 use Rattle.ada_meaning.specs.declared.event.Cause.TheVariants.{Leaving, Freeing, Assigning, Undoing}
-use Rattle.ada_meaning.specs.Frame.{Frame, is_return, Elaborates, Does, Decides, Repeats, Turns, Ranges, Counts, Exits, Handles, Closes, Leaves, Calls, Returns, Evaluates, Computes, Follows, TestsNull, Refers, RefersIn, Opens, OpensIn, Continues, Applies, AppliesAlone, Stores, Targets, StoresIn, TargetsRecord, StoresRecord, Receives, Fills, Copies, Creates, FreesIn, Declares, Writes, Ends, GivesBack, Clears, ClearsIn, Treatment, begins, ends}
+use Rattle.ada_meaning.specs.Frame.{Frame, is_return, Elaborates, Does, Decides, Repeats, Turns, Ranges, Counts, Exits, Handles, Closes, Leaves, Calls, Returns, Evaluates, Computes, Follows, TestsNull, Refers, RefersIn, Opens, OpensIn, Continues, Applies, AppliesAlone, Stores, Targets, StoresIn, TargetsRecord, StoresRecord, Receives, Fills, Copies, Creates, FreesIn, Declares, Writes, Ends, GivesBack, Resumes, Clears, ClearsIn, Treatment, begins, ends}
 use Rattle.ada_meaning.specs.Frame as frame
 use Rattle.ada_meaning.specs.State.{Master}
 use Rattle.ada_meaning.specs.Step.{operating, treating, halts, moves, tells, asks, picks}
-use Rattle.ada_meaning.specs.Named.{Object, State, Next, named, object_at}
-use Rattle.ada_meaning.specs.Run.{Event}
+use Rattle.ada_meaning.specs.Named.{State, Next, named}
 use Rattle.ada_parts.specs.Task.{Task}
 use Rattle.ada_parts.specs.Part.{Part}
-use Rattle.ada_quiet.specs.Calm.{has_calm_objects}
-use Rattle.ada_quiet.specs.Frugal.{allocates_quietly, are_frugal_declarations}
 use Rattle.ada_typed.proofs.Control.{is_operation}
 use Rattle.ada_typed.proofs.Kept.{is_treatment}
 use Rattle.ada_sound.proofs.Invariant.{Control, IsAwaited}
-use Rattle.ada_sound.proofs.Allowance.{Allowance, may_end, are_thrifty, are_thrifty_branches, are_thrifty_handlers, is_thrifty_body, thrifty_parts}
+use Rattle.ada_sound.proofs.Allowance.{Allowance, may_treat, allocates_thriftily, are_thrifty_declarations, are_thrifty, are_thrifty_branches, are_thrifty_handlers, is_thrifty_body, thrifty_parts}
 use Rattle.ada_sound.proofs.Operating.{OwnVariables}
-use Rattle.ada_sound.proofs.Alters.{Alters}
 
--- An object ends that is freed (13.11.2).
-abbrev pub IsFreed : Treatment → Type 0
-IsFreed (begins by done) = ⊥
-IsFreed (ends (Leaving m item)) = ⊥
-IsFreed (ends (Freeing number)) = Unit {0}
-IsFreed (ends (Assigning number)) = ⊥
-IsFreed (ends (Undoing number)) = ⊥
+-- An object ends in a body that frees it (13.11.2), or out of whose initialization an exception comes (7.6.1).
+abbrev pub IsEnded : Treatment → Type 0
+IsEnded (begins by done) = ⊥
+IsEnded (ends (Leaving m item)) = ⊥
+IsEnded (ends (Freeing number)) = Unit {0}
+IsEnded (ends (Assigning number)) = ⊥
+IsEnded (ends (Undoing number)) = Unit {0}
 
--- Or it is finalized so, or initialized, in the body of another operation that frees or allocates it (4.8).
+-- Or it is initialized, in the body of another operation that allocates it (4.8).
 abbrev pub IsInside : Treatment → Type 0
 IsInside (begins Creation done) = Unit {0}
 IsInside (begins Copy done) = ⊥
 IsInside (begins (Adjustment number) done) = ⊥
-IsInside (ends cause) = IsFreed (ends cause)
+IsInside (ends cause) = IsEnded (ends cause)
 
 -- A new object begins first.
 abbrev pub begins_first : Control → Bool
@@ -54,12 +47,26 @@ begins_first (frame.Treats v (begins by done) tasks ∷ k) = true
 begins_first (frame.Awaits v by done of part tasks ∷ k) = true
 begins_first (f ∷ k) = false
 
+-- Where a new object begins, that goes on, or an exception comes out of it.
+abbrev pub MayBegin : Mode → Type 0
+MayBegin Running = Unit {0}
+MayBegin (Raising e) = Unit {0}
+MayBegin Exiting = ⊥
+MayBegin Returning = ⊥
+
+-- The object whose operation runs in front of this, if one does.
+abbrev pub operated_in : Control → List Value
+operated_in [] = []
+operated_in (frame.Awaits v by done of part tasks ∷ k) = v ∷ []
+operated_in (frame.Confines ∷ k) = finalized_before k ∷ []
+operated_in (f ∷ k) = []
+
 -- What the frugal bodies of the program go by.
 module _ (frugal : Allowance) where
-  -- What a frame of such a body does, or of one that it calls: what it allocates begins quietly, and what it frees has no controlled parts, unless bodies may
-  -- free others. While a master is left, or a new object begins, that is the first frame: below.
+  -- What a frame of such a body does, or of one that it calls: what it allocates and frees has no controlled parts, unless bodies may treat others. While a master
+  -- is left, or a new object begins, that is the first frame: below.
   abbrev pub FrugalFrame : Frame Value → Type 0
-  FrugalFrame (Elaborates ds fs hs) = (are_frugal_declarations frugal.types frugal.begun ds ≡ true) × (are_thrifty frugal fs ≡ true) × (are_thrifty_handlers frugal hs ≡ true)
+  FrugalFrame (Elaborates ds fs hs) = (are_thrifty_declarations frugal ds ≡ true) × (are_thrifty frugal fs ≡ true) × (are_thrifty_handlers frugal hs ≡ true)
   FrugalFrame (Does fs) = (are_thrifty frugal fs ≡ true)
   FrugalFrame (Decides fs branches) = (are_thrifty frugal fs ≡ true) × (are_thrifty_branches frugal branches ≡ true)
   FrugalFrame (Repeats condition fs) = (are_thrifty frugal fs ≡ true)
@@ -70,7 +77,7 @@ module _ (frugal : Allowance) where
   FrugalFrame (Handles hs) = (are_thrifty_handlers frugal hs ≡ true)
   FrugalFrame Closes = Unit {0}
   FrugalFrame (Calls number b actuals) = (is_thrifty_body frugal b ≡ true)
-  FrugalFrame (Evaluates right) = (allocates_quietly frugal.types frugal.begun right ≡ true)
+  FrugalFrame (Evaluates right) = (allocates_thriftily frugal right ≡ true)
   FrugalFrame (Computes e) = Unit {0}
   FrugalFrame (Follows cs) = Unit {0}
   FrugalFrame (TestsNull equal) = Unit {0}
@@ -82,82 +89,96 @@ module _ (frugal : Allowance) where
   FrugalFrame (Applies operator) = Unit {0}
   FrugalFrame (AppliesAlone operator) = Unit {0}
   FrugalFrame (Stores x) = Unit {0}
-  FrugalFrame (Targets c right) = (allocates_quietly frugal.types frugal.begun right ≡ true)
+  FrugalFrame (Targets c right) = (allocates_thriftily frugal right ≡ true)
   FrugalFrame (StoresIn v c) = Unit {0}
   FrugalFrame (TargetsRecord first t items) = Unit {0}
   FrugalFrame (StoresRecord v first count) = Unit {0}
   FrugalFrame (Receives c) = Unit {0}
   FrugalFrame (Fills items) = Unit {0}
   FrugalFrame (Copies first t) = Unit {0}
-  FrugalFrame (Creates access count) = (has_calm_objects frugal.types frugal.begun access ≡ true)
-  FrugalFrame (FreesIn access c) = (may_end frugal access ≡ true)
+  FrugalFrame (Creates access count) = (may_treat frugal access ≡ true)
+  FrugalFrame (FreesIn access c) = (may_treat frugal access ≡ true)
   FrugalFrame (Declares x) = Unit {0}
   FrugalFrame Writes = Unit {0}
   FrugalFrame (Ends v) = Unit {0}
   FrugalFrame (GivesBack v cause pool) = Unit {0}
+  FrugalFrame (Resumes mode) = Unit {0}
   FrugalFrame (Clears x) = Unit {0}
   FrugalFrame (ClearsIn v c) = Unit {0}
   FrugalFrame f = ⊥
 
-  -- An object is finalized that is freed, ceases to exist behind that, and no operation of it runs there.
-  abbrev pub EndsFreed : Value → Treatment → Control → Type 0
-  EndsFreed v treatment k = IsFreed treatment × (frugal.ends_parts ≡ true) × (finalized_before k ≡ v) × NoOperationRunsOn v k
+  -- An object is finalized that is freed or undone, ceases to exist behind that, and no operation of it runs there.
+  abbrev pub EndsThere : Value → Treatment → Control → Type 0
+  EndsThere v treatment k = IsEnded treatment × (frugal.treats_parts ≡ true) × (finalized_before k ≡ v) × NoOperationRunsOn v k
 
   -- The operation of such an object runs in front of this, and behind what is left of that no other one of the object does.
   abbrev pub EndsOperation : Control → Type 0
-  EndsOperation k = (frugal.ends_parts ≡ true) × NoOperationRunsOn (finalized_before k) k
+  EndsOperation k = (frugal.treats_parts ≡ true) × NoOperationRunsOn (finalized_before k) k
 
-  -- What is left to do of the body, and of those that it calls, in these masters of their own, before this. A variable is declared in one of them. Where a body
-  -- comes to its end, that is the end of all of it, or of one that is called.
-  abbrev pub FrugalLeads : (behind : Control) → Control → List Master → Type 0
-  FrugalLeads behind [] ms = ⊥
-  FrugalLeads behind (Returns actuals references ∷ k) ms = (((actuals ≡ []) × (references ≡ [])) × (ms ≡ []) × (k ≡ behind)) ⊎ FrugalLeads behind k ms
-  FrugalLeads behind (Elaborates ds fs hs ∷ k) [] = ⊥
-  FrugalLeads behind (Elaborates ds fs hs ∷ k) (m ∷ ms) = FrugalFrame (Elaborates ds fs hs) × FrugalLeads behind k ms
-  FrugalLeads behind (Closes ∷ k) [] = ⊥
-  FrugalLeads behind (Closes ∷ k) (m ∷ ms) = FrugalFrame Closes × FrugalLeads behind k ms
-  FrugalLeads behind (Declares x ∷ k) [] = ⊥
-  FrugalLeads behind (Declares x ∷ k) (m ∷ ms) = FrugalFrame (Declares x) × FrugalLeads behind k (m ∷ ms)
-  FrugalLeads behind (frame.Treats v treatment tasks ∷ k) ms = EndsFreed v treatment k × FrugalLeads behind k ms
-  FrugalLeads behind (frame.Confines ∷ k) ms = EndsOperation k × FrugalLeads behind k ms
-  FrugalLeads behind (f ∷ k) ms = FrugalFrame f × FrugalLeads behind k ms
+  -- A new object begins, and behind that no operation of it runs.
+  abbrev pub BeginsThere : Value → Birth → Control → Type 0
+  BeginsThere v by k = (by ≡ Creation) × (frugal.treats_parts ≡ true) × NoOperationRunsOn v k
+
+  abbrev mutual
+    -- What is left to do of the body, and of those that it calls, in these masters of their own, before this. A variable is declared in one of them. Where a body
+    -- comes to its end, that is the end of all of it, or of one that is called, or of an operation: so it is of each of these objects, one after the other.
+    pub FrugalLeads : (behind : Control) → (among : List Value) → Control → List Master → Type 0
+    FrugalLeads behind among [] ms = ⊥
+    FrugalLeads behind among (Returns actuals references ∷ k) ms =
+        (((actuals ≡ []) × (references ≡ [])) × (ms ≡ []) × (k ≡ behind) × (among ≡ [])) ⊎ (FrugalLeads behind among k ms ⊎ FrugalOperated behind among k ms)
+    FrugalLeads behind among (Elaborates ds fs hs ∷ k) [] = ⊥
+    FrugalLeads behind among (Elaborates ds fs hs ∷ k) (m ∷ ms) = FrugalFrame (Elaborates ds fs hs) × FrugalLeads behind among k ms
+    FrugalLeads behind among (Closes ∷ k) [] = ⊥
+    FrugalLeads behind among (Closes ∷ k) (m ∷ ms) = FrugalFrame Closes × FrugalLeads behind among k ms
+    FrugalLeads behind among (Declares x ∷ k) [] = ⊥
+    FrugalLeads behind among (Declares x ∷ k) (m ∷ ms) = FrugalFrame (Declares x) × FrugalLeads behind among k (m ∷ ms)
+    FrugalLeads behind among (frame.Treats v treatment tasks ∷ k) ms = EndsThere v treatment k × FrugalLeads behind among k ms
+    FrugalLeads behind among (frame.Confines ∷ k) ms = EndsOperation k × FrugalLeads behind among k ms
+    FrugalLeads behind among (f ∷ k) ms = FrugalFrame f × FrugalLeads behind among k ms
+
+    -- What is left behind an operation of the first of these objects: the object is finalized, or it begins.
+    pub FrugalOperated : (behind : Control) → (among : List Value) → Control → List Master → Type 0
+    FrugalOperated behind among [] ms = ⊥
+    FrugalOperated behind among (frame.Confines ∷ k) ms =
+        (vs : List Value) × (among ≡ finalized_before k ∷ vs) × EndsOperation k × FrugalLeads behind vs k ms
+    FrugalOperated behind among (frame.Awaits v by done of part tasks ∷ k) ms = (vs : List Value) × (among ≡ v ∷ vs) × BeginsThere v by k × FrugalLeads behind vs k ms
+    FrugalOperated behind among (f ∷ k) ms = ⊥
+
+  -- What is left behind the end of a body.
+  abbrev pub FrugalReturns : (behind : Control) → (among : List Value) → Control → List Master → Type 0
+  FrugalReturns behind among k ms = FrugalLeads behind among k ms ⊎ FrugalOperated behind among k ms
 
   -- The innermost master is being left, and then this is left to do.
-  abbrev pub FrugalLeaves : (behind : Control) → Control → List Master → Type 0
-  FrugalLeaves behind [] ms = ⊥
-  FrugalLeaves behind (Leaves left ∷ k) [] = ⊥
-  FrugalLeaves behind (Leaves left ∷ k) (m ∷ ms) = FrugalLeads behind k ms
-  FrugalLeaves behind (f ∷ k) ms = ⊥
+  abbrev pub FrugalLeaves : (behind : Control) → (among : List Value) → Control → List Master → Type 0
+  FrugalLeaves behind among [] ms = ⊥
+  FrugalLeaves behind among (Leaves left ∷ k) [] = ⊥
+  FrugalLeaves behind among (Leaves left ∷ k) (m ∷ ms) = FrugalLeads behind among k ms
+  FrugalLeaves behind among (f ∷ k) ms = ⊥
 
-  -- An object is there that begins quietly, and behind it none of its operations runs. So it is only where bodies may free objects with controlled parts, too.
-  abbrev pub BeginsQuietly : List Object → Value → Birth → Control → Type 0
-  BeginsQuietly heap v by k =
-      (by ≡ Creation) × NoOperationRunsOn v k
-      × ((o : Id) × (v ≡ Names o) × (x : Object) × (object_at heap o ≡ Some x) × (has_calm_objects frugal.types frugal.begun x.cell.access ≡ true) × (frugal.ends_parts ≡ true))
-
-  -- Such an object begins first (4.8, 7.6), and then this is left to do.
-  abbrev pub FrugalBegins : (behind : Control) → List Object → Control → List Master → Type 0
-  FrugalBegins behind heap [] ms = ⊥
-  FrugalBegins behind heap (frame.Treats v (begins by done) tasks ∷ k) ms = BeginsQuietly heap v by k × FrugalLeads behind k ms
-  FrugalBegins behind heap (frame.Awaits v by done of part tasks ∷ k) ms = BeginsQuietly heap v by k × FrugalLeads behind k ms
-  FrugalBegins behind heap (f ∷ k) ms = ⊥
+  -- A new object begins first (4.8, 7.6), and then this is left to do.
+  abbrev pub FrugalBegins : (behind : Control) → (among : List Value) → Control → List Master → Type 0
+  FrugalBegins behind among [] ms = ⊥
+  FrugalBegins behind among (frame.Treats v (begins by done) tasks ∷ k) ms = BeginsThere v by k × FrugalLeads behind among k ms
+  FrugalBegins behind among (frame.Awaits v by done of part tasks ∷ k) ms = BeginsThere v by k × FrugalLeads behind among k ms
+  FrugalBegins behind among (f ∷ k) ms = ⊥
 
   -- What comes next in the body.
-  abbrev pub Frugal : (behind : Control) → List Object → Mode → Control → List Master → Type 0
-  Frugal behind heap mode k ms = FrugalLeads behind k ms ⊎ ((mode ≡ Running) × (FrugalLeaves behind k ms ⊎ FrugalBegins behind heap k ms))
+  abbrev pub Frugal : (behind : Control) → (among : List Value) → Mode → Control → List Master → Type 0
+  Frugal behind among mode k ms =
+      FrugalLeads behind among k ms ⊎ (((mode ≡ Running) × FrugalLeaves behind among k ms) ⊎ (MayBegin mode × FrugalBegins behind among k ms))
 
 -- Is the end of a body next?
 abbrev pub is_return_first : Control → Bool
 is_return_first [] = false
 is_return_first (f ∷ k) = is_return f
 
-module _ (allowance : Allowance) (lower : List Master) (behind : Control) where
-  -- The body runs still, or one that it calls, in masters of their own that own variables alone.
+module _ (allowance : Allowance) (lower : List Master) (behind : Control) (among : List Value) where
+  -- The body runs still, or one that it calls, or an operation of one of these objects, the nearest one first, in masters of their own that own variables alone.
   pub record Frugally (after : State) : Type 0 where
     pub upper : List Master
     pub masters : after.masters ≡ upper ++ lower
     pub own : OwnVariables upper
-    pub frugal : Frugal allowance behind after.heap after.mode after.control upper
+    pub frugal : Frugal allowance behind among after.mode after.control upper
 
   -- So it does whatever comes next, if the run does not end.
   abbrev pub GoesFrugally : Next → Type 0
@@ -168,159 +189,204 @@ module _ (allowance : Allowance) (lower : List Master) (behind : Control) where
   GoesFrugally (picks n taken) = (i : ℕ) → suc i ≤ n → Frugally (taken i)
 
 -- It begins, in a master of its own.
-pub frugal_begins : {mode : Mode} (heap : List Object) (frugal : Allowance) (b : BodyForm) → is_thrifty_body frugal b ≡ true → (behind : Control) (m : Master) → Frugal frugal behind heap mode (Elaborates b.declarations b.statements b.handlers ∷ Returns [] [] ∷ behind) (m ∷ [])
-frugal_begins heap frugal b is behind m =
-    inl (thrifty_parts frugal b is, inl ((refl, refl), refl, refl))
+pub frugal_begins : {mode : Mode} (frugal : Allowance) (b : BodyForm) → is_thrifty_body frugal b ≡ true → (behind : Control) (m : Master) → Frugal frugal behind [] mode (Elaborates b.declarations b.statements b.handlers ∷ Returns [] [] ∷ behind) (m ∷ [])
+frugal_begins frugal b is behind m =
+    inl (thrifty_parts frugal b is, inl ((refl, refl), refl, refl, refl))
 
 -- So it does as the operation of a part of an object.
-pub frugal_starts : (frugal : Allowance) (procedure : ℕ) (b : BodyForm) → is_thrifty_body frugal b ≡ true → (reference : Value) (behind : Control) (s : State) → Frugally frugal s.masters behind (operating named procedure b reference behind s)
+pub frugal_starts : (frugal : Allowance) (procedure : ℕ) (b : BodyForm) → is_thrifty_body frugal b ≡ true → (reference : Value) (behind : Control) (s : State) → Frugally frugal s.masters behind [] (operating named procedure b reference behind s)
 frugal_starts frugal procedure b is reference behind s = record {
   upper = record { number = s.next; items = [] } ∷ [];
   masters = refl;
   own = (tt, tt);
-  frugal = frugal_begins s.heap frugal b is behind (record { number = s.next; items = [] });
+  frugal = frugal_begins frugal b is behind (record { number = s.next; items = [] });
 }
 
 -- In front of what is left to do already, the body of another operation begins so.
 pub frugal_starts_inside :
-    (frugal : Allowance) (back : Control) (upper lower : List Master) (procedure : ℕ) (b : BodyForm) → is_thrifty_body frugal b ≡ true → (reference : Value) (behind : Control) (s : State)
-    → s.masters ≡ upper ++ lower → OwnVariables upper → FrugalLeads frugal back behind upper → Frugally frugal lower back (operating named procedure b reference behind s)
-frugal_starts_inside frugal back upper lower procedure b is reference behind s masters own leads = record {
+    (frugal : Allowance) (back : Control) (among : List Value) (upper lower : List Master) (procedure : ℕ) (b : BodyForm) → is_thrifty_body frugal b ≡ true → (reference : Value) (behind : Control) (s : State)
+    → s.masters ≡ upper ++ lower → OwnVariables upper → FrugalOperated frugal back among behind upper → Frugally frugal lower back among (operating named procedure b reference behind s)
+frugal_starts_inside frugal back among upper lower procedure b is reference behind s masters own leads = record {
   upper = record { number = s.next; items = [] } ∷ upper;
   masters = ap (λ (ms : List Master). record { number = s.next; items = [] } ∷ ms) masters;
   own = (tt, own);
-  frugal = inl (thrifty_parts frugal b is, inr leads);
+  frugal = inl (thrifty_parts frugal b is, inr (inr leads));
 }
 
--- An object that is freed is finalized before this.
+-- An object that is freed or undone is finalized before this.
 pub treating_leads :
-    (frugal : Allowance) (back : Control) (v : Value) (treatment : Treatment) (tasks : List Task) (k : Control) (ms : List Master) → EndsFreed frugal v treatment k → FrugalLeads frugal back k ms
-    → FrugalLeads frugal back (treating v treatment tasks k) ms
-treating_leads frugal back v treatment [] k ms ending q = q
-treating_leads frugal back v treatment (task ∷ tasks) k ms ending q = (ending, q)
+    (frugal : Allowance) (back : Control) (among : List Value) (v : Value) (treatment : Treatment) (tasks : List Task) (k : Control) (ms : List Master) → EndsThere frugal v treatment k → FrugalLeads frugal back among k ms
+    → FrugalLeads frugal back among (treating v treatment tasks k) ms
+treating_leads frugal back among v treatment [] k ms ending q = q
+treating_leads frugal back among v treatment (task ∷ tasks) k ms ending q = (ending, q)
 
 -- The operation of one of its parts is called: the others are finalized behind that.
 pub ends_leads :
-    (frugal : Allowance) (back : Control) (v : Value) (treatment : Treatment) (tasks : List Task) (k : Control) (ms : List Master) → EndsFreed frugal v treatment k → FrugalLeads frugal back k ms
-    → FrugalLeads frugal back (frame.Confines ∷ treating v treatment tasks k) ms
-ends_leads frugal back v treatment tasks k ms ending q = ((ending.1, by tasks), treating_leads frugal back v treatment tasks k ms ending q)
+    (frugal : Allowance) (back : Control) (among : List Value) (v : Value) (treatment : Treatment) (tasks : List Task) (k : Control) (ms : List Master) → EndsThere frugal v treatment k → FrugalLeads frugal back among k ms
+    → FrugalOperated frugal back (v ∷ among) (frame.Confines ∷ treating v treatment tasks k) ms
+ends_leads frugal back among v treatment tasks k ms ending q =
+    (among, ap (λ (w : Value). w ∷ among) (sym (before tasks)), (ending.1, by tasks), treating_leads frugal back among v treatment tasks k ms ending q)
   where
+    before : (left : List Task) → finalized_before (treating v treatment left k) ≡ v
+    before [] = ending.2
+    before (task ∷ left) = refl
+
     by : (left : List Task) → NoOperationRunsOn (finalized_before (treating v treatment left k)) (treating v treatment left k)
     by [] = subst (λ (w : Value). NoOperationRunsOn w k) (sym ending.2) ending.3
     by (task ∷ left) = ending.3
 
--- An object begins first that begins quietly, if anything is to be done for it.
+-- Or an operation begins a part of a new object.
+pub begun_leads :
+    (frugal : Allowance) (back : Control) (among : List Value) (v : Value) (by : Birth) (done : List Part) (of part : ℕ) (tasks : List Task) (k : Control) (ms : List Master) → BeginsThere frugal v by k → FrugalLeads frugal back among k ms
+    → FrugalOperated frugal back (v ∷ among) (frame.Awaits v by done of part tasks ∷ k) ms
+begun_leads frugal back among v by done of part tasks k ms beginning q = (among, refl, beginning, q)
+
+-- A new object begins first, if anything is to be done for it.
 pub beginning_frugal :
-    (frugal : Allowance) (back : Control) (heap : List Object) (v : Value) (by : Birth) (done : List Part) (tasks : List Task) (k : Control) (ms : List Master) → BeginsQuietly frugal heap v by k → FrugalLeads frugal back k ms
-    → Frugal frugal back heap Running (treating v (begins by done) tasks k) ms
-beginning_frugal frugal back heap v by done [] k ms quiet q = inl q
-beginning_frugal frugal back heap v by done (task ∷ tasks) k ms quiet q = inr (refl, inr (quiet, q))
-
--- So it does whatever becomes of objects, as each stays of its access type.
-pub quietly_kept :
-    (frugal : Allowance) (before after : List Object) (e : Event) (v : Value) (by : Birth) (k : Control) → Alters before e after → BeginsQuietly frugal before v by k → BeginsQuietly frugal after v by k
-quietly_kept frugal before after e v by k alters (creation, alone, (o, is, x, found, calm, ends_parts)) =
-    let there = alters.kept o x found in
-    (creation, alone, (o, is, there.0, there.1, ap (has_calm_objects frugal.types frugal.begun) there.2.0 ∙ calm, ends_parts))
-
--- And so the body goes on.
-pub frugal_kept :
-    (frugal : Allowance) (back : Control) (before after : List Object) (e : Event) (mode : Mode) (k : Control) (ms : List Master) → Alters before e after → Frugal frugal back before mode k ms
-    → Frugal frugal back after mode k ms
-frugal_kept frugal back before after e mode k ms alters (inl q) = inl q
-frugal_kept frugal back before after e mode k ms alters (inr (runs, inl leaving)) = inr (runs, inl leaving)
-frugal_kept frugal back before after e mode k ms alters (inr (runs, inr beginning)) = inr (runs, inr (by_control k beginning))
-  where
-    by_control : (j : Control) → FrugalBegins frugal back before j ms → FrugalBegins frugal back after j ms
-    by_control [] q = absurd q
-    by_control (frame.Treats v (begins by done) tasks ∷ j) q = (quietly_kept frugal before after e v by j alters q.0, q.1)
-    by_control (frame.Treats v (ends cause) tasks ∷ j) q = absurd q
-    by_control (frame.Awaits v by done of part tasks ∷ j) q = (quietly_kept frugal before after e v by j alters q.0, q.1)
-    by_control (f ∷ j) q = absurd q
+    (frugal : Allowance) (back : Control) (among : List Value) (v : Value) (by : Birth) (done : List Part) (tasks : List Task) (k : Control) (ms : List Master) → BeginsThere frugal v by k → FrugalLeads frugal back among k ms
+    → Frugal frugal back among Running (treating v (begins by done) tasks k) ms
+beginning_frugal frugal back among v by done [] k ms beginning q = inl q
+beginning_frugal frugal back among v by done (task ∷ tasks) k ms beginning q = inr (inr (tt, (beginning, q)))
 
 -- Each frame in front of its end is one of such a body, but where an object is finalized.
 pub first_frugal :
-    (frugal : Allowance) (behind : Control) (f : Frame Value) (k : Control) (ms : List Master) → is_return f ≡ false → is_treatment f ≡ false → is_operation f ≡ false → FrugalLeads frugal behind (f ∷ k) ms
+    (frugal : Allowance) (behind : Control) (among : List Value) (f : Frame Value) (k : Control) (ms : List Master) → is_return f ≡ false → is_treatment f ≡ false → is_operation f ≡ false → FrugalLeads frugal behind among (f ∷ k) ms
     → FrugalFrame frugal f
-first_frugal frugal behind (Returns actuals references) k ms inner plain calm q = absurd (cc inner)
-first_frugal frugal behind (Elaborates ds fs hs) k [] inner plain calm q = absurd q
-first_frugal frugal behind (Elaborates ds fs hs) k (m ∷ ms) inner plain calm q = q.0
-first_frugal frugal behind Closes k [] inner plain calm q = absurd q
-first_frugal frugal behind Closes k (m ∷ ms) inner plain calm q = q.0
-first_frugal frugal behind (Declares x) k [] inner plain calm q = absurd q
-first_frugal frugal behind (Declares x) k (m ∷ ms) inner plain calm q = q.0
-first_frugal frugal behind (frame.Treats v treatment tasks) k ms inner plain calm q = absurd (cc plain)
-first_frugal frugal behind frame.Confines k ms inner plain calm q = absurd (cc calm)
-first_frugal frugal behind f k ms inner plain calm q = q.0
+first_frugal frugal behind among (Returns actuals references) k ms inner plain calm q = absurd (cc inner)
+first_frugal frugal behind among (Elaborates ds fs hs) k [] inner plain calm q = absurd q
+first_frugal frugal behind among (Elaborates ds fs hs) k (m ∷ ms) inner plain calm q = q.0
+first_frugal frugal behind among Closes k [] inner plain calm q = absurd q
+first_frugal frugal behind among Closes k (m ∷ ms) inner plain calm q = q.0
+first_frugal frugal behind among (Declares x) k [] inner plain calm q = absurd q
+first_frugal frugal behind among (Declares x) k (m ∷ ms) inner plain calm q = q.0
+first_frugal frugal behind among (frame.Treats v treatment tasks) k ms inner plain calm q = absurd (cc plain)
+first_frugal frugal behind among frame.Confines k ms inner plain calm q = absurd (cc calm)
+first_frugal frugal behind among f k ms inner plain calm q = q.0
 
--- Where no object with controlled parts is freed, none is finalized, and no operation ends.
-pub none_treated : (frugal : Allowance) → frugal.ends_parts ≡ false → (behind : Control) (f : Frame Value) (k : Control) (ms : List Master) → FrugalLeads frugal behind (f ∷ k) ms → (is_treatment f ≡ false) × (is_operation f ≡ false)
-none_treated frugal none behind (frame.Treats v treatment tasks) k ms q = let ends_parts = q.0.1 in absurd (cc (none, ends_parts))
-none_treated frugal none behind frame.Confines k ms q = let ends_parts = q.0.0 in absurd (cc (none, ends_parts))
-none_treated frugal none behind (frame.Awaits v by done of part tasks) k ms q = absurd q.0
-none_treated frugal none behind f k ms q = (refl, refl)
+-- Where bodies treat no object with controlled parts, none is finalized, and no operation ends.
+pub none_treated : (frugal : Allowance) → frugal.treats_parts ≡ false → (behind : Control) (among : List Value) (f : Frame Value) (k : Control) (ms : List Master) → FrugalLeads frugal behind among (f ∷ k) ms → (is_treatment f ≡ false) × (is_operation f ≡ false)
+none_treated frugal none behind among (frame.Treats v treatment tasks) k ms q = let treats_parts = q.0.1 in absurd (cc (none, treats_parts))
+none_treated frugal none behind among frame.Confines k ms q = let treats_parts = q.0.0 in absurd (cc (none, treats_parts))
+none_treated frugal none behind among (frame.Awaits v by done of part tasks) k ms q = absurd q.0
+none_treated frugal none behind among f k ms q = (refl, refl)
 
 -- Nor does an object begin first.
-pub none_beginning : (frugal : Allowance) → frugal.ends_parts ≡ false → (behind : Control) (heap : List Object) (k : Control) (ms : List Master) → FrugalBegins frugal behind heap k ms → ⊥
-none_beginning frugal none behind heap [] ms q = q
-none_beginning frugal none behind heap (frame.Treats v (begins by done) tasks ∷ k) ms ((creation, alone, (o, is, x, found, calm, ends_parts)), q) = cc (none, ends_parts)
-none_beginning frugal none behind heap (frame.Treats v (ends cause) tasks ∷ k) ms q = q
-none_beginning frugal none behind heap (frame.Awaits v by done of part tasks ∷ k) ms ((creation, alone, (o, is, x, found, calm, ends_parts)), q) = cc (none, ends_parts)
-none_beginning frugal none behind heap (f ∷ k) ms q = q
+pub none_beginning : (frugal : Allowance) → frugal.treats_parts ≡ false → (behind : Control) (among : List Value) (k : Control) (ms : List Master) → FrugalBegins frugal behind among k ms → ⊥
+none_beginning frugal none behind among [] ms q = q
+none_beginning frugal none behind among (frame.Treats v (begins by done) tasks ∷ k) ms ((creation, treats_parts, alone), q) = cc (none, treats_parts)
+none_beginning frugal none behind among (frame.Treats v (ends cause) tasks ∷ k) ms q = q
+none_beginning frugal none behind among (frame.Awaits v by done of part tasks ∷ k) ms ((creation, treats_parts, alone), q) = cc (none, treats_parts)
+none_beginning frugal none behind among (f ∷ k) ms q = q
 
 -- Where the body runs on, no object begins first.
-pub leads_first : (frugal : Allowance) (behind : Control) (k : Control) (ms : List Master) → FrugalLeads frugal behind k ms → begins_first k ≡ false
-leads_first frugal behind [] ms q = refl
-leads_first frugal behind (frame.Treats v (begins by done) tasks ∷ k) ms q = absurd q.0.0
-leads_first frugal behind (frame.Awaits v by done of part tasks ∷ k) ms q = absurd q.0
-leads_first frugal behind (f ∷ k) ms q = refl
+pub leads_first : (frugal : Allowance) (behind : Control) (among : List Value) (k : Control) (ms : List Master) → FrugalLeads frugal behind among k ms → begins_first k ≡ false
+leads_first frugal behind among [] ms q = refl
+leads_first frugal behind among (frame.Treats v (begins by done) tasks ∷ k) ms q = absurd q.0.0
+leads_first frugal behind among (frame.Awaits v by done of part tasks ∷ k) ms q = absurd q.0
+leads_first frugal behind among (f ∷ k) ms q = refl
 
--- There is more to do than what is behind all of it.
-leads_longer : (frugal : Allowance) (behind k : Control) (ms : List Master) → FrugalLeads frugal behind k ms → suc (length behind) ≤ length k
-leads_longer frugal behind [] ms q = absurd q
-leads_longer frugal behind (Returns actuals references ∷ k) ms (inl q) = let same = ap length q.2 in omega (arith, same)
-leads_longer frugal behind (Returns actuals references ∷ k) ms (inr q) = let longer = leads_longer frugal behind k ms q in omega (arith, longer)
-leads_longer frugal behind (Elaborates ds fs hs ∷ k) [] q = absurd q
-leads_longer frugal behind (Elaborates ds fs hs ∷ k) (m ∷ ms) q = let longer = leads_longer frugal behind k ms q.1 in omega (arith, longer)
-leads_longer frugal behind (Closes ∷ k) [] q = absurd q
-leads_longer frugal behind (Closes ∷ k) (m ∷ ms) q = let longer = leads_longer frugal behind k ms q.1 in omega (arith, longer)
-leads_longer frugal behind (Declares x ∷ k) [] q = absurd q
-leads_longer frugal behind (Declares x ∷ k) (m ∷ ms) q = let longer = leads_longer frugal behind k (m ∷ ms) q.1 in omega (arith, longer)
-leads_longer frugal behind (f ∷ k) ms q = let longer = leads_longer frugal behind k ms q.1 in omega (arith, longer)
+mutual
+  -- There is more to do than what is behind all of it.
+  leads_longer : (frugal : Allowance) (behind : Control) (among : List Value) (k : Control) (ms : List Master) → FrugalLeads frugal behind among k ms → suc (length behind) ≤ length k
+  leads_longer frugal behind among [] ms q = absurd q
+  leads_longer frugal behind among (Returns actuals references ∷ k) ms (inl q) = let same = ap length q.2 in omega (arith, same)
+  leads_longer frugal behind among (Returns actuals references ∷ k) ms (inr (inl q)) = let longer = leads_longer frugal behind among k ms q in omega (arith, longer)
+  leads_longer frugal behind among (Returns actuals references ∷ k) ms (inr (inr q)) = let longer = operated_longer frugal behind among k ms q in omega (arith, longer)
+  leads_longer frugal behind among (Elaborates ds fs hs ∷ k) [] q = absurd q
+  leads_longer frugal behind among (Elaborates ds fs hs ∷ k) (m ∷ ms) q = let longer = leads_longer frugal behind among k ms q.1 in omega (arith, longer)
+  leads_longer frugal behind among (Closes ∷ k) [] q = absurd q
+  leads_longer frugal behind among (Closes ∷ k) (m ∷ ms) q = let longer = leads_longer frugal behind among k ms q.1 in omega (arith, longer)
+  leads_longer frugal behind among (Declares x ∷ k) [] q = absurd q
+  leads_longer frugal behind among (Declares x ∷ k) (m ∷ ms) q = let longer = leads_longer frugal behind among k (m ∷ ms) q.1 in omega (arith, longer)
+  leads_longer frugal behind among (f ∷ k) ms q = let longer = leads_longer frugal behind among k ms q.1 in omega (arith, longer)
 
-pub shorter : (frugal : Allowance) (back k : Control) (ms : List Master) → FrugalLeads frugal back k ms → k ≡ back → ⊥
-shorter frugal back k ms q is =
-    let longer = leads_longer frugal back k ms q in
+  operated_longer : (frugal : Allowance) (behind : Control) (among : List Value) (k : Control) (ms : List Master) → FrugalOperated frugal behind among k ms → suc (length behind) ≤ length k
+  operated_longer frugal behind among [] ms q = absurd q
+  operated_longer frugal behind among (frame.Confines ∷ k) ms (vs, is, ending, q) = let longer = leads_longer frugal behind vs k ms q in omega (arith, longer)
+  operated_longer frugal behind among (frame.Awaits v by done of part tasks ∷ k) ms (vs, is, beginning, q) = let longer = leads_longer frugal behind vs k ms q in omega (arith, longer)
+  operated_longer frugal behind among (f ∷ k) ms q = absurd q
+
+shorter : (frugal : Allowance) (back : Control) (among : List Value) (k : Control) (ms : List Master) → FrugalLeads frugal back among k ms → k ≡ back → ⊥
+shorter frugal back among k ms q is =
+    let longer = leads_longer frugal back among k ms q in
     let same = ap length is in
     omega (arith, longer, same)
 
--- Where the end of the operation's own body is next, the masters have been left.
-pub frugal_ends :
-    (frugal : Allowance) (back : Control) (heap : List Object) (mode : Mode) (actuals : List ActualForm) (references : List Value) (k : Control) (ms : List Master) → k ≡ back → Frugal frugal back heap mode (Returns actuals references ∷ k) ms
-    → (actuals ≡ []) × (references ≡ []) × (ms ≡ [])
-frugal_ends frugal back heap mode actuals references k ms last (inl (inl q)) = (q.0.0, q.0.1, q.1)
-frugal_ends frugal back heap mode actuals references k ms last (inl (inr q)) = absurd (shorter frugal back k ms q last)
-frugal_ends frugal back heap mode actuals references k ms last (inr (runs, other)) = elim other [ inl leaving ↦ absurd leaving | inr begins' ↦ absurd begins' ]
+-- So it is behind an operation.
+pub operated_shorter : (frugal : Allowance) (back : Control) (among : List Value) (k : Control) (ms : List Master) → FrugalOperated frugal back among k ms → k ≡ back → ⊥
+operated_shorter frugal back among k ms q is =
+    let longer = operated_longer frugal back among k ms q in
+    let same = ap length is in
+    omega (arith, longer, same)
 
--- Where that of another one is next, what is behind that goes on: the body that called it, or the end of the object of which it is an operation.
+-- What is left behind an operation waits for one.
+pub operated_awaited : (frugal : Allowance) (back : Control) (among : List Value) (k : Control) (ms : List Master) → FrugalOperated frugal back among k ms → IsAwaited k
+operated_awaited frugal back among [] ms q = absurd q
+operated_awaited frugal back among (frame.Confines ∷ k) ms q = tt
+operated_awaited frugal back among (frame.Awaits v by done of part tasks ∷ k) ms q = tt
+operated_awaited frugal back among (f ∷ k) ms q = absurd q
+
+-- Where it waits for none, none of an object does.
+pub none_operated : (k : Control) → (IsAwaited k → ⊥) → operated_in k ≡ []
+none_operated [] none = refl
+none_operated (frame.Awaits v by done of part tasks ∷ k) none = absurd (none tt)
+none_operated (frame.Confines ∷ k) none = absurd (none tt)
+none_operated (f ∷ k) none = refl
+
+-- Once the operation has come to its end, what is left of the treatment of its object is next, which goes on, or an exception comes out of what begins a part.
+pub operated_on :
+    (frugal : Allowance) (back : Control) (vs : List Value) (mode : Mode) (k : Control) (ms : List Master) → MayBegin mode → FrugalOperated frugal back (operated_in k ++ vs) k ms → Frugal frugal back vs mode k ms
+operated_on frugal back vs mode [] ms may q = absurd q
+operated_on frugal back vs mode (frame.Confines ∷ k) ms may (ws, is, ending, q) =
+    let same : vs ≡ ws = cc is in
+    inl (ending, subst (λ (us : List Value). FrugalLeads frugal back us k ms) (sym same) q)
+operated_on frugal back vs mode (frame.Awaits v by done of part tasks ∷ k) ms may (ws, is, beginning, q) =
+    let same : vs ≡ ws = cc is in
+    inr (inr (may, (beginning, subst (λ (us : List Value). FrugalLeads frugal back us k ms) (sym same) q)))
+operated_on frugal back vs mode (f ∷ k) ms may q = absurd q
+
+-- Where the end of the operation's own body is next, the masters have been left, and no operation inside it runs.
+pub frugal_ends :
+    (frugal : Allowance) (back : Control) (among : List Value) (mode : Mode) (actuals : List ActualForm) (references : List Value) (k : Control) (ms : List Master) → k ≡ back → Frugal frugal back among mode (Returns actuals references ∷ k) ms
+    → (actuals ≡ []) × (references ≡ []) × (ms ≡ []) × (among ≡ [])
+frugal_ends frugal back among mode actuals references k ms last (inl (inl q)) = (q.0.0, q.0.1, q.1, q.3)
+frugal_ends frugal back among mode actuals references k ms last (inl (inr (inl q))) = absurd (shorter frugal back among k ms q last)
+frugal_ends frugal back among mode actuals references k ms last (inl (inr (inr q))) = absurd (operated_shorter frugal back among k ms q last)
+frugal_ends frugal back among mode actuals references k ms last (inr (inl leaving)) = absurd leaving.1
+frugal_ends frugal back among mode actuals references k ms last (inr (inr beginning)) = absurd beginning.1
+
+-- Where that of another one is next, what is behind that goes on: the body that called it, or the treatment of the object of which it is an operation.
 pub frugal_returns_inside :
-    (frugal : Allowance) (back : Control) (heap : List Object) (mode : Mode) (actuals : List ActualForm) (references : List Value) (k : Control) (ms : List Master) → (k ≡ back → ⊥) → Frugal frugal back heap mode (Returns actuals references ∷ k) ms
-    → FrugalLeads frugal back k ms
-frugal_returns_inside frugal back heap mode actuals references k ms inside (inl (inl q)) = absurd (inside q.2)
-frugal_returns_inside frugal back heap mode actuals references k ms inside (inl (inr q)) = q
-frugal_returns_inside frugal back heap mode actuals references k ms inside (inr (runs, other)) = elim other [ inl leaving ↦ absurd leaving | inr begins' ↦ absurd begins' ]
+    (frugal : Allowance) (back : Control) (among : List Value) (mode : Mode) (actuals : List ActualForm) (references : List Value) (k : Control) (ms : List Master) → (k ≡ back → ⊥) → Frugal frugal back among mode (Returns actuals references ∷ k) ms
+    → FrugalReturns frugal back among k ms
+frugal_returns_inside frugal back among mode actuals references k ms inside (inl (inl q)) = absurd (inside q.2)
+frugal_returns_inside frugal back among mode actuals references k ms inside (inl (inr q)) = q
+frugal_returns_inside frugal back among mode actuals references k ms inside (inr (inl leaving)) = absurd leaving.1
+frugal_returns_inside frugal back among mode actuals references k ms inside (inr (inr beginning)) = absurd beginning.1
 
 -- So it is with one that was called.
-pub frugal_returns : (frugal : Allowance) (behind : Control) (heap : List Object) (mode : Mode) (actuals : List ActualForm) (references : List Value) (k : Control) (ms : List Master) → IsAwaited behind → (IsAwaited k → ⊥) → Frugal frugal behind heap mode (Returns actuals references ∷ k) ms → FrugalLeads frugal behind k ms
-frugal_returns frugal behind heap mode actuals references k ms awaited calls frugally =
-    frugal_returns_inside frugal behind heap mode actuals references k ms (λ last. calls (subst IsAwaited (sym last) awaited)) frugally
+pub frugal_returns : (frugal : Allowance) (behind : Control) (among : List Value) (mode : Mode) (actuals : List ActualForm) (references : List Value) (k : Control) (ms : List Master) → IsAwaited behind → (IsAwaited k → ⊥) → Frugal frugal behind among mode (Returns actuals references ∷ k) ms → FrugalLeads frugal behind among k ms
+frugal_returns frugal behind among mode actuals references k ms awaited calls frugally =
+    by (frugal_returns_inside frugal behind among mode actuals references k ms (λ last. calls (subst IsAwaited (sym last) awaited)) frugally)
+  where
+    by : FrugalReturns frugal behind among k ms → FrugalLeads frugal behind among k ms
+    by (inl q) = q
+    by (inr q) = absurd (calls (operated_awaited frugal behind among k ms q))
 
--- Which items a master owns does not matter.
-pub same_masters : (frugal : Allowance) (behind : Control) (j : Control) (m n : Master) (ms : List Master) → FrugalLeads frugal behind j (m ∷ ms) → FrugalLeads frugal behind j (n ∷ ms)
-same_masters frugal behind [] m n ms q = q
-same_masters frugal behind (Returns actuals references ∷ k) m n ms (inl q) = let none = q.1 in absurd (cc none)
-same_masters frugal behind (Returns actuals references ∷ k) m n ms (inr q) = inr (same_masters frugal behind k m n ms q)
-same_masters frugal behind (Elaborates ds fs hs ∷ k) m n ms q = q
-same_masters frugal behind (Closes ∷ k) m n ms q = q
-same_masters frugal behind (Declares x ∷ k) m n ms q = (q.0, same_masters frugal behind k m n ms q.1)
-same_masters frugal behind (f ∷ k) m n ms q = (q.0, same_masters frugal behind k m n ms q.1)
+mutual
+  -- Which items a master owns does not matter.
+  pub same_masters : (frugal : Allowance) (behind : Control) (among : List Value) (j : Control) (m n : Master) (ms : List Master) → FrugalLeads frugal behind among j (m ∷ ms) → FrugalLeads frugal behind among j (n ∷ ms)
+  same_masters frugal behind among [] m n ms q = q
+  same_masters frugal behind among (Returns actuals references ∷ k) m n ms (inl q) = let none = q.1 in absurd (cc none)
+  same_masters frugal behind among (Returns actuals references ∷ k) m n ms (inr (inl q)) = inr (inl (same_masters frugal behind among k m n ms q))
+  same_masters frugal behind among (Returns actuals references ∷ k) m n ms (inr (inr q)) = inr (inr (same_operated frugal behind among k m n ms q))
+  same_masters frugal behind among (Elaborates ds fs hs ∷ k) m n ms q = q
+  same_masters frugal behind among (Closes ∷ k) m n ms q = q
+  same_masters frugal behind among (Declares x ∷ k) m n ms q = (q.0, same_masters frugal behind among k m n ms q.1)
+  same_masters frugal behind among (f ∷ k) m n ms q = (q.0, same_masters frugal behind among k m n ms q.1)
+
+  same_operated : (frugal : Allowance) (behind : Control) (among : List Value) (j : Control) (m n : Master) (ms : List Master) → FrugalOperated frugal behind among j (m ∷ ms) → FrugalOperated frugal behind among j (n ∷ ms)
+  same_operated frugal behind among [] m n ms q = q
+  same_operated frugal behind among (frame.Confines ∷ k) m n ms (vs, is, ending, q) = (vs, is, ending, same_masters frugal behind vs k m n ms q)
+  same_operated frugal behind among (frame.Awaits v by done of part tasks ∷ k) m n ms (vs, is, beginning, q) = (vs, is, beginning, same_masters frugal behind vs k m n ms q)
+  same_operated frugal behind among (f ∷ k) m n ms q = q

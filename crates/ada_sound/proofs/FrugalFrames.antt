@@ -1,8 +1,8 @@
 -- A frugal body (7.6, 7.6.1, 13.11.2) comes to what is left of an expression, an assignment, an allocator, a Free, a call or a statement: nothing is treated
--- next but an object that is freed, or a new one that begins quietly (4.8), and what is called is frugal, too (6.4).
+-- next but an object that is freed or undone, or a new one that begins (4.8), and what is called is frugal, too (6.4).
 
 use Rattle.std.proofs.Common.{◌≡◌, ℕ, Bool, true, false, List, [], ◌∷◌, ◌++◌, refl, inl, inr}
-use Rattle.std.specs.Prelude.{ℤ, Option, Some, None, drop, Result, Ok, Err, ◌&&◌, int_le, if◌then◌else◌}
+use Rattle.std.specs.Prelude.{ℤ, map, Option, Some, None, drop, Result, Ok, Err, ◌&&◌, int_le, if◌then◌else◌}
 use Rattle.std.specs.List.{slice_get, slice_index_or}
 use Rattle.ada_values.specs.declared.operator.BinaryOperator.{BinaryOperator}
 use Rattle.ada_values.specs.declared.fault.OperatorFault.{OperatorFault}
@@ -16,11 +16,11 @@ use Rattle.ada_parts.specs.declared.tasks.Direction.TheVariants.{PartsFirst, Who
 use Rattle.ada_parts.specs.Part.{Part}
 use Rattle.ada_parts.specs.Task.{Task}
 use Rattle.ada_meaning.specs.declared.event.Cause.{Cause}
-use Rattle.ada_meaning.specs.declared.event.Cause.TheVariants.{Freeing}
+use Rattle.ada_meaning.specs.declared.event.Cause.TheVariants.{Freeing, Undoing}
 use Rattle.ada_meaning.specs.declared.event.Halt.TheVariants.{Erroneous}
 use Rattle.ada_meaning.specs.declared.event.Why.TheVariants.{GivesElsewhere}
 use Rattle.ada_meaning.specs.declared.event.Birth.{Birth}
-use Rattle.ada_meaning.specs.declared.event.Birth.TheVariants.{Creation}
+use Rattle.ada_meaning.specs.declared.event.Birth.TheVariants.{Creation, Copy, Adjustment}
 use Rattle.ada_meaning.specs.declared.state.Place.{Place}
 use Rattle.ada_meaning.specs.declared.state.Value.{Value}
 use Rattle.ada_meaning.specs.declared.state.Value.TheVariants.{Null}
@@ -28,31 +28,35 @@ use Rattle.ada_meaning.specs.declared.state.Mode.{Mode}
 use Rattle.ada_meaning.specs.declared.state.Mode.TheVariants.{Running, Raising, Exiting, Returning}
 use Rattle.ada_meaning.specs.Event.{Event, Followed, Quiet}
 use Rattle.ada_meaning.specs.Heap.{Cell, Found, on_null, on_gone, on_other, finds, PartState}
-use Rattle.ada_meaning.specs.Frame.{Frame, Elaborates, Leaves, Calls, TestsNull, RefersIn, OpensIn, Fills, Copies, Targets, Receives, FreesIn, Declares, Ends, GivesBack, Clears, ClearsIn, TargetsRecord, ends}
-use Rattle.ada_meaning.specs.State.{Activation, Item, Master, Owned, declared, collection, record_object, storage_pool, Destination, height, home_of, pool_freed_to, counted}
-use Rattle.ada_meaning.specs.Step.{first_or, older, places_of, operands_of, with_operands, begun, record_holder_next, referred_next, refers_next, open_next, opened_next, opens_next, storing, returned, computing, call_next, entered, all_tasks, halts, moves, same_pool, raised, jumping, computed, put, owned, at, reading, component_next, follow_next, path_next, selected, named_next, before_last, last_of, holder_next, expression_next, null_test_next, is_decided, link_next, links_next, outcome_next, place_in, record_in, item_next, items_next, copied_next, copies_next, answered, new_next, right_next, freeing, freeing_next, free_next, end_next, told_back, given_back, back_next, assign_next, target_next, stored_next, store_next, record_target_next, record_stored_next, newest_ones, store_record_next, record_assign_next, has_parts, frees_next, freed_next, free_component_next, free_in_next, branches_next, decided_next, turn_next, repeats_next, turned_next, count_turn_next, counts_next, ranges_next, gets_next, received_next, receive_next, exit_next, exited_next, stmt_next, line_next, declarations_next, leave_next, master_leave_next, item_leave_next, granted, new_cell, born_next, awaited_next}
-use Rattle.ada_meaning.specs.Named.{State, Next, named, whole, look, standing, create, created, new_object, bear, born_part}
-use Rattle.ada_quiet.specs.Frugal.{allocates_quietly, is_frugal_declaration, are_frugal_declarations}
-use Rattle.ada_sound.proofs.Allowance.{Allowance, may_end, is_thrifty_stmt, are_thrifty, are_thrifty_branches, are_thrifty_handlers, is_thrifty_body, thrifty_parts}
+use Rattle.std.proofs.lemmas.Bool.{or_right}
+use Rattle.ada_parts.specs.Task.{performs}
+use Rattle.ada_meaning.specs.Frame.{Frame, Elaborates, Leaves, Resumes, Calls, TestsNull, RefersIn, OpensIn, Fills, Copies, Targets, Receives, FreesIn, Declares, Ends, GivesBack, Clears, ClearsIn, TargetsRecord, ends}
+use Rattle.ada_meaning.specs.State.{Activation, Item, Master, Owned, declared, collection, record_object, storage_pool, Destination, height, home_of, pool_freed_to}
+use Rattle.ada_meaning.specs.Step.{undone, undo_next, broken_next, first_or, older, places_of, operands_of, with_operands, begun, record_holder_next, referred_next, refers_next, open_next, opened_next, opens_next, storing, returned, computing, call_next, entered, all_tasks, halts, moves, same_pool, raised, jumping, computed, put, owned, at, reading, component_next, follow_next, path_next, selected, named_next, before_last, last_of, holder_next, expression_next, null_test_next, is_decided, link_next, links_next, outcome_next, place_in, record_in, item_next, items_next, copied_next, copies_next, answered, new_next, right_next, freeing, freeing_next, free_next, end_next, told_back, given_back, back_next, assign_next, target_next, stored_next, store_next, record_target_next, record_stored_next, newest_ones, store_record_next, record_assign_next, has_parts, frees_next, freed_next, free_component_next, free_in_next, branches_next, decided_next, turn_next, repeats_next, turned_next, count_turn_next, counts_next, ranges_next, gets_next, received_next, receive_next, exit_next, exited_next, stmt_next, line_next, declarations_next, leave_next, master_leave_next, item_leave_next, granted, new_cell, born_next, awaited_next}
+use Rattle.ada_meaning.specs.Named.{State, Next, named, whole, look, standing, created}
+use Rattle.ada_quiet.specs.Bare.{has_bare_objects}
+use Rattle.ada_sound.proofs.Allowance.{Allowance, may_treat, allocates_thriftily, is_thrifty_declaration, are_thrifty_declarations, is_thrifty_stmt, are_thrifty, are_thrifty_branches, are_thrifty_handlers, is_thrifty_body, thrifty_parts}
 use Rattle.ada_sound.proofs.Fits.{place_at}
 use Rattle.ada_sound.proofs.Invariant.{Control}
 use Rattle.ada_sound.proofs.OperationStarts.{apart}
 use Rattle.ada_sound.proofs.Operating.{IsVariable, AreVariables, OwnVariables}
-use Rattle.ada_sound.proofs.FrugalControl.{FrugalLeads, FrugalLeaves, Frugally, GoesFrugally, same_masters, treating_leads, BeginsQuietly, beginning_frugal, quietly_kept}
-use Rattle.ada_sound.proofs.FrugalFrees.{RecordIsBare, IsFreely, StmtIsFreely, bare_calm, IsNewly}
-use Rattle.ada_sound.proofs.Treatments.{alters_treated}
-use Rattle.ada_owners.proofs.Objects.{next_id, at_new}
+use Rattle.ada_sound.proofs.FrugalControl.{FrugalLeads, FrugalLeaves, Frugally, GoesFrugally, same_masters, treating_leads, BeginsThere, beginning_frugal}
+use Rattle.ada_sound.proofs.FrugalFrees.{RecordIsBare, IsFreely, StmtIsFreely, IsNewly}
 
-module _ (allowance : Allowance) (lower : List Master) (behind : Control) (tds : List TypeDefinition) (bodies : List BodyForm) (s : State) where
+module _ (allowance : Allowance) (lower : List Master) (behind : Control) (among : List Value) (tds : List TypeDefinition) (bodies : List BodyForm) (s : State) where
   abbrev pub Fine : Next → Type 0
-  Fine n = GoesFrugally allowance lower behind n
+  Fine n = GoesFrugally allowance lower behind among n
 
   abbrev pub Goes : State → Type 0
-  Goes after = Frugally allowance lower behind after
+  Goes after = Frugally allowance lower behind among after
 
   -- The state in which a frame has been taken off, with these activations, before this, in these masters of the body.
   abbrev pub now : List (Activation Value) → Control → List Master → State
   now all k ms = record s { mode = Running; control = k; activations = all; masters = ms ++ lower }
+
+  -- And in which an exception goes on.
+  abbrev pub jumping_in : Exception → List (Activation Value) → Control → List Master → State
+  jumping_in e all k ms = record s { mode = Raising e; control = k; activations = all; masters = ms ++ lower }
 
   -- Without the newest operand.
   abbrev pub without : List (Activation Value) → List (Activation Value)
@@ -60,7 +64,7 @@ module _ (allowance : Allowance) (lower : List Master) (behind : Control) (tds :
 
   module _ (ms : List Master) (own : OwnVariables ms) where
     abbrev pub Left : Control → Type 0
-    Left k = FrugalLeads allowance behind k ms
+    Left k = FrugalLeads allowance behind among k ms
 
     -- It runs on.
     pub on : (after : State) → after.masters ≡ ms ++ lower → Left (after.control) → Goes after
@@ -133,10 +137,10 @@ module _ (allowance : Allowance) (lower : List Master) (behind : Control) (tds :
     outcome_on (Err WrongType) all k q = tt
 
     -- What is assigned.
-    pub right_on : (right : RightForm) → allocates_quietly allowance.types allowance.begun right ≡ true → (all : List (Activation Value)) → (k : Control) → Left k → Fine (right_next named tds right (now all k ms))
+    pub right_on : (right : RightForm) → allocates_thriftily allowance right ≡ true → (all : List (Activation Value)) → (k : Control) → Left k → Fine (right_next named tds right (now all k ms))
     right_on nothing bare all k q = computes_on _ all k q
     right_on (value_of path) bare all k q = named_on path.selectors path.root all k q
-    right_on (allocates access items) bare all k q = on _ refl (tt, (bare_calm allowance.types allowance.begun access bare, q))
+    right_on (allocates access items) bare all k q = on _ refl (tt, (or_right allowance.treats_parts (has_bare_objects allowance.types access) bare, q))
     right_on (allocates_default access) bare all k q = on _ refl (bare, q)
     right_on (computes e) bare all k q = on _ refl (tt, q)
 
@@ -163,14 +167,14 @@ module _ (allowance : Allowance) (lower : List Master) (behind : Control) (tds :
     copies_on o first count on_other all k q = tt
     copies_on o first count (finds cell) all k q = copied_on o (record_in cell.values first count) all k q
 
-    -- A pool is asked for a new object, for which nothing is to be done, or that begins quietly.
+    -- A pool is asked for a new object, for which nothing is to be done, or that begins.
     granted_on : (access count words : ℕ) (home : Destination) (all : List (Activation Value)) → (k : Control) → IsNewly allowance tds access s.heap k → Left k → Goes (granted named tds access count words home (now all k ms))
     granted_on access count words home all k (inl none) q = rw none (on _ refl q)
-    granted_on access count words home all k (inr (calm, ends_parts, alone)) q = record {
+    granted_on access count words home all k (inr (treats_parts, alone)) q = record {
       upper = ms;
       masters = refl;
       own = own;
-      frugal = beginning_frugal allowance behind (create s.heap words cell) (created s.heap words) Creation [] (all_tasks tds access PartsFirst) k ms (refl, alone, (next_id s.heap, refl, new_object cell, at_new s.heap words cell, calm, ends_parts)) q;
+      frugal = beginning_frugal allowance behind among (created s.heap words) Creation [] (all_tasks tds access PartsFirst) k ms (refl, treats_parts, alone) q;
     }
       where
         cell : Cell Value
@@ -185,26 +189,44 @@ module _ (allowance : Allowance) (lower : List Master) (behind : Control) (tds :
     new_on access count words (Some home) all k new q = answered_on access count words home all k new q
 
     -- The Initialize of a part has come to its end: the object goes on beginning.
-    born_on : (v : Value) (by : Birth) (done : List Part) (of part : ℕ) (tasks : List Task) (found : Option PartState) (all : List (Activation Value)) → (k : Control) → BeginsQuietly allowance s.heap v by k → Left k → Fine (born_next named v by done of part tasks found (now all k ms))
-    born_on v by done of part tasks None all k quiet q = tt
-    born_on v by done of part tasks (Some p) all k quiet q = record {
+    born_on : (v : Value) (by : Birth) (done : List Part) (of part : ℕ) (tasks : List Task) (found : Option PartState) (all : List (Activation Value)) → (k : Control) → BeginsThere allowance v by k → Left k → Fine (born_next named v by done of part tasks found (now all k ms))
+    born_on v by done of part tasks None all k beginning q = tt
+    born_on v by done of part tasks (Some p) all k beginning q = record {
       upper = ms;
       masters = refl;
       own = own;
-      frugal = beginning_frugal allowance behind (bear s.heap v part (counted s.born)) v by (record { of = of; number = part } ∷ done) tasks k ms (quietly_kept allowance s.heap _ Quiet v by k (alters_treated (born_part (counted s.born)) part s.heap Quiet v) quiet) q;
+      frugal = beginning_frugal allowance behind among v by (record { of = of; number = part } ∷ done) tasks k ms beginning q;
     }
 
-    pub awaited_on : (v : Value) (by : Birth) (done : List Part) (of part : ℕ) (tasks : List Task) (found : Found (Cell Value)) (all : List (Activation Value)) → (k : Control) → BeginsQuietly allowance s.heap v by k → Left k → Fine (awaited_next named v by done of part tasks found (now all k ms))
-    awaited_on v by done of part tasks on_null all k quiet q = tt
-    awaited_on v by done of part tasks on_gone all k quiet q = tt
-    awaited_on v by done of part tasks on_other all k quiet q = tt
-    awaited_on v by done of part tasks (finds cell) all k quiet q = born_on v by done of part tasks (slice_get cell.parts part) all k quiet q
+    pub awaited_on : (v : Value) (by : Birth) (done : List Part) (of part : ℕ) (tasks : List Task) (found : Found (Cell Value)) (all : List (Activation Value)) → (k : Control) → BeginsThere allowance v by k → Left k → Fine (awaited_next named v by done of part tasks found (now all k ms))
+    awaited_on v by done of part tasks on_null all k beginning q = tt
+    awaited_on v by done of part tasks on_gone all k beginning q = tt
+    awaited_on v by done of part tasks on_other all k beginning q = tt
+    awaited_on v by done of part tasks (finds cell) all k beginning q = born_on v by done of part tasks (slice_get cell.parts part) all k beginning q
 
-    assigns_on : (cs : List ℕ) (x : ℕ) (right : RightForm) → allocates_quietly allowance.types allowance.begun right ≡ true → (all : List (Activation Value)) → (k : Control) → Left k → Fine (assign_next named cs x right (now all k ms))
+    -- An exception has come out of it: what has begun is finalized, the object ends, and the exception goes on (7.6.1).
+    undone_on : (e : Exception) (v : Value) (by : Birth) (done : List Part) (cell : Cell Value) (all : List (Activation Value)) → (k : Control) → BeginsThere allowance v by k → Left k → Goes (undone named e v done cell (jumping_in e all k ms))
+    undone_on e v by done cell all k beginning q =
+        on _ refl
+        (treating_leads allowance behind among v (ends (Undoing s.next)) (map (λ p. performs p.of p.number) done)
+        (Ends v ∷ GivesBack v (Undoing s.next) cell.home.pool ∷ Resumes (Raising e) ∷ k) ms (tt, beginning.1, refl, beginning.2) (tt, (tt, (tt, q))))
+
+    undo_on : (e : Exception) (v : Value) (by : Birth) (done : List Part) (found : Found (Cell Value)) (all : List (Activation Value)) → (k : Control) → BeginsThere allowance v by k → Left k → Fine (undo_next named e v done found (jumping_in e all k ms))
+    undo_on e v by done on_null all k beginning q = tt
+    undo_on e v by done on_gone all k beginning q = tt
+    undo_on e v by done on_other all k beginning q = tt
+    undo_on e v by done (finds cell) all k beginning q = undone_on e v by done cell all k beginning q
+
+    pub broken_on : (e : Exception) (v : Value) (by : Birth) (done : List Part) (all : List (Activation Value)) → (k : Control) → BeginsThere allowance v by k → Left k → Fine (broken_next named e v by done (jumping_in e all k ms))
+    broken_on e v Creation done all k beginning q = undo_on e v Creation done (look s.heap v) all k beginning q
+    broken_on e v Copy done all k beginning q = let created = beginning.0 in absurd (cc created)
+    broken_on e v (Adjustment number) done all k beginning q = let created = beginning.0 in absurd (cc created)
+
+    assigns_on : (cs : List ℕ) (x : ℕ) (right : RightForm) → allocates_thriftily allowance right ≡ true → (all : List (Activation Value)) → (k : Control) → Left k → Fine (assign_next named cs x right (now all k ms))
     assigns_on [] x right bare all k q = on _ refl (bare, (tt, q))
     assigns_on (c ∷ cs) x right bare all k q = holder_on c cs x (λ last. Targets last right) all k (λ last. (bare, q))
 
-    pub target_on : (o : Value) (c : ℕ) (right : RightForm) (found : Found (Cell Value)) → allocates_quietly allowance.types allowance.begun right ≡ true → (all : List (Activation Value)) → (k : Control) → Left k → Fine (target_next named o c right found (now all k ms))
+    pub target_on : (o : Value) (c : ℕ) (right : RightForm) (found : Found (Cell Value)) → allocates_thriftily allowance right ≡ true → (all : List (Activation Value)) → (k : Control) → Left k → Fine (target_next named o c right found (now all k ms))
     target_on o c right on_null bare all k q = raises_on ConstraintError all k q
     target_on o c right on_gone bare all k q = tt
     target_on o c right on_other bare all k q = tt
@@ -252,10 +274,10 @@ module _ (allowance : Allowance) (lower : List Master) (behind : Control) (tds :
     -- A Free: nothing is to be done for its object, which is to cease to exist, or that is finalized first.
     freeing_on : (access : ℕ) (v : Value) (cell : Cell Value) (clears : Frame Value) → (all : List (Activation Value)) → (k : Control) → IsFreely allowance tds (clears ∷ k) v (finds cell) → Left (clears ∷ k) → Goes (freeing named tds access v cell clears (now all k ms))
     freeing_on access v cell clears all k (inl none) q = rw none (on _ refl (tt, (tt, q)))
-    freeing_on access v cell clears all k (inr (ends_parts, alone)) q =
+    freeing_on access v cell clears all k (inr (treats_parts, alone)) q =
         on (freeing named tds access v cell clears (now all k ms)) refl
-        (treating_leads allowance behind v (ends (Freeing s.next)) (all_tasks tds cell.access WholeFirst)
-        (Ends v ∷ GivesBack v (Freeing s.next) (Some (pool_freed_to (home_of access (ms ++ lower)))) ∷ clears ∷ k) ms (tt, ends_parts, refl, alone) (tt, (tt, q)))
+        (treating_leads allowance behind among v (ends (Freeing s.next)) (all_tasks tds cell.access WholeFirst)
+        (Ends v ∷ GivesBack v (Freeing s.next) (Some (pool_freed_to (home_of access (ms ++ lower)))) ∷ clears ∷ k) ms (tt, treats_parts, refl, alone) (tt, (tt, q)))
 
     freeing_next_on : (access : ℕ) (v : Value) (cell : Cell Value) (clears : Frame Value) (event : Event Value) → (all : List (Activation Value)) → (k : Control) → IsFreely allowance tds (clears ∷ k) v (finds cell) → Left (clears ∷ k) → Fine (freeing_next named tds access v cell clears event (now all k ms))
     freeing_next_on access v cell clears event all k freely q = by (same_pool (Some (pool_freed_to (home_of access (ms ++ lower)))) cell.home.pool)
@@ -270,7 +292,7 @@ module _ (allowance : Allowance) (lower : List Master) (behind : Control) (tds :
     free_on access x v on_other all k freely q = tt
     free_on access x v (finds cell) all k freely q = freeing_next_on access v cell (Clears x) Quiet all k freely (tt, q)
 
-    frees_on : (cs : List ℕ) (access x : ℕ) (all : List (Activation Value)) → may_end allowance access ≡ true → (k : Control) → (cs ≡ [] → IsFreely allowance tds k (place_at (places_of all) x) (standing s.heap (place_at (places_of all) x))) → Left k → Fine (frees_next named tds cs access x (now all k ms))
+    frees_on : (cs : List ℕ) (access x : ℕ) (all : List (Activation Value)) → may_treat allowance access ≡ true → (k : Control) → (cs ≡ [] → IsFreely allowance tds k (place_at (places_of all) x) (standing s.heap (place_at (places_of all) x))) → Left k → Fine (frees_next named tds cs access x (now all k ms))
     frees_on [] access x all is k freely q = free_on access x (place_at (places_of all) x) (standing s.heap (place_at (places_of all) x)) all k (freely refl) q
     frees_on (c ∷ cs) access x all is k freely q = holder_on c cs x (λ last. FreesIn access last) all k (λ last. (is, q))
 
@@ -384,10 +406,10 @@ module _ (allowance : Allowance) (lower : List Master) (behind : Control) (tds :
     line_on (Some i) all k q = on _ refl q
 
     -- A block is a master of its own.
-    encloses_on : (ds : List DeclarationForm) (fs : StmtsForm) (hs : HandlersForm) → (are_frugal_declarations allowance.types allowance.begun ds && are_thrifty allowance fs && are_thrifty_handlers allowance hs) ≡ true → (all : List (Activation Value)) → (k : Control) → Left k → Goes (entered (at (Elaborates ds fs hs ∷ k) (now all k ms)))
+    encloses_on : (ds : List DeclarationForm) (fs : StmtsForm) (hs : HandlersForm) → (are_thrifty_declarations allowance ds && are_thrifty allowance fs && are_thrifty_handlers allowance hs) ≡ true → (all : List (Activation Value)) → (k : Control) → Left k → Goes (entered (at (Elaborates ds fs hs ∷ k) (now all k ms)))
     encloses_on ds fs hs frugal all k q =
-        let one = apart (are_frugal_declarations allowance.types allowance.begun ds && are_thrifty allowance fs) (are_thrifty_handlers allowance hs) frugal in
-        let two = apart (are_frugal_declarations allowance.types allowance.begun ds) (are_thrifty allowance fs) one.0 in
+        let one = apart (are_thrifty_declarations allowance ds && are_thrifty allowance fs) (are_thrifty_handlers allowance hs) frugal in
+        let two = apart (are_thrifty_declarations allowance ds) (are_thrifty allowance fs) one.0 in
         record {
           upper = record { number = s.next; items = [] } ∷ ms;
           masters = refl;
@@ -447,7 +469,7 @@ module _ (allowance : Allowance) (lower : List Master) (behind : Control) (tds :
       upper = record { number = s.next; items = [] } ∷ ms;
       masters = refl;
       own = (tt, own);
-      frugal = inl (thrifty_parts allowance b frugal, inr q);
+      frugal = inl (thrifty_parts allowance b frugal, inr (inl q));
     }
 
     -- It has ended: what its caller gets back in components is stored next.
@@ -478,38 +500,38 @@ module _ (allowance : Allowance) (lower : List Master) (behind : Control) (tds :
     stmt_on (encloses ds fs hs) finds_frugal records_bare frugal all k freely q = encloses_on ds fs hs frugal all k q
 
   -- The declarations of a block, or of the body.
-  declaration_on : (m : Master) (ms : List Master) → OwnVariables (m ∷ ms) → (d : DeclarationForm) (ds : List DeclarationForm) (fs : StmtsForm) (hs : HandlersForm) → is_frugal_declaration allowance.types allowance.begun d ≡ true → (are_frugal_declarations allowance.types allowance.begun ds ≡ true) × (are_thrifty allowance fs ≡ true) × (are_thrifty_handlers allowance hs ≡ true) → (all : List (Activation Value)) → (k : Control) → FrugalLeads allowance behind k ms → Fine (declarations_next named tds (d ∷ ds) fs hs (now all k (m ∷ ms)))
+  declaration_on : (m : Master) (ms : List Master) → OwnVariables (m ∷ ms) → (d : DeclarationForm) (ds : List DeclarationForm) (fs : StmtsForm) (hs : HandlersForm) → is_thrifty_declaration allowance d ≡ true → (are_thrifty_declarations allowance ds ≡ true) × (are_thrifty allowance fs ≡ true) × (are_thrifty_handlers allowance hs ≡ true) → (all : List (Activation Value)) → (k : Control) → FrugalLeads allowance behind among k ms → Fine (declarations_next named tds (d ∷ ds) fs hs (now all k (m ∷ ms)))
   declaration_on m ms own (creates_pool p) ds fs hs frugal more all k q = absurd (cc frugal)
   declaration_on m ms own (collects access) ds fs hs frugal more all k q = absurd (cc frugal)
   declaration_on m ms own (declares_record x t initial) ds fs hs frugal more all k q = absurd (cc frugal)
   declaration_on m ms own (declares x right) ds fs hs frugal more all k q = on (m ∷ ms) own _ refl (frugal, (tt, (more, q)))
 
-  pub declarations_on : (ms : List Master) → OwnVariables ms → (ds : List DeclarationForm) (fs : StmtsForm) (hs : HandlersForm) (all : List (Activation Value)) → (k : Control) → FrugalLeads allowance behind (Elaborates ds fs hs ∷ k) ms → Fine (declarations_next named tds ds fs hs (now all k ms))
+  pub declarations_on : (ms : List Master) → OwnVariables ms → (ds : List DeclarationForm) (fs : StmtsForm) (hs : HandlersForm) (all : List (Activation Value)) → (k : Control) → FrugalLeads allowance behind among (Elaborates ds fs hs ∷ k) ms → Fine (declarations_next named tds ds fs hs (now all k ms))
   declarations_on [] own ds fs hs all k q = absurd q
   declarations_on (m ∷ ms) own [] fs hs all k ((ds_frugal, frugal, hs_frugal), q) = on (m ∷ ms) own _ refl (frugal, (hs_frugal, (tt, q)))
   declarations_on (m ∷ ms) own (d ∷ ds) fs hs all k ((ds_frugal, frugal, hs_frugal), q) =
-      let both = apart (is_frugal_declaration allowance.types allowance.begun d) (are_frugal_declarations allowance.types allowance.begun ds) ds_frugal in
+      let both = apart (is_thrifty_declaration allowance d) (are_thrifty_declarations allowance ds) ds_frugal in
       declaration_on m ms own d ds fs hs both.0 (both.1, frugal, hs_frugal) all k q
 
-  pub declares_on : (ms : List Master) → OwnVariables ms → (x : ℕ) (v : Value) (all : List (Activation Value)) → (k : Control) → FrugalLeads allowance behind (Declares x ∷ k) ms → Goes (owned (declared x) (put x v (now all k ms)))
+  pub declares_on : (ms : List Master) → OwnVariables ms → (x : ℕ) (v : Value) (all : List (Activation Value)) → (k : Control) → FrugalLeads allowance behind among (Declares x ∷ k) ms → Goes (owned (declared x) (put x v (now all k ms)))
   declares_on [] own x v all k q = absurd q
   declares_on (m ∷ ms) own x v all k q = record {
     upper = record m { items = record { number = height ((m ∷ ms) ++ lower); owned = declared x } ∷ m.items } ∷ ms;
     masters = refl;
     own = ((tt, own.0), own.1);
-    frugal = inl (same_masters allowance behind k m _ ms q.1);
+    frugal = inl (same_masters allowance behind among k m _ ms q.1);
   }
 
   -- A master is left.
-  pub leaves_first : (ms : List Master) → OwnVariables ms → (left : Mode) (k : Control) (after : State) → after.masters ≡ ms ++ lower → after.mode ≡ Running → after.control ≡ Leaves left ∷ k → FrugalLeaves allowance behind (Leaves left ∷ k) ms → Goes after
+  pub leaves_first : (ms : List Master) → OwnVariables ms → (left : Mode) (k : Control) (after : State) → after.masters ≡ ms ++ lower → after.mode ≡ Running → after.control ≡ Leaves left ∷ k → FrugalLeaves allowance behind among (Leaves left ∷ k) ms → Goes after
   leaves_first ms own left k after masters in_mode is q = record {
     upper = ms;
     masters = masters;
     own = own;
-    frugal = rw (in_mode, is) (inr (refl, inl q));
+    frugal = rw (in_mode, is) (inr (inl (refl, q)));
   }
 
-  pub leaves_on : (ms : List Master) → OwnVariables ms → (left : Mode) (all : List (Activation Value)) → (k : Control) → FrugalLeaves allowance behind (Leaves left ∷ k) ms → Fine (leave_next named tds left (ms ++ lower) (now all k ms))
+  pub leaves_on : (ms : List Master) → OwnVariables ms → (left : Mode) (all : List (Activation Value)) → (k : Control) → FrugalLeaves allowance behind among (Leaves left ∷ k) ms → Fine (leave_next named tds left (ms ++ lower) (now all k ms))
   leaves_on [] own left all k q = absurd q
   leaves_on (m ∷ ms) own left all k q = by m.items refl own.0
     where

@@ -1,6 +1,5 @@
--- What a frugal body allocates has no controlled parts (4.8, 7.6), as the access types say that it names, or it begins quietly, and none of its operations runs
--- behind that; nor has a record that it assigns some (5.2): its assignments treat nothing. What it frees has none, either, or no operation of that object runs
--- (7.6.1, 13.11.2).
+-- What a frugal body allocates has no controlled parts (4.8, 7.6), as the access types say that it names, or none of its operations runs behind that; nor has a
+-- record that it assigns some (5.2): its assignments treat nothing. What it frees has none, either, or no operation of that object runs (7.6.1, 13.11.2).
 
 use Rattle.std.proofs.Common.{◌≡◌, ℕ, zero, suc, Bool, true, false, ◌&&◌, if◌then◌else◌, List, [], ◌∷◌, refl, sym, ap, ◌∙◌, subst, ◌⊎◌, inl, inr}
 use Rattle.std.specs.Prelude.{Option, Some, None, is_some, not, ◌||◌}
@@ -45,7 +44,7 @@ use Rattle.ada_typed.proofs.Runs.{typed_holds}
 use Rattle.ada_typed.proofs.Targets.{component_there}
 use Rattle.ada_typed.proofs.Values as typing
 use Rattle.ada_typed.proofs.Values.{OperandKind, of_kind, AreComputed}
-use Rattle.ada_sound.proofs.Allowance.{Allowance, may_end, are_thrifty}
+use Rattle.ada_sound.proofs.Allowance.{Allowance, may_treat, are_thrifty}
 use Rattle.ada_sound.proofs.Assigned.{access_from, this_is}
 use Rattle.ada_sound.proofs.Calm.{ends_operation, operation_ends_there}
 use Rattle.ada_sound.proofs.Fits.{place_at}
@@ -280,7 +279,7 @@ module _ (frugal : Allowance) (tds : List TypeDefinition) where
   IsFreely k v on_null = Unit {0}
   IsFreely k v on_gone = Unit {0}
   IsFreely k v on_other = Unit {0}
-  IsFreely k v (finds cell) = (all_tasks tds cell.access WholeFirst ≡ []) ⊎ ((frugal.ends_parts ≡ true) × NoOperationRunsOn v k)
+  IsFreely k v (finds cell) = (all_tasks tds cell.access WholeFirst ≡ []) ⊎ ((frugal.treats_parts ≡ true) × NoOperationRunsOn v k)
 
   -- So it is of the object that a statement frees that a variable names.
   abbrev pub StmtIsFreely : StmtForm → Control → List Object → (places : List Value) → Type 0
@@ -299,21 +298,21 @@ module _ (frugal : Allowance) (tds : List TypeDefinition) where
   NextIsFreely [] heap places operands = Unit {0}
   NextIsFreely (f ∷ k) heap places operands = FrameIsFreely f k heap places operands
 
-  module _ (bare : AccessIsBare frugal.types tds) (may : ℕ → Bool) (heap : List Object) (k : Control) (alone : frugal.ends_parts ≡ true → ListedAlone may heap k) where
+  module _ (bare : AccessIsBare frugal.types tds) (may : ℕ → Bool) (heap : List Object) (k : Control) (alone : frugal.treats_parts ≡ true → ListedAlone may heap k) where
     bare_freely : (v : Value) (access : ℕ) (found : Found (Cell Value)) → has_bare_objects frugal.types access ≡ true → IsOf access found → IsFreely k v found
     bare_freely v access on_null has of = tt
     bare_freely v access on_gone has of = tt
     bare_freely v access on_other has of = tt
     bare_freely v access (finds cell) has of = inl (bare cell.access WholeFirst (rw of has))
 
-    alone_freely : (v : Value) (access : ℕ) → frugal.ends_parts ≡ true → may access ≡ true → IsOf access (standing heap v) → IsFreely k v (standing heap v)
-    alone_freely Null access ends_parts freed of = tt
-    alone_freely (Scalar n) access ends_parts freed of = tt
-    alone_freely (Part o place) access ends_parts freed of = tt
-    alone_freely (Names o) access ends_parts freed of = by (object_at heap o) refl of
+    alone_freely : (v : Value) (access : ℕ) → frugal.treats_parts ≡ true → may access ≡ true → IsOf access (standing heap v) → IsFreely k v (standing heap v)
+    alone_freely Null access treats_parts freed of = tt
+    alone_freely (Scalar n) access treats_parts freed of = tt
+    alone_freely (Part o place) access treats_parts freed of = tt
+    alone_freely (Names o) access treats_parts freed of = by (object_at heap o) refl of
       where
         stands : (x : Object) → object_at heap o ≡ Some x → (listed alive : Bool) → x.listed ≡ listed → IsOf access (if listed && alive then finds x.cell else on_gone) → IsFreely k (Names o) (if listed && alive then finds x.cell else on_gone)
-        stands x at true true is of' = inr (ends_parts, alone ends_parts o x at is (rw of' freed))
+        stands x at true true is of' = inr (treats_parts, alone treats_parts o x at is (rw of' freed))
         stands x at true false is of' = tt
         stands x at false alive is of' = tt
 
@@ -321,43 +320,43 @@ module _ (frugal : Allowance) (tds : List TypeDefinition) where
         by None at of' = tt
         by (Some x) at of' = stands x at x.listed (all_alive x.cell.parts) refl of'
 
-    is_freely : (v : Value) (access : ℕ) → may_end frugal access ≡ true → may access ≡ true → IsOf access (standing heap v) → IsFreely k v (standing heap v)
-    is_freely v access may_so freed of = by frugal.ends_parts refl may_so
+    is_freely : (v : Value) (access : ℕ) → may_treat frugal access ≡ true → may access ≡ true → IsOf access (standing heap v) → IsFreely k v (standing heap v)
+    is_freely v access may_so freed of = by frugal.treats_parts refl may_so
       where
-        by : (ends_parts : Bool) → frugal.ends_parts ≡ ends_parts → (ends_parts || has_bare_objects frugal.types access) ≡ true → IsFreely k v (standing heap v)
+        by : (treats_parts : Bool) → frugal.treats_parts ≡ treats_parts → (treats_parts || has_bare_objects frugal.types access) ≡ true → IsFreely k v (standing heap v)
         by true is either = alone_freely v access is freed of
         by false is has = bare_freely v access (standing heap v) has of
 
   -- What is freed next in a frugal body may be so, where it is among these access types.
   pub next_freely :
-      AccessIsBare frugal.types tds → (may : ℕ → Bool) (behind : Control) (heap : List Object) (values results : List Value) (k : Control) (ms : List Master) → (frugal.ends_parts ≡ true → ListedAlone may heap k)
-      → FrugalLeads frugal behind k ms → FreesAmong may k → NextFreesOwn k heap values results → NextIsFreely k heap values results
-  next_freely bare may behind heap values results [] ms alone q freely own = tt
-  next_freely bare may behind heap values results (Does (a_stmt (frees access path) fs) ∷ k) ms alone q freely own =
-      λ stands. is_freely bare may heap (Does fs ∷ k) alone (place_at values path.root) access (apart (may_end frugal access) (are_thrifty frugal fs) q.0).0 freely (own stands)
-  next_freely bare may behind heap values results (FreesIn access c ∷ k) ms alone q freely own =
+      AccessIsBare frugal.types tds → (may : ℕ → Bool) (behind : Control) (among : List Value) (heap : List Object) (values results : List Value) (k : Control) (ms : List Master) → (frugal.treats_parts ≡ true → ListedAlone may heap k)
+      → FrugalLeads frugal behind among k ms → FreesAmong may k → NextFreesOwn k heap values results → NextIsFreely k heap values results
+  next_freely bare may behind among heap values results [] ms alone q freely own = tt
+  next_freely bare may behind among heap values results (Does (a_stmt (frees access path) fs) ∷ k) ms alone q freely own =
+      λ stands. is_freely bare may heap (Does fs ∷ k) alone (place_at values path.root) access (apart (may_treat frugal access) (are_thrifty frugal fs) q.0).0 freely (own stands)
+  next_freely bare may behind among heap values results (FreesIn access c ∷ k) ms alone q freely own =
       λ cell w found there. is_freely bare may heap k alone w access q.0 freely (own cell w found there)
-  next_freely bare may behind heap values results (f ∷ k) ms alone q freely own = tt
+  next_freely bare may behind among heap values results (f ∷ k) ms alone q freely own = tt
 
--- Where bodies free no objects with controlled parts, what is freed next has none.
-pub frees_bare : (frugal : Allowance) → frugal.ends_parts ≡ false → (behind : Control) (heap : List Object) (mode : Mode) (k : Control) (ms : List Master) → Frugal frugal behind heap mode k ms → FreesAmong (has_bare_objects frugal.types) k
-frees_bare frugal none behind heap mode [] ms q = tt
-frees_bare frugal none behind heap mode (Does (a_stmt (frees access path) fs) ∷ k) ms (inl q) = let may = (apart (may_end frugal access) (are_thrifty frugal fs) q.0).0 in rw none at may
-frees_bare frugal none behind heap mode (Does (a_stmt (frees access path) fs) ∷ k) ms (inr (runs, inl leaving)) = absurd leaving
-frees_bare frugal none behind heap mode (Does (a_stmt (frees access path) fs) ∷ k) ms (inr (runs, inr beginning)) = absurd beginning
-frees_bare frugal none behind heap mode (FreesIn access c ∷ k) ms (inl q) = let may = q.0 in rw none at may
-frees_bare frugal none behind heap mode (FreesIn access c ∷ k) ms (inr (runs, inl leaving)) = absurd leaving
-frees_bare frugal none behind heap mode (FreesIn access c ∷ k) ms (inr (runs, inr beginning)) = absurd beginning
-frees_bare frugal none behind heap mode (f ∷ k) ms q = tt
+-- Where bodies treat no objects with controlled parts, what is freed next has none.
+pub frees_bare : (frugal : Allowance) → frugal.treats_parts ≡ false → (behind : Control) (among : List Value) (mode : Mode) (k : Control) (ms : List Master) → Frugal frugal behind among mode k ms → FreesAmong (has_bare_objects frugal.types) k
+frees_bare frugal none behind among mode [] ms q = tt
+frees_bare frugal none behind among mode (Does (a_stmt (frees access path) fs) ∷ k) ms (inl q) = let may = (apart (may_treat frugal access) (are_thrifty frugal fs) q.0).0 in rw none at may
+frees_bare frugal none behind among mode (Does (a_stmt (frees access path) fs) ∷ k) ms (inr (inl leaving)) = absurd leaving.1
+frees_bare frugal none behind among mode (Does (a_stmt (frees access path) fs) ∷ k) ms (inr (inr beginning)) = absurd beginning.1
+frees_bare frugal none behind among mode (FreesIn access c ∷ k) ms (inl q) = let may = q.0 in rw none at may
+frees_bare frugal none behind among mode (FreesIn access c ∷ k) ms (inr (inl leaving)) = absurd leaving.1
+frees_bare frugal none behind among mode (FreesIn access c ∷ k) ms (inr (inr beginning)) = absurd beginning.1
+frees_bare frugal none behind among mode (f ∷ k) ms q = tt
 
--- For a new object there is nothing to do; or it begins quietly, and none of its operations runs behind this, as none of an object that is still to be created
--- does.
+-- For a new object there is nothing to do; or bodies may treat those with controlled parts, and none of its operations runs behind this, as none of an object that
+-- is still to be created does.
 abbrev pub IsNewly : Allowance → List TypeDefinition → (access : ℕ) → List Object → Control → Type 0
 IsNewly frugal tds access heap k =
     (all_tasks tds access PartsFirst ≡ [])
-    ⊎ ((has_calm_objects frugal.types frugal.begun access ≡ true) × (frugal.ends_parts ≡ true) × NoOperationRunsOn (Names (next_id heap)) k)
+    ⊎ ((frugal.treats_parts ≡ true) × NoOperationRunsOn (Names (next_id heap)) k)
 
--- What has no controlled parts begins quietly.
+-- What has no controlled parts is calm, whatever is asked about operations.
 pub bare_calm : (types : List TypeForm) (calm : List Bool) (access : ℕ) → has_bare_objects types access ≡ true → has_calm_objects types calm access ≡ true
 bare_calm types calm access is = by (slice_get types access) is
   where
@@ -371,24 +370,6 @@ bare_calm types calm access is = by (slice_get types access) is
     by (Some (access_to name designated pool)) is' = parts (finalization_of types designated) is'
     by (Some (object_of record_type)) is' = absurd (cc is')
 
--- And nothing else does, where nothing is said to.
-calm_bare : (types : List TypeForm) (access : ℕ) → has_calm_objects types [] access ≡ true → has_bare_objects types access ≡ true
-calm_bare types access is = by (slice_get types access) is
-  where
-    parts : (o : Option Finalization) → is_known_calm [] o ≡ true → not (is_some o) ≡ true
-    parts None none = refl
-    parts (Some f) none = absurd (cc none)
-
-    by : (o : Option TypeForm) → is_calm_access types [] o ≡ true → is_bare_access types o ≡ true
-    by None is' = absurd (cc is')
-    by (Some (record_of name components known finalization)) is' = absurd (cc is')
-    by (Some (access_to name designated pool)) is' = parts (finalization_of types designated) is'
-    by (Some (object_of record_type)) is' = absurd (cc is')
-
--- Where bodies free no objects with controlled parts, none of these begin quietly.
-abbrev pub BeginsNone : Allowance → Type 0
-BeginsNone frugal = frugal.ends_parts ≡ false → frugal.begun ≡ []
-
 -- An object that has not been created does not exist.
 past_unborn : (heap : List Object) → NamesExisting heap (Names (next_id heap)) → ⊥
 past_unborn heap (o, is, x, found, stage) =
@@ -398,10 +379,10 @@ past_unborn heap (o, is, x, found, stage) =
 
 -- What such a body allocates is so.
 pub is_newly :
-    (frugal : Allowance) (tds : List TypeDefinition) → AccessIsBare frugal.types tds → BeginsNone frugal → (access : ℕ) (heap : List Object) (k : Control) → (frugal.ends_parts ≡ true → Unborn heap k)
-    → has_calm_objects frugal.types frugal.begun access ≡ true → IsNewly frugal tds access heap k
-is_newly frugal tds bare begins_none access heap k unborn calm = by frugal.ends_parts refl
+    (frugal : Allowance) (tds : List TypeDefinition) → AccessIsBare frugal.types tds → (access : ℕ) (heap : List Object) (k : Control) → (frugal.treats_parts ≡ true → Unborn heap k)
+    → may_treat frugal access ≡ true → IsNewly frugal tds access heap k
+is_newly frugal tds bare access heap k unborn may = by frugal.treats_parts refl may
   where
-    by : (ends_parts : Bool) → frugal.ends_parts ≡ ends_parts → IsNewly frugal tds access heap k
-    by true is = inr (calm, is, unborn is (next_id heap) (past_unborn heap))
-    by false is = let none = begins_none is in inl (bare access PartsFirst (calm_bare frugal.types access (rw none at calm)))
+    by : (treats_parts : Bool) → frugal.treats_parts ≡ treats_parts → (treats_parts || has_bare_objects frugal.types access) ≡ true → IsNewly frugal tds access heap k
+    by true is either = inr (is, unborn is (next_id heap) (past_unborn heap))
+    by false is has = inl (bare access PartsFirst has)

@@ -75,11 +75,11 @@ innermost_houses_none [] own = tt
 innermost_houses_none (m ∷ ms) own = houses_none m.items own
 
 -- The master that a frugal body leaves is one of its own.
-pub leaves_own : (allowance : Allowance) (back : Control) (heap : List Object) (mode left : Mode) (k : Control) (upper lower : List Master) → Frugal allowance back heap mode (Leaves left ∷ k) upper → OwnVariables upper → AreVariables (innermost (upper ++ lower))
-leaves_own allowance back heap mode left k upper lower (inl leads) own = absurd leads.0
-leaves_own allowance back heap mode left k [] lower (inr (runs, inl leaving)) own = absurd leaving
-leaves_own allowance back heap mode left k (m ∷ upper) lower (inr (runs, inl leaving)) own = own.0
-leaves_own allowance back heap mode left k upper lower (inr (runs, inr beginning)) own = absurd beginning
+pub leaves_own : (allowance : Allowance) (back : Control) (among : List Value) (mode left : Mode) (k : Control) (upper lower : List Master) → Frugal allowance back among mode (Leaves left ∷ k) upper → OwnVariables upper → AreVariables (innermost (upper ++ lower))
+leaves_own allowance back among mode left k upper lower (inl leads) own = absurd leads.0
+leaves_own allowance back among mode left k [] lower (inr (inl (runs, leaving))) own = absurd leaving
+leaves_own allowance back among mode left k (m ∷ upper) lower (inr (inl (runs, leaving))) own = own.0
+leaves_own allowance back among mode left k upper lower (inr (inr (may, beginning))) own = absurd beginning
 
 -- Such a master owns no collection.
 pub variables_stay : (ahead : Owned → Bool) (is : List Item) → AreVariables is → departs ahead is ≡ false
@@ -93,32 +93,32 @@ variables_stay ahead (i ∷ is) own = by i.owned own.0
     by (storage_pool declaration number) variable = absurd variable
 
 -- What is freed ends in front of no master that is left.
-module _ (known : Known) (allowance : Allowance) (back : Control) (heap : List Object) (places : List Value) (masters : List Master) (upper : List Master) where
-  none_left : (under : Option Id) (k : Control) → LeavesTo known under heap places masters k → FrugalLeads allowance back k upper → ⊥
+module _ (known : Known) (allowance : Allowance) (back : Control) (among : List Value) (heap : List Object) (places : List Value) (masters : List Master) (upper : List Master) where
+  none_left : (under : Option Id) (k : Control) → LeavesTo known under heap places masters k → FrugalLeads allowance back among k upper → ⊥
   none_left under [] left leads = left
   none_left under (Leaves mode ∷ k) left leads = leads.0
   none_left under (f ∷ k) left leads = left
 
-  none_leaving : (o : Id) (home : Home) (w : Value) (m item : ℕ) (pool : Option ℕ) (k : Control) → ThenBack known o home heap places masters (GivesBack w (Leaving m item) pool ∷ k) → FrugalLeads allowance back k upper → ⊥
+  none_leaving : (o : Id) (home : Home) (w : Value) (m item : ℕ) (pool : Option ℕ) (k : Control) → ThenBack known o home heap places masters (GivesBack w (Leaving m item) pool ∷ k) → FrugalLeads allowance back among k upper → ⊥
   none_leaving o home Null m item pool k behind leads = behind
   none_leaving o home (Names p) m item pool k (same, from, behind) leads = none_left (Some o) k behind.2 leads
   none_leaving o home (Scalar n) m item pool k behind leads = behind
   none_leaving o home (Part p place) m item pool k behind leads = behind
 
-  none_ending : (v w : Value) (m item : ℕ) (pool : Option ℕ) (k : Control) → EndingBy known v (GivesBack w (Leaving m item) pool ∷ k) heap places masters → FrugalLeads allowance back k upper → ⊥
+  none_ending : (v w : Value) (m item : ℕ) (pool : Option ℕ) (k : Control) → EndingBy known v (GivesBack w (Leaving m item) pool ∷ k) heap places masters → FrugalLeads allowance back among k upper → ⊥
   none_ending Null w m item pool k ending leads = ending
   none_ending (Names o) w m item pool k ending leads = none_leaving o ending.object.cell.home w m item pool k ending.rest leads
   none_ending (Scalar n) w m item pool k ending leads = ending
   none_ending (Part o place) w m item pool k ending leads = ending
 
 -- So no collection is left while a frugal body runs for whose objects operations may be called that touch storage.
-pub frugal_stays : (known : Known) (allowance : Allowance) (back : Control) (mode : Mode) (k : Control) (heap : List Object) (places operands : List Value) (upper lower : List Master) → Frugal allowance back heap mode k upper → OwnVariables upper
+pub frugal_stays : (known : Known) (allowance : Allowance) (back : Control) (among : List Value) (mode : Mode) (k : Control) (heap : List Object) (places operands : List Value) (upper lower : List Master) → Frugal allowance back among mode k upper → OwnVariables upper
     → ReadyIn known Running k heap places operands (upper ++ lower) → departs_next (departs known.ahead (innermost (upper ++ lower))) k ≡ false
-frugal_stays known allowance back mode [] heap places operands upper lower frugal own ready = refl
-frugal_stays known allowance back mode (Leaves left ∷ k) heap places operands upper lower frugal own ready =
-    variables_stay known.ahead (innermost (upper ++ lower)) (leaves_own allowance back heap mode left k upper lower frugal own)
-frugal_stays known allowance back mode (Ends v ∷ GivesBack w (Leaving m item) pool ∷ k) heap places operands upper lower (inl leads) own ready =
-    absurd (none_ending known allowance back heap places (upper ++ lower) upper v w m item pool k ready leads.1.1)
-frugal_stays known allowance back mode (Ends v ∷ GivesBack w (Leaving m item) pool ∷ k) heap places operands upper lower (inr (runs, inl leaving)) own ready = absurd leaving
-frugal_stays known allowance back mode (Ends v ∷ GivesBack w (Leaving m item) pool ∷ k) heap places operands upper lower (inr (runs, inr beginning)) own ready = absurd beginning
-frugal_stays known allowance back mode k heap places operands upper lower frugal own ready = refl
+frugal_stays known allowance back among mode [] heap places operands upper lower frugal own ready = refl
+frugal_stays known allowance back among mode (Leaves left ∷ k) heap places operands upper lower frugal own ready =
+    variables_stay known.ahead (innermost (upper ++ lower)) (leaves_own allowance back among mode left k upper lower frugal own)
+frugal_stays known allowance back among mode (Ends v ∷ GivesBack w (Leaving m item) pool ∷ k) heap places operands upper lower (inl leads) own ready =
+    absurd (none_ending known allowance back among heap places (upper ++ lower) upper v w m item pool k ready leads.1.1)
+frugal_stays known allowance back among mode (Ends v ∷ GivesBack w (Leaving m item) pool ∷ k) heap places operands upper lower (inr (inl leaving)) own ready = absurd leaving.1
+frugal_stays known allowance back among mode (Ends v ∷ GivesBack w (Leaving m item) pool ∷ k) heap places operands upper lower (inr (inr beginning)) own ready = absurd beginning.1
+frugal_stays known allowance back among mode k heap places operands upper lower frugal own ready = refl

@@ -2,23 +2,29 @@
 -- implicitly it calls nothing, also where it assigns a record (5.2).
 
 use Rattle.std.proofs.Common.{◌≡◌, ℕ, Bool, true, false, ◌||◌, List, [], ◌∷◌, ◌++◌, map, take, refl, sym, ◌∙◌, subst, inl, inr}
-use Rattle.std.proofs.lemmas.Bool.{eqb-true, or_cases}
+use Rattle.std.proofs.lemmas.Bool.{eqb-true, not-true, or_cases}
 use Rattle.std.specs.List.{list_all, slice_get}
 use Rattle.std.specs.Prelude.{Option, Some, None, is_some, not}
 use Rattle.ada_deeds.proofs.Freed.{deed}
-use Rattle.ada_deeds.specs.Implicit.{implicit_of}
-use Rattle.ada_deeds.specs.declared.deed.Operation.TheVariants.{Adjust, Finalize}
+use Rattle.ada_deeds.proofs.Parted.{does_parted}
+use Rattle.ada_deeds.proofs.Within.{counts_are_enough}
+use Rattle.ada_deeds.specs.Forms.{creation_does, parts_do}
+use Rattle.ada_deeds.specs.Implicit.{implicit_of, record_at, record_in}
+use Rattle.ada_deeds.specs.Within.{does_by}
+use Rattle.ada_deeds.specs.declared.deed.Callee.{Callee}
+use Rattle.ada_deeds.specs.declared.deed.Callee.TheVariants as callee
+use Rattle.ada_deeds.specs.declared.deed.Deed.{Deed}
+use Rattle.ada_deeds.specs.declared.deed.Operation.{Operation}
+use Rattle.ada_deeds.specs.declared.deed.Operation.TheVariants.{Initialize, Adjust, Finalize}
 use Rattle.ada_effects.specs.Effects.{Effect, Effects, assignment_frees, right_frees, ending_frees, declarations_free, leaving_frees, stmt_frees, stmts_free, branches_free, handlers_free, body_frees, known_of, effects_from, effects_of}
 use Rattle.ada_program.specs.Form.{RecordPathForm, RightForm, nothing, value_of, allocates, allocates_default, computes, DeclarationForm, creates_pool, collects, declares, declares_record, StmtForm, skips, assigns, assigns_record, frees, gets, writes, writes_text, chooses, repeats, counts, exits, calls, returns, raises, encloses, StmtsForm, no_stmts, a_stmt, BranchesForm, otherwise, a_branch, HandlersForm, no_handlers, a_handler}
+use Rattle.ada_program.specs.declared.program.ComponentKind.{ComponentKind}
 use Rattle.ada_program.specs.ProgramForm.{TypeForm, record_of, access_to, object_of, VariableForm, BodyForm, ProgramForm, seen_in, seen_by}
-use Rattle.ada_program.specs.WellFormed.{IsWellFormed, Profile, profile_of, finalization_of, is_record_path, designated_in, is_freed_by, is_this, path_access, same_record, type_fits, statement_fits, stmts_fit, branches_fit, handlers_fit, body_fits}
+use Rattle.ada_program.specs.WellFormed.{IsWellFormed, Profile, profile_of, components_in, finalization_of, is_record_path, designated_in, is_freed_by, is_this, path_access, same_record, type_fits, statement_fits, stmts_fit, branches_fit, handlers_fit, body_fits}
 use Rattle.ada_quiet.specs.Bare.{has_bare_objects, is_bare_access}
-use Rattle.ada_quiet.specs.Frugal.{allocates_quietly, are_frugal_declarations}
-use Rattle.ada_sound.proofs.Allowance.{simple_allowance, is_thrifty_stmt, are_thrifty, are_thrifty_branches, are_thrifty_handlers, is_thrifty_body}
+use Rattle.ada_sound.proofs.Allowance.{simple_allowance, allocates_thriftily, are_thrifty_declarations, is_thrifty_stmt, are_thrifty, are_thrifty_branches, are_thrifty_handlers, is_thrifty_body}
 use Rattle.ada_sound.proofs.Bodies.{seen_is}
-use Rattle.ada_sound.proofs.CalmTypes.{bare_if_calm}
 use Rattle.ada_sound.proofs.Copied.{record_there}
-use Rattle.ada_sound.proofs.FrugalUseLets.{bare_does_nothing, record_does_nothing, created_nothing}
 use Rattle.ada_sound.proofs.Invariant.{CoveredIn}
 use Rattle.ada_sound.proofs.OperationStarts.{apart}
 use Rattle.ada_typed.proofs.Bodies.{body_at}
@@ -34,32 +40,63 @@ bare_same types (Some (access_to name designated pool)) (Some (object_of record_
 bare_same types (Some (object_of record_type)) q same is = absurd (cc is)
 
 module _ (p : ProgramForm) (types_fit : list_all (type_fits p.types) p.types ≡ true) where
+  -- Nothing is done for a record without controlled parts.
+  does_nothing : (d : Deed) (operation : Operation) (r : ℕ) → is_some (finalization_of p.types r) ≡ false → does_by p d (callee.Parts operation (record { 0 = r })) ≡ false
+  does_nothing d operation r none = by (does_by p d c) refl
+    where
+      c : Callee
+      c = callee.Parts operation (record { 0 = r })
+
+      by : (done : Bool) → does_by p d c ≡ done → done ≡ false
+      by false is = refl
+      by true is = let some = does_parted p types_fit d operation r ((counts_are_enough p d c).0 is) in absurd (cc (none, some))
+
+  -- Nor is it for an object that an access value designates, if these have none.
+  bare_does_nothing : (d : Deed) (operation : Operation) (access : ℕ) (o : Option TypeForm) → is_bare_access p.types o ≡ true → parts_do (does_by p d) operation (record_in access o) ≡ false
+  bare_does_nothing d operation access None is = absurd (cc is)
+  bare_does_nothing d operation access (Some (record_of name parts components finalization)) is = absurd (cc is)
+  bare_does_nothing d operation access (Some (access_to name designated pool)) is = does_nothing d operation designated (not-true (is_some (finalization_of p.types designated)) is)
+  bare_does_nothing d operation access (Some (object_of record_type)) is = absurd (cc is)
+
+  -- Nor is it for a record that is assigned (5.2), if it has none.
+  record_does_nothing : (d : Deed) (operation : Operation) (r : ℕ) (o : Option TypeForm) (kinds : List ComponentKind) → components_in o ≡ Some kinds → not (is_some (finalization_of p.types r)) ≡ true → parts_do (does_by p d) operation (record_in r o) ≡ false
+  record_does_nothing d operation r None kinds of is = absurd (cc of)
+  record_does_nothing d operation r (Some (record_of name parts components finalization)) kinds of is = does_nothing d operation r (not-true (is_some (finalization_of p.types r)) is)
+  record_does_nothing d operation r (Some (access_to name designated pool)) kinds of is = absurd (cc of)
+  record_does_nothing d operation r (Some (object_of record_type)) kinds of is = absurd (cc of)
+
+  -- So the creation of such an object does nothing, whatever is asked for.
+  created_nothing : (d : Deed) (access : ℕ) → has_bare_objects p.types access ≡ true → creation_does (does_by p d) (record_at p.types access) ≡ false
+  created_nothing d access is =
+      let o = slice_get p.types access in
+      rw (bare_does_nothing d Initialize access o is, bare_does_nothing d Finalize access o is) refl
+
   abbrev IsBare : ℕ → Type 0
   IsBare t = has_bare_objects p.types t ≡ true
 
   module _ (t : ℕ) where
-    right_spares : (right : RightForm) → allocates_quietly p.types [] right ≡ true → right_frees (implicit_of p) t right ≡ false
+    right_spares : (right : RightForm) → allocates_thriftily (simple_allowance p.types) right ≡ true → right_frees (implicit_of p) t right ≡ false
     right_spares nothing is = refl
     right_spares (value_of path) is = refl
     right_spares (allocates access items) is = refl
-    right_spares (allocates_default access) is = created_nothing p types_fit (deed t) access (bare_if_calm p.types (slice_get p.types access) is)
+    right_spares (allocates_default access) is = created_nothing (deed t) access is
     right_spares (computes e) is = refl
 
-    declarations_spare : (ds : List DeclarationForm) → are_frugal_declarations p.types [] ds ≡ true → declarations_free (implicit_of p) t ds ≡ false
+    declarations_spare : (ds : List DeclarationForm) → are_thrifty_declarations (simple_allowance p.types) ds ≡ true → declarations_free (implicit_of p) t ds ≡ false
     declarations_spare [] is = refl
     declarations_spare (creates_pool pool ∷ ds) is = absurd (cc is)
     declarations_spare (collects access ∷ ds) is = absurd (cc is)
     declarations_spare (declares x right ∷ ds) is =
-        let both = apart (allocates_quietly p.types [] right) (are_frugal_declarations p.types [] ds) is in
+        let both = apart (allocates_thriftily (simple_allowance p.types) right) (are_thrifty_declarations (simple_allowance p.types) ds) is in
         rw (right_spares right both.0, declarations_spare ds both.1) refl
     declarations_spare (declares_record x object initial ∷ ds) is = absurd (cc is)
 
     -- Where their master is left, no object with controlled parts ends: they declare variables alone (7.6.1).
-    leaving_spares : (ds : List DeclarationForm) → are_frugal_declarations p.types [] ds ≡ true → leaving_frees (implicit_of p) t ds ≡ false
+    leaving_spares : (ds : List DeclarationForm) → are_thrifty_declarations (simple_allowance p.types) ds ≡ true → leaving_frees (implicit_of p) t ds ≡ false
     leaving_spares [] is = refl
     leaving_spares (creates_pool pool ∷ ds) is = absurd (cc is)
     leaving_spares (collects access ∷ ds) is = absurd (cc is)
-    leaving_spares (declares x right ∷ ds) is = leaving_spares ds (apart (allocates_quietly p.types [] right) (are_frugal_declarations p.types [] ds) is).1
+    leaving_spares (declares x right ∷ ds) is = leaving_spares ds (apart (allocates_thriftily (simple_allowance p.types) right) (are_thrifty_declarations (simple_allowance p.types) ds) is).1
     leaving_spares (declares_record x object initial ∷ ds) is = absurd (cc is)
 
     -- What a Free frees is of the access type of what it is given, which designates what the instance's access type does; and its end calls nothing.
@@ -67,7 +104,7 @@ module _ (p : ProgramForm) (types_fit : list_all (type_fits p.types) p.types ≡
     freed_bare access None freed is h = absurd (cc freed)
     freed_bare access (Some u) freed is h =
         let bare = bare_same p.types (slice_get p.types access) (slice_get p.types u) freed is in
-        let none = bare_does_nothing p types_fit (deed t) Finalize u (slice_get p.types u) bare in
+        let none = bare_does_nothing (deed t) Finalize u (slice_get p.types u) bare in
         elim (or_cases (is_this t (Some u)) (ending_frees (implicit_of p) t (Some u)) h) [
           | inl same ↦ subst (λ (v : ℕ). IsBare v) (eqb-true u t same) bare
           | inr ended ↦ absurd (cc (sym none ∙ ended))
@@ -81,8 +118,8 @@ module _ (p : ProgramForm) (types_fit : list_all (type_fits p.types) p.types ≡
         let r = target.record_type in
         let o = slice_get p.types r in
         rw (
-          record_does_nothing p types_fit (deed t) Finalize r o there.kinds there.components is,
-          record_does_nothing p types_fit (deed t) Adjust r o there.kinds there.components is,
+          record_does_nothing (deed t) Finalize r o there.kinds there.components is,
+          record_does_nothing (deed t) Adjust r o there.kinds there.components is,
         ) refl
 
     -- Neither of two frees what is not bare.
@@ -100,7 +137,7 @@ module _ (p : ProgramForm) (types_fit : list_all (type_fits p.types) p.types ≡
 
       module _ (variables : List VariableForm) where
         -- A block, by its statements and handlers.
-        block_bare : (ds : List DeclarationForm) (fs : StmtsForm) (hs : HandlersForm) → are_frugal_declarations p.types [] ds ≡ true
+        block_bare : (ds : List DeclarationForm) (fs : StmtsForm) (hs : HandlersForm) → are_thrifty_declarations (simple_allowance p.types) ds ≡ true
             → (stmts_free p.types variables effects t fs ≡ true → IsBare t) → (handlers_free p.types variables effects t hs ≡ true → IsBare t)
             → ((stmts_free p.types variables effects t fs || handlers_free p.types variables effects t hs) || (declarations_free (implicit_of p) t ds || leaving_frees (implicit_of p) t ds)) ≡ true → IsBare t
         block_bare ds fs hs is first behind h =

@@ -15,6 +15,7 @@ grounds program s sound = record {
   in_use = sound.in_use;
   frees_own = sound.frees_own;
   spares_own = sound.spares_own;
+  propagates_nothing = sound.propagates_nothing;
   spares_starts = sound.spares_starts;
   obeys = sound.obeys;
   idle = sound.idle;

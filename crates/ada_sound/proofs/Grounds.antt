@@ -28,6 +28,7 @@ use Rattle.ada_finalized.specs.Law.{NoOperationRuns, NoOperationRunsOn, NothingB
 use Rattle.ada_meaning.specs.Finalization.{NothingTreated}
 use Rattle.ada_idle.proofs.Idle.{ControlIsIdle, IsIdle}
 use Rattle.ada_idle.proofs.Unadjusted.{AdjustsNone}
+use Rattle.ada_operations.specs.Operations.{PropagatesNothing}
 use Rattle.ada_quiet.specs.Apart.{is_tracker, operations_stand_apart}
 use Rattle.ada_quiet.specs.Idle.{copies_parts, makes_parts}
 use Rattle.ada_quiet.specs.InUse.{may_be_frugal, operations_are_in_use}
@@ -74,6 +75,7 @@ pub record Grounds (program : Program) (s : State) : Type 0 where
   pub in_use : operations_are_in_use (program_form program) ≡ true
   pub frees_own : FreesItsOwn (program_form program)
   pub spares_own : SparesOwn program
+  pub propagates_nothing : PropagatesNothing (program_form program)
   pub spares_starts : SparesStarts program
   pub obeys : Obeys program
   -- what is left to do, and values

@@ -137,8 +137,8 @@ pub mod OrderlyBodies
 pub mod ConfinedBodies
 -- states in which components hold null are typed
 pub mod TypedAside
--- no exception comes out of them by what they call implicitly
-pub mod SimpleEffects
+-- no exception comes out of an Adjust, as it is judged
+pub mod JudgedAdjusts
 -- procedures that track stand apart
 pub mod Trackers
 -- so no copy leaves two owners
@@ -181,12 +181,8 @@ pub mod FrugalLeaves
 -- where a Finalize may be frugal
 pub mod FrugalUseParts
 pub mod FrugalUseEnds
-pub mod FrugalUseLets
+pub mod OperationsLet
 mod FrugalUseFrees
-mod FrugalDeeds
--- that their aggregates suit
-mod FrugalSuits
-mod FrugalUseSilent
 -- no object of its own access type is freed where an object ends, or is adjusted
 pub mod SparesOwn
 -- no object is reached in which a component may lie that names what ends
@@ -324,10 +320,6 @@ pub mod InOrder
 pub mod Operated
 -- what is behind its object, where it is called
 pub mod TouchingRests
--- plain bodies follow nothing, and free nothing
-pub mod QuietDeeds
--- what begins quietly
-pub mod BegunQuietly
 -- bodies that shun access types: frugal ones have their shape
 pub mod Shunning
 -- and that of a Finalize shuns what the end of its object does not reach
@@ -435,6 +427,8 @@ pub mod ExampleLeaving
 pub mod ExampleNesting
 -- one whose Initialize allocates an object with controlled parts
 pub mod ExampleHousing
+-- one whose Initialize allocates an object whose Initialize allocates, too
+pub mod ExampleStocking
 pub mod ExampleAllocating
 pub mod ExampleUndoing
 -- one whose Initialize allocates for what an allocator makes

@@ -1,12 +1,12 @@
--- The body of an operation runs that touches Integers and Booleans alone (7.6): no other one is under way, or one that touches storage is, which frees the object, or
--- allocates it.
+-- The body of an operation runs that touches Integers and Booleans alone (7.6): no other one is under way, or one that touches storage is, in which the object
+-- is freed, allocated or undone.
 
-use Rattle.std.proofs.Common.{◌≡◌, ℕ, true, false, List, [], ◌∷◌, ◌++◌, ◌⊎◌, inl, inr}
+use Rattle.std.proofs.Common.{◌≡◌, ℕ, true, List, [], ◌∷◌, ◌++◌, ◌⊎◌}
 use Rattle.std.specs.Prelude.{Some}
 use Rattle.ada_program.specs.declared.program.Exception.{Exception}
 use Rattle.ada_program.specs.declared.program.Program.{Program}
 use Rattle.ada_program.specs.Handling.{is_same}
-use Rattle.ada_program.specs.ProgramForm.{ProgramForm, BodyForm, main_body, program_form, seen_in}
+use Rattle.ada_program.specs.ProgramForm.{ProgramForm, main_body, program_form, seen_in}
 use Rattle.ada_effects.specs.Effects.{Implicit, no_calls, body_raises}
 use Rattle.ada_deeds.specs.Implicit.{implicit_of}
 use Rattle.ada_meaning.specs.declared.state.Id.{Id}
@@ -29,31 +29,10 @@ use Rattle.ada_sound.proofs.Operating.{Body, IsCalm, WaitsFor, behind_operation,
 use Rattle.ada_sound.proofs.Touching.{Within}
 
 -- What is around the body of such an operation, by what it is called for, where these activations wait: no operation runs, or one that touches storage is under
--- way, in which the object is freed or allocated (13.11.2, 4.8).
+-- way, in which the object is freed, allocated or undone (13.11.2, 4.8, 7.6.1).
 abbrev pub AroundTreated : (program : Program) → Treatment → List Suspension → State → Type 0
 AroundTreated program treatment gs s =
     (IsCalm (behind_call s.control) × (under_in (callers_of program gs) ≡ [])) ⊎ (IsInside treatment × Within program gs s)
-
--- One that touches storage is.
-abbrev pub IsAmidst : {Calm Inside : Type 0} → Calm ⊎ Inside → Type 0
-IsAmidst (inl calm) = ⊥
-IsAmidst (inr within) = Unit {0}
-
--- So it is where the body begins; and inside one that touches storage it lets no exception out.
-abbrev pub AroundSilently : (program : Program) → Treatment → BodyForm → List Suspension → State → Type 0
-AroundSilently program treatment b gs s =
-    (IsCalm (behind_call s.control) × (under_in (callers_of program gs) ≡ []))
-    ⊎ ((IsInside treatment × Within program gs s) × ((e : Exception) → body_raises no_calls b (is_same e) ≡ false))
-
--- What is around it.
-abbrev pub around_it : {Calm Inside Silent : Type 0} → Calm ⊎ (Inside × Silent) → Calm ⊎ Inside
-around_it (inl calm) = inl calm
-around_it (inr both) = inr both.0
-
--- Inside one that touches storage this is known.
-pub silent_there : {Calm Inside Silent : Type 0} → (around : Calm ⊎ (Inside × Silent)) → IsAmidst (around_it around) → Silent
-silent_there (inl calm) amidst = absurd amidst
-silent_there (inr both) amidst = both.1
 
 -- The object that an operation is called for is treated; and what waits for it goes on behind that, whatever the body does.
 pub record Suspended (program : Program) (object : Id) (treatment : Treatment) (caller : Activation Value) (rest : List (Activation Value)) (behind : Control) (lower : List Master) (s : State) : Type 0 where
@@ -85,7 +64,6 @@ pub record Operates (program : Program) (s : State) : Type 0 where
   pub body : Body (record { program = seen_in (Some procedure) (program_form program); object = object; access = access }) behind upper s.heap places operands s.mode s.control
   pub treatment : Treatment
   pub suspended : Suspended program object treatment caller rest behind lower s
-  pub silent : IsAmidst suspended.around → (e : Exception) → body_raises no_calls (main_body (seen_in (Some procedure) (program_form program))) (is_same e) ≡ false
   pub prepared : (e : Exception) → body_raises no_calls (main_body (seen_in (Some procedure) (program_form program))) (is_same e) ≡ true → lets_out (implicit_of (program_form program)) access treatment e ≡ true
 
 -- The body of such an operation runs behind a step that gives nothing back; and what that does to objects.

@@ -50,7 +50,7 @@ use Rattle.ada_sound.proofs.Fits.{IsWithin}
 use Rattle.ada_sound.proofs.Invariant.{Control, TreatsBy, under_in}
 use Rattle.ada_sound.proofs.OperationStarts.{places_hold, starts, calm_behind}
 use Rattle.ada_sound.proofs.Operating.{Sight, StaysLive, WaitsFor, IsCalled, IsCalm, PlainBody, IsScalar, Holds, HoldScalars, Body, lets_out, behind_operation}
-use Rattle.ada_sound.proofs.Operates.{AroundSilently, Operates, around_it, silent_there}
+use Rattle.ada_sound.proofs.Operates.{AroundTreated, Operates}
 use Rattle.ada_sound.proofs.QuietOperations.{LetsNothingOut}
 use Rattle.ada_sound.proofs.Raising.{body_more}
 use Rattle.ada_sound.proofs.Ready.{running}
@@ -171,7 +171,7 @@ module _ (program : Program) (well : IsWellFormed (program_form program)) (of nu
   comes_out a rest o heap x found (ends cause) tasks k behind quiet called types waits waiting e may = absurd (none_out quiet e may)
 
 -- The operation of a part of an object begins: what waits for it is behind the treatment of the object, and no other operation runs there, or one does that
--- touches storage, in which the object is freed or allocated; then no exception comes out of the body.
+-- touches storage, in which the object is freed, allocated or undone.
 module _ (program : Program) (number : ℕ) (b : BodyForm) (there : slice_get (body_forms program) number ≡ Some b) (plain : PlainBody (program_form program).types b) (caller : Activation Value) (rest : List (Activation Value)) (gs : List Suspension) (s : State) (stands : Stands program gs (record s { activations = caller ∷ rest })) (o : Id) (of : ℕ) (treatment : Treatment) (tasks : List Task) (k behind : Control) (reference : Value) where
   abbrev pub looking : Object → Sight
   looking x = record { program = seen_by number b (program_form program); object = o; access = x.cell.access }
@@ -179,7 +179,7 @@ module _ (program : Program) (number : ℕ) (b : BodyForm) (there : slice_get (b
   pub operation_begins : (e : Event) (heap : List Object) (x : Object) → object_at heap o ≡ Some x → StaysLive x.stage → Alters s.heap e heap → WaitsFor (program_form program).types o of treatment tasks k behind
       → TreatsBy (known_in program caller.procedure gs) (Names o) treatment tasks k heap caller.places caller.operands s.masters
       → Holds (looking x) (variable_kind b.variables 0) reference → HoldScalars (looking x) x
-      → AroundSilently program treatment b gs
+      → AroundTreated program treatment gs
       (behind_operation (caller ∷ rest) behind s.masters
       (operating named number b reference behind (record s { activations = caller ∷ rest; heap = heap; mode = Running })))
       → ((e' : Exception) → body_raises no_calls b (is_same e') ≡ true → lets_out (implicit_of (program_form program)) x.cell.access treatment e' ≡ true)
@@ -222,16 +222,15 @@ module _ (program : Program) (number : ℕ) (b : BodyForm) (there : slice_get (b
           treats = treats;
           stands = stands_kept program (record s { activations = caller ∷ rest }) (behind_operation (caller ∷ rest) behind s.masters after) gs stands e
               (record { procedure = refl; suspended = refl }) alters;
-          around = around_it around;
+          around = around;
         };
-        silent = rw (seen_as (program_form program) number b there) (silent_there around);
         prepared = rw (seen_as (program_form program) number b there) out;
       }
 
 -- Where no operation runs behind the treatment, none runs behind the body.
 pub calm_around : (program : Program) (a : Activation Value) (rest : List (Activation Value)) (gs : List Suspension) (s : State) (k : Control) (IsOperated : Treatment → Id → ℕ → Type 0) (e : Event) (after : State)
     → (c : Begins (known_in program a.procedure gs) a rest s program.types.items (body_forms program) k IsOperated e after) → IsCalm (behind_call k) → under_in (callers_of program gs) ≡ []
-    → AroundSilently program c.treatment c.b gs (behind_operation (a ∷ rest) c.behind s.masters after)
+    → AroundTreated program c.treatment gs (behind_operation (a ∷ rest) c.behind s.masters after)
 calm_around program a rest gs s k IsOperated e after c calm settled =
     inl (calm_behind (known_in program a.procedure gs).program.types c.o c.of c.treatment c.tasks k c.behind c.waits calm, settled)
 
@@ -239,7 +238,7 @@ calm_around program a rest gs s k IsOperated e after c calm settled =
 module _ (program : Program) (well : IsWellFormed (program_form program)) (a : Activation Value) (rest : List (Activation Value)) (gs : List Suspension) (s : State) (k : Control) where
   pub begins_operation : (IsOperated : Treatment → Id → ℕ → Type 0) (e : Event) (after : State) → Stands program gs (record s { activations = a ∷ rest })
       → typed.Typed (program_form program) after → (c : Begins (known_in program a.procedure gs) a rest s program.types.items (body_forms program) k IsOperated e after)
-      → AroundSilently program c.treatment c.b gs (behind_operation (a ∷ rest) c.behind s.masters after)
+      → AroundTreated program c.treatment gs (behind_operation (a ∷ rest) c.behind s.masters after)
       → PlainBody (program_form program).types c.b × LetsNothingOut c.treatment c.b → Operates program after
   begins_operation IsOperated e after stands typing c around (plain, quiet) =
       let begun = operating named c.number c.b (Part c.o c.place) c.behind (record (running k a rest s) { heap = c.heap }) in

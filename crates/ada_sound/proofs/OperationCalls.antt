@@ -1,4 +1,5 @@
--- The body of an operation comes to its end (7.6): what waits for it goes on; and an exception that comes out of an Initialize undoes the object (7.6.1).
+-- The body of an operation comes to its end (7.6): what waits for it goes on; and an exception that comes out of an Initialize undoes the object (7.6.1), also
+-- inside an operation that touches storage.
 
 use Rattle.std.proofs.Common.{◌≡◌, ℕ, true, List, [], ◌∷◌, refl, inl, inr, subst, sym}
 use Rattle.std.specs.Prelude.{Some}
@@ -9,6 +10,7 @@ use Rattle.ada_program.specs.declared.program.Program.{Program}
 use Rattle.ada_program.specs.ProgramForm.{program_form, TypeForm}
 use Rattle.ada_deeds.specs.Implicit.{implicit_of}
 use Rattle.ada_meaning.specs.declared.event.Birth.TheVariants.{Creation, Copy, Adjustment}
+use Rattle.ada_meaning.specs.declared.event.Cause.{Cause}
 use Rattle.ada_meaning.specs.declared.event.Cause.TheVariants.{Leaving, Freeing, Assigning, Undoing}
 use Rattle.ada_meaning.specs.declared.state.Id.{Id}
 use Rattle.ada_meaning.specs.declared.state.Value.{Value}
@@ -31,9 +33,9 @@ use Rattle.ada_sound.proofs.Waiting.{stands_kept}
 use Rattle.ada_sound.proofs.Written.{treats_written}
 use Rattle.ada_sound.proofs.OperationStarts.{found_by}
 use Rattle.ada_sound.proofs.Operating.{StaysLive, WaitsFor, lets_out, behind_operation}
-use Rattle.ada_sound.proofs.Operates.{AroundTreated, IsAmidst, Suspended}
-use Rattle.ada_sound.proofs.Pauses.{EndsBehind, GoesOnBehind, OthersStay, within_kept}
-use Rattle.ada_sound.proofs.Touching.{Around}
+use Rattle.ada_sound.proofs.Operates.{AroundTreated, Suspended}
+use Rattle.ada_sound.proofs.Pauses.{BeginsBehind, EndsBehind, GoesOnBehind, OthersStay, raised_within, within_kept}
+use Rattle.ada_sound.proofs.Touching.{Around, Within}
 
 pub is_live : (heap : List Object) (o : Id) (x : Object) → object_at heap o ≡ Some x → StaysLive x.stage → IsLive heap (Names o)
 is_live heap o x found live = (x.cell, rw found (found_by x x.stage live))
@@ -52,7 +54,15 @@ ready_raising known o of (begins Copy done) access tasks k behind heap places op
 ready_raising known o of (begins (Adjustment number) done) access tasks k behind heap places operands ms e x found same live waits out r = absurd (cc out)
 ready_raising known o of (ends cause) access tasks k behind heap places operands ms e x found same live waits out r = absurd (cc out)
 
--- Where an object is freed, it ends behind that; where it is allocated, what is left of it begins.
+-- What is left of the finalization of an object goes on behind the body of a Finalize, and then the object ends.
+ending_goes :
+    (known : Known) (o : Id) (cause : Cause) (tasks : List Task) (k behind : Control) (heap : List Object) (places : List Value) (ms : List Master)
+    → behind ≡ Confines ∷ treating (Names o) (ends cause) tasks k → EndsTo known (Names o) k heap places ms → EndsBehind o behind
+ending_goes known o cause tasks [] behind heap places ms is none = absurd none
+ending_goes known o cause tasks (Ends w ∷ k) behind heap places ms is (same, ending) = record { cause = cause; tasks = tasks; rest = k; is = rw same at is }
+ending_goes known o cause tasks (f ∷ k) behind heap places ms is none = absurd none
+
+-- Where an object is freed or undone, it ends behind that; where it is allocated, what is left of it begins.
 inside_goes :
     (known : Known) (types : List TypeForm) (o : Id) (of : ℕ) (treatment : Treatment) (tasks : List Task) (k behind : Control) (heap : List Object)
     (places operands : List Value) (ms : List Master) → IsInside treatment
@@ -62,14 +72,11 @@ inside_goes known types o of (begins Creation done) tasks k behind heap places o
 inside_goes known types o of (begins Copy done) tasks k behind heap places operands ms freed waits treats = absurd freed
 inside_goes known types o of (begins (Adjustment number) done) tasks k behind heap places operands ms freed waits treats = absurd freed
 inside_goes known types o of (ends (Leaving m item)) tasks k behind heap places operands ms freed waits treats = absurd freed
-inside_goes known types o of (ends (Freeing number)) tasks k behind heap places operands ms freed (is, inside) treats = inl (by k is treats)
-  where
-    by : (k : Control) → behind ≡ Confines ∷ treating (Names o) (ends (Freeing number)) tasks k → EndsTo known (Names o) k heap places ms → EndsBehind o behind
-    by [] is none = absurd none
-    by (Ends w ∷ k) is (same, ending) = record { cause = Freeing number; tasks = tasks; rest = k; is = rw same at is }
-    by (f ∷ k) is none = absurd none
+inside_goes known types o of (ends (Freeing number)) tasks k behind heap places operands ms freed (is, inside) treats =
+    inl (ending_goes known o (Freeing number) tasks k behind heap places ms is treats)
 inside_goes known types o of (ends (Assigning number)) tasks k behind heap places operands ms freed waits treats = absurd freed
-inside_goes known types o of (ends (Undoing number)) tasks k behind heap places operands ms freed waits treats = absurd freed
+inside_goes known types o of (ends (Undoing number)) tasks k behind heap places operands ms freed (is, inside) treats =
+    inl (ending_goes known o (Undoing number) tasks k behind heap places ms is treats)
 
 module _ (program : Program) (o : Id) (treatment : Treatment) (caller : Activation Value) (rest : List (Activation Value)) (behind : Control) (lower : List Master) where
   -- The types are those that the caller sees.
@@ -100,15 +107,22 @@ module _ (program : Program) (o : Id) (treatment : Treatment) (caller : Activati
       → Around program w.suspensions (behind_operation (caller ∷ rest) behind lower s)
   around_behind s w = elim w.around [ inl none ↦ inl none | inr (freed, within) ↦ inr within ]
 
-  -- What is around it is so behind an exception: that comes out of no operation that is called where one that touches storage is under way.
-  pub around_raising : (s : State) (e : Exception) (w : Suspended program o treatment caller rest behind lower s) → (IsAmidst w.around → ⊥)
+  -- So it is behind an exception: that comes out of the initialization of a part of a new object alone, which is undone then.
+  pub around_raising :
+      (s : State) (access : ℕ) (e : Exception) → lets_out (implicit_of (program_form program)) access treatment e ≡ true
+      → (w : Suspended program o treatment caller rest behind lower s)
       → Around program w.suspensions (record (behind_operation (caller ∷ rest) behind lower s) { mode = Raising e })
-  around_raising s e w silent = by w.around silent
+  around_raising s access e out w = elim w.around [ inl none ↦ inl none | inr (inside, within) ↦ inr (by treatment w.waits out within) ]
     where
-      by : (around : AroundTreated program treatment w.suspensions (behind_operation (caller ∷ rest) behind lower s)) → (IsAmidst around → ⊥)
-          → Around program w.suspensions (record (behind_operation (caller ∷ rest) behind lower s) { mode = Raising e })
-      by (inl none) amidst = inl none
-      by (inr both) amidst = absurd (amidst tt)
+      by : (way : Treatment) → WaitsFor (program_form program).types o w.of way w.tasks w.after behind → lets_out (implicit_of (program_form program)) access way e ≡ true
+          → Within program w.suspensions (behind_operation (caller ∷ rest) behind lower s)
+          → Within program w.suspensions (record (behind_operation (caller ∷ rest) behind lower s) { mode = Raising e })
+      by (begins Creation done) (part, is) out' within =
+          let begun : BeginsBehind o behind = record { done = done; of = w.of; part = part; tasks = w.tasks; rest = w.after; is = is } in
+          raised_within program w.suspensions (behind_operation (caller ∷ rest) behind lower s) e begun within
+      by (begins Copy done) waits out' within = absurd (cc out')
+      by (begins (Adjustment number) done) waits out' within = absurd (cc out')
+      by (ends cause) waits out' within = absurd (cc out')
 
   -- What is around it stays so, whatever the body does to the object.
   module _ (s after : State) (alters : Alters s.heap Quiet after.heap) (others : OthersStay o s.heap after.heap)
@@ -122,44 +136,34 @@ module _ (program : Program) (o : Id) (treatment : Treatment) (caller : Activati
         caller.places caller.operands lower freed w.waits w.treats
 
     -- One that touches storage is around it then, if one was.
-    around_still : (around : AroundTreated program treatment w.suspensions (behind_in after)) × (IsAmidst around → IsAmidst w.around)
+    around_still : AroundTreated program treatment w.suspensions (behind_in after)
     around_still = by w.around
       where
-        by : (now : AroundTreated program treatment w.suspensions (behind_in s))
-            → (around : AroundTreated program treatment w.suspensions (behind_in after)) × (IsAmidst around → IsAmidst now)
-        by (inl none) = (inl none, λ amidst. amidst)
-        by (inr (inside, within)) = (
-          inr (inside, within_kept program (behind_in s) (behind_in after) o (ends_next inside) others refl refl w.suspensions Quiet within refl refl alters),
-          λ amidst. tt,
-        )
+        by : AroundTreated program treatment w.suspensions (behind_in s) → AroundTreated program treatment w.suspensions (behind_in after)
+        by (inl none) = inl none
+        by (inr (inside, within)) =
+            inr (inside, within_kept program (behind_in s) (behind_in after) o (ends_next inside) others refl refl w.suspensions Quiet within refl refl alters)
 
     -- What waits for it waits still.
-    abbrev StillWaits : Type 0
-    StillWaits = (waits : Suspended program o treatment caller rest behind lower after) × (IsAmidst waits.around → IsAmidst w.around)
-
     waits_still :
         TreatsBy (known_in program caller.procedure w.suspensions) (Names o) treatment w.tasks w.after after.heap caller.places caller.operands lower
-        → StillWaits
-    waits_still treats =
-        let around = around_still in (
-          record {
-            suspensions = w.suspensions;
-            after = w.after;
-            of = w.of;
-            tasks = w.tasks;
-            waits = w.waits;
-            treats = treats;
-            stands = stands_kept program (behind_in s) (behind_in after) w.suspensions w.stands Quiet (record { procedure = refl; suspended = refl }) alters;
-            around = around.0;
-          },
-          around.1,
-        )
+        → Suspended program o treatment caller rest behind lower after
+    waits_still treats = record {
+      suspensions = w.suspensions;
+      after = w.after;
+      of = w.of;
+      tasks = w.tasks;
+      waits = w.waits;
+      treats = treats;
+      stands = stands_kept program (behind_in s) (behind_in after) w.suspensions w.stands Quiet (record { procedure = refl; suspended = refl }) alters;
+      around = around_still;
+    }
 
   -- The body writes an Integer or a Boolean into the object: what waits for it waits still.
   pub waits_written :
       (s after : State) (x : Object) (c : ℕ) (v : Value) → object_at s.heap o ≡ Some x → ((p : Id) → v ≡ Names p → ⊥)
-      → after.heap ≡ slice_set s.heap o.0 (filled c v x) → (w : Suspended program o treatment caller rest behind lower s)
-      → (waits : Suspended program o treatment caller rest behind lower after) × (IsAmidst waits.around → IsAmidst w.around)
+      → after.heap ≡ slice_set s.heap o.0 (filled c v x) → Suspended program o treatment caller rest behind lower s
+      → Suspended program o treatment caller rest behind lower after
   waits_written s after x c v found nameless heap w =
       waits_still s after (rw heap (alters_set s.heap Quiet o x (filled c v x) found (refl, refl, refl) (λ h. h) (λ h. inl h)))
       (λ q other. rw heap (set_other s.heap o.0 q.0 (filled c v x) (λ same. other (id_is q o same)))) w
@@ -168,6 +172,6 @@ module _ (program : Program) (o : Id) (treatment : Treatment) (caller : Activati
 
   -- It writes nothing.
   pub waits_on :
-      (s after : State) → after.heap ≡ s.heap → (w : Suspended program o treatment caller rest behind lower s)
-      → (waits : Suspended program o treatment caller rest behind lower after) × (IsAmidst waits.around → IsAmidst w.around)
+      (s after : State) → after.heap ≡ s.heap → Suspended program o treatment caller rest behind lower s
+      → Suspended program o treatment caller rest behind lower after
   waits_on s after heap w = waits_still s after (rw heap (alters_same s.heap Quiet)) (λ q other. rw heap refl) w (rw heap w.treats)

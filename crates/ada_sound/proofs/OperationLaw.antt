@@ -26,7 +26,7 @@ use Rattle.ada_sound.proofs.Invariant.{Control}
 use Rattle.ada_sound.proofs.Returns.{CrossesTo}
 use Rattle.ada_sound.proofs.OperationCalls.{goes_behind, raises_behind, around_behind, around_raising, waits_on, waits_written}
 use Rattle.ada_sound.proofs.Operating.{Sight, IsScalar, Finds, Comes, Body, behind_operation}
-use Rattle.ada_sound.proofs.Operates.{IsAmidst, Suspended, Operates}
+use Rattle.ada_sound.proofs.Operates.{Suspended, Operates}
 use Rattle.ada_sound.proofs.OperationSteps.{acting, After, Wrote, GoesOnIn}
 use Rattle.ada_sound.proofs.OperationRuns.{running_on, raising_on, exiting_on, returning_on}
 use Rattle.ada_sound.proofs.Touching.{Around}
@@ -59,8 +59,7 @@ operates_on program s after e o a = record {
   access = o.access;
   body = a.body;
   treatment = o.treatment;
-  suspended = waits.0;
-  silent = λ amidst. o.silent (waits.1 amidst);
+  suspended = by a.wrote;
   prepared = o.prepared;
 }
   where
@@ -68,12 +67,9 @@ operates_on program s after e o a = record {
     sight = record { program = seen_in (Some o.procedure) (program_form program); object = o.object; access = o.access }
 
     by : Wrote sight o.procedure (o.caller ∷ o.rest) o.lower o.behind s.heap after.heap
-        → (waits : Suspended program o.object o.treatment o.caller o.rest o.behind o.lower after) × (IsAmidst waits.around → IsAmidst o.suspended.around)
+        → Suspended program o.object o.treatment o.caller o.rest o.behind o.lower after
     by (inl same) = waits_on program o.object o.treatment o.caller o.rest o.behind o.lower s after same o.suspended
     by (inr (x, c, v, found, is, wrote)) = waits_written program o.object o.treatment o.caller o.rest o.behind o.lower s after x c v found (nameless v is) wrote o.suspended
-
-    waits : (waits : Suspended program o.object o.treatment o.caller o.rest o.behind o.lower after) × (IsAmidst waits.around → IsAmidst o.suspended.around)
-    waits = by a.wrote
 
 -- The body ends: the state is that in which what waits for it goes on.
 pub ends_is : (s : State) (a caller : Activation Value) (rest : List (Activation Value)) (behind : Control) (lower : List Master)
@@ -94,8 +90,7 @@ pub operation_raises : (program : Program) (s : State) (o : Operates program s) 
     × Around program o.suspended.suspensions (record (behind_operation (o.caller ∷ o.rest) o.behind o.lower s) { mode = Raising x })
 operation_raises program s o x may = (
   raises_behind program o.object o.treatment o.caller o.rest o.behind o.lower s o.access x o.body.x o.body.found o.body.of_access o.body.live (o.prepared x may) o.suspended,
-  around_raising program o.object o.treatment o.caller o.rest o.behind o.lower s x o.suspended
-      (λ amidst. let none = o.silent amidst x in cc (none, may)),
+  around_raising program o.object o.treatment o.caller o.rest o.behind o.lower s o.access x (o.prepared x may) o.suspended,
 )
 
 -- What comes next, in the body or behind it.

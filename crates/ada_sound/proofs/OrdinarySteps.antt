@@ -309,7 +309,7 @@ module _ (program : Program) (a : Activation Value) (rest : List (Activation Val
     begins_adjusting e after is c =
         let tracks = adjust_tracks program grounds.well (copied_by c.by c.done c.operated.0 c.copies) in_use_here a rest s o.suspensions v k IsOperated e after c in
         let untreated = grounds.untreated_start calm_here v c.by c.done tasks k (ap (λ (by : Treatment). Treats v by tasks ∷ k) (sym c.operated.0)) in
-        let adjusting = adjusting_starts program grounds.well grounds.obeys a rest s o.suspensions v k IsOperated e after c tracks.0 tracks.1
+        let adjusting = adjusting_starts program grounds.well grounds.obeys grounds.propagates_nothing a rest s o.suspensions v k IsOperated e after c tracks.0 tracks.1
         (filled_in_program (program_form program) a.procedure whole grounds.typed.inside)
         (step_typed program grounds.well whole after settled e grounds.typed (rw is (refl, refl)))
         (restand Running (Treats v treatment tasks) o.suspensions o.stands) o.calm o.settled (grounds.apart (stands_apart (program_form program) tracks.0.0)).1 (λ u ne. nothing_begins u k untreated) in
@@ -330,8 +330,8 @@ module _ (program : Program) (a : Activation Value) (rest : List (Activation Val
     }))
     begun_as e after is c (inr (inr (copies, tracks, own))) =
         absurd (sees_to_none program grounds.well tracks.0 a rest s o.suspensions k IsOperated e after c copies own)
-    begun_as e after is c (inr (inl (may_touch, may, frugal, silent, touches))) = inr (inr (inl (record {
-      body = touching_outermost program a rest s k v treatment tasks o.suspensions whole refl grounds calm_here refl o.calm o.settled (restand Running (Treats v treatment tasks) o.suspensions o.stands) e after c may_touch may silent frugal touches
+    begun_as e after is c (inr (inl (may_touch, may, frugal, touches))) = inr (inr (inl (record {
+      body = touching_outermost program a rest s k v treatment tasks o.suspensions whole refl grounds calm_here refl o.calm o.settled (restand Running (Treats v treatment tasks) o.suspensions o.stands) e after c may_touch may frugal touches
           (step_typed program grounds.well whole after settled e grounds.typed (rw is (refl, refl)));
       alters = rw c.is c.alters;
       says = told_says e s.heap after c.tells _ _;

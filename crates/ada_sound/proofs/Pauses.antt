@@ -1,6 +1,6 @@
 -- What waits for operations that touch storage stays as it is known, whatever the bodies in front of it do (7.6, 7.6.1): each object stays the object that it
 -- was, and each activation that waits keeps the operands that it had. Where a part of an object has been finalized that ends behind, or has been begun of one
--- that begins, what is watched is another object.
+-- that begins, what is watched is another object. So it stays where an exception comes out of what begins the part.
 
 use Rattle.std.proofs.Common.{◌≡◌, ◌≢◌, ℕ, zero, suc, false, List, [], ◌∷◌, length, drop, refl, sym, ap, ◌∙◌, subst, ◌⊎◌, inl, inr, arith}
 use Rattle.std.proofs.Math.Nat.{add-zero}
@@ -9,14 +9,18 @@ use Rattle.ada_parts.specs.Task.{Task}
 use Rattle.ada_program.specs.declared.program.Program.{Program}
 use Rattle.ada_program.specs.ProgramForm.{ProgramForm, program_form}
 use Rattle.ada_parts.specs.Part as parts
+use Rattle.ada_program.specs.declared.program.Exception.{Exception}
 use Rattle.ada_meaning.specs.declared.event.Birth.TheVariants.{Creation}
 use Rattle.ada_meaning.specs.declared.event.Cause.{Cause}
 use Rattle.ada_meaning.specs.declared.state.Id.{Id}
+use Rattle.ada_meaning.specs.declared.state.Mode.{Mode}
+use Rattle.ada_meaning.specs.declared.state.Mode.TheVariants.{Raising}
 use Rattle.ada_meaning.specs.declared.state.Value.{Value}
 use Rattle.ada_meaning.specs.declared.state.Value.TheVariants.{Names}
 use Rattle.ada_meaning.specs.Frame.{ends}
 use Rattle.ada_meaning.specs.Frame as frame
 use Rattle.ada_meaning.specs.Named.{Object, State, object_at}
+use Rattle.ada_meaning.specs.Event.{Quiet}
 use Rattle.ada_meaning.specs.Run.{Event}
 use Rattle.ada_meaning.specs.State.{Activation, Master}
 use Rattle.ada_meaning.specs.Step.{older, operands_of, procedure_of, treating}
@@ -26,13 +30,13 @@ use Rattle.ada_reaching.specs.Law.{GhostsStay}
 use Rattle.ada_reaching.specs.Reaching.{IsReaching, LeftShuns}
 use Rattle.ada_reaching.proofs.Behind.{ends_other, reaching_kept, waiting_kept}
 use Rattle.ada_tracked.proofs.Lists.{is_apart, is_same}
-use Rattle.ada_sound.proofs.FrugalControl.{frugal_kept}
+use Rattle.ada_sound.proofs.FrugalControl.{Frugal}
 use Rattle.ada_sound.proofs.Allowance.{Allowance, allowance_of}
 use Rattle.ada_sound.specs.Agreement.{running_procedure}
-use Rattle.ada_sound.proofs.Alters.{Alters}
+use Rattle.ada_sound.proofs.Alters.{Alters, alters_same}
 use Rattle.ada_sound.proofs.Callers.{Suspension}
 use Rattle.ada_sound.proofs.Invariant.{Control}
-use Rattle.ada_sound.proofs.Touching.{Pause, Watch, Watched, Within, AreInner, origin, is_unnamed, is_watched, watches}
+use Rattle.ada_sound.proofs.Touching.{Pause, Watch, Watched, Within, AreInner, operated_among, origin, is_unnamed, is_watched, watches}
 
 -- What is known of an activation that waits for an operation, behind a step: of the object, what the step leaves, and the operands.
 abbrev pub pause_on :
@@ -113,7 +117,7 @@ module _ (program : Program) (s : State) (allowance : Allowance) (back : Control
       is = operation.is;
       behind_it = operation.behind_it;
       runs = operation.runs;
-      freed = operation.freed;
+      inside = operation.inside;
       upper = operation.upper;
       masters = operation.masters;
       own = operation.own;
@@ -146,7 +150,56 @@ GoesOnBehind o k = EndsBehind o k ⊎ BeginsBehind o k
 abbrev pub OthersStay : Id → (before after : List Object) → Type 0
 OthersStay o before after = (q : Id) → q ≢ o → object_at after q ≡ object_at before q
 
--- What is around stays around while no object changes but one whose treatment goes on behind: what is watched is another one.
+-- What is around stays around while what is watched is so still, and what is left to do goes on.
+module _ (program : Program) (s after : State) (active : after.activations ≡ s.activations)
+    (still : (watch : Option Watch) (behind : Control) → Watched program watch behind s → Watched program watch behind after) where
+  -- What is watched in each of these activations is so still.
+  all_on :
+      (allowance : Allowance) (back : Control) (lower : List Master) (running : Option ℕ) (depth : ℕ) (outermost : Option ℕ) (waiting inner : List Suspension)
+      (w : AreInner program s allowance back lower running depth outermost waiting inner)
+      → AllWatched program s allowance back lower after running depth outermost waiting inner w
+  all_on allowance back lower running depth outermost waiting [] w = tt
+  all_on allowance back lower running depth outermost waiting (g ∷ inner) (inl call, more) =
+      all_on allowance back lower g.procedure (suc depth) outermost waiting inner more
+  all_on allowance back lower running depth outermost waiting (g ∷ inner) (inr operation, more) = (
+    still operation.pause.watch operation.pause.behind operation.pause.still,
+    all_on allowance back lower g.procedure (suc depth) outermost waiting inner more,
+  )
+
+  within_by :
+      (gs : List Suspension) (e : Event) (w : Within program gs s) → after.masters ≡ s.masters → Alters s.heap e after.heap
+      → Frugal (allowance_of (program_form program)) w.outermost.behind (operated_among w.inner) after.mode after.control w.frugal.upper
+      → Within program gs after
+  within_by gs e w masters alters goes =
+      let same : (n : ℕ) → operands_of (drop (suc n) after.activations) ≡ operands_of (drop (suc n) s.activations) =
+      λ n. ap (λ (all : List (Activation Value)). operands_of (drop (suc n) all)) active in
+      let last = Some w.outermost.number in
+      let waiting = origin program (length w.inner) s w.outermost ∷ w.outermost.suspensions in
+      record {
+        inner = w.inner;
+        outermost =
+            pause_on program (length w.inner) (length w.inner) s after e w.outermost alters (same (length w.inner))
+            (still w.outermost.watch w.outermost.behind w.outermost.still);
+        are = w.are;
+        within =
+            subst (λ (procedure : Option ℕ). AreInner program after (allowance_of (program_form program)) w.outermost.behind w.outermost.lower procedure 0 last waiting w.inner)
+            (sym (ap procedure_of active))
+            (inner_on program s (allowance_of (program_form program)) w.outermost.behind w.outermost.lower after e (running_procedure s) 0 0 last waiting w.inner w.within alters
+            (λ n. same (0 + n))
+            (all_on (allowance_of (program_form program)) w.outermost.behind w.outermost.lower (running_procedure s) 0 last waiting w.inner w.within));
+        frugal = record {
+          upper = w.frugal.upper;
+          masters = masters ∙ w.frugal.masters;
+          own = w.frugal.own;
+          frugal = goes;
+        };
+        untreated = w.untreated;
+        calm = w.calm;
+        settled = w.settled;
+        may = w.may;
+      }
+
+-- So it is while no object changes but one whose treatment goes on behind: what is watched is another one.
 module _ (program : Program) (s after : State) (o : Id) (going : GoesOnBehind o s.control) (others : OthersStay o s.heap after.heap)
     (control : after.control ≡ s.control) (active : after.activations ≡ s.activations) where
   abbrev p : ProgramForm
@@ -188,49 +241,43 @@ module _ (program : Program) (s after : State) (o : Id) (going : GoesOnBehind o 
   watched_on (Some w) behind (found, (apart, are, reaching)) =
       (others w.holder (holder_other w apart behind reaching) ∙ found, (apart, are, reaching_still w apart behind reaching))
 
-  -- So it is of each of these activations.
-  all_on :
-      (allowance : Allowance) (back : Control) (lower : List Master) (running : Option ℕ) (depth : ℕ) (outermost : Option ℕ) (waiting inner : List Suspension)
-      (w : AreInner program s allowance back lower running depth outermost waiting inner)
-      → AllWatched program s allowance back lower after running depth outermost waiting inner w
-  all_on allowance back lower running depth outermost waiting [] w = tt
-  all_on allowance back lower running depth outermost waiting (g ∷ inner) (inl call, more) =
-      all_on allowance back lower g.procedure (suc depth) outermost waiting inner more
-  all_on allowance back lower running depth outermost waiting (g ∷ inner) (inr operation, more) = (
-    watched_on operation.pause.watch operation.pause.behind operation.pause.still,
-    all_on allowance back lower g.procedure (suc depth) outermost waiting inner more,
-  )
-
   pub within_kept :
       (gs : List Suspension) (e : Event) → Within program gs s → after.mode ≡ s.mode → after.masters ≡ s.masters → Alters s.heap e after.heap
       → Within program gs after
-  within_kept gs e w mode masters alters =
-      let same : (n : ℕ) → operands_of (drop (suc n) after.activations) ≡ operands_of (drop (suc n) s.activations) =
-      λ n. ap (λ (all : List (Activation Value)). operands_of (drop (suc n) all)) active in
-      let last = Some w.outermost.number in
-      let waiting = origin program (length w.inner) s w.outermost ∷ w.outermost.suspensions in
-      record {
-        inner = w.inner;
-        outermost =
-            pause_on program (length w.inner) (length w.inner) s after e w.outermost alters (same (length w.inner))
-            (watched_on w.outermost.watch w.outermost.behind w.outermost.still);
-        are = w.are;
-        within =
-            subst (λ (procedure : Option ℕ). AreInner program after (allowance_of (program_form program)) w.outermost.behind w.outermost.lower procedure 0 last waiting w.inner)
-            (sym (ap procedure_of active))
-            (inner_on program s (allowance_of (program_form program)) w.outermost.behind w.outermost.lower after e (running_procedure s) 0 0 last waiting w.inner w.within alters
-            (λ n. same (0 + n))
-            (all_on (allowance_of (program_form program)) w.outermost.behind w.outermost.lower (running_procedure s) 0 last waiting w.inner w.within));
-        frugal = record {
-          upper = w.frugal.upper;
-          masters = masters ∙ w.frugal.masters;
-          own = w.frugal.own;
-          frugal =
-              rw (mode, control)
-              (frugal_kept (allowance_of (program_form program)) w.outermost.behind s.heap after.heap e s.mode s.control w.frugal.upper alters w.frugal.frugal);
-        };
-        untreated = w.untreated;
-        calm = w.calm;
-        settled = w.settled;
-        may = w.may;
-      }
+  within_kept gs e w mode masters alters = within_by program s after active watched_on gs e w masters alters (rw (mode, control) w.frugal.frugal)
+
+-- Where the operation has come to its end that begins a part of a new object, frugal bodies go on, too, if an exception has come out of it (7.6).
+raised_frugal :
+    (allowance : Allowance) (back : Control) (among : List Value) (mode : Mode) (e : Exception) (v : Value) (done : List parts.Part) (of part : ℕ) (tasks : List Task)
+    (k : Control) (ms : List Master) → Frugal allowance back among mode (frame.Awaits v Creation done of part tasks ∷ k) ms
+    → Frugal allowance back among (Raising e) (frame.Awaits v Creation done of part tasks ∷ k) ms
+raised_frugal allowance back among mode e v done of part tasks k ms (inl leads) = absurd leads.0
+raised_frugal allowance back among mode e v done of part tasks k ms (inr (inl leaving)) = absurd leaving.1
+raised_frugal allowance back among mode e v done of part tasks k ms (inr (inr beginning)) = inr (inr (tt, beginning.1))
+
+-- What is around stays around then.
+module _ (program : Program) (gs : List Suspension) (s : State) (e : Exception) where
+  abbrev raised : State
+  raised = record s { mode = Raising e }
+
+  -- What is watched is as it was.
+  raised_watched : (o : Id) → BeginsBehind o s.control → (watch : Option Watch) (behind : Control) → Watched program watch behind s → Watched program watch behind raised
+  raised_watched o begun None behind still = tt
+  raised_watched o begun (Some w) behind (found, (apart, are, reaching)) =
+      let p = program_form program in (
+        found,
+        (
+          apart,
+          are,
+          waiting_kept p (watches p.types (Some w)) apart (is_watched (Some w)) (is_unnamed p.types (Some w)) behind
+              (frame.Awaits (Names o) Creation begun.done begun.of begun.part begun.tasks) begun.rest s raised refl begun.is refl refl (λ q ghost. refl) reaching,
+        ),
+      )
+
+  pub raised_within : {o : Id} → BeginsBehind o s.control → Within program gs s → Within program gs raised
+  raised_within {o} begun w =
+      let allowance = allowance_of (program_form program) in
+      within_by program s raised refl (raised_watched o begun) gs Quiet w refl (alters_same s.heap Quiet)
+      (subst (λ (k : Control). Frugal allowance w.outermost.behind (operated_among w.inner) (Raising e) k w.frugal.upper) (sym begun.is)
+      (raised_frugal allowance w.outermost.behind (operated_among w.inner) s.mode e (Names o) begun.done begun.of begun.part begun.tasks begun.rest w.frugal.upper
+      (subst (λ (k : Control). Frugal allowance w.outermost.behind (operated_among w.inner) s.mode k w.frugal.upper) begun.is w.frugal.frugal)))

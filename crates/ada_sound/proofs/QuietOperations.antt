@@ -1,5 +1,5 @@
--- What overrides an operation is plain or frugal (7.6): so it creates no collection and no record object, and calls frugal bodies alone. What overrides Adjust or
--- Finalize lets no exception out either.
+-- What overrides an operation is plain or frugal (7.6): so it creates no collection and no record object, and calls frugal bodies alone. One
+-- that is quiet lets no exception out, either.
 
 use Rattle.std.proofs.Common.{◌≡◌, ℕ, zero, suc, ◌+◌, Bool, true, false, ◌&&◌, ◌||◌, if◌then◌else◌, List, [], ◌∷◌, ◌++◌, length, map, refl, sym, ap, ◌∙◌, arith, length-append, ◌⊎◌, inl, inr}
 use Rattle.std.specs.Prelude.{Option, Some, None, find, is_some}
@@ -24,7 +24,7 @@ use Rattle.ada_typed.proofs.Bodies.{seen_as, seen_fits}
 use Rattle.ada_scopes.specs.Scopes.{NestsAnywhere, AllNestAnywhere, OperationsNest}
 use Rattle.ada_quiet.specs.Apart.{is_this_one, is_adjust_of}
 use Rattle.ada_quiet.specs.Quiet.{is_quiet_stmt, are_quiet, are_quiet_branches, are_quiet_handlers, are_quiet_declarations, is_plain_body, is_quiet_body, is_plain_procedure, is_quiet_procedure, is_plain_operation, is_quiet_operation, has_access, operation_body}
-use Rattle.ada_quiet.specs.Frugal.{declares_no_parts, is_frugal_body, frugal_procedures, thrift_of, is_frugal_operation, own_effects, is_silent_procedure, is_silent_operation}
+use Rattle.ada_quiet.specs.Frugal.{declares_no_parts, is_frugal_body, frugal_procedures, thrift_of, is_frugal_operation}
 use Rattle.ada_quiet.specs.InUse.{may_be_frugal, uses_initialize, uses_finalize, uses_operations, operations_may_be_called, adjusts_alone, adjusts_nothing, may_track, uses_adjust, uses_called_adjust}
 use Rattle.ada_quiet.specs.Idle.{copies_parts}
 use Rattle.ada_quiet.specs.Simple.{is_simple_body, is_simple_procedure, is_simple_operation}
@@ -139,18 +139,15 @@ module _ (p : ProgramForm) where
   abbrev pub IsFrugal : ℕ → Type 0
   IsFrugal number = (may_be_frugal p ≡ true) × (slice_index_or (frugal_procedures p) number false ≡ true)
 
-  abbrev pub IsSilent : ℕ → Type 0
-  IsSilent number = is_silent_procedure (own_effects p) (slice_get p.bodies number) ≡ true
-
   abbrev pub IsSimple : ℕ → Type 0
   IsSimple number = (may_track p ≡ true) × (is_simple_procedure p.types (adjusts_alone p) (slice_get p.bodies number) ≡ true)
 
-  -- What overrides Initialize is plain or frugal, what overrides Adjust is quiet, or simple and silent and of a type that owns, and what overrides Finalize is
-  -- quiet, or frugal and silent.
+  -- What overrides Initialize is plain or frugal, what overrides Adjust is quiet, or simple and of a type that owns, and what overrides Finalize is quiet, or
+  -- frugal.
   record AreUsed (Owns : Type 0) (o : Operations) (number : ℕ) : Type 0 where
     initializes : procedure_number o.initialize ≡ Some number → IsPlain number ⊎ (IsFrugal number × IsNotPlain number)
-    adjusts : copies_parts p ≡ true → procedure_number o.adjust ≡ Some number → IsQuiet number ⊎ (IsSimple number × IsSilent number × Owns)
-    finalizes : procedure_number o.finalize ≡ Some number → IsQuiet number ⊎ (IsFrugal number × IsSilent number × IsNotQuiet number)
+    adjusts : copies_parts p ≡ true → procedure_number o.adjust ≡ Some number → IsQuiet number ⊎ (IsSimple number × Owns)
+    finalizes : procedure_number o.finalize ≡ Some number → IsQuiet number ⊎ (IsFrugal number × IsNotQuiet number)
 
   plain_one : (o : Option ProcedureNo) (number : ℕ) → is_plain_operation p o ≡ true → procedure_number o ≡ Some number → IsPlain number
   plain_one None number plain is = absurd (cc is)
@@ -174,20 +171,15 @@ module _ (p : ProgramForm) where
       let same : procedure.0 ≡ number = cc is in
       rw same at (apart (slice_index_or (frugal_procedures p) procedure.0 false) (declares_no_parts p.types (slice_get p.bodies procedure.0)) frugal).0
 
-  silent_one : (o : Option ProcedureNo) (number : ℕ) → is_silent_operation p o ≡ true → procedure_number o ≡ Some number → IsSilent number
-  silent_one None number silent is = absurd (cc is)
-  silent_one (Some procedure) number silent is = let same : procedure.0 ≡ number = cc is in rw same at silent
-
-  pub finalize_one : (o : Option ProcedureNo) (number : ℕ) → uses_finalize p o ≡ true → procedure_number o ≡ Some number → IsQuiet number ⊎ (IsFrugal number × IsSilent number × IsNotQuiet number)
+  finalize_one : (o : Option ProcedureNo) (number : ℕ) → uses_finalize p o ≡ true → procedure_number o ≡ Some number → IsQuiet number ⊎ (IsFrugal number × IsNotQuiet number)
   finalize_one o number uses is = by (is_quiet_operation p o) refl uses
     where
-      by : (quiet : Bool) → is_quiet_operation p o ≡ quiet → (quiet || (may_be_frugal p && is_frugal_operation p o && is_silent_operation p o)) ≡ true
-          → IsQuiet number ⊎ (IsFrugal number × IsSilent number × IsNotQuiet number)
+      by : (quiet : Bool) → is_quiet_operation p o ≡ quiet → (quiet || (may_be_frugal p && is_frugal_operation p o)) ≡ true
+          → IsQuiet number ⊎ (IsFrugal number × IsNotQuiet number)
       by true quiet uses' = inl (quiet_one o number quiet is)
       by false quiet uses' =
-          let three = apart (may_be_frugal p && is_frugal_operation p o) (is_silent_operation p o) uses' in
-          let both = apart (may_be_frugal p) (is_frugal_operation p o) three.0 in
-          inr ((both.0, frugal_one o number both.1 is), silent_one o number three.1 is, not_quiet o number quiet is)
+          let both = apart (may_be_frugal p) (is_frugal_operation p o) uses' in
+          inr ((both.0, frugal_one o number both.1 is), not_quiet o number quiet is)
 
   simple_one :
       (o : Option ProcedureNo) (number : ℕ) → is_simple_operation p (adjusts_alone p) o ≡ true → procedure_number o ≡ Some number
@@ -199,17 +191,16 @@ module _ (p : ProgramForm) where
   pub called_adjust : (owns : Bool) (o : Option ProcedureNo) → copies_parts p ≡ true → uses_adjust p owns o ≡ true → uses_called_adjust p owns o ≡ true
   called_adjust owns o copies uses = rw copies at uses
 
-  pub adjust_one : (owns : Bool) (o : Option ProcedureNo) (number : ℕ) → uses_called_adjust p owns o ≡ true → procedure_number o ≡ Some number → IsQuiet number ⊎ (IsSimple number × IsSilent number × (owns ≡ true))
+  pub adjust_one : (owns : Bool) (o : Option ProcedureNo) (number : ℕ) → uses_called_adjust p owns o ≡ true → procedure_number o ≡ Some number → IsQuiet number ⊎ (IsSimple number × (owns ≡ true))
   adjust_one owns o number uses is = by (owns && is_some (operation_body p o)) refl uses
     where
       by : (tracks : Bool) → (owns && is_some (operation_body p o)) ≡ tracks
-          → (if tracks then may_track p && is_simple_operation p (adjusts_alone p) o && is_silent_operation p o else is_quiet_operation p o) ≡ true
-          → IsQuiet number ⊎ (IsSimple number × IsSilent number × (owns ≡ true))
+          → (if tracks then may_track p && is_simple_operation p (adjusts_alone p) o else is_quiet_operation p o) ≡ true
+          → IsQuiet number ⊎ (IsSimple number × (owns ≡ true))
       by false so uses' = inl (quiet_one o number uses' is)
       by true so uses' =
-          let three = apart (may_track p && is_simple_operation p (adjusts_alone p) o) (is_silent_operation p o) uses' in
-          let both = apart (may_track p) (is_simple_operation p (adjusts_alone p) o) three.0 in
-          inr ((both.0, simple_one o number both.1 is), silent_one o number three.1 is, (apart owns (is_some (operation_body p o)) so).0)
+          let both = apart (may_track p) (is_simple_operation p (adjusts_alone p) o) uses' in
+          inr ((both.0, simple_one o number both.1 is), (apart owns (is_some (operation_body p o)) so).0)
 
   initialize_one : (o : Option ProcedureNo) (number : ℕ) → uses_initialize p o ≡ true → procedure_number o ≡ Some number → IsPlain number ⊎ (IsFrugal number × IsNotPlain number)
   initialize_one o number uses is = by (is_plain_operation p o) refl uses
@@ -229,9 +220,9 @@ module _ (p : ProgramForm) where
         finalizes = λ is. finalize_one f.operations.finalize number three.1 is;
       }
     where
-      by : procedure_number f.operations.adjust ≡ Some number → IsQuiet number ⊎ (IsSimple number × IsSilent number × (owns ≡ true)) → IsQuiet number ⊎ (IsSimple number × IsSilent number × Owns)
+      by : procedure_number f.operations.adjust ≡ Some number → IsQuiet number ⊎ (IsSimple number × (owns ≡ true)) → IsQuiet number ⊎ (IsSimple number × Owns)
       by is (inl quiet) = inl quiet
-      by is (inr simple) = inr (simple.0, simple.1, own simple.2 (this_one f.operations.adjust number is))
+      by is (inr simple) = inr (simple.0, own simple.1 (this_one f.operations.adjust number is))
 
   none_used : (Owns : Type 0) (number : ℕ) → AreUsed Owns (operations_in None) number
   none_used Owns number = three_used Owns false None number (λ owns is. absurd (cc owns)) refl
@@ -320,7 +311,7 @@ module _ (p : ProgramForm) where
   finalize_nests t None right uses = tt
   finalize_nests t (Some procedure) right uses = by (finalize_one (Some procedure) procedure.0 uses refl)
     where
-      by : IsQuiet procedure.0 ⊎ (IsFrugal procedure.0 × IsSilent procedure.0 × IsNotQuiet procedure.0) → NestsAnywhere (callees_of p) (Some procedure)
+      by : IsQuiet procedure.0 ⊎ (IsFrugal procedure.0 × IsNotQuiet procedure.0) → NestsAnywhere (callees_of p) (Some procedure)
       by (inl quiet) = plain_nests t (Some procedure) right (plain_operation p (Some procedure) quiet)
       by (inr both) = frugal_nests p procedure.0 both.0.1
 
@@ -328,7 +319,7 @@ module _ (p : ProgramForm) where
   adjust_nests t owns None right uses = tt
   adjust_nests t owns (Some procedure) right uses = either (or_cases (adjusts_nothing p && is_frugal_operation p (Some procedure)) (uses_called_adjust p owns (Some procedure)) uses)
     where
-      by : IsQuiet procedure.0 ⊎ (IsSimple procedure.0 × IsSilent procedure.0 × (owns ≡ true)) → NestsAnywhere (callees_of p) (Some procedure)
+      by : IsQuiet procedure.0 ⊎ (IsSimple procedure.0 × (owns ≡ true)) → NestsAnywhere (callees_of p) (Some procedure)
       by (inl quiet) = plain_nests t (Some procedure) right (plain_operation p (Some procedure) quiet)
       by (inr both) = let b = there_one t (Some procedure) procedure.0 right refl in nests_there procedure.0 b.0 b.1 (λ callees around. simple_nests p.types callees b.0 around (simple_with p.types (adjusts_alone p) b.0 (rw (b.1) at both.0.1)))
 
@@ -369,11 +360,6 @@ MayTouch (begins Copy done) = ⊥
 MayTouch (begins (Adjustment number) done) = ⊥
 MayTouch (ends cause) = Unit {0}
 
--- The body of an operation that touches storage lets no exception out, unless it initializes a new object (7.6).
-abbrev pub LetsNone : ProgramForm → Treatment → BodyForm → Type 0
-LetsNone p (begins by done) b = Unit {0}
-LetsNone p (ends cause) b = body_raises (own_effects p) b (λ e. true) ≡ false
-
 -- What is called for a copy is an Adjust (7.6).
 abbrev pub AdjustsCopy : Treatment → Type 0
 AdjustsCopy (begins Creation done) = ⊥
@@ -381,9 +367,9 @@ AdjustsCopy (begins Copy done) = Unit {0}
 AdjustsCopy (begins (Adjustment number) done) = Unit {0}
 AdjustsCopy (ends cause) = ⊥
 
--- An Adjust may track components of its formal parameter: it is simple, frees nothing where a record has two controlled parts, and lets no exception out.
+-- An Adjust may track components of its formal parameter: it is simple, and frees nothing where a record has two controlled parts.
 abbrev pub MayTrack : ProgramForm → BodyForm → Type 0
-MayTrack p b = (may_track p ≡ true) × (is_simple_body p.types (adjusts_alone p) b ≡ true) × (body_raises (own_effects p) b (λ e. true) ≡ false)
+MayTrack p b = (may_track p ≡ true) × (is_simple_body p.types (adjusts_alone p) b ≡ true)
 
 -- A type of this number, among the controlled ones, declares a component of an access type directly, and the procedure overrides its Adjust (3.10, 7.6).
 pub record AdjustsOwn (types : List TypeForm) (of number : ℕ) : Type 0 where
@@ -403,7 +389,7 @@ TouchesStorage p (ends cause) b = is_quiet_body p.types b ≡ false
 abbrev pub IsUsedAs : ProgramForm → (of number : ℕ) → Treatment → BodyForm → Type 0
 IsUsedAs p of number treatment b =
     (PlainBody p.types b × LetsNothingOut treatment b)
-    ⊎ ((MayTouch treatment × (may_be_frugal p ≡ true) × (is_frugal_body (thrift_of p) b ≡ true) × LetsNone p treatment b × TouchesStorage p treatment b)
+    ⊎ ((MayTouch treatment × (may_be_frugal p ≡ true) × (is_frugal_body (thrift_of p) b ≡ true) × TouchesStorage p treatment b)
     ⊎ (AdjustsCopy treatment × MayTrack p b × AdjustsOwn p.types of number))
 
 -- A type that passes the test of a number has that number among the controlled ones, as what is shown of it says.
@@ -447,21 +433,18 @@ module _ (program : Program) (uses : operations_may_be_called (program_form prog
   quiet_body : IsQuiet whole number → PlainBody whole.types b × (body_raises no_calls b (λ e. true) ≡ false)
   quiet_body quiet = (plain_body (plain_procedure whole.types (slice_get whole.bodies number) quiet), not-true (body_raises no_calls b (λ e. true)) (apart _ _ (rw there at quiet)).1)
 
-  silent_body : IsSilent whole number → body_raises (own_effects whole) b (λ e. true) ≡ false
-  silent_body silent = not-true (body_raises (own_effects whole) b (λ e. true)) (rw there at silent)
-
-  finalizes_as : (cause : Cause) → IsQuiet whole number ⊎ (IsFrugal whole number × IsSilent whole number × IsNotQuiet whole number) → IsUsedAs whole of number (ends cause) b
+  finalizes_as : (cause : Cause) → IsQuiet whole number ⊎ (IsFrugal whole number × IsNotQuiet whole number) → IsUsedAs whole of number (ends cause) b
   finalizes_as cause (inl quiet) = inl (quiet_body quiet)
-  finalizes_as cause (inr both) = inr (inl (tt, both.0.0, frugal_at whole number b both.0.1 there, silent_body both.1, rw there at both.2))
+  finalizes_as cause (inr both) = inr (inl (tt, both.0.0, frugal_at whole number b both.0.1 there, rw there at both.1))
 
   initializes_as : (done : List parts.Part) → IsPlain whole number ⊎ (IsFrugal whole number × IsNotPlain whole number) → IsUsedAs whole of number (begins Creation done) b
   initializes_as done (inl plain) = inl (plain_body plain, tt)
-  initializes_as done (inr both) = inr (inl (tt, both.0.0, frugal_at whole number b both.0.1 there, tt, rw there at both.1))
+  initializes_as done (inr both) = inr (inl (tt, both.0.0, frugal_at whole number b both.0.1 there, rw there at both.1))
 
   adjusts_as : (treatment : Treatment) → AdjustsCopy treatment → (body_raises no_calls b (λ e. true) ≡ false → LetsNothingOut treatment b)
-      → IsQuiet whole number ⊎ (IsSimple whole number × IsSilent whole number × AdjustsOwn whole.types of number) → IsUsedAs whole of number treatment b
+      → IsQuiet whole number ⊎ (IsSimple whole number × AdjustsOwn whole.types of number) → IsUsedAs whole of number treatment b
   adjusts_as treatment copies lets (inl quiet) = let q = quiet_body quiet in inl (q.0, lets q.1)
-  adjusts_as treatment copies lets (inr both) = inr (inr (copies, (both.0.0, rw there at both.0.1, silent_body both.1), both.2))
+  adjusts_as treatment copies lets (inr both) = inr (inr (copies, (both.0.0, rw there at both.0.1), both.1))
 
   pub used_as : (treatment : Treatment) → (AdjustsCopy treatment → copies_parts whole ≡ true) → IsCalled (operations_of program.types.items of) treatment number → IsUsedAs whole of number treatment b
   used_as (begins Creation done) copies called = initializes_as done (used.initializes called)

@@ -289,6 +289,7 @@ sound_step program s choice e after r step = record {
   in_use = r.in_use;
   frees_own = r.frees_own;
   spares_own = r.spares_own;
+  propagates_nothing = r.propagates_nothing;
   spares_holders = r.spares_holders;
   spares_starts = r.spares_starts;
   obeys = r.obeys;

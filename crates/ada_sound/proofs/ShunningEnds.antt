@@ -1,8 +1,8 @@
 -- The body of a Finalize shuns an access type (3.10) that the end of an object does not reach, in which such a part lies (7.6, 7.6.1): where the body is
--- frugal, it follows and frees no value of the type (4.1, 13.11.2), and neither do what it calls and the operations of what it frees.
+-- frugal, it follows and frees no value of the type (4.1, 13.11.2), and neither do what it calls and the operations of what it frees and allocates.
 
 use Rattle.std.proofs.Common.{◌≡◌, ℕ, Bool, true, false, not, ◌==◌, ◌&&◌, ◌||◌, List, [], ◌∷◌, length, Option, Some, None, refl, sym, ap, ◌∙◌, subst, arith, inl, inr}
-use Rattle.std.specs.Prelude.{nat_lt, is_some}
+use Rattle.std.specs.Prelude.{nat_lt}
 use Rattle.std.specs.List.{slice_get, slice_index_or}
 use Rattle.std.proofs.lemmas.Bool.{and_from, and_parts, or_parts, cases_Bool, eqb-true, eq-eqb, ltb-true, not-true, false_from_ne_true}
 use Rattle.ada_parts.specs.declared.tasks.Direction.{Direction}
@@ -11,27 +11,27 @@ use Rattle.ada_parts.specs.Shape.{Shape}
 use Rattle.ada_parts.specs.Task.{Task, performs, performed, treats}
 use Rattle.ada_program.specs.declared.program.Program.{Program}
 use Rattle.ada_program.specs.Controlled.{number_reached, operations_of, procedure_number, shapes_of}
-use Rattle.ada_program.specs.ProgramForm.{TypeForm, record_of, access_to, object_of, BodyForm, ProgramForm, program_form, body_forms}
-use Rattle.ada_program.specs.WellFormed.{IsWellFormed, designated_in, designated_type, is_access}
+use Rattle.ada_program.specs.ProgramForm.{BodyForm, ProgramForm, program_form, body_forms, seen_by}
+use Rattle.ada_program.specs.WellFormed.{IsWellFormed, designated_type, is_access}
+use Rattle.ada_meaning.specs.declared.event.Birth.TheVariants.{Creation}
 use Rattle.ada_meaning.specs.declared.event.Cause.TheVariants.{Freeing}
-use Rattle.ada_meaning.specs.Frame.{ends}
+use Rattle.ada_meaning.specs.Frame.{Treatment, begins, ends}
 use Rattle.ada_meaning.specs.Step.{all_tasks, member_at, picked_task, tasks_for}
-use Rattle.ada_quiet.specs.Calm.{has_calm_objects, is_calm_access, quietly_begun_types}
 use Rattle.ada_quiet.specs.Frugal.{thrift_of, frugal_procedures, is_frugal_body}
 use Rattle.ada_quiet.specs.InUse.{operations_may_be_called}
-use Rattle.ada_effects.specs.Effects.{no_calls, body_raises}
-use Rattle.ada_quiet.specs.Quiet.{is_plain_body}
 use Rattle.ada_quiet.proofs.FrugalAt.{frugal_at}
 use Rattle.ada_quiet.proofs.QuietFrugal.{frugal_body}
 use Rattle.ada_deeds.specs.declared.deed.Callee.{Callee}
 use Rattle.ada_deeds.specs.declared.deed.Callee.TheVariants as callee
 use Rattle.ada_deeds.specs.declared.deed.Deed.{Deed}
 use Rattle.ada_deeds.specs.declared.deed.Deed.TheVariants as deed
-use Rattle.ada_deeds.specs.declared.deed.Operation.TheVariants.{Finalize}
+use Rattle.ada_deeds.specs.declared.deed.Operation.{Operation}
+use Rattle.ada_deeds.specs.declared.deed.Operation.TheVariants.{Initialize, Finalize}
 use Rattle.ada_deeds.specs.Does.{called_does, is_deed_of, Does, does}
-use Rattle.ada_deeds.specs.Forms.{body_does, parts_do}
-use Rattle.ada_deeds.specs.Implicit.{implicit_of, record_at, record_in}
+use Rattle.ada_deeds.specs.Forms.{body_does, creation_does, overriding, parts_do}
+use Rattle.ada_deeds.specs.Implicit.{implicit_of, record_at}
 use Rattle.ada_deeds.specs.Within.{does_within, callee_count, does_by}
+use Rattle.ada_deeds.proofs.Naming.{access_at}
 use Rattle.ada_deeds.proofs.Within.{counts_are_enough}
 use Rattle.ada_reaching.specs.Apart.{Apart, CallsApart, IsLeftOf, whole, picked, called}
 use Rattle.ada_reaching.specs.Forms.{body_shuns}
@@ -42,10 +42,9 @@ use Rattle.ada_typed.proofs.Bodies.{SeenFits, seen_as, seen_fits}
 use Rattle.ada_typed.proofs.Lying.{IsOperable, Lying, lying_all, lying_taken}
 use Rattle.ada_typed.proofs.Parts.{known_number, shapes_shown}
 use Rattle.ada_sound.proofs.FrugalUseEnds.{done_lying}
-use Rattle.ada_sound.proofs.BegunQuietly.{begun_initialize, initialize_for}
-use Rattle.ada_sound.proofs.QuietDeeds.{plain_does_none}
-use Rattle.ada_sound.proofs.QuietOperations.{IsUsedAs, used_as}
-use Rattle.ada_sound.proofs.Shunning.{CallsFrugal, EndsSpared, StartsSpared, Spares, body_shaped, calling, following, freeing, is_use}
+use Rattle.ada_sound.proofs.Operating.{IsCalled}
+use Rattle.ada_sound.proofs.QuietOperations.{AdjustsCopy, IsUsedAs, used_as}
+use Rattle.ada_sound.proofs.Shunning.{CallsFrugal, EndsSpared, StartsSpared, Spares, body_shaped, calling, first, following, freeing, is_use, second}
 
 -- A body is frugal, where there is one.
 abbrev is_frugal_one : ProgramForm → Option BodyForm → Bool
@@ -57,14 +56,16 @@ abbrev is_shunning : ProgramForm → (access procedure : ℕ) → Bool
 is_shunning p u n =
     is_frugal_one p (slice_get p.bodies n) && not (does_by p (freeing u) (calling n)) && not (does_by p (following u) (calling n))
 
--- These procedures, and the access types of which the end of an object does neither; and those of these of which an object begins quietly.
+-- The beginning of an object of an access type, or its end, where an exception comes out of that, frees or follows a value of another one (7.6, 7.6.1).
+abbrev creation_uses : ProgramForm → (access u : ℕ) → Bool
+creation_uses p t u = creation_does (does_by p (freeing u)) (record_at p.types t) || creation_does (does_by p (following u)) (record_at p.types t)
+
+-- These procedures, and the access types of which the end of an object does neither, and those of which neither the beginning nor the end of an object does.
 abbrev apart_from : Program → (access : ℕ) → Apart
 apart_from program u = record {
   calls = is_shunning (program_form program) u;
   ends = λ t. not ((implicit_of (program_form program)).end_reaches t u);
-  starts = λ t.
-      has_calm_objects (program_form program).types (quietly_begun_types (program_form program)) t
-      && not ((implicit_of (program_form program)).end_reaches t u);
+  starts = λ t. not (creation_uses (program_form program) t u);
   definitions = program.types.items;
 }
 
@@ -117,34 +118,34 @@ module _ (p : ProgramForm) (u : ℕ) where
       let is_one = λ (there : nat_lt u (length p.types) ≡ true). and_from (u == u) (nat_lt u (length p.types)) (eq-eqb u u refl) there in
       (done_none (freeing u) c (λ there. spares (freeing u) (is_one there)), done_none (following u) c (λ there. spares (following u) (is_one there)))
 
-  -- and neither does the end of an object, where there is one.
+  -- and neither does an operation of a record, where there is one.
   parts_spare :
-      (o : Option ℕ) → Spares p u (λ d. parts_do (does_by p d) Finalize o)
-      → (parts_do (does_by p (freeing u)) Finalize o || parts_do (does_by p (following u)) Finalize o) ≡ false
-  parts_spare None spares = refl
-  parts_spare (Some t) spares = let both = callee_spares (callee.Parts Finalize (record { 0 = t })) spares in rw (both.0, both.1) refl
+      (operation : Operation) (o : Option ℕ) → Spares p u (λ d. parts_do (does_by p d) operation o)
+      → (parts_do (does_by p (freeing u)) operation o ≡ false) × (parts_do (does_by p (following u)) operation o ≡ false)
+  parts_spare operation None spares = (refl, refl)
+  parts_spare operation (Some t) spares = callee_spares (callee.Parts operation (record { 0 = t })) spares
 
-  -- Objects that begin quietly are of an access type.
-  calm_access : (types : List TypeForm) (calm : List Bool) (o : Option TypeForm) → is_calm_access types calm o ≡ true → is_some (designated_in o) ≡ true
-  calm_access types calm None is = absurd (cc is)
-  calm_access types calm (Some (record_of name parts components finalization)) is = absurd (cc is)
-  calm_access types calm (Some (access_to name designated pool)) is = refl
-  calm_access types calm (Some (object_of record_type)) is = absurd (cc is)
-
-  -- The objects of an access type are records of the type that it designates.
-  record_designated : (access : ℕ) (o : Option TypeForm) → is_some (designated_in o) ≡ true → record_in access o ≡ designated_in o
-  record_designated access None is = absurd (cc is)
-  record_designated access (Some (record_of name parts components finalization)) is = absurd (cc is)
-  record_designated access (Some (access_to name designated pool)) is = refl
-  record_designated access (Some (object_of record_type)) is = absurd (cc is)
-
-  -- So where the end of such an object is no use of the type, it does not reach it.
+  -- So where the end of an object of an access type is no use of the type, it does not reach it,
   end_spares :
       (access : ℕ) → is_access p.types access ≡ true → Spares p u (λ d. parts_do (does_by p d) Finalize (designated_type p.types access))
       → (implicit_of p).end_reaches access u ≡ false
   end_spares access is spares =
-      let same : record_at p.types access ≡ designated_type p.types access = record_designated access (slice_get p.types access) is in
-      rw same (parts_spare (designated_type p.types access) spares)
+      let same : record_at p.types access ≡ designated_type p.types access = access_at p.types access is in
+      let ended = parts_spare Finalize (designated_type p.types access) spares in
+      rw same (rw (ended.0, ended.1) refl)
+
+  -- and where its beginning is no use either, that does not.
+  start_spares :
+      (access : ℕ) → is_access p.types access ≡ true → Spares p u (λ d. creation_does (does_by p d) (designated_type p.types access))
+      → creation_uses p access u ≡ false
+  start_spares access is spares =
+      let same : record_at p.types access ≡ designated_type p.types access = access_at p.types access is in
+      let o = designated_type p.types access in
+      let starts = λ (d : Deed). parts_do (does_by p d) Initialize o in
+      let finishes = λ (d : Deed). parts_do (does_by p d) Finalize o in
+      let begun = parts_spare Initialize o (first p u starts finishes spares) in
+      let ended = parts_spare Finalize o (second p u starts finishes spares) in
+      rw same (rw (begun.0, begun.1, ended.0, ended.1) refl)
 
   -- A procedure that is told to be frugal has a frugal body, if it has one.
   told_frugal : (n : ℕ) → slice_index_or (frugal_procedures p) n false ≡ true → is_frugal_one p (slice_get p.bodies n) ≡ true
@@ -192,37 +193,49 @@ module _ (p : ProgramForm) (u : ℕ) where
       (λ done. none d is
       (does (use_of d is) (does_by p d) (λ other known. (counts_are_enough p d other).0 known) (ap (called_does p.types (does_by p d) d) there ∙ done)))
 
--- In a well-formed program in which each Finalize is quiet or frugal that may be called.
+-- In a well-formed program in which each Finalize is quiet or frugal that may be called, and each Initialize plain or frugal.
 module _ (program : Program) (well : IsWellFormed (program_form program)) (uses : operations_may_be_called (program_form program) ≡ true) where
   abbrev p : ProgramForm
   p = program_form program
 
-  -- What overrides Finalize is frugal: what is quiet is so, too.
-  finalize_frugal :
-      (of number : ℕ) → procedure_number (operations_of program.types.items of).finalize ≡ Some number
+  -- What is called where an object begins or ends is frugal: what is plain is so, too.
+  called_frugal :
+      (treatment : Treatment) → (AdjustsCopy treatment → ⊥) → (of number : ℕ) → IsCalled (operations_of program.types.items of) treatment number
       → is_frugal_one p (slice_get p.bodies number) ≡ true
-  finalize_frugal of number overrides = by (slice_get p.bodies number) refl
+  called_frugal treatment none of number is_called = by (slice_get p.bodies number) refl
     where
-      as_used : (b : BodyForm) → IsUsedAs p of number (ends (Freeing number)) b → is_frugal_body (thrift_of p) b ≡ true
-      as_used b (inl (plain, silent)) =
-          frugal_body (thrift_of p) p.types b (and_from (is_plain_body p.types b) (not (body_raises no_calls b (λ e. true))) plain.plain (ap not silent))
-      as_used b (inr (inl (may, enabled, frugal, lets, stores))) = frugal
-      as_used b (inr (inr (copies, tracks, own))) = absurd copies
+      as_used : (b : BodyForm) → IsUsedAs p of number treatment b → is_frugal_body (thrift_of p) b ≡ true
+      as_used b (inl (plain, lets)) = frugal_body (thrift_of p) p.types b plain.plain
+      as_used b (inr (inl (may, enabled, frugal, stores))) = frugal
+      as_used b (inr (inr (copies, tracks, own))) = absurd (none copies)
 
       by : (found : Option BodyForm) → slice_get p.bodies number ≡ found → is_frugal_one p found ≡ true
       by None there = refl
-      by (Some b) there = as_used b (used_as program uses well of number b there (ends (Freeing number)) (λ copies. absurd copies) overrides)
+      by (Some b) there = as_used b (used_as program uses well of number b there treatment (λ copies. absurd (none copies)) is_called)
 
-  -- What the end of an object does not do, a Finalize of a record does not do that lies in it.
+  -- What overrides Initialize is, so,
+  initialize_frugal :
+      (of number : ℕ) → procedure_number (operations_of program.types.items of).initialize ≡ Some number
+      → is_frugal_one p (slice_get p.bodies number) ≡ true
+  initialize_frugal of number overrides = called_frugal (begins Creation []) (λ copies. copies) of number overrides
+
+  -- and what overrides Finalize.
+  finalize_frugal :
+      (of number : ℕ) → procedure_number (operations_of program.types.items of).finalize ≡ Some number
+      → is_frugal_one p (slice_get p.bodies number) ≡ true
+  finalize_frugal of number overrides = called_frugal (ends (Freeing number)) (λ copies. copies) of number overrides
+
+  -- What the beginning of an object does not do, or its end, an operation of a record does not do that lies in it.
   operation_spares :
-      (access of part number : ℕ) → IsOperable p.types access of part → procedure_number (operations_of program.types.items of).finalize ≡ Some number
-      → (d : Deed) → parts_do (does_by p d) Finalize (record_at p.types access) ≡ false → does_by p d (calling number) ≡ false
-  operation_spares access of part number operable overrides d none =
+      (operation : Operation) (access of part number : ℕ) → IsOperable p.types access of part
+      → procedure_number (overriding operation (operations_of program.types.items of)) ≡ Some number
+      → (d : Deed) → parts_do (does_by p d) operation (record_at p.types access) ≡ false → does_by p d (calling number) ≡ false
+  operation_spares operation access of part number operable overrides d none =
       false_from_ne_true (does_by p d (calling number))
       (λ done.
       let own = (counts_are_enough p d (calling number)).0 done in
-      let ended = done_lying program well d Finalize access of part number operable overrides own in
-      cc (none, ended))
+      let all = done_lying program well d operation access of part number operable overrides own in
+      cc (none, all))
 
   -- Of some type, or of none.
   module _ (u : ℕ) where
@@ -230,49 +243,69 @@ module _ (program : Program) (well : IsWellFormed (program_form program)) (uses 
     abbrev apart : Apart
     apart = apart_from program u
 
-    -- A Finalize of a part of an object is one of these procedures, where the end of the object does not reach the type.
+    -- A frugal operation of a part of an object is one of these procedures, where that operation uses no value of the type, of whichever part of the object.
     operation_shuns :
+        (operation : Operation) (access of part number : ℕ) → IsOperable p.types access of part
+        → procedure_number (overriding operation (operations_of program.types.items of)) ≡ Some number
+        → is_frugal_one p (slice_get p.bodies number) ≡ true
+        → parts_do (does_by p (freeing u)) operation (record_at p.types access) ≡ false
+        → parts_do (does_by p (following u)) operation (record_at p.types access) ≡ false → apart.calls number ≡ true
+    operation_shuns operation access of part number operable overrides frugal frees follows =
+        shunning_from p u number frugal
+        (operation_spares operation access of part number operable overrides (freeing u) frees)
+        (operation_spares operation access of part number operable overrides (following u) follows)
+
+    -- So is a Finalize, where the end of the object does not reach the type,
+    end_shuns :
         (access of part number : ℕ) → IsOperable p.types access of part → procedure_number (operations_of program.types.items of).finalize ≡ Some number
         → (implicit_of p).end_reaches access u ≡ false → apart.calls number ≡ true
-    operation_shuns access of part number operable overrides reaches =
+    end_shuns access of part number operable overrides reaches =
         let ended = λ (d : Deed). parts_do (does_by p d) Finalize (record_at p.types access) in
         let none = or_parts (ended (freeing u)) (ended (following u)) reaches in
-        shunning_from p u number (finalize_frugal of number overrides)
-        (operation_spares access of part number operable overrides (freeing u) none.0)
-        (operation_spares access of part number operable overrides (following u) none.1)
+        operation_shuns Finalize access of part number operable overrides (finalize_frugal of number overrides) none.0 none.1
 
-    -- So is an Initialize that is quiet: it frees nothing, and follows no value.
-    quiet_shuns :
-        (access of part number : ℕ) → IsOperable p.types access of part → procedure_number (operations_of program.types.items of).initialize ≡ Some number
-        → has_calm_objects p.types (quietly_begun_types p) access ≡ true → apart.calls number ≡ true
-    quiet_shuns access of part number operable overrides calm =
-        let o = initialize_for program well of number overrides in
-        let quiet = begun_initialize program well access of part number o.body operable calm overrides o.there in
-        let plain = and_parts (is_plain_body p.types o.body) (not (body_raises no_calls o.body (λ e. true))) quiet in
-        let frugal : is_frugal_one p (slice_get p.bodies number) ≡ true = rw (o.there) (frugal_body (thrift_of p) p.types o.body quiet) in
-        shunning_from p u number frugal
-        (plain_does_none p number o.body o.object o.there o.formals plain.0 (freeing u) refl)
-        (plain_does_none p number o.body o.object o.there o.formals plain.0 (following u) refl)
+    -- An operation uses no value of the type, of whichever part of an object of an access type.
+    abbrev IsUnusedBy : Operation → (access : ℕ) → Type 0
+    IsUnusedBy operation access =
+        (parts_do (does_by p (freeing u)) operation (record_at p.types access) ≡ false)
+        × (parts_do (does_by p (following u)) operation (record_at p.types access) ≡ false)
 
-    -- The end of what may be allocated does not reach the type, and it begins quietly.
-    start_parts :
-        (access : ℕ) → apart.starts access ≡ true
-        → (has_calm_objects p.types (quietly_begun_types p) access ≡ true) × ((implicit_of p).end_reaches access u ≡ false)
+    -- So it is with those that begin and end an object that may be allocated.
+    start_parts : (access : ℕ) → apart.starts access ≡ true → IsUnusedBy Initialize access × IsUnusedBy Finalize access
     start_parts access may =
-        let calm = has_calm_objects p.types (quietly_begun_types p) access in
-        let reaches = (implicit_of p).end_reaches access u in
-        let both = and_parts calm (not reaches) may in
-        (both.0, not-true reaches both.1)
+        let o = record_at p.types access in
+        let frees = λ (operation : Operation). parts_do (does_by p (freeing u)) operation o in
+        let follows = λ (operation : Operation). parts_do (does_by p (following u)) operation o in
+        let both = or_parts (frees Initialize || frees Finalize) (follows Initialize || follows Finalize) (not-true (creation_uses p access u) may) in
+        let freed = or_parts (frees Initialize) (frees Finalize) both.0 in
+        let followed = or_parts (follows Initialize) (follows Finalize) both.1 in
+        ((freed.0, followed.0), (freed.1, followed.1))
+
+    -- So an Initialize of such a part is one of these procedures,
+    begin_shuns :
+        (access of part number : ℕ) → IsOperable p.types access of part → procedure_number (operations_of program.types.items of).initialize ≡ Some number
+        → apart.starts access ≡ true → apart.calls number ≡ true
+    begin_shuns access of part number operable overrides may =
+        let none = (start_parts access may).0 in
+        operation_shuns Initialize access of part number operable overrides (initialize_frugal of number overrides) none.0 none.1
+
+    -- and so is a Finalize that is called where an exception comes out of the beginning.
+    undone_shuns :
+        (access of part number : ℕ) → IsOperable p.types access of part → procedure_number (operations_of program.types.items of).finalize ≡ Some number
+        → apart.starts access ≡ true → apart.calls number ≡ true
+    undone_shuns access of part number operable overrides may =
+        let none = (start_parts access may).1 in
+        operation_shuns Finalize access of part number operable overrides (finalize_frugal of number overrides) none.0 none.1
 
     -- So is each Finalize that the end of such an object calls, each Initialize that the start of one calls, and each Finalize of what has begun of that.
     operations_apart : CallsApart program.types.items apart
     operations_apart = record {
       finalizes = λ access of part number tasks may left overrides.
-          operation_shuns access of part number (left_lies program WholeFirst access left).0 overrides (not-true ((implicit_of p).end_reaches access u) may);
+          end_shuns access of part number (left_lies program WholeFirst access left).0 overrides (not-true ((implicit_of p).end_reaches access u) may);
       initializes = λ access of part number may begun overrides.
-          quiet_shuns access of part number (left_lies program PartsFirst access begun.1).0 overrides (start_parts access may).0;
+          begin_shuns access of part number (left_lies program PartsFirst access begun.1).0 overrides may;
       undoes = λ access of part number may begun overrides.
-          operation_shuns access of part number (left_lies program PartsFirst access begun.1).0 overrides (start_parts access may).1;
+          undone_shuns access of part number (left_lies program PartsFirst access begun.1).0 overrides may;
     }
 
     -- They free and follow no value of the type,
@@ -305,20 +338,18 @@ module _ (program : Program) (well : IsWellFormed (program_form program)) (uses 
     ends_spared : EndsSpared p u apart
     ends_spared access is spares = ap not (end_spares p u access is spares)
 
-    -- and so is each access type of which an object begins quietly, and its end is no use.
+    -- and so is each access type of which neither the beginning nor the end of an object is.
     starts_spared : StartsSpared p u apart
-    starts_spared access calm spares =
-        and_from (has_calm_objects p.types (quietly_begun_types p) access) (not ((implicit_of p).end_reaches access u)) calm
-        (ap not (end_spares p u access (calm_access p u p.types (quietly_begun_types p) (slice_get p.types access) calm) spares))
+    starts_spared access is spares = ap not (start_spares p u access is spares)
 
     -- So they have the shape.
     shaped : AreShaped p program.types.items apart
     shaped = record {
       own = refl;
       bodies = λ n b among there.
-          let fits = subst (λ (own : ProgramForm). SeenFits own) (seen_as p n b there) (seen_fits p well (Some n)) in
+          let fits : SeenFits (seen_by n b p) = subst (λ (own : ProgramForm). SeenFits own) (seen_as p n b there) (seen_fits p well (Some n)) in
           let frugal = subst (λ (found : Option BodyForm). is_frugal_one p found ≡ true) there (shunning_parts p u n among).0 in
-          body_shaped p u apart calls_frugal ends_spared starts_spared well.types_fit b fits.variables_fit frugal
+          body_shaped p u apart calls_frugal ends_spared starts_spared n b fits frugal
           (body_spares p u n b there (uses_none n among));
       operations = operations_apart;
     }
@@ -327,7 +358,7 @@ module _ (program : Program) (well : IsWellFormed (program_form program)) (uses 
     all_apart : AreApart p program.types.items (λ t. u == t) apart
     all_apart = unused_apart p (λ t. u == t) apart unused program.types.items well shaped
 
-  -- A frugal body has the shape of bodies that shun types, whatever it uses, and so have all that it calls, and the operations of what it frees.
+  -- A frugal body has the shape of bodies that shun types, whatever it uses, and so have all that it calls, and the operations of what it frees and allocates.
   module _ (number : ℕ) (b : BodyForm) (there : slice_get p.bodies number ≡ Some b) (frugal : is_frugal_body (thrift_of p) b ≡ true) where
     -- No type has the number behind the last one: so nothing is a use of it.
     none_used : (d : Deed) → is_deed_of p d ≡ nat_lt (length p.types) (length p.types) → does_by p d (calling number) ≡ false
@@ -343,7 +374,7 @@ module _ (program : Program) (well : IsWellFormed (program_form program)) (uses 
         (apart_from program u, shaped u, (shaped u).bodies number b among there)
 
 -- The body of a Finalize of a part of an object, whose end does not reach an access type, shuns that type, and so do all that it calls and the operations of
--- what it frees.
+-- what it frees and allocates.
 pub finalize_shuns :
     (program : Program) → IsWellFormed (program_form program) → operations_may_be_called (program_form program) ≡ true
     → (access of part number u : ℕ) (b : BodyForm) → IsOperable (program_form program).types access of part
@@ -353,9 +384,9 @@ pub finalize_shuns :
     × (body_shuns (program_form program).types (λ t. u == t) apart b ≡ true)
 finalize_shuns program well uses access of part number u b operable overrides there reaches =
     let all = all_apart program well uses u in
-    (apart_from program u, all, all.bodies number b (operation_shuns program well uses u access of part number operable overrides reaches) there)
+    (apart_from program u, all, all.bodies number b (end_shuns program well uses u access of part number operable overrides reaches) there)
 
--- The frugal body of a procedure has the shape of bodies that shun types, and so have all that it calls and the operations of what it frees.
+-- The frugal body of a procedure has the shape of bodies that shun types, and so have all that it calls and the operations of what it frees and allocates.
 pub body_is_shaped :
     (program : Program) → IsWellFormed (program_form program) → operations_may_be_called (program_form program) ≡ true → (number : ℕ) (b : BodyForm)
     → slice_get (body_forms program) number ≡ Some b → is_frugal_body (thrift_of (program_form program)) b ≡ true

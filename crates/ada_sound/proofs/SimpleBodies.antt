@@ -1,44 +1,42 @@
 -- A simple body (7.6) is frugal, whatever is known of procedures: it calls none.
 
 use Rattle.std.proofs.Common.{◌≡◌, ℕ, Bool, true, ◌&&◌, List, [], ◌∷◌, drop, refl}
-use Rattle.std.specs.List.{list_all, slice_get}
+use Rattle.std.specs.List.{list_all}
 use Rattle.std.proofs.lemmas.Bool.{or_right}
 use Rattle.ada_program.specs.Form.{RightForm, nothing, value_of, allocates, allocates_default, computes, StmtForm, skips, assigns, assigns_record, frees, gets, writes, writes_text, chooses, repeats, counts, exits, calls, returns, raises, encloses, StmtsForm, no_stmts, a_stmt, BranchesForm, otherwise, a_branch, HandlersForm, no_handlers, a_handler, DeclarationForm, creates_pool, collects, declares, declares_record}
 use Rattle.ada_program.specs.Nested.{Callees, body_nests}
 use Rattle.ada_program.specs.ProgramForm.{TypeForm, BodyForm}
 use Rattle.ada_quiet.specs.Bare.{has_bare_objects}
-use Rattle.ada_quiet.specs.Frugal.{Thrift, allocates_quietly, are_frugal_declarations, is_frugal_stmt, are_frugal, are_frugal_branches, are_frugal_handlers, is_frugal_body}
+use Rattle.ada_quiet.specs.Frugal.{Thrift, allocates_frugally, are_frugal_declarations, is_frugal_stmt, are_frugal, are_frugal_branches, are_frugal_handlers, is_frugal_body}
 use Rattle.ada_quiet.specs.Simple.{is_plain_item, is_simple_right, are_simple_declarations, is_simple_stmt, are_simple, are_simple_branches, are_simple_handlers, is_simple_body, is_bare_kind}
 use Rattle.ada_typed.proofs.OfKinds.{and_both}
-use Rattle.ada_sound.proofs.CalmTypes.{bare_calm}
 use Rattle.ada_sound.proofs.FrugalBodies.{calling_none, lone_nests}
-use Rattle.ada_sound.proofs.Allowance.{Allowance, is_thrifty_stmt, are_thrifty, are_thrifty_branches, are_thrifty_handlers, is_thrifty_body}
+use Rattle.ada_sound.proofs.Allowance.{Allowance, allocates_thriftily, are_thrifty_declarations, is_thrifty_stmt, are_thrifty, are_thrifty_branches, are_thrifty_handlers, is_thrifty_body}
 use Rattle.ada_sound.proofs.OperationStarts.{apart}
 
--- What it allocates is bare, so it begins quietly.
-right_quiet : (types : List TypeForm) (begun : List Bool) (right : RightForm) → is_simple_right types right ≡ true → allocates_quietly types begun right ≡ true
-right_quiet types begun nothing is = refl
-right_quiet types begun (value_of path) is = refl
-right_quiet types begun (allocates access items) is = (apart (has_bare_objects types access) (list_all is_plain_item items) is).0
-right_quiet types begun (allocates_default access) is = bare_calm types begun (slice_get types access) is
-right_quiet types begun (computes e) is = refl
+-- What it allocates with items is bare (4.8).
+frugal_right : (types : List TypeForm) (right : RightForm) → is_simple_right types right ≡ true → allocates_frugally types right ≡ true
+frugal_right types nothing is = refl
+frugal_right types (value_of path) is = refl
+frugal_right types (allocates access items) is = (apart (has_bare_objects types access) (list_all is_plain_item items) is).0
+frugal_right types (allocates_default access) is = refl
+frugal_right types (computes e) is = refl
 
-frugal_declarations :
-    (types : List TypeForm) (begun : List Bool) (ds : List DeclarationForm) → are_simple_declarations types ds ≡ true
-    → are_frugal_declarations types begun ds ≡ true
-frugal_declarations types begun [] is = refl
-frugal_declarations types begun (creates_pool p ∷ ds) is = absurd (cc is)
-frugal_declarations types begun (collects access ∷ ds) is = absurd (cc is)
-frugal_declarations types begun (declares x right ∷ ds) is =
+-- So it is with declarations.
+frugal_declarations : (types : List TypeForm) (ds : List DeclarationForm) → are_simple_declarations types ds ≡ true → are_frugal_declarations types ds ≡ true
+frugal_declarations types [] is = refl
+frugal_declarations types (creates_pool p ∷ ds) is = absurd (cc is)
+frugal_declarations types (collects access ∷ ds) is = absurd (cc is)
+frugal_declarations types (declares x right ∷ ds) is =
     let both = apart (is_simple_right types right) (are_simple_declarations types ds) is in
-    rw (right_quiet types begun right both.0, frugal_declarations types begun ds both.1) refl
-frugal_declarations types begun (declares_record x t initial ∷ ds) is = absurd (cc is)
+    rw (frugal_right types right both.0, frugal_declarations types ds both.1) refl
+frugal_declarations types (declares_record x t initial ∷ ds) is = absurd (cc is)
 
 module _ (frugal : Thrift) where
   mutual
     frugal_stmt : (f : StmtForm) → is_simple_stmt frugal.types true f ≡ true → is_frugal_stmt frugal f ≡ true
     frugal_stmt skips is = refl
-    frugal_stmt (assigns target right) is = right_quiet frugal.types frugal.begun right is
+    frugal_stmt (assigns target right) is = frugal_right frugal.types right is
     frugal_stmt (assigns_record target items) is = absurd (cc is)
     frugal_stmt (frees access path) is = refl
     frugal_stmt (gets target) is = refl
@@ -54,7 +52,7 @@ module _ (frugal : Thrift) where
     frugal_stmt (encloses ds fs hs) is =
         let two = apart _ _ is in
         let three = apart _ _ two.0 in
-        rw (frugal_declarations frugal.types frugal.begun ds three.0, frugal_stmts fs three.1, frugal_handlers hs two.1) refl
+        rw (frugal_declarations frugal.types ds three.0, frugal_stmts fs three.1, frugal_handlers hs two.1) refl
 
     frugal_stmts : (fs : StmtsForm) → are_simple frugal.types true fs ≡ true → are_frugal frugal fs ≡ true
     frugal_stmts no_stmts is = refl
@@ -68,14 +66,30 @@ module _ (frugal : Thrift) where
     frugal_handlers no_handlers is = refl
     frugal_handlers (a_handler choices fs hs) is = let both = apart _ _ is in rw (frugal_stmts fs both.0, frugal_handlers hs both.1) refl
 
--- So it is where bodies may free objects with controlled parts or not: it frees none.
+-- So it is where bodies may allocate and free objects with controlled parts or not: it treats none.
 module _ (allowance : Allowance) where
+  thrifty_right : (right : RightForm) → is_simple_right allowance.types right ≡ true → allocates_thriftily allowance right ≡ true
+  thrifty_right nothing is = refl
+  thrifty_right (value_of path) is = refl
+  thrifty_right (allocates access items) is = (apart (has_bare_objects allowance.types access) (list_all is_plain_item items) is).0
+  thrifty_right (allocates_default access) is = or_right allowance.treats_parts (has_bare_objects allowance.types access) is
+  thrifty_right (computes e) is = refl
+
+  thrifty_declarations : (ds : List DeclarationForm) → are_simple_declarations allowance.types ds ≡ true → are_thrifty_declarations allowance ds ≡ true
+  thrifty_declarations [] is = refl
+  thrifty_declarations (creates_pool p ∷ ds) is = absurd (cc is)
+  thrifty_declarations (collects access ∷ ds) is = absurd (cc is)
+  thrifty_declarations (declares x right ∷ ds) is =
+      let both = apart (is_simple_right allowance.types right) (are_simple_declarations allowance.types ds) is in
+      rw (thrifty_right right both.0, thrifty_declarations ds both.1) refl
+  thrifty_declarations (declares_record x t initial ∷ ds) is = absurd (cc is)
+
   mutual
     thrifty_stmt : (f : StmtForm) → is_simple_stmt allowance.types true f ≡ true → is_thrifty_stmt allowance f ≡ true
     thrifty_stmt skips is = refl
-    thrifty_stmt (assigns target right) is = right_quiet allowance.types allowance.begun right is
+    thrifty_stmt (assigns target right) is = thrifty_right right is
     thrifty_stmt (assigns_record target items) is = absurd (cc is)
-    thrifty_stmt (frees access path) is = or_right allowance.ends_parts (has_bare_objects allowance.types access) is
+    thrifty_stmt (frees access path) is = or_right allowance.treats_parts (has_bare_objects allowance.types access) is
     thrifty_stmt (gets target) is = refl
     thrifty_stmt (writes e) is = refl
     thrifty_stmt (writes_text text) is = refl
@@ -89,7 +103,7 @@ module _ (allowance : Allowance) where
     thrifty_stmt (encloses ds fs hs) is =
         let two = apart _ _ is in
         let three = apart _ _ two.0 in
-        rw (frugal_declarations allowance.types allowance.begun ds three.0, thrifty_stmts fs three.1, thrifty_handlers hs two.1) refl
+        rw (thrifty_declarations ds three.0, thrifty_stmts fs three.1, thrifty_handlers hs two.1) refl
 
     thrifty_stmts : (fs : StmtsForm) → are_simple allowance.types true fs ≡ true → are_thrifty allowance fs ≡ true
     thrifty_stmts no_stmts is = refl
@@ -164,21 +178,21 @@ simple_parts types b is =
     record { variables = two.0; declarations = two.1; statements = three.1; handlers = four.1 }
 
 -- It is frugal.
-pub simple_frugal : (frugal : Thrift) (b : BodyForm) → is_simple_body frugal.types true b ≡ true → is_frugal_body frugal b ≡ true
+simple_frugal : (frugal : Thrift) (b : BodyForm) → is_simple_body frugal.types true b ≡ true → is_frugal_body frugal b ≡ true
 simple_frugal frugal b is =
     let parts = simple_parts frugal.types b is in
     rw (
-      frugal_declarations frugal.types frugal.begun b.declarations parts.declarations,
+      frugal_declarations frugal.types b.declarations parts.declarations,
       frugal_stmts frugal b.statements parts.statements,
       frugal_handlers frugal b.handlers parts.handlers,
     ) refl
 
--- It is so where bodies free no object with controlled parts.
+-- It is so where bodies allocate and free no object with controlled parts.
 pub simple_thrifty : (allowance : Allowance) (b : BodyForm) → is_simple_body allowance.types true b ≡ true → is_thrifty_body allowance b ≡ true
 simple_thrifty allowance b is =
     let parts = simple_parts allowance.types b is in
     rw (
-      frugal_declarations allowance.types allowance.begun b.declarations parts.declarations,
+      thrifty_declarations allowance b.declarations parts.declarations,
       thrifty_stmts allowance b.statements parts.statements,
       thrifty_handlers allowance b.handlers parts.handlers,
     ) refl

@@ -32,7 +32,7 @@ use Rattle.ada_sound.proofs.Allowance.{Allowance, allowance_of}
 use Rattle.ada_sound.proofs.Bodies.{IsBody}
 use Rattle.ada_sound.proofs.Callers.{Suspension, known_in, Stands, callers_of}
 use Rattle.ada_sound.proofs.Fits.{Fit, Outsiders, IsPlace, IsRelied, IsSaid, IsUnreferred, component_access, none_spared, outer_hold, outer_value, place_at, Reference, IsReferred}
-use Rattle.ada_sound.proofs.FrugalControl.{Frugally, FrugalLeads, IsFreed}
+use Rattle.ada_sound.proofs.FrugalControl.{FrugalOperated, Frugally, IsInside, operated_in}
 use Rattle.ada_sound.proofs.Held.{FreeIf, holder_if}
 use Rattle.ada_sound.proofs.Invariant.{SparesHolder, body_among, CoveredIn, Control, Rooms, Roomed, GoesTo, MayAwait, RoomFor, RunsOn, Known, IsNewest, Ready, Spares, StartsTo, Unaliased, departs, below, innermost, outers, BeginsWell, CameOut, To, By, ways, IsAwaited, under_in, AssignsWell, IsCopied, LiesAmong, AdjustedBehind, IsCovered, EndsWellBy}
 use Rattle.ada_sound.proofs.Operating.{WaitsFor, IsCalm, lets_out, OwnVariables}
@@ -338,19 +338,14 @@ abbrev pub holding : (held : Bool) (procedure : Option ℕ) (places : List Value
 holding held procedure places treatment object access also place behind lower kept rooms holds =
     record (resting procedure places treatment object access also place behind lower kept rooms holds) { held = holder_if held object access }
 
--- An operation is called where an object is finalized (7.6.1).
-abbrev pub IsEnding : Treatment → Type 0
-IsEnding (begins by done) = ⊥
-IsEnding (ends cause) = Unit {0}
-
 -- What the body of such an operation may free: for an object that is initialized, none of its own access type; for one that is finalized, what its end may
 -- free.
 abbrev pub CoversBy : ProgramForm → Treatment → (access freed : ℕ) → Type 0
 CoversBy p (begins by done) access t = is_access p.types t ≡ true → access ≢ t
 CoversBy p (ends cause) access t = (implicit_of p).end_frees access t ≡ true
 
--- The body of such an operation runs, or one that it has called, or the operation of an object that one of these frees: `depth` activations wait for these
--- since then, and behind them the one that waits for the operation.
+-- The body of such an operation runs, or one that it has called, or the operation of an object that one of these frees or allocates: `depth` activations wait
+-- for these since then, and behind them the one that waits for the operation.
 pub record Pause (program : Program) (depth : ℕ) (s : State) : Type 0 where
   pub number : ℕ
   pub is_body : IsBody (program_form program) (Some number)
@@ -394,26 +389,32 @@ origin program depth s f = holding f.held f.procedure f.places f.treatment f.obj
 abbrev pub IsCall : Suspension → Type 0
 IsCall g = (IsAwaited g.control → ⊥) × (g.under ≡ [])
 
+-- The objects whose operations these activations wait for, the nearest one first.
+abbrev pub operated_among : List Suspension → List Value
+operated_among [] = []
+operated_among (g ∷ gs) = operated_in g.control ++ operated_among gs
+
 -- In what the outermost operation has called so far, by what bodies go, what is left to do behind it, and the masters that were entered before it.
 module _ (program : Program) (s : State) (allowance : Allowance) (back : Control) (lower : List Master) where
-  -- An activation waits, in front of these, for the operation of an object that it frees, whose body is this one (7.6.1, 13.11.2): behind that its own body
-  -- goes on, in masters of its own.
-  pub record IsOperation (running : Option ℕ) (depth : ℕ) (others : List Suspension) (g : Suspension) : Type 0 where
+  -- An activation waits, in front of these, for the operation of an object that it frees or allocates, or that is undone, whose body is this one (7.6, 7.6.1,
+  -- 4.8, 13.11.2): behind that its own body goes on, in masters of its own, in which operations of these objects run.
+  pub record IsOperation (running : Option ℕ) (depth : ℕ) (others : List Suspension) (among : List Value) (g : Suspension) : Type 0 where
     pub pause : Pause program depth s
     pub is : g ≡ origin program depth s pause
     pub behind_it : others ≡ pause.suspensions
     pub runs : running ≡ Some pause.number
-    pub freed : IsFreed pause.treatment
+    pub inside : IsInside pause.treatment
     pub upper : List Master
     pub masters : pause.lower ≡ upper ++ lower
     pub own : OwnVariables upper
-    pub leads : FrugalLeads allowance back pause.behind upper
+    pub leads : FrugalOperated allowance back (operated_in pause.behind ++ among) pause.behind upper
 
   -- These activations wait, in front of others, the nearest one first, for calls or for such operations: the first one for the body that runs, and the last one
   -- is the body of the outermost operation, if none waits, that is the one that runs.
   abbrev pub AreInner : (running : Option ℕ) (depth : ℕ) (outermost : Option ℕ) (others : List Suspension) → List Suspension → Type 0
   AreInner running depth outermost others [] = running ≡ outermost
-  AreInner running depth outermost others (g ∷ inner) = (IsCall g ⊎ IsOperation running depth (inner ++ others) g) × AreInner g.procedure (suc depth) outermost others inner
+  AreInner running depth outermost others (g ∷ inner) =
+      (IsCall g ⊎ IsOperation running depth (inner ++ others) (operated_among inner) g) × AreInner g.procedure (suc depth) outermost others inner
 
 -- An operation that touches storage is under way: `inner` are the activations that wait since then, the nearest one first; and behind the outermost operation
 -- none runs.
@@ -422,7 +423,7 @@ pub record Within (program : Program) (gs : List Suspension) (s : State) : Type 
   pub outermost : Pause program (length inner) s
   pub are : gs ≡ inner ++ origin program (length inner) s outermost ∷ outermost.suspensions
   pub within : AreInner program s (allowance_of (program_form program)) outermost.behind outermost.lower (running_procedure s) 0 (Some outermost.number) (origin program (length inner) s outermost ∷ outermost.suspensions) inner
-  pub frugal : Frugally (allowance_of (program_form program)) outermost.lower outermost.behind s
+  pub frugal : Frugally (allowance_of (program_form program)) outermost.lower outermost.behind (operated_among inner) s
   pub untreated : (v : Value) → v ≢ Names outermost.object → NothingBegins v outermost.after
   pub calm : IsCalm (behind_call outermost.behind)
   pub settled : under_in (callers_of program outermost.suspensions) ≡ []
@@ -432,7 +433,7 @@ pub record Within (program : Program) (gs : List Suspension) (s : State) : Type 
 abbrev pub Around : (program : Program) → List Suspension → State → Type 0
 Around program gs s = (IsCalm (behind_call s.control) × (under_in (callers_of program gs) ≡ [])) ⊎ Within program gs s
 
--- The body of an operation that touches storage runs, or one that it has called, or the operation of an object that one of these frees.
+-- The body of an operation that touches storage runs, or one that it has called, or the operation of an object that one of these frees or allocates.
 pub record Touching (program : Program) (s : State) : Type 0 where
   pub suspensions : List Suspension
   pub ready : Ready (known_in program (running_procedure s) suspensions) s

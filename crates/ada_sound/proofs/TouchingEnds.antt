@@ -41,8 +41,9 @@ use Rattle.ada_sound.proofs.Activations.{returned_fit}
 use Rattle.ada_sound.proofs.Awaiting.{goes_along}
 use Rattle.ada_sound.proofs.Callers.{rest_of, Suspension, caller_of, known_in, Stands, AreOf, callers_of}
 use Rattle.ada_sound.proofs.Emptying.{null_again}
+use Rattle.ada_sound.proofs.FrugalControl.{MayBegin}
 use Rattle.ada_sound.proofs.Held.{fit_unheld, held_alone, holder_if, unnamed_hand, with_held}
-use Rattle.ada_sound.proofs.Touching.{AwaitsAmong, Departs, IsEnding, IsNamedNowhere, Pause, Empties, Resting, Rests, RestsAsOwned, RestsAtEnd, Starting, Naming, under_way, Undoes, origin, Overwrites, Releases, RestsBy, StoresInto, Watch, Watched}
+use Rattle.ada_sound.proofs.Touching.{AwaitsAmong, Departs, IsNamedNowhere, Pause, Empties, Resting, Rests, RestsAsOwned, RestsAtEnd, Starting, Naming, under_way, Undoes, origin, Overwrites, Releases, RestsBy, StoresInto, Watch, Watched}
 use Rattle.ada_sound.proofs.Fits.{Fit, Hand, hold_in, place_at, is_object, stacked, none_spared, plain_place, put_owner, sparing, outer_hold, outer_value_at, spare_fit, weaker_fit, IsReferred, Reference, component_access, component_value, referred_first, store_blank, store_owner}
 use Rattle.ada_sound.proofs.Invariant.{SparesHolder, AllWait, Control, Known, Rooms, GoesOn, Working, Ending, EndsTo, ReadyIn, TreatsBy, innermost, outer_of, outers, IsLive, Beginning, StartsTo, BeginsWell, Ready, IsActive, AreSuspended, CopiesBehind, EndsBy, LiesIn, StoresBehind, FreesWell, IsCovered, EndsWellBy, AwaitsIn, GoesTo, HasRoom, IsHolder, IsMade, Making, NamesTo, RoomFor, To, RunsOn}
 use Rattle.ada_sound.proofs.Operating.{behind_operation, lets_out, WaitsFor}
@@ -76,6 +77,20 @@ module _ (known : Known) (heap : List Object) (held : List Value) (holds : Holds
 -- What waits for a Finalize is ready, once the end of the object is.
 ends_first : (known : Known) (o : Id) (after k : Control) (heap : List Object) (held : List Value) (ms : List Master) → after ≡ Ends (Names o) ∷ k → Ending known o k heap held ms → EndsTo known (Names o) after heap held ms
 ends_first known o after k heap held ms is ending = rw is (refl, ending)
+
+-- Behind a body that ends, an exception goes on, which has come out of it; else what waits for it does.
+abbrev left_mode : Mode → Mode
+left_mode Running = Running
+left_mode (Raising e) = Raising e
+left_mode Exiting = Running
+left_mode Returning = Running
+
+-- So a new object may begin then, or be undone.
+left_begins : (mode : Mode) → MayBegin (left_mode mode)
+left_begins Running = tt
+left_begins (Raising e) = tt
+left_begins Exiting = tt
+left_begins Returning = tt
 
 module _ (program : Program) (well : IsWellFormed (program_form program)) (s : State) (f : Pause program 0 s) (parted : (cause : Cause) → IsEnd cause → f.treatment ≡ ends cause → f.x.listed ≡ false) (ready : Ready (known_in program (running_procedure s) (origin program 0 s f ∷ f.suspensions)) s) (stands_now : Stands program (origin program 0 s f ∷ f.suspensions) s) (operates : running_procedure s ≡ Some f.number) (a b : Activation Value) (rest : List (Activation Value)) (acts_so : s.activations ≡ a ∷ b ∷ rest) (ends_now : s.control ≡ Returns [] [] ∷ f.behind) (masters_are : s.masters ≡ f.lower) where
   abbrev own : Known
@@ -129,10 +144,7 @@ module _ (program : Program) (well : IsWellFormed (program_form program)) (s : S
 
   -- Behind the body: an exception goes on.
   abbrev left_in : Mode → State
-  left_in Running = behind_operation (b ∷ rest) f.behind f.lower s
-  left_in (Raising e) = record (behind_operation (b ∷ rest) f.behind f.lower s) { mode = Raising e }
-  left_in Exiting = behind_operation (b ∷ rest) f.behind f.lower s
-  left_in Returning = behind_operation (b ∷ rest) f.behind f.lower s
+  left_in mode = record (behind_operation (b ∷ rest) f.behind f.lower s) { mode = left_mode mode }
 
   goes_by : (mode : Mode) (c : Activation Value) (held computed : List Value) → ReadyIn running mode (Returns [] [] ∷ f.behind) s.heap held computed f.lower → mode_next named program.types.items (body_forms program) mode (acts mode (Returns [] [] ∷ f.behind) c) ≡ moves Quiet (left_in mode)
   goes_by Running c held computed w = refl
@@ -574,12 +586,6 @@ module _ (program : Program) (well : IsWellFormed (program_form program)) (s : S
       goes_ready_there : Ready (known_in program (running_procedure after) f.suspensions) after
       goes_ready_there = by_parts after.activations active
 
-  left_control : (mode : Mode) → (left_in mode).control ≡ f.behind
-  left_control Running = refl
-  left_control (Raising e) = refl
-  left_control Exiting = refl
-  left_control Returning = refl
-
   crosses_back : CrossesTo program f.suspensions s.heap Quiet (behind_operation (b ∷ rest) f.behind f.lower s)
   crosses_back = crosses (behind_operation (b ∷ rest) f.behind f.lower s) refl refl behind_ready
 
@@ -612,29 +618,17 @@ module _ (program : Program) (well : IsWellFormed (program_form program)) (s : S
       subst (λ (t : State). mode_next named program.types.items (body_forms program) s.mode t ≡ moves Quiet (left_in s.mode)) state_is
       (goes_by s.mode a (places s) (operands s) ready_now)
 
-  -- Nothing comes out of a Finalize but its end.
-  left_as : (mode : Mode) (held computed : List Value) → ReadyIn running mode (Returns [] [] ∷ f.behind) s.heap held computed f.lower → IsEnding f.treatment → left_in mode ≡ behind_operation (b ∷ rest) f.behind f.lower s
-  left_as Running held computed w ending = refl
-  left_as (Raising e) held computed w ending = absurd (never_out f.treatment ending (raised_out e w.rooms w.holds w.rest))
-    where
-      never_out : (treatment : Treatment) → IsEnding treatment → lets_out (implicit_of (program_form program)) f.access treatment e ≡ true → ⊥
-      never_out (begins by done) ending out = ending
-      never_out (ends cause) ending out = cc out
-  left_as Exiting held computed w ending = refl
-  left_as Returning held computed w ending = refl
-
 -- When the end of the body is next, what waits for the operation goes on, perhaps with an exception, which comes out of an Initialize alone.
 pub touching_ends :
     (program : Program) → IsWellFormed (program_form program) → (s : State) → (f : Pause program 0 s) → ((cause : Cause) → IsEnd cause → f.treatment ≡ ends cause → f.x.listed ≡ false)
     → Ready (known_in program (running_procedure s) (origin program 0 s f ∷ f.suspensions)) s → Stands program (origin program 0 s f ∷ f.suspensions) s → running_procedure s ≡ Some f.number
     → (a b : Activation Value) (rest : List (Activation Value)) → s.activations ≡ a ∷ b ∷ rest → s.control ≡ Returns [] [] ∷ f.behind → s.masters ≡ f.lower
-    → (after : State) × (next program.types.items (body_forms program) s ≡ moves Quiet after) × CrossesTo program f.suspensions s.heap Quiet after × (after.control ≡ f.behind)
-    × (IsEnding f.treatment → after ≡ behind_operation (b ∷ rest) f.behind f.lower s)
-touching_ends program well s f parted ready stands operates a b rest acts_so ends_now masters_are =
-    let now = ready_now program well s f parted ready stands operates a b rest acts_so ends_now masters_are in (
-      left_in program well s f parted ready stands operates a b rest acts_so ends_now masters_are s.mode,
-      goes_now program well s f parted ready stands operates a b rest acts_so ends_now masters_are,
-      crosses_by program well s f parted ready stands operates a b rest acts_so ends_now masters_are s.mode (places s) (operands s) now,
-      left_control program well s f parted ready stands operates a b rest acts_so ends_now masters_are s.mode,
-      left_as program well s f parted ready stands operates a b rest acts_so ends_now masters_are s.mode (places s) (operands s) now,
-    )
+    → (mode : Mode) × MayBegin mode × (next program.types.items (body_forms program) s ≡ moves Quiet (record (behind_operation (b ∷ rest) f.behind f.lower s) { mode = mode }))
+    × CrossesTo program f.suspensions s.heap Quiet (record (behind_operation (b ∷ rest) f.behind f.lower s) { mode = mode })
+touching_ends program well s f parted ready stands operates a b rest acts_so ends_now masters_are = (
+  left_mode s.mode,
+  left_begins s.mode,
+  goes_now program well s f parted ready stands operates a b rest acts_so ends_now masters_are,
+  crosses_by program well s f parted ready stands operates a b rest acts_so ends_now masters_are s.mode (places s) (operands s)
+      (ready_now program well s f parted ready stands operates a b rest acts_so ends_now masters_are),
+)

@@ -25,7 +25,7 @@ use Rattle.ada_sound.proofs.OperationStarts.{is_awaited}
 use Rattle.ada_sound.proofs.Pauses.{AllWatched, inner_on, pause_on}
 use Rattle.ada_sound.proofs.Returns.{Crosses, CrossesTo}
 use Rattle.ada_sound.proofs.Grounds.{Grounds}
-use Rattle.ada_sound.proofs.Touching.{AreInner, Pause, Touching, Watched, Within, origin}
+use Rattle.ada_sound.proofs.Touching.{AreInner, Pause, Touching, Watched, Within, operated_among, origin}
 use Rattle.ada_sound.proofs.TouchingWatched.{AllGoOnInside, all_watched, each_and, watched_stays}
 use Rattle.ada_sound.proofs.Waiting.{SameBody, stands_kept}
 
@@ -95,7 +95,7 @@ module _ (program : Program) (s : State) (f : Touching program s) where
   -- Whatever is called from now on, and whoever goes on: the outermost operation is the same.
   pub within_on :
       (inner : List Suspension) (e : Event) (after : State) → InnerIn after (running_procedure after) inner
-      → operands_of (drop (suc (length inner)) after.activations) ≡ operands_of (drop (suc (length w.inner)) s.activations) → Frugally (allowance_of (program_form program)) outermost.lower outermost.behind after
+      → operands_of (drop (suc (length inner)) after.activations) ≡ operands_of (drop (suc (length w.inner)) s.activations) → Frugally (allowance_of (program_form program)) outermost.lower outermost.behind (operated_among inner) after
       → Watched program outermost.watch outermost.behind after → Alters s.heap e after.heap → Within program (inner ++ behind_it) after
   within_on inner e after are same goes still alters = record {
     inner = inner;
@@ -111,7 +111,7 @@ module _ (program : Program) (s : State) (f : Touching program s) where
 
   pub touching_on :
       (inner : List Suspension) (e : Event) (after : State) → InnerIn after (running_procedure after) inner
-      → operands_of (drop (suc (length inner)) after.activations) ≡ operands_of (drop (suc (length w.inner)) s.activations) → Frugally (allowance_of (program_form program)) outermost.lower outermost.behind after
+      → operands_of (drop (suc (length inner)) after.activations) ≡ operands_of (drop (suc (length w.inner)) s.activations) → Frugally (allowance_of (program_form program)) outermost.lower outermost.behind (operated_among inner) after
       → Watched program outermost.watch outermost.behind after → CrossesTo program (inner ++ behind_it) s.heap e after → InTouching program s.heap e after
   touching_on inner e after are same goes still c = record {
     body = record {
@@ -131,7 +131,7 @@ module _ (program : Program) (s : State) (f : Touching program s) where
       (inner_on program s (allowance_of (program_form program)) outermost.behind outermost.lower after e (running_procedure s) 0 0 (Some outermost.number) behind_it w.inner w.within alters
       (λ n. operands_behind (0 + n) after.activations s.activations same.suspended) still.1)
 
-  pub stays_on : (e : Event) (after : State) → SameBody s after → Stepped (known_in program (running_procedure s) f.suspensions) s.heap e after → Frugally (allowance_of (program_form program)) outermost.lower outermost.behind after → Still after → InTouching program s.heap e after
+  pub stays_on : (e : Event) (after : State) → SameBody s after → Stepped (known_in program (running_procedure s) f.suspensions) s.heap e after → Frugally (allowance_of (program_form program)) outermost.lower outermost.behind (operated_among w.inner) after → Still after → InTouching program s.heap e after
   stays_on e after same st goes still =
       touching_on w.inner e after (inner_stays e after same st.alters still) (operands_behind (length w.inner) after.activations s.activations same.suspended) goes still.0
       (subst (λ (all : List Suspension). CrossesTo program all s.heap e after) w.are (record {
@@ -139,7 +139,7 @@ module _ (program : Program) (s : State) (f : Touching program s) where
         stands = stands_kept program s after f.suspensions f.stands e same st.alters;
       }))
 
-  pub stays_next : (n : Next) → Each (SameBody s) n → Fine (known_in program (running_procedure s) f.suspensions) s.heap s.masters n → GoesFrugally (allowance_of (program_form program)) outermost.lower outermost.behind n → Each Still n → GoesTouching program s n
+  pub stays_next : (n : Next) → Each (SameBody s) n → Fine (known_in program (running_procedure s) f.suspensions) s.heap s.masters n → GoesFrugally (allowance_of (program_form program)) outermost.lower outermost.behind (operated_among w.inner) n → Each Still n → GoesTouching program s n
   stays_next (halts halt) same fine goes still = fine
   stays_next (moves e after) same fine goes still = inl (stays_on e after same fine goes still)
   stays_next (tells request e after) same fine goes still = inl (stays_on e after same fine goes still)

@@ -12,7 +12,7 @@ use Rattle.ada_meaning.specs.State.{Master, Item, Owned, declared, collection, r
 use Rattle.ada_meaning.specs.Step.{places_of, operands_of}
 use Rattle.ada_sound.proofs.Allowance.{allowance_of}
 use Rattle.ada_sound.proofs.Callers.{known_in}
-use Rattle.ada_sound.proofs.Touching.{Touching}
+use Rattle.ada_sound.proofs.Touching.{Touching, operated_among}
 use Rattle.ada_sound.proofs.FrugalLeaves.{frugal_stays, held_in_none, leaves_own}
 use Rattle.ada_sound.proofs.Invariant.{Control, ReadyIn, RunsOn, departs, departs_next, innermost, outers}
 use Rattle.ada_sound.proofs.Leavings.{HeldIn, NamedBelow, AreInOrder}
@@ -38,7 +38,7 @@ variables_in_order ahead types (i ∷ is) own =
 pub leaves_variables : (program : Program) (s : State) (f : Touching program s) (left : Mode) (k : Control) → s.control ≡ Leaves left ∷ k → AreVariables (innermost s.masters)
 leaves_variables program s f left k leaves =
     let w = f.within in
-    let inner = leaves_own (allowance_of (program_form program)) w.outermost.behind s.heap s.mode left k w.frugal.upper w.outermost.lower (rw leaves at w.frugal.frugal) w.frugal.own in
+    let inner = leaves_own (allowance_of (program_form program)) w.outermost.behind (operated_among w.inner) s.mode left k w.frugal.upper w.outermost.lower (rw leaves at w.frugal.frugal) w.frugal.own in
     rw w.frugal.masters inner
 
 -- So its items go in order.
@@ -65,4 +65,4 @@ touching_stays program s f runs =
     let known = known_in program (running_procedure s) f.suspensions in
     let ready : ReadyIn known Running s.control s.heap (places_of s.activations) (operands_of s.activations) (w.frugal.upper ++ w.outermost.lower) = rw (runs, w.frugal.masters) at f.ready.1 in
     subst (λ (ms : List Master). departs_next (departs known.ahead (innermost ms)) s.control ≡ false) (sym w.frugal.masters)
-    (frugal_stays known (allowance_of (program_form program)) w.outermost.behind s.mode s.control s.heap (places_of s.activations) (operands_of s.activations) w.frugal.upper w.outermost.lower w.frugal.frugal w.frugal.own ready)
+    (frugal_stays known (allowance_of (program_form program)) w.outermost.behind (operated_among w.inner) s.mode s.control s.heap (places_of s.activations) (operands_of s.activations) w.frugal.upper w.outermost.lower w.frugal.frugal w.frugal.own ready)

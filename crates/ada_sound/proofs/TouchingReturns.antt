@@ -1,63 +1,59 @@
 -- The end of a body while an operation that touches storage is under way (6.5, 7.6.1): that of the outermost operation, of the operation of an object that is
--- freed, or of a procedure that was called.
+-- freed, undone or allocated, or of a procedure that was called.
 
-use Rattle.std.proofs.Common.{◌≡◌, ℕ, true, List, [], ◌∷◌, refl, sym, ap, subst, ◌∙◌, inl, inr, ◌++◌, ◌+◌, drop, length, suc}
+use Rattle.std.proofs.Common.{◌≡◌, ℕ, List, [], ◌∷◌, refl, sym, ap, subst, ◌∙◌, inl, inr, ◌++◌, ◌+◌, drop, length, suc}
 use Rattle.std.specs.Prelude.{Option, Some}
-use Rattle.ada_deeds.specs.Implicit.{implicit_of}
 use Rattle.ada_finalized.specs.Law.{finalized_before}
 use Rattle.ada_flow.specs.Flow.{Holds}
-use Rattle.ada_parts.specs.Task.{Task}
 use Rattle.ada_program.specs.declared.program.Program.{Program}
 use Rattle.ada_program.specs.declared.program.TypeDefinition.{TypeDefinition}
 use Rattle.ada_program.specs.Form.{ActualForm}
-use Rattle.ada_program.specs.ProgramForm.{ProgramForm, BodyForm, TypeForm, program_form, body_forms, seen_in}
-use Rattle.ada_program.specs.WellFormed.{is_access}
-use Rattle.ada_meaning.specs.declared.event.Cause.TheVariants.{Leaving, Freeing, Assigning, Undoing}
-use Rattle.ada_meaning.specs.declared.state.Id.{Id}
+use Rattle.ada_program.specs.ProgramForm.{ProgramForm, BodyForm, program_form, body_forms, seen_in}
 use Rattle.ada_meaning.specs.declared.state.Mode.{Mode}
 use Rattle.ada_meaning.specs.declared.state.Mode.TheVariants.{Running, Raising, Exiting, Returning}
 use Rattle.ada_meaning.specs.declared.state.Value.{Value}
 use Rattle.ada_meaning.specs.declared.state.Value.TheVariants.{Null, Names}
 use Rattle.ada_meaning.specs.Event.{Quiet}
 use Rattle.ada_meaning.specs.Frame as frame
-use Rattle.ada_meaning.specs.Frame.{Treatment, begins, ends, Returns}
+use Rattle.ada_meaning.specs.Frame.{Returns}
 use Rattle.ada_meaning.specs.State.{Activation, Master}
-use Rattle.ada_meaning.specs.Step.{moves, procedure_of, storing, treating, operands_of}
-use Rattle.ada_meaning.specs.Named.{Object, State, named, next}
+use Rattle.ada_meaning.specs.Step.{moves, procedure_of, storing, operands_of}
+use Rattle.ada_meaning.specs.Named.{State, named, next}
 use Rattle.ada_typed.specs.Holding.{Cells, cells_of}
 use Rattle.ada_typed.proofs.Control as typed
 use Rattle.ada_typed.proofs.Kept.{behind_call, Each}
 use Rattle.ada_sound.proofs.Allowance.{Allowance, allowance_of}
 use Rattle.ada_sound.proofs.Alters.{alters_same}
 use Rattle.ada_sound.proofs.CallBegins.{placed_in}
-use Rattle.ada_sound.proofs.Callers.{Suspension, callers_of, known_in, Stands, AreOf}
-use Rattle.ada_sound.proofs.FrugalControl.{Frugal, FrugalLeads, IsFreed, frugal_ends, frugal_returns, shorter}
-use Rattle.ada_sound.proofs.Invariant.{Control, CoveredIn, GoesOn, IsAwaited, Ready, Roomed, Rooms, Working, under_in, below}
-use Rattle.ada_sound.proofs.Operating.{IsCalm, WaitsFor, behind_operation}
+use Rattle.ada_sound.proofs.Callers.{Suspension, known_in, Stands, AreOf}
+use Rattle.ada_sound.proofs.FrugalControl.{Frugal, FrugalLeads, MayBegin, frugal_ends, frugal_returns, none_operated, operated_in, operated_on, operated_shorter}
+use Rattle.ada_sound.proofs.Invariant.{Control, GoesOn, IsAwaited, Ready, Roomed, Rooms, Working, below}
+use Rattle.ada_sound.proofs.Operating.{IsCalm, behind_operation}
 use Rattle.ada_sound.proofs.OperationStarts.{is_awaited}
 use Rattle.ada_sound.proofs.Pauses.{AllWatched, inner_on, pause_on}
-use Rattle.ada_sound.proofs.Returns.{CrossesTo, crosses_to, same_types, same_control, left_to, resumed_in, behind_call as behind_mode, behind_frames, behind_body}
+use Rattle.ada_sound.proofs.Returns.{CrossesTo, crosses_to, same_control, left_to, resumed_in, behind_call as behind_mode, behind_frames, behind_body}
 use Rattle.ada_sound.proofs.Grounds.{Grounds}
-use Rattle.ada_sound.proofs.Stored.{IsUnder}
-use Rattle.ada_sound.proofs.Touching.{AreInner, IsCall, IsEnding, IsOperation, Pause, Rests, RestsAsOwned, RestsAtEnd, Touching, Watched, origin, under_way}
+use Rattle.ada_sound.proofs.Touching.{AreInner, IsCall, IsOperation, Pause, Touching, Watched, operated_among, origin}
 use Rattle.ada_sound.proofs.TouchingEnds.{touching_ends}
 use Rattle.ada_sound.proofs.TouchingGoes.{InTouching, Went, behind_it, none_end, operands_deeper, outermost, touching_on, with_parts}
-use Rattle.ada_sound.proofs.TouchingStands.{finalized_by, frees_not, none_in, touching_unlisted, treating_before, under_outermost}
+use Rattle.ada_sound.proofs.TouchingStands.{IsAmong, later_among, operated_is, operated_once, touching_unlisted}
 use Rattle.ada_sound.proofs.TouchingWatched.{AllGoOnInside, all_watched, watched_stays}
 
 -- Where components get something back, that goes on in front.
-storing_leads : (frugal : Allowance) (behind : Control) (references : List Value) (k : Control) (ms : List Master) → FrugalLeads frugal behind k ms → FrugalLeads frugal behind (storing named references k) ms
-storing_leads frugal behind [] k ms q = q
-storing_leads frugal behind (v ∷ vs) k ms q = (tt, storing_leads frugal behind vs k ms q)
+storing_leads :
+    (frugal : Allowance) (behind : Control) (among references : List Value) (k : Control) (ms : List Master) → FrugalLeads frugal behind among k ms
+    → FrugalLeads frugal behind among (storing named references k) ms
+storing_leads frugal behind among [] k ms q = q
+storing_leads frugal behind among (v ∷ vs) k ms q = (tt, storing_leads frugal behind among vs k ms q)
 
 -- Behind the end of a body that was called, the body goes on that called it.
 back_frugal :
-    (frugal : Allowance) (behind : Control) (heap : List Object) (mode : Mode) (references : List Value) (k : Control) (ms : List Master)
-    → FrugalLeads frugal behind k ms → Frugal frugal behind heap (behind_mode mode) (behind_frames mode references k) ms
-back_frugal frugal behind heap Running references k ms q = inl (storing_leads frugal behind references k ms q)
-back_frugal frugal behind heap (Raising e) references k ms q = inl q
-back_frugal frugal behind heap Exiting references k ms q = inl q
-back_frugal frugal behind heap Returning references k ms q = inl (storing_leads frugal behind references k ms q)
+    (frugal : Allowance) (behind : Control) (among : List Value) (mode : Mode) (references : List Value) (k : Control) (ms : List Master)
+    → FrugalLeads frugal behind among k ms → Frugal frugal behind among (behind_mode mode) (behind_frames mode references k) ms
+back_frugal frugal behind among Running references k ms q = inl (storing_leads frugal behind among references k ms q)
+back_frugal frugal behind among (Raising e) references k ms q = inl q
+back_frugal frugal behind among Exiting references k ms q = inl q
+back_frugal frugal behind among Returning references k ms q = inl (storing_leads frugal behind among references k ms q)
 
 -- The activation that goes on behind a body is of the procedure that it was of.
 back_runs : (mode : Mode) (actuals : List ActualForm) (values : List Value) (b : Activation Value) (rest : List (Activation Value)) → procedure_of (behind_body mode actuals values (b ∷ rest)) ≡ b.procedure
@@ -84,11 +80,6 @@ at_end actuals references k = Returns actuals references ∷ k
 last_end : (actuals : List ActualForm) (references : List Value) (k behind : Control) → actuals ≡ [] → references ≡ [] → k ≡ behind → at_end actuals references k ≡ at_end [] [] behind
 last_end actuals references k behind none nothing same = rw (none, nothing, same) refl
 
--- What is under way in some of these is so in all of them.
-later_under : (us vs : List Id) (o : Id) → IsUnder vs o → IsUnder (us ++ vs) o
-later_under [] vs o under = under
-later_under (u ∷ us) vs o under = inr (later_under us vs o under)
-
 -- What waits for the end of the body of an operation gave it no actual parameters.
 gave_nothing : (own : ProgramForm) (cells : Cells) (kinds : List _) (actuals : List ActualForm) (references : List Value) (k : Control) (a : Activation Value) → IsAwaited k → typed.WaitsBy own cells kinds actuals references k a → (actuals ≡ []) × (references ≡ [])
 gave_nothing own cells kinds actuals references k a awaited (typed.for_operation waits) = (waits.no_actuals, waits.no_references)
@@ -105,57 +96,6 @@ abbrev pub ended_in : Control → Value
 ended_in [] = Null
 ended_in (frame.Confines ∷ k) = finalized_before k
 ended_in (g ∷ k) = Null
-
--- What is behind the Finalize of an object that is freed (7.6.1, 13.11.2).
-module _ (program : Program) (s : State) (depth : ℕ) (f : Pause program depth s) where
-  abbrev p : ProgramForm
-  p = program_form program
-
-  -- What is left of it is finalized then, or it ceases to exist.
-  freed_ended : IsFreed f.treatment → ended_in f.behind ≡ Names f.object
-  freed_ended freed = by f.treatment freed f.awaited f.rests
-    where
-      by : (treatment : Treatment) → IsFreed treatment → WaitsFor p.types f.object f.of treatment f.tasks f.after f.behind
-          → Rests (known_in program f.procedure f.suspensions) treatment f.held f.watch f.object f.access f.home f.places f.operands f.also f.after f.lower f.rooms f.holds → ended_in f.behind ≡ Names f.object
-      by (begins birth done) freed' waits rests = absurd freed'
-      by (ends cause) freed' (waits, inside) rests =
-          ap ended_in waits
-          ∙ treating_before (Names f.object) cause f.tasks f.after (finalized_by (known_in program f.procedure f.suspensions) cause f.held f.watch f.object f.access f.home f.places f.operands f.also f.after f.lower f.rooms f.holds rests)
-
-  -- Where that is left to do in frugal bodies, the body that waits may free objects of the type.
-  module _ (allowance : Allowance) (back : Control) (ms : List Master) where
-    -- What is behind what is treated is left to do, too.
-    treating_led : (v : Value) (treatment : Treatment) (tasks : List Task) (k : Control) → FrugalLeads allowance back (treating v treatment tasks k) ms → FrugalLeads allowance back k ms
-    treating_led v treatment [] k leads = leads
-    treating_led v treatment (task ∷ tasks) k leads = leads.1
-
-    -- So it may.
-    abbrev pub Frees : Type 0
-    Frees = CoveredIn (implicit_of p) (seen_in f.procedure p) f.access × (is_access (seen_in f.procedure p).types f.access ≡ true)
-
-    -- No master is left there, and no exception goes on.
-    ends_covered : RestsAtEnd (known_in program f.procedure f.suspensions) f.object f.access f.home f.places f.after f.lower f.rooms f.holds → FrugalLeads allowance back f.after ms → Frees
-    ends_covered (inl resting) leads = let never = rw (resting.is) at leads in absurd never.1.1.0
-    ends_covered (inr (inl undoes)) leads = let never = rw (undoes.is) at leads in absurd never.1.1.0
-    ends_covered (inr (inr empties)) leads = empties.covered
-
-    owned_covered : RestsAsOwned (known_in program f.procedure f.suspensions) f.held f.watch f.object f.access f.home f.places f.after f.lower f.rooms f.holds → FrugalLeads allowance back f.after ms → Frees
-    owned_covered (inl (held, rests)) leads = ends_covered rests leads
-    owned_covered (inr (inl releases)) leads = releases.covered
-    owned_covered (inr (inr (unheld, departing))) leads = let never = rw (departing.is) at leads in absurd never.1.1.0
-
-    pub freed_covered : IsFreed f.treatment → FrugalLeads allowance back f.behind ms → Frees
-    freed_covered freed leads = by f.treatment freed f.awaited f.rests
-      where
-        by : (treatment : Treatment) → IsFreed treatment → WaitsFor p.types f.object f.of treatment f.tasks f.after f.behind
-            → Rests (known_in program f.procedure f.suspensions) treatment f.held f.watch f.object f.access f.home f.places f.operands f.also f.after f.lower f.rooms f.holds → Frees
-        by (begins birth done) freed' waits rests = absurd freed'
-        by (ends (Leaving m item)) freed' waits rests = absurd freed'
-        by (ends (Freeing number)) freed' (waits, inside) rests =
-            let there : FrugalLeads allowance back (frame.Confines ∷ treating (Names f.object) (ends (Freeing number)) f.tasks f.after) ms = subst (λ (k : Control). FrugalLeads allowance back k ms) waits leads in
-            owned_covered rests.1 (treating_led (Names f.object) (ends (Freeing number)) f.tasks f.after there.1)
-        by (ends (Assigning number)) freed' waits rests = absurd freed'
-        by (ends (Undoing number)) freed' waits rests = absurd freed'
 
 -- The end of a body: that of the outermost operation, or one since then.
 module _ (program : Program) (a : Activation Value) (k : Control) (s : State) (mode : Mode) (actuals : List ActualForm) (references : List Value) where
@@ -219,66 +159,47 @@ module _ (program : Program) (a : Activation Value) (k : Control) (s : State) (m
           by Exiting never = never
           by Returning never = never
 
-      -- That of the operation of an object that is freed: what is left of its end goes on.
-      module _ (g : Suspension) (gs : List Suspension) (o : IsOperation program ending (allowance_of (program_form program)) operation.behind operation.lower a.procedure 0 (gs ++ waiting) g) where
+      -- That of the operation of an object that is freed, undone or allocated: what is left of its treatment goes on.
+      module _ (g : Suspension) (gs : List Suspension) (o : IsOperation program ending (allowance_of (program_form program)) operation.behind operation.lower a.procedure 0 (gs ++ waiting) (operated_among gs) g) where
         -- The operations further out are those of other objects, so that their ends are not next.
-        ends_other : (running : Option ℕ) (depth : ℕ) (inner : List Suspension) (are : Inner running depth inner) → k ≡ o.pause.behind → (IsUnder (under_in (callers_of program (inner ++ waiting))) o.pause.object → ⊥)
+        ends_other : (running : Option ℕ) (depth : ℕ) (inner : List Suspension) (are : Inner running depth inner) → k ≡ o.pause.behind → (IsAmong (Names o.pause.object) (operated_among inner) → ⊥)
             → AllGoOnInside program f.suspensions ending f.within grounds (allowance_of (program_form program)) operation.behind operation.lower running depth (Some operation.number) waiting inner are
         ends_other running depth [] are at other = tt
-        ends_other running depth (h ∷ inner) (inl call, more) at other = ends_other h.procedure (suc depth) inner more at (λ under. other (later_under h.under (under_in (callers_of program (inner ++ waiting))) o.pause.object under))
+        ends_other running depth (h ∷ inner) (inl call, more) at other =
+            ends_other h.procedure (suc depth) inner more at (λ later. other (later_among (Names o.pause.object) (operated_in h.control) (operated_among inner) later))
         ends_other running depth (h ∷ inner) (inr outer, more) at other =
-            (further, ends_other h.procedure (suc depth) inner more at (λ under. other (later_under h.under (under_in (callers_of program (inner ++ waiting))) o.pause.object under)))
+            (further, ends_other h.procedure (suc depth) inner more at (λ later. other (later_among (Names o.pause.object) (operated_in h.control) (operated_among inner) later)))
           where
-            here : (treatment : Treatment) → IsFreed treatment → outer.pause.object ≡ o.pause.object → IsUnder (under_way treatment outer.pause.object ++ under_in (callers_of program (inner ++ waiting))) o.pause.object
-            here (begins birth done) freed same = absurd freed
-            here (ends (Leaving m item)) freed same = absurd freed
-            here (ends (Freeing number)) freed same = inl same
-            here (ends (Assigning number)) freed same = absurd freed
-            here (ends (Undoing number)) freed same = absurd freed
-
             further : ending.control ≡ Returns [] [] ∷ outer.pause.behind → ⊥
             further last =
                 let one : k ≡ outer.pause.behind = cc last in
-                let named : Names outer.pause.object ≡ Names o.pause.object = sym (freed_ended program ending depth outer.pause outer.freed) ∙ (ap ended_in (sym one ∙ at) ∙ freed_ended program ending 0 o.pause o.freed) in
-                other (subst (λ (under : List Id). IsUnder (under ++ under_in (callers_of program (inner ++ waiting))) o.pause.object) (ap (λ (waits : Suspension). waits.under) (sym outer.is)) (here outer.pause.treatment outer.freed (cc named)))
+                let first : operated_in h.control ≡ Names o.pause.object ∷ [] =
+                ap (λ (waits : Suspension). operated_in waits.control) outer.is ∙ (ap operated_in (sym one ∙ at) ∙ operated_is program 0 ending o.pause) in
+                other (subst (λ (vs : List Value). IsAmong (Names o.pause.object) (vs ++ operated_among inner)) (sym first) (inl refl))
 
-        -- In none of these it is under way: it could not have been freed then.
-        others_none : Inner g.procedure (suc 0) gs → Stands program (g ∷ gs ++ waiting) ending → IsUnder (under_in (callers_of program (gs ++ waiting))) o.pause.object → ⊥
-        others_none more stands under =
-            let w = f.within in
-            let pause = o.pause in
-            let frees = freed_covered program ending 0 pause (allowance_of (program_form program)) operation.behind o.upper o.freed o.leads in
-            let of_type : pause.x.cell.access ≡ pause.access = pause.of_access in
-            let accessed : is_access form.types pause.x.cell.access ≡ true = rw of_type (subst (λ (types : List TypeForm). is_access types pause.access ≡ true) (same_types pause.procedure form) frees.1) in
-            let runs : pause.procedure ≡ g.procedure = sym (ap (λ (waits : Suspension). waits.procedure) o.is) in
-            let covered : CoveredIn (implicit_of form) (seen_in g.procedure form) pause.x.cell.access =
-            rw of_type (subst (λ (procedure : Option ℕ). CoveredIn (implicit_of form) (seen_in procedure form) pause.access) runs frees.0) in
-            none_in program grounds.spares_own ending (allowance_of (program_form program)) operation.behind operation.lower g.procedure (suc 0) operation.number waiting gs more stands.standing.waiting.1 pause.object pause.x pause.found accessed covered
-            (λ outer there. frees_not program grounds.spares_own ending (length w.inner) operation pause.object pause.x pause.found (under_outermost program ending grounds f.suspensions w f.stands pause.object there) outer accessed)
-            under
-
-        -- What is left to do behind it.
-        goes_behind : Inner g.procedure (suc 0) gs → f.within.inner ≡ g ∷ gs → Stands program (g ∷ gs ++ waiting) ending → k ≡ o.pause.behind → (t : State) → next tds bodies ending ≡ moves Quiet t
-            → CrossesTo program o.pause.suspensions s.heap Quiet t → t ≡ behind_operation (b ∷ rest) o.pause.behind o.pause.lower ending → InTouching program s.heap Quiet back
-        goes_behind more inner_is stands control t goes crosses t_is =
-            let after = behind_operation (b ∷ rest) o.pause.behind o.pause.lower ending in
-            let same : t ≡ back = cc (goes, is) in
-            let reached : back ≡ after = sym same ∙ t_is in
-            let c : CrossesTo program (gs ++ waiting) s.heap Quiet after =
-            subst (λ (others : List Suspension). CrossesTo program others s.heap Quiet after) (sym o.behind_it) (subst (λ (u : State). CrossesTo program o.pause.suspensions s.heap Quiet u) t_is crosses) in
-            let watched = subst (λ (u : State). AllWatched program ending (allowance_of (program_form program)) operation.behind operation.lower u g.procedure (suc 0) (Some operation.number) waiting gs more) reached
-            (inner_watched g.procedure (suc 0) gs more (ends_other g.procedure (suc 0) gs more control (others_none more stands))) in
-            let are = inner_on program ending (allowance_of (program_form program)) operation.behind operation.lower after Quiet g.procedure (suc 0) 0 (Some operation.number) waiting gs more c.stepped.alters
+        -- What is left to do behind it, in this mode.
+        goes_behind : Inner g.procedure (suc 0) gs → f.within.inner ≡ g ∷ gs → Stands program (g ∷ gs ++ waiting) ending → k ≡ o.pause.behind → (m : Mode) → MayBegin m
+            → next tds bodies ending ≡ moves Quiet (record (behind_operation (b ∷ rest) o.pause.behind o.pause.lower ending) { mode = m })
+            → CrossesTo program o.pause.suspensions s.heap Quiet (record (behind_operation (b ∷ rest) o.pause.behind o.pause.lower ending) { mode = m }) → InTouching program s.heap Quiet back
+        goes_behind more inner_is stands control m may goes crosses =
+            let allowance = allowance_of (program_form program) in
+            let after = record (behind_operation (b ∷ rest) o.pause.behind o.pause.lower ending) { mode = m } in
+            let reached : back ≡ after = cc (goes, is) in
+            let c : CrossesTo program (gs ++ waiting) s.heap Quiet after = subst (λ (others : List Suspension). CrossesTo program others s.heap Quiet after) (sym o.behind_it) crosses in
+            let apart = operated_once allowance (Names o.pause.object) operation.behind (operated_among gs) o.pause.behind o.upper (operated_is program 0 ending o.pause) o.leads in
+            let watched = subst (λ (u : State). AllWatched program ending allowance operation.behind operation.lower u g.procedure (suc 0) (Some operation.number) waiting gs more) reached
+            (inner_watched g.procedure (suc 0) gs more (ends_other g.procedure (suc 0) gs more control apart)) in
+            let are = inner_on program ending allowance operation.behind operation.lower after Quiet g.procedure (suc 0) 0 (Some operation.number) waiting gs more c.stepped.alters
             (λ n. operands_deeper n rest a b) watched in
             let further : ending.control ≡ Returns [] [] ∷ operation.behind → ⊥ = λ last. (
             let one : k ≡ operation.behind = cc last in
-            shorter (allowance_of (program_form program)) operation.behind o.pause.behind o.upper o.leads (sym control ∙ one)
+            operated_shorter allowance operation.behind (operated_in o.pause.behind ++ operated_among gs) o.pause.behind o.upper o.leads (sym control ∙ one)
             ) in
             subst (λ (u : State). InTouching program s.heap Quiet u) (sym reached)
             (touching_on program ending f gs Quiet after
-            (subst (λ (running : Option ℕ). AreInner program after (allowance_of (program_form program)) operation.behind operation.lower running 0 (Some operation.number) waiting gs) (sym stands.bodies.0) are)
+            (subst (λ (running : Option ℕ). AreInner program after allowance operation.behind operation.lower running 0 (Some operation.number) waiting gs) (sym stands.bodies.0) are)
             (sym (ap (λ (all : List Suspension). operands_of (drop (suc (length all)) (a ∷ b ∷ rest))) inner_is))
-            (record { upper = o.upper; masters = o.masters; own = o.own; frugal = inl o.leads })
+            (record { upper = o.upper; masters = o.masters; own = o.own; frugal = operated_on allowance operation.behind (operated_among gs) m o.pause.behind o.upper may o.leads })
             (subst (λ (u : State). Watched program operation.watch operation.behind u) reached (outermost_watched further))
             c)
 
@@ -294,11 +215,7 @@ module _ (program : Program) (a : Activation Value) (k : Control) (s : State) (m
             let ended = touching_ends program grounds.well ending pause (touching_unlisted program ending grounds pause next_is)
             (subst (λ (all : List Suspension). Ready (known_in program a.procedure all) ending) all_are ready) (subst (λ (all : List Suspension). Stands program all ending) all_are stands)
             o.runs a b rest refl next_is masters_are in
-            goes_behind more inner_is stands control ended.0 ended.1 ended.2 (ended.4 (is_ending pause.treatment o.freed))
-          where
-            is_ending : (treatment : Treatment) → IsFreed treatment → IsEnding treatment
-            is_ending (begins birth done) freed = freed
-            is_ending (ends cause) freed = tt
+            goes_behind more inner_is stands control ended.0 ended.1 ended.2 ended.3
 
       -- That of one that was called: its caller goes on.
       call_ends : (g : Suspension) (gs : List Suspension) → IsCall g → Inner g.procedure (suc 0) gs → f.within.inner ≡ g ∷ gs → Stands program (g ∷ gs ++ waiting) ending → LeavesBody (g ∷ gs ++ waiting) → InTouching program s.heap Quiet back
@@ -309,7 +226,11 @@ module _ (program : Program) (a : Activation Value) (k : Control) (s : State) (m
           let awaits = is_awaited form.types operation.object operation.of operation.treatment operation.tasks operation.after operation.behind operation.awaited in
           let placed = placed_in (seen_in a.procedure form) a (b ∷ rest) ending refl grounds.typed.inside in
           let watched = inner_watched g.procedure (suc 0) gs more (none_end program ending f grounds on g.procedure (suc 0) (Some operation.number) waiting gs more) in
-          let leads = frugal_returns (allowance_of (program_form program)) operation.behind s.heap mode actuals references k f.within.frugal.upper awaits none f.within.frugal.frugal in
+          let allowance = allowance_of (program_form program) in
+          let among : operated_among f.within.inner ≡ operated_among gs =
+          ap operated_among inner_is ∙ ap (λ (vs : List Value). vs ++ operated_among gs) (none_operated g.control call.0) in
+          let leads = subst (λ (vs : List Value). FrugalLeads allowance operation.behind vs k f.within.frugal.upper) among
+          (frugal_returns allowance operation.behind (operated_among f.within.inner) mode actuals references k f.within.frugal.upper awaits none f.within.frugal.frugal) in
           let c = left_to program a actuals references k s mode b rest g (gs ++ waiting) (restand (b ∷ rest) (g ∷ gs ++ waiting) stands) none placed w in
           let are = inner_on program ending (allowance_of (program_form program)) operation.behind operation.lower back Quiet g.procedure (suc 0) 0 (Some operation.number) waiting gs more c.stepped.alters
           (λ n. back_operands (0 + n) mode actuals a.places b rest ∙ operands_deeper n rest a b) watched in
@@ -320,7 +241,7 @@ module _ (program : Program) (a : Activation Value) (k : Control) (s : State) (m
             upper = f.within.frugal.upper;
             masters = f.within.frugal.masters;
             own = f.within.frugal.own;
-            frugal = back_frugal (allowance_of (program_form program)) operation.behind s.heap mode references k f.within.frugal.upper leads;
+            frugal = back_frugal allowance operation.behind (operated_among gs) mode references k f.within.frugal.upper leads;
           })
           (outermost_watched (on operation.behind awaits))
           c
@@ -339,14 +260,14 @@ module _ (program : Program) (a : Activation Value) (k : Control) (s : State) (m
       own_ends none w =
           let pause = pause_on program (length f.within.inner) 0 ending ending Quiet operation (alters_same s.heap Quiet) (ap (λ (all : List Suspension). operands_of (drop (suc (length all)) (a ∷ b ∷ rest))) (sym none)) operation.still in
           let control : k ≡ operation.behind = same_control program a.procedure (origin program (length f.within.inner) ending operation) operation.suspensions mode actuals references k w.rooms w.holds w.rest in
-          let end = frugal_ends (allowance_of (program_form program)) operation.behind s.heap mode actuals references k f.within.frugal.upper control f.within.frugal.frugal in
+          let end = frugal_ends (allowance_of (program_form program)) operation.behind (operated_among f.within.inner) mode actuals references k f.within.frugal.upper control f.within.frugal.frugal in
           let next_is : ending.control ≡ Returns [] [] ∷ operation.behind = last_end actuals references k operation.behind end.0 end.1 control in
           let masters_are : ending.masters ≡ operation.lower = f.within.frugal.masters ∙ ap (λ (upper : List Master). upper ++ operation.lower) end.2 in
           let all_are : f.suspensions ≡ waiting = f.within.are ∙ ap (λ (inner : List Suspension). inner ++ waiting) none in
           let ended = touching_ends program grounds.well ending pause (touching_unlisted program ending grounds pause next_is)
           (subst (λ (all : List Suspension). Ready (known_in program a.procedure all) ending) all_are f.ready) (subst (λ (all : List Suspension). Stands program all ending) all_are f.stands)
           (subst (λ (inner : List Suspension). Inner a.procedure 0 inner) none f.within.within) a b rest refl next_is masters_are in
-          waits_on ended.0 ended.1 ended.2 ended.3
+          waits_on (record (behind_operation (b ∷ rest) operation.behind operation.lower ending) { mode = ended.0 }) ended.2 ended.3 refl
 
       ends_by : (inner : List Suspension) → f.within.inner ≡ inner → Inner a.procedure 0 inner → Ready (known_in program a.procedure (inner ++ waiting)) ending → Stands program (inner ++ waiting) ending → LeavesBody (inner ++ waiting) → Went program s.heap Quiet back
       ends_by [] none are ready stands w = own_ends none w

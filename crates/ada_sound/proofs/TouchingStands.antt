@@ -36,7 +36,7 @@ use Rattle.ada_sound.proofs.Below.{either_one}
 use Rattle.ada_sound.proofs.Callers.{Suspension, callers_of, known_in, Stands}
 use Rattle.ada_sound.proofs.Fits.{Reference}
 use Rattle.ada_sound.proofs.FreesCovered.{frees_among}
-use Rattle.ada_sound.proofs.FrugalControl.{Frugal, FrugalLeads, begins_first}
+use Rattle.ada_sound.proofs.FrugalControl.{Frugal, FrugalLeads, FrugalOperated, begins_first, none_operated, operated_in}
 use Rattle.ada_sound.proofs.Grounds.{Grounds, may_free}
 use Rattle.ada_sound.proofs.Homes.{NoneIsUnder}
 use Rattle.ada_sound.proofs.Invariant.{AllWait, Control, CoveredIn, Known, Ready, Rooms, under_in, waits_covers}
@@ -45,89 +45,173 @@ use Rattle.ada_sound.proofs.Returns.{same_types}
 use Rattle.ada_sound.proofs.SparesOwn.{spares_end}
 use Rattle.ada_sound.proofs.Standing.{AllStand, FinalizesBy, FinalizesIn, FreesAmong}
 use Rattle.ada_sound.proofs.Stored.{IsUnder}
-use Rattle.ada_sound.proofs.Touching.{AreInner, CoversBy, IsCall, IsOperation, Pause, Rests, RestsAsOwned, RestsAtEnd, RestsBy, StoresInto, Watch, Within, origin, under_way}
+use Rattle.ada_sound.proofs.Touching.{AreInner, CoversBy, IsCall, IsOperation, Pause, Rests, RestsAsOwned, RestsAtEnd, RestsBy, StoresInto, Watch, Within, operated_among, origin, under_way}
 use Rattle.ada_sound.proofs.TouchingRests.{IsEnd}
 
--- In front of the end of a frugal body, nothing begins: what is treated there is finalized.
+-- A value is one of these.
+abbrev pub IsAmong : Value → List Value → Type 0
+IsAmong v [] = ⊥
+IsAmong v (w ∷ ws) = (v ≡ w) ⊎ IsAmong v ws
+
+-- So it is with more in front.
+pub later_among : (v : Value) (vs ws : List Value) → IsAmong v ws → IsAmong v (vs ++ ws)
+later_among v [] ws later = later
+later_among v (w ∷ vs) ws later = inr (later_among v vs ws later)
+
 module _ (frugal : Allowance) where
-  leads_begin : (v : Value) (behind k : Control) (ms : List Master) → NothingBegins v behind → FrugalLeads frugal behind k ms → NothingBegins v k
-  leads_begin v behind [] ms none q = absurd q
-  leads_begin v behind (frame.Returns actuals references ∷ k) ms none (inl q) = subst (NothingBegins v) (sym q.2) none
-  leads_begin v behind (frame.Returns actuals references ∷ k) ms none (inr q) = leads_begin v behind k ms none q
-  leads_begin v behind (frame.Elaborates ds fs hs ∷ k) [] none q = absurd q
-  leads_begin v behind (frame.Elaborates ds fs hs ∷ k) (m ∷ ms) none q = leads_begin v behind k ms none q.1
-  leads_begin v behind (frame.Closes ∷ k) [] none q = absurd q
-  leads_begin v behind (frame.Closes ∷ k) (m ∷ ms) none q = leads_begin v behind k ms none q.1
-  leads_begin v behind (frame.Declares x ∷ k) [] none q = absurd q
-  leads_begin v behind (frame.Declares x ∷ k) (m ∷ ms) none q = leads_begin v behind k (m ∷ ms) none q.1
-  leads_begin v behind (frame.Treats w (begins by done) tasks ∷ k) ms none q = absurd q.0.0
-  leads_begin v behind (frame.Treats w (ends cause) tasks ∷ k) ms none q = leads_begin v behind k ms none q.1
-  leads_begin v behind (frame.Awaits w by done of part tasks ∷ k) ms none q = absurd q.0
-  leads_begin v behind (f ∷ k) ms none q = leads_begin v behind k ms none q.1
+  mutual
+    -- In front of the end of a frugal body, nothing begins but the objects whose operations run inside: what is treated there is finalized.
+    leads_begin :
+        (v : Value) (behind : Control) (among : List Value) (k : Control) (ms : List Master) → (IsAmong v among → ⊥) → NothingBegins v behind
+        → FrugalLeads frugal behind among k ms → NothingBegins v k
+    leads_begin v behind among [] ms apart none q = absurd q
+    leads_begin v behind among (frame.Returns actuals references ∷ k) ms apart none (inl q) = subst (NothingBegins v) (sym q.2) none
+    leads_begin v behind among (frame.Returns actuals references ∷ k) ms apart none (inr (inl q)) = leads_begin v behind among k ms apart none q
+    leads_begin v behind among (frame.Returns actuals references ∷ k) ms apart none (inr (inr q)) = operated_begin v behind among k ms apart none q
+    leads_begin v behind among (frame.Elaborates ds fs hs ∷ k) [] apart none q = absurd q
+    leads_begin v behind among (frame.Elaborates ds fs hs ∷ k) (m ∷ ms) apart none q = leads_begin v behind among k ms apart none q.1
+    leads_begin v behind among (frame.Closes ∷ k) [] apart none q = absurd q
+    leads_begin v behind among (frame.Closes ∷ k) (m ∷ ms) apart none q = leads_begin v behind among k ms apart none q.1
+    leads_begin v behind among (frame.Declares x ∷ k) [] apart none q = absurd q
+    leads_begin v behind among (frame.Declares x ∷ k) (m ∷ ms) apart none q = leads_begin v behind among k (m ∷ ms) apart none q.1
+    leads_begin v behind among (frame.Treats w (begins by done) tasks ∷ k) ms apart none q = absurd q.0.0
+    leads_begin v behind among (frame.Treats w (ends cause) tasks ∷ k) ms apart none q = leads_begin v behind among k ms apart none q.1
+    leads_begin v behind among (frame.Awaits w by done of part tasks ∷ k) ms apart none q = absurd q.0
+    leads_begin v behind among (f ∷ k) ms apart none q = leads_begin v behind among k ms apart none q.1
+
+    operated_begin :
+        (v : Value) (behind : Control) (among : List Value) (k : Control) (ms : List Master) → (IsAmong v among → ⊥) → NothingBegins v behind
+        → FrugalOperated frugal behind among k ms → NothingBegins v k
+    operated_begin v behind among [] ms apart none q = absurd q
+    operated_begin v behind among (frame.Confines ∷ k) ms apart none (vs, is, ending, q) =
+        leads_begin v behind vs k ms (λ later. apart (subst (IsAmong v) (sym is) (inr later))) none q
+    operated_begin v behind among (frame.Awaits w by done of part tasks ∷ k) ms apart none (vs, is, beginning, q) = (
+      (λ same. apart (subst (IsAmong v) (sym is) (inl (sym same)))),
+      leads_begin v behind vs k ms (λ later. apart (subst (IsAmong v) (sym is) (inr later))) none q,
+    )
+    operated_begin v behind among (f ∷ k) ms apart none q = absurd q
 
   frugal_begin :
-      (v : Value) (behind : Control) (heap : List Object) (mode : Mode) (k : Control) (ms : List Master) → begins_first k ≡ false → NothingBegins v behind → Frugal frugal behind heap mode k ms
-      → NothingBegins v k
-  frugal_begin v behind heap mode k ms other none (inl q) = leads_begin v behind k ms none q
-  frugal_begin v behind heap mode [] ms other none (inr (runs, inl leaving)) = absurd leaving
-  frugal_begin v behind heap mode (frame.Leaves left ∷ k) [] other none (inr (runs, inl leaving)) = absurd leaving
-  frugal_begin v behind heap mode (frame.Leaves left ∷ k) (m ∷ ms) other none (inr (runs, inl leaving)) = leads_begin v behind k ms none leaving
-  frugal_begin v behind heap mode (f ∷ k) ms other none (inr (runs, inl leaving)) = absurd leaving
-  frugal_begin v behind heap mode [] ms other none (inr (runs, inr starting)) = absurd starting
-  frugal_begin v behind heap mode (frame.Treats w (begins by done) tasks ∷ k) ms other none (inr (runs, inr starting)) = absurd (cc other)
-  frugal_begin v behind heap mode (frame.Awaits w by done of part tasks ∷ k) ms other none (inr (runs, inr starting)) = absurd (cc other)
-  frugal_begin v behind heap mode (f ∷ k) ms other none (inr (runs, inr starting)) = absurd starting
+      (v : Value) (behind : Control) (among : List Value) (mode : Mode) (k : Control) (ms : List Master) → begins_first k ≡ false → (IsAmong v among → ⊥) → NothingBegins v behind
+      → Frugal frugal behind among mode k ms → NothingBegins v k
+  frugal_begin v behind among mode k ms other apart none (inl q) = leads_begin v behind among k ms apart none q
+  frugal_begin v behind among mode [] ms other apart none (inr (inl leaving)) = absurd leaving.1
+  frugal_begin v behind among mode (frame.Leaves left ∷ k) [] other apart none (inr (inl leaving)) = absurd leaving.1
+  frugal_begin v behind among mode (frame.Leaves left ∷ k) (m ∷ ms) other apart none (inr (inl leaving)) = leads_begin v behind among k ms apart none leaving.1
+  frugal_begin v behind among mode (f ∷ k) ms other apart none (inr (inl leaving)) = absurd leaving.1
+  frugal_begin v behind among mode [] ms other apart none (inr (inr beginning)) = absurd beginning.1
+  frugal_begin v behind among mode (frame.Treats w (begins by done) tasks ∷ k) ms other apart none (inr (inr beginning)) = absurd (cc other)
+  frugal_begin v behind among mode (frame.Awaits w by done of part tasks ∷ k) ms other apart none (inr (inr beginning)) = absurd (cc other)
+  frugal_begin v behind among mode (f ∷ k) ms other apart none (inr (inr beginning)) = absurd beginning.1
 
-  -- Where no operation of an object runs, none does behind that end.
-  leads_alone : (v : Value) (behind k : Control) (ms : List Master) → NoOperationRunsOn v k → FrugalLeads frugal behind k ms → NoOperationRunsOn v behind
-  leads_alone v behind [] ms none q = absurd q
-  leads_alone v behind (frame.Returns actuals references ∷ k) ms none (inl q) = subst (NoOperationRunsOn v) q.2 none
-  leads_alone v behind (frame.Returns actuals references ∷ k) ms none (inr q) = leads_alone v behind k ms none q
-  leads_alone v behind (frame.Elaborates ds fs hs ∷ k) [] none q = absurd q
-  leads_alone v behind (frame.Elaborates ds fs hs ∷ k) (m ∷ ms) none q = leads_alone v behind k ms none q.1
-  leads_alone v behind (frame.Closes ∷ k) [] none q = absurd q
-  leads_alone v behind (frame.Closes ∷ k) (m ∷ ms) none q = leads_alone v behind k ms none q.1
-  leads_alone v behind (frame.Declares x ∷ k) [] none q = absurd q
-  leads_alone v behind (frame.Declares x ∷ k) (m ∷ ms) none q = leads_alone v behind k (m ∷ ms) none q.1
-  leads_alone v behind (frame.Awaits w by done of part tasks ∷ k) ms none q = absurd q.0
-  leads_alone v behind (frame.Confines ∷ k) ms none q = leads_alone v behind k ms none.1 q.1
-  leads_alone v behind (f ∷ k) ms none q = leads_alone v behind k ms none q.1
+  mutual
+    -- Where no operation of an object runs, none does behind that end.
+    leads_alone : (v : Value) (behind : Control) (among : List Value) (k : Control) (ms : List Master) → NoOperationRunsOn v k → FrugalLeads frugal behind among k ms → NoOperationRunsOn v behind
+    leads_alone v behind among [] ms none q = absurd q
+    leads_alone v behind among (frame.Returns actuals references ∷ k) ms none (inl q) = subst (NoOperationRunsOn v) q.2 none
+    leads_alone v behind among (frame.Returns actuals references ∷ k) ms none (inr (inl q)) = leads_alone v behind among k ms none q
+    leads_alone v behind among (frame.Returns actuals references ∷ k) ms none (inr (inr q)) = operated_alone v behind among k ms none q
+    leads_alone v behind among (frame.Elaborates ds fs hs ∷ k) [] none q = absurd q
+    leads_alone v behind among (frame.Elaborates ds fs hs ∷ k) (m ∷ ms) none q = leads_alone v behind among k ms none q.1
+    leads_alone v behind among (frame.Closes ∷ k) [] none q = absurd q
+    leads_alone v behind among (frame.Closes ∷ k) (m ∷ ms) none q = leads_alone v behind among k ms none q.1
+    leads_alone v behind among (frame.Declares x ∷ k) [] none q = absurd q
+    leads_alone v behind among (frame.Declares x ∷ k) (m ∷ ms) none q = leads_alone v behind among k (m ∷ ms) none q.1
+    leads_alone v behind among (frame.Awaits w by done of part tasks ∷ k) ms none q = absurd q.0
+    leads_alone v behind among (frame.Confines ∷ k) ms none q = leads_alone v behind among k ms none.1 q.1
+    leads_alone v behind among (f ∷ k) ms none q = leads_alone v behind among k ms none q.1
 
-  -- Where no operation runs behind the call of the running body, none does behind that end.
-  leads_calm : (behind k : Control) (ms : List Master) → NoOperationRuns k → FrugalLeads frugal behind k ms → NoOperationRuns behind
-  leads_calm behind [] ms none q = absurd q
-  leads_calm behind (frame.Returns actuals references ∷ k) ms none (inl q) = subst NoOperationRuns q.2 none.1
-  leads_calm behind (frame.Returns actuals references ∷ k) ms none (inr q) = leads_calm behind k ms none.1 q
-  leads_calm behind (frame.Elaborates ds fs hs ∷ k) [] none q = absurd q
-  leads_calm behind (frame.Elaborates ds fs hs ∷ k) (m ∷ ms) none q = leads_calm behind k ms none.1 q.1
-  leads_calm behind (frame.Closes ∷ k) [] none q = absurd q
-  leads_calm behind (frame.Closes ∷ k) (m ∷ ms) none q = leads_calm behind k ms none.1 q.1
-  leads_calm behind (frame.Declares x ∷ k) [] none q = absurd q
-  leads_calm behind (frame.Declares x ∷ k) (m ∷ ms) none q = leads_calm behind k (m ∷ ms) none.1 q.1
-  leads_calm behind (f ∷ k) ms none q = leads_calm behind k ms none.1 q.1
+    operated_alone : (v : Value) (behind : Control) (among : List Value) (k : Control) (ms : List Master) → NoOperationRunsOn v k → FrugalOperated frugal behind among k ms → NoOperationRunsOn v behind
+    operated_alone v behind among [] ms none q = absurd q
+    operated_alone v behind among (frame.Confines ∷ k) ms none (vs, is, ending, q) = leads_alone v behind vs k ms none.1 q
+    operated_alone v behind among (frame.Awaits w by done of part tasks ∷ k) ms none (vs, is, beginning, q) = leads_alone v behind vs k ms none.1 q
+    operated_alone v behind among (f ∷ k) ms none q = absurd q
 
-  calm_behind : (behind k : Control) (ms : List Master) → IsCalm (behind_call k) → FrugalLeads frugal behind k ms → NoOperationRuns behind
-  calm_behind behind [] ms calm q = absurd q
-  calm_behind behind (frame.Returns actuals references ∷ k) ms calm (inl q) = subst NoOperationRuns q.2 calm
-  calm_behind behind (frame.Returns actuals references ∷ k) ms calm (inr q) = leads_calm behind k ms calm q
-  calm_behind behind (frame.Elaborates ds fs hs ∷ k) [] calm q = absurd q
-  calm_behind behind (frame.Elaborates ds fs hs ∷ k) (m ∷ ms) calm q = calm_behind behind k ms calm q.1
-  calm_behind behind (frame.Closes ∷ k) [] calm q = absurd q
-  calm_behind behind (frame.Closes ∷ k) (m ∷ ms) calm q = calm_behind behind k ms calm q.1
-  calm_behind behind (frame.Declares x ∷ k) [] calm q = absurd q
-  calm_behind behind (frame.Declares x ∷ k) (m ∷ ms) calm q = calm_behind behind k (m ∷ ms) calm q.1
-  calm_behind behind (f ∷ k) ms calm q = calm_behind behind k ms calm q.1
+  mutual
+    -- An operation runs of each of the objects whose operations run inside.
+    pub operated_runs : (v : Value) (behind : Control) (among : List Value) (k : Control) (ms : List Master) → IsAmong v among → FrugalLeads frugal behind among k ms → NoOperationRunsOn v k → ⊥
+    operated_runs v behind among [] ms is q none = q
+    operated_runs v behind among (frame.Returns actuals references ∷ k) ms is (inl q) none = subst (IsAmong v) q.3 is
+    operated_runs v behind among (frame.Returns actuals references ∷ k) ms is (inr (inl q)) none = operated_runs v behind among k ms is q none
+    operated_runs v behind among (frame.Returns actuals references ∷ k) ms is (inr (inr q)) none = operation_runs v behind among k ms is q none
+    operated_runs v behind among (frame.Elaborates ds fs hs ∷ k) [] is q none = q
+    operated_runs v behind among (frame.Elaborates ds fs hs ∷ k) (m ∷ ms) is q none = operated_runs v behind among k ms is q.1 none
+    operated_runs v behind among (frame.Closes ∷ k) [] is q none = q
+    operated_runs v behind among (frame.Closes ∷ k) (m ∷ ms) is q none = operated_runs v behind among k ms is q.1 none
+    operated_runs v behind among (frame.Declares x ∷ k) [] is q none = q
+    operated_runs v behind among (frame.Declares x ∷ k) (m ∷ ms) is q none = operated_runs v behind among k (m ∷ ms) is q.1 none
+    operated_runs v behind among (frame.Awaits w by done of part tasks ∷ k) ms is q none = q.0
+    operated_runs v behind among (frame.Confines ∷ k) ms is q none = operated_runs v behind among k ms is q.1 none.1
+    operated_runs v behind among (f ∷ k) ms is q none = operated_runs v behind among k ms is q.1 none
 
-  pub frugal_calm : (behind : Control) (heap : List Object) (mode : Mode) (k : Control) (ms : List Master) → IsCalm (behind_call k) → Frugal frugal behind heap mode k ms → NoOperationRuns behind
-  frugal_calm behind heap mode k ms calm (inl q) = calm_behind behind k ms calm q
-  frugal_calm behind heap mode [] ms calm (inr (runs, inl leaving)) = absurd leaving
-  frugal_calm behind heap mode (frame.Leaves left ∷ k) [] calm (inr (runs, inl leaving)) = absurd leaving
-  frugal_calm behind heap mode (frame.Leaves left ∷ k) (m ∷ ms) calm (inr (runs, inl leaving)) = calm_behind behind k ms calm leaving
-  frugal_calm behind heap mode (f ∷ k) ms calm (inr (runs, inl leaving)) = absurd leaving
-  frugal_calm behind heap mode [] ms calm (inr (runs, inr starting)) = absurd starting
-  frugal_calm behind heap mode (frame.Treats w (begins by done) tasks ∷ k) ms calm (inr (runs, inr starting)) = calm_behind behind k ms calm starting.1
-  frugal_calm behind heap mode (frame.Awaits w by done of part tasks ∷ k) ms calm (inr (runs, inr starting)) = calm_behind behind k ms calm starting.1
-  frugal_calm behind heap mode (f ∷ k) ms calm (inr (runs, inr starting)) = absurd starting
+    operation_runs : (v : Value) (behind : Control) (among : List Value) (k : Control) (ms : List Master) → IsAmong v among → FrugalOperated frugal behind among k ms → NoOperationRunsOn v k → ⊥
+    operation_runs v behind among [] ms is q none = q
+    operation_runs v behind among (frame.Confines ∷ k) ms is (vs, same, ending, q) none =
+        elim (subst (IsAmong v) same is) [ inl first ↦ none.0 (sym first) | inr later ↦ operated_runs v behind vs k ms later q none.1 ]
+    operation_runs v behind among (frame.Awaits w by done of part tasks ∷ k) ms is (vs, same, beginning, q) none =
+        elim (subst (IsAmong v) same is) [ inl first ↦ none.0 (sym first) | inr later ↦ operated_runs v behind vs k ms later q none.1 ]
+    operation_runs v behind among (f ∷ k) ms is q none = q
+
+  -- The object whose operation comes to its end in front of this is none of those whose operations run behind that.
+  pub operated_once :
+      (v : Value) (behind : Control) (vs : List Value) (k : Control) (ms : List Master) → operated_in k ≡ v ∷ [] → FrugalOperated frugal behind (operated_in k ++ vs) k ms → IsAmong v vs → ⊥
+  operated_once v behind vs [] ms first q among = q
+  operated_once v behind vs (frame.Confines ∷ k) ms first (ws, is, ending, q) among =
+      let one : finalized_before k ≡ v = cc first in
+      let same : vs ≡ ws = cc is in
+      operated_runs v behind vs k ms among (subst (λ (us : List Value). FrugalLeads frugal behind us k ms) (sym same) q)
+      (subst (λ (w : Value). NoOperationRunsOn w k) one ending.1)
+  operated_once v behind vs (frame.Awaits w by done of part tasks ∷ k) ms first (ws, is, beginning, q) among =
+      let one : w ≡ v = cc first in
+      let same : vs ≡ ws = cc is in
+      operated_runs v behind vs k ms among (subst (λ (us : List Value). FrugalLeads frugal behind us k ms) (sym same) q)
+      (subst (λ (u : Value). NoOperationRunsOn u k) one beginning.2)
+  operated_once v behind vs (f ∷ k) ms first q among = q
+
+  mutual
+    -- Where no operation runs behind the call of the running body, none does behind that end.
+    leads_calm : (behind : Control) (among : List Value) (k : Control) (ms : List Master) → NoOperationRuns k → FrugalLeads frugal behind among k ms → NoOperationRuns behind
+    leads_calm behind among [] ms none q = absurd q
+    leads_calm behind among (frame.Returns actuals references ∷ k) ms none (inl q) = subst NoOperationRuns q.2 none.1
+    leads_calm behind among (frame.Returns actuals references ∷ k) ms none (inr (inl q)) = leads_calm behind among k ms none.1 q
+    leads_calm behind among (frame.Returns actuals references ∷ k) ms none (inr (inr q)) = operated_calm behind among k ms none.1 q
+    leads_calm behind among (frame.Elaborates ds fs hs ∷ k) [] none q = absurd q
+    leads_calm behind among (frame.Elaborates ds fs hs ∷ k) (m ∷ ms) none q = leads_calm behind among k ms none.1 q.1
+    leads_calm behind among (frame.Closes ∷ k) [] none q = absurd q
+    leads_calm behind among (frame.Closes ∷ k) (m ∷ ms) none q = leads_calm behind among k ms none.1 q.1
+    leads_calm behind among (frame.Declares x ∷ k) [] none q = absurd q
+    leads_calm behind among (frame.Declares x ∷ k) (m ∷ ms) none q = leads_calm behind among k (m ∷ ms) none.1 q.1
+    leads_calm behind among (f ∷ k) ms none q = leads_calm behind among k ms none.1 q.1
+
+    operated_calm : (behind : Control) (among : List Value) (k : Control) (ms : List Master) → NoOperationRuns k → FrugalOperated frugal behind among k ms → NoOperationRuns behind
+    operated_calm behind among [] ms none q = absurd q
+    operated_calm behind among (frame.Confines ∷ k) ms none (vs, is, ending, q) = leads_calm behind vs k ms none.1 q
+    operated_calm behind among (frame.Awaits w by done of part tasks ∷ k) ms none (vs, is, beginning, q) = leads_calm behind vs k ms none.1 q
+    operated_calm behind among (f ∷ k) ms none q = absurd q
+
+  calm_behind : (behind : Control) (among : List Value) (k : Control) (ms : List Master) → IsCalm (behind_call k) → FrugalLeads frugal behind among k ms → NoOperationRuns behind
+  calm_behind behind among [] ms calm q = absurd q
+  calm_behind behind among (frame.Returns actuals references ∷ k) ms calm (inl q) = subst NoOperationRuns q.2 calm
+  calm_behind behind among (frame.Returns actuals references ∷ k) ms calm (inr (inl q)) = leads_calm behind among k ms calm q
+  calm_behind behind among (frame.Returns actuals references ∷ k) ms calm (inr (inr q)) = operated_calm behind among k ms calm q
+  calm_behind behind among (frame.Elaborates ds fs hs ∷ k) [] calm q = absurd q
+  calm_behind behind among (frame.Elaborates ds fs hs ∷ k) (m ∷ ms) calm q = calm_behind behind among k ms calm q.1
+  calm_behind behind among (frame.Closes ∷ k) [] calm q = absurd q
+  calm_behind behind among (frame.Closes ∷ k) (m ∷ ms) calm q = calm_behind behind among k ms calm q.1
+  calm_behind behind among (frame.Declares x ∷ k) [] calm q = absurd q
+  calm_behind behind among (frame.Declares x ∷ k) (m ∷ ms) calm q = calm_behind behind among k (m ∷ ms) calm q.1
+  calm_behind behind among (f ∷ k) ms calm q = calm_behind behind among k ms calm q.1
+
+  pub frugal_calm : (behind : Control) (among : List Value) (mode : Mode) (k : Control) (ms : List Master) → IsCalm (behind_call k) → Frugal frugal behind among mode k ms → NoOperationRuns behind
+  frugal_calm behind among mode k ms calm (inl q) = calm_behind behind among k ms calm q
+  frugal_calm behind among mode [] ms calm (inr (inl leaving)) = absurd leaving.1
+  frugal_calm behind among mode (frame.Leaves left ∷ k) [] calm (inr (inl leaving)) = absurd leaving.1
+  frugal_calm behind among mode (frame.Leaves left ∷ k) (m ∷ ms) calm (inr (inl leaving)) = calm_behind behind among k ms calm leaving.1
+  frugal_calm behind among mode (f ∷ k) ms calm (inr (inl leaving)) = absurd leaving.1
+  frugal_calm behind among mode [] ms calm (inr (inr beginning)) = absurd beginning.1
+  frugal_calm behind among mode (frame.Treats w (begins by done) tasks ∷ k) ms calm (inr (inr beginning)) = calm_behind behind among k ms calm beginning.1.1
+  frugal_calm behind among mode (frame.Awaits w by done of part tasks ∷ k) ms calm (inr (inr beginning)) = calm_behind behind among k ms calm beginning.1.1
+  frugal_calm behind among mode (f ∷ k) ms calm (inr (inr beginning)) = absurd beginning.1
 
 -- Nor does anything begin where an object is finalized.
 treating_begin : (v w : Value) (cause : Cause) (tasks : List Task) (k : Control) → NothingBegins v k → NothingBegins v (treating w (ends cause) tasks k)
@@ -177,6 +261,18 @@ module _ (program : Program) (depth : ℕ) (s : State) (f : Pause program depth 
           let one : NoOperationRunsOn v (frame.Confines ∷ treating (Names f.object) (ends cause) f.tasks f.after) = subst (NoOperationRunsOn v) is none in
           let before = finalized_by (known_in program f.procedure f.suspensions) cause f.held f.watch f.object f.access f.home f.places f.operands f.also f.after f.lower f.rooms f.holds rests in
           one.0 (treating_before (Names f.object) cause f.tasks f.after before ∙ sym same)
+
+  -- Its operation runs in front of that.
+  pub operated_is : operated_in f.behind ≡ Names f.object ∷ []
+  operated_is = by f.treatment f.awaited f.rests
+    where
+      by : (treatment : Treatment) → WaitsFor (program_form program).types f.object f.of treatment f.tasks f.after f.behind
+          → Rests (known_in program f.procedure f.suspensions) treatment f.held f.watch f.object f.access f.home f.places f.operands f.also f.after f.lower f.rooms f.holds
+          → operated_in f.behind ≡ Names f.object ∷ []
+      by (begins birth done) (part, is) rests = ap operated_in is
+      by (ends cause) (is, inside) rests =
+          let before = finalized_by (known_in program f.procedure f.suspensions) cause f.held f.watch f.object f.access f.home f.places f.operands f.also f.after f.lower f.rooms f.holds rests in
+          ap operated_in is ∙ ap (λ (v : Value). v ∷ []) (treating_before (Names f.object) cause f.tasks f.after before)
 
 -- It is known of each such type that the body may free it.
 may_cover : (program : Program) (s : State) (t : ℕ) → may_free program s t ≡ true → (is_access (program_form program).types t ≡ true) × CoveredIn (implicit_of (program_form program)) (seen_in (running_procedure s) (program_form program)) t
@@ -247,13 +343,32 @@ module _ (program : Program) (spares : SparesOwn program) (s : State) where
         by w.0 (λ later. none_in g.procedure (suc depth) number others inner w.1 waits.1 o x found of (waits_covers waits.0 x.cell.access covered) behind later)
         (either_one g.under (under_in (callers_of program (inner ++ others))) o under)
       where
-        by : IsCall g ⊎ IsOperation program s allowance back lower procedure depth (inner ++ others) g → (IsUnder (under_in (callers_of program (inner ++ others))) o → ⊥) → IsUnder g.under o ⊎ IsUnder (under_in (callers_of program (inner ++ others))) o → ⊥
+        by : IsCall g ⊎ IsOperation program s allowance back lower procedure depth (inner ++ others) (operated_among inner) g → (IsUnder (under_in (callers_of program (inner ++ others))) o → ⊥) → IsUnder g.under o ⊎ IsUnder (under_in (callers_of program (inner ++ others))) o → ⊥
         by v further (inr later) = further later
         by (inl call) further (inl here) = subst (λ (under' : List Id). IsUnder under' o) call.1 here
         by (inr operation) further (inl here) =
             let f = operation.pause in
             let way : IsUnder (under_way f.treatment f.object) o = subst (λ (waiting : Suspension). IsUnder waiting.under o) operation.is here in
             frees_not depth f o x found (treated_is f.treatment f.object o way) (subst (λ (own : Option ℕ). Covers own x.cell.access) operation.runs covered) of
+
+    -- Nor is it one whose operation they wait for.
+    pub operated_apart :
+        (procedure : Option ℕ) (depth number : ℕ) (others inner : List Suspension) → AreInner program s allowance back lower procedure depth (Some number) others inner
+        → AllWait (implicit_of p) (seen_in procedure p) (callers_of program (inner ++ others)) → (o : Id) (x : Object) → object_at s.heap o ≡ Some x → is_access p.types x.cell.access ≡ true
+        → Covers procedure x.cell.access → IsAmong (Names o) (operated_among inner) → ⊥
+    operated_apart procedure depth number others [] w waits o x found of covered among = among
+    operated_apart procedure depth number others (g ∷ inner) w waits o x found of covered among =
+        by w.0 (λ later. operated_apart g.procedure (suc depth) number others inner w.1 waits.1 o x found of (waits_covers waits.0 x.cell.access covered) later)
+      where
+        by : IsCall g ⊎ IsOperation program s allowance back lower procedure depth (inner ++ others) (operated_among inner) g → (IsAmong (Names o) (operated_among inner) → ⊥) → ⊥
+        by (inl call) further = further (subst (λ (vs : List Value). IsAmong (Names o) (vs ++ operated_among inner)) (none_operated g.control call.0) among)
+        by (inr operation) further =
+            let f = operation.pause in
+            let first : operated_in g.control ≡ Names f.object ∷ [] = ap (λ (waiting : Suspension). operated_in waiting.control) operation.is ∙ operated_is program depth s f in
+            elim (subst (λ (vs : List Value). IsAmong (Names o) (vs ++ operated_among inner)) first among) [
+              | inl same ↦ frees_not depth f o x found (cc same) (subst (λ (own : Option ℕ). Covers own x.cell.access) operation.runs covered) of
+              | inr later ↦ further later
+            ]
 
 -- What is known while the body of an operation runs that touches storage.
 module _ (program : Program) (s : State) (grounds : Grounds program s) (gs : List Suspension) (w : Within program gs s) (stands : Stands program gs s) where
@@ -298,26 +413,30 @@ module _ (program : Program) (s : State) (grounds : Grounds program s) (gs : Lis
   waits_begin v ne (begins by done) (part, is) = subst (NothingBegins v) (sym is) ((λ same. ne (sym same)), w.untreated v ne)
   waits_begin v ne (ends cause) (is, inside) = subst (NothingBegins v) (sym is) (treating_begin v (Names outermost.object) cause outermost.tasks outermost.after (w.untreated v ne))
 
-  -- What is left to do initializes and adjusts no other object, if none begins first.
-  pub begins_nothing : begins_first s.control ≡ false → (v : Value) → (v ≢ Names outermost.object) → NothingBegins v s.control
-  begins_nothing other v ne =
-      frugal_begin (allowance_of (program_form program)) v outermost.behind s.heap s.mode s.control w.frugal.upper other (waits_begin v ne outermost.treatment outermost.awaited) w.frugal.frugal
+  -- What is left to do initializes and adjusts no other object but those whose operations run inside, if none begins first.
+  pub begins_nothing : begins_first s.control ≡ false → (v : Value) → (v ≢ Names outermost.object) → (IsAmong v (operated_among w.inner) → ⊥) → NothingBegins v s.control
+  begins_nothing other v ne apart =
+      frugal_begin (allowance_of (program_form program)) v outermost.behind (operated_among w.inner) s.mode s.control w.frugal.upper other apart
+      (waits_begin v ne outermost.treatment outermost.awaited) w.frugal.frugal
 
   -- So it is of an object that is treated next, behind its treatment.
   pub treated_begin : (v : Value) (treatment : Treatment) (tasks : List Task) (k : Control) → s.control ≡ frame.Treats v treatment tasks ∷ k → NothingBegins v k
   treated_begin v treatment tasks k is =
-      by treatment w.frugal.upper (subst (λ (all : Control). Frugal (allowance_of (program_form program)) outermost.behind s.heap s.mode all w.frugal.upper) is w.frugal.frugal)
+      by treatment w.frugal.upper
+      (subst (λ (all : Control). Frugal (allowance_of (program_form program)) outermost.behind (operated_among w.inner) s.mode all w.frugal.upper) is w.frugal.frugal)
     where
-      behind : (ms : List Master) → NoOperationRunsOn v k → FrugalLeads (allowance_of (program_form program)) outermost.behind k ms → NothingBegins v k
+      behind : (ms : List Master) → NoOperationRunsOn v k → FrugalLeads (allowance_of (program_form program)) outermost.behind (operated_among w.inner) k ms → NothingBegins v k
       behind ms alone q =
-          let other = other_treated program (length w.inner) s outermost v (leads_alone (allowance_of (program_form program)) v outermost.behind k ms alone q) in
-          leads_begin (allowance_of (program_form program)) v outermost.behind k ms (waits_begin v other outermost.treatment outermost.awaited) q
+          let allowance = allowance_of (program_form program) in
+          let other = other_treated program (length w.inner) s outermost v (leads_alone allowance v outermost.behind (operated_among w.inner) k ms alone q) in
+          leads_begin allowance v outermost.behind (operated_among w.inner) k ms (λ among. operated_runs allowance v outermost.behind (operated_among w.inner) k ms among q alone)
+          (waits_begin v other outermost.treatment outermost.awaited) q
 
-      by : (way : Treatment) (ms : List Master) → Frugal (allowance_of (program_form program)) outermost.behind s.heap s.mode (frame.Treats v way tasks ∷ k) ms → NothingBegins v k
+      by : (way : Treatment) (ms : List Master) → Frugal (allowance_of (program_form program)) outermost.behind (operated_among w.inner) s.mode (frame.Treats v way tasks ∷ k) ms → NothingBegins v k
       by way ms (inl q) = behind ms q.0.3 q.1
-      by way ms (inr (runs, inl leaving)) = absurd leaving
-      by (begins birth done) ms (inr (runs, inr starting)) = behind ms starting.0.1 starting.1
-      by (ends cause) ms (inr (runs, inr starting)) = absurd starting
+      by way ms (inr (inl leaving)) = absurd leaving.1
+      by (begins birth done) ms (inr (inr beginning)) = behind ms beginning.1.0.2 beginning.1.1
+      by (ends cause) ms (inr (inr beginning)) = absurd beginning.1
 
   -- The object of the outermost operation is none that the running body may free.
   other_object : (o : Id) (x : Object) → object_at s.heap o ≡ Some x → may_free program s x.cell.access ≡ true → Names o ≡ Names outermost.object → ⊥
@@ -326,9 +445,15 @@ module _ (program : Program) (s : State) (grounds : Grounds program s) (gs : Lis
       let covered = covers_outermost program grounds.spares_own s (allowance_of (program_form program)) outermost.behind outermost.lower (running_procedure s) 0 outermost.number behind_it w.inner w.within waiting x.cell.access so.1 in
       frees_not program grounds.spares_own s (length w.inner) outermost o x found (cc same) covered so.0
 
+  -- Nor are those of the operations inside.
+  other_objects : (o : Id) (x : Object) → object_at s.heap o ≡ Some x → may_free program s x.cell.access ≡ true → IsAmong (Names o) (operated_among w.inner) → ⊥
+  other_objects o x found may among =
+      let so = may_cover program s x.cell.access may in
+      operated_apart program grounds.spares_own s (allowance_of (program_form program)) outermost.behind outermost.lower (running_procedure s) 0 outermost.number behind_it w.inner w.within waiting o x found so.0 so.1 among
+
   -- Nothing begins of an object that the running body may free.
   pub freed_begin : begins_first s.control ≡ false → (o : Id) (x : Object) → object_at s.heap o ≡ Some x → may_free program s x.cell.access ≡ true → NothingBegins (Names o) s.control
-  freed_begin first o x found may = begins_nothing first (Names o) (other_object o x found may)
+  freed_begin first o x found may = begins_nothing first (Names o) (other_object o x found may) (other_objects o x found may)
 
   -- So no operation of it runs, where it is in its collection.
   pub listed_alone : begins_first s.control ≡ false → (o : Id) (x : Object) → object_at s.heap o ≡ Some x → x.listed ≡ true → may_free program s x.cell.access ≡ true → NoOperationRunsOn (Names o) s.control
@@ -340,7 +465,7 @@ module _ (program : Program) (s : State) (grounds : Grounds program s) (gs : Lis
   waits_operated (ends cause) (is, inside) none = let waits = (subst NoOperationRuns is none).0 in cc waits
 
   pub touching_runs : IsCalm (behind_call s.control) → ⊥
-  touching_runs calm = waits_operated outermost.treatment outermost.awaited (frugal_calm (allowance_of (program_form program)) outermost.behind s.heap s.mode s.control w.frugal.upper calm w.frugal.frugal)
+  touching_runs calm = waits_operated outermost.treatment outermost.awaited (frugal_calm (allowance_of (program_form program)) outermost.behind (operated_among w.inner) s.mode s.control w.frugal.upper calm w.frugal.frugal)
 
   -- Each object that may be freed stands.
   stand : begins_first s.control ≡ false → (forms : List TypeForm) → AllStand (may_free program s) forms s.heap
@@ -361,17 +486,17 @@ module _ (program : Program) (s : State) (grounds : Grounds program s) (gs : Lis
       (subst (λ (t : State). Halts program t (Erroneous FinalizesTwice)) (sym (state_is Running (frame.Treats v treatment tasks ∷ k) runs is)) twice)
 
   by_frame :
-      (g : Frame Value) (k : Control) (ms : List Master) → s.mode ≡ Running → s.control ≡ g ∷ k → Frugal (allowance_of (program_form program)) outermost.behind s.heap Running (g ∷ k) ms → (forms : List TypeForm)
+      (g : Frame Value) (k : Control) (ms : List Master) → s.mode ≡ Running → s.control ≡ g ∷ k → Frugal (allowance_of (program_form program)) outermost.behind (operated_among w.inner) Running (g ∷ k) ms → (forms : List TypeForm)
       → FinalizesBy (may_free program s) forms types bodies g (record s { mode = Running; control = k })
   by_frame (frame.Does fs) k ms runs is q forms = stand (ap begins_first is) forms
   by_frame (frame.FreesIn access c) k ms runs is q forms = stand (ap begins_first is) forms
   by_frame (frame.Treats v treatment tasks) k ms runs is (inl q) forms = treated v treatment tasks k runs is q.0.3 forms
-  by_frame (frame.Treats v treatment tasks) k ms runs is (inr (now, inl leaving)) forms = absurd leaving
-  by_frame (frame.Treats v (begins birth done) tasks) k ms runs is (inr (now, inr starting)) forms = treated v (begins birth done) tasks k runs is starting.0.1 forms
-  by_frame (frame.Treats v (ends cause) tasks) k ms runs is (inr (now, inr starting)) forms = absurd starting
+  by_frame (frame.Treats v treatment tasks) k ms runs is (inr (inl leaving)) forms = absurd leaving.1
+  by_frame (frame.Treats v (begins birth done) tasks) k ms runs is (inr (inr beginning)) forms = treated v (begins birth done) tasks k runs is beginning.1.0.2 forms
+  by_frame (frame.Treats v (ends cause) tasks) k ms runs is (inr (inr beginning)) forms = absurd beginning.1
   by_frame g k ms runs is q forms = tt
 
-  by_mode : (mode : Mode) (k : Control) (ms : List Master) → s.mode ≡ mode → s.control ≡ k → Frugal (allowance_of (program_form program)) outermost.behind s.heap mode k ms → (forms : List TypeForm) → FinalizesIn (may_free program s) forms types bodies mode k s
+  by_mode : (mode : Mode) (k : Control) (ms : List Master) → s.mode ≡ mode → s.control ≡ k → Frugal (allowance_of (program_form program)) outermost.behind (operated_among w.inner) mode k ms → (forms : List TypeForm) → FinalizesIn (may_free program s) forms types bodies mode k s
   by_mode Running [] ms runs is q forms = tt
   by_mode Running (g ∷ k) ms runs is q forms = by_frame g k ms runs is q forms
   by_mode (Raising e) k ms runs is q forms = tt

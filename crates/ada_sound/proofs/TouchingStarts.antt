@@ -1,5 +1,5 @@
 -- The treatment of an object calls an operation that touches storage: its body begins in a sound state (7.6, 7.6.1), where no operation runs, or inside another
--- one, which frees the object (13.11.2).
+-- one, in which the object is freed, allocated or undone (13.11.2, 4.8, 7.6.1).
 
 use Rattle.std.proofs.Common.{◌≡◌, ◌≢◌, ℕ, Bool, true, false, not, ◌&&◌, List, ◌∷◌, refl, sym, ap, subst, ◌∙◌, []}
 use Rattle.std.specs.Prelude.{Option, Some, None}
@@ -45,21 +45,20 @@ use Rattle.ada_typed.proofs.Overridings.{OperationFor, beginning_for, ending_for
 use Rattle.ada_sound.proofs.Allowance.{body_thrifty, allowance_of}
 use Rattle.ada_sound.proofs.Alters.{Alters}
 use Rattle.ada_sound.proofs.Callers.{Suspension, known_in, Stands, callers_of}
-use Rattle.ada_sound.proofs.FrugalControl.{Frugally, IsFreed, frugal_starts}
+use Rattle.ada_sound.proofs.FrugalControl.{Frugally, IsEnded, frugal_starts}
 use Rattle.ada_sound.proofs.Touching.{CoversBy, Enters, Touching, origin}
-use Rattle.ada_sound.proofs.Trackers.{apart_too, touches_apart}
+use Rattle.ada_sound.proofs.Trackers.{touches_apart}
 use Rattle.ada_sound.proofs.TouchingBegins.{Begun, IsAlone, alone, touching_begins}
 use Rattle.ada_sound.proofs.TouchingRests.{IsEnd, assigns_by, at_start, ends_by}
 use Rattle.ada_sound.proofs.Fits.{IsWithin, access_is}
 use Rattle.ada_sound.proofs.AssignedParts.{treated_frees_of, IsAssignedBehind}
 use Rattle.ada_sound.proofs.BareObjects.{allocated_is_bare, operable_is_not_bare}
-use Rattle.ada_sound.proofs.QuietOperations.{LetsNone, MayTouch, TouchesStorage}
+use Rattle.ada_sound.proofs.QuietOperations.{MayTouch, TouchesStorage}
 use Rattle.ada_sound.proofs.CalmObjects.{calm_finalize, calm_initialize}
 use Rattle.ada_quiet.specs.Calm.{are_calm_in}
 use Rattle.ada_sound.proofs.Items.{Houses}
 use Rattle.ada_sound.proofs.FrugalUseEnds.{ends_free, ends_in_starts, starts_free}
-use Rattle.ada_sound.proofs.FrugalUseLets.{touches_let}
-use Rattle.ada_sound.proofs.FrugalUseSilent.{starts_silently}
+use Rattle.ada_sound.proofs.OperationsLet.{touches_let}
 use Rattle.ada_sound.proofs.Invariant.{Control, CopiesBehind, CoveredIn, EndsTo, IsCopied, Known, TreatsBy, body_among, under_in, LiesAmong}
 use Rattle.ada_sound.proofs.Operated.{OperatedAs}
 use Rattle.ada_sound.proofs.Operating.{IsCalled, IsCalm, lets_out, WaitsFor}
@@ -107,13 +106,13 @@ IsLoneBehind v (ends (Freeing number)) k = IsLoneEnd v k
 IsLoneBehind v (ends (Assigning number)) k = (first t : ℕ) (behind : Control) → k ≡ Copies first t ∷ behind → AdjustsAlone v behind
 IsLoneBehind v (ends (Undoing number)) k = IsLoneEnd v k
 
--- So it is where an object is freed behind which nothing of it begins.
-pub lone_freed : (v : Value) (treatment : Treatment) (k : Control) → IsFreed treatment → NothingBegins v k → IsLoneBehind v treatment k
+-- So it is where an object is freed or undone behind which nothing of it begins.
+pub lone_freed : (v : Value) (treatment : Treatment) (k : Control) → IsEnded treatment → NothingBegins v k → IsLoneBehind v treatment k
 lone_freed v (begins by done) k freed none = absurd freed
 lone_freed v (ends (Leaving m item)) k freed none = absurd freed
 lone_freed v (ends (Freeing number)) k freed none = λ w behind is. subst (NothingBegins v) is none
 lone_freed v (ends (Assigning number)) k freed none = absurd freed
-lone_freed v (ends (Undoing number)) k freed none = absurd freed
+lone_freed v (ends (Undoing number)) k freed none = λ w behind is. subst (NothingBegins v) is none
 
 -- Where an object is initialized or adjusted, nothing of another one begins.
 treating_others : (u v : Value) (by : Birth) (tasks : List Task) (k : Control) → u ≢ v → NothingBegins u k → NothingBegins u (treating v (begins by []) tasks k)
@@ -229,9 +228,9 @@ module _ (program : Program) (a : Activation Value) (rest : List (Activation Val
     covers_by may made access of part number b (ends cause) operable may' called there t covered = ends_free program grounds.well access of part number b operable called there t covered
 
     -- So the body begins, for this object, in front of what is behind its treatment.
-    begins_so : operations_may_be_called p ≡ true → makes_parts p ≡ true → (e : Event) (after : State) (c : Begins known a rest s program.types.items (body_forms program) k IsOperated e after) → MayTouch c.treatment → may_be_frugal p ≡ true → LetsNone p c.treatment c.b → is_frugal_body (thrift_of p) c.b ≡ true → TouchesStorage p c.treatment c.b
+    begins_so : operations_may_be_called p ≡ true → makes_parts p ≡ true → (e : Event) (after : State) (c : Begins known a rest s program.types.items (body_forms program) k IsOperated e after) → MayTouch c.treatment → may_be_frugal p ≡ true → is_frugal_body (thrift_of p) c.b ≡ true → TouchesStorage p c.treatment c.b
         → typed.Typed p after → (begun : Begun program gs c.treatment c.behind s.masters after) × (begun.pause.object ≡ c.o) × (begun.pause.after ≡ k)
-    begins_so uses made e after c touches may silent frugal stores typing =
+    begins_so uses made e after c touches may frugal stores typing =
         let operated = c.operated.1 in
         let of_type : c.x.cell.access ≡ operated.0 = kept_type s.heap c.heap e c.o c.x operated.0 c.alters c.found operated.2 in
         let operable : IsOperable p.types c.x.cell.access c.of operated.1 = rw of_type (operated.3) in
@@ -252,15 +251,15 @@ module _ (program : Program) (a : Activation Value) (rest : List (Activation Val
         let frees : (t : ℕ) → CoveredIn (implicit_of p) (seen_in (Some c.number) p) t → at.may t ≡ true =
         λ t covered. at.includes t (treated_frees_of program grounds.well c.x.cell.access c.of operated.1 c.number c.b operable c.treatment k (rw (c.operated.0) (c.operated.2)) (copied_behind (Names c.o) c.treatment c.tasks k c.heap c.treats) touches c.called c.there t covered) in
         let lets : (raised : Exception) → body_among (implicit_of p) (seen_in (Some c.number) p) raised ≡ true → lets_out (implicit_of p) c.x.cell.access c.treatment raised ≡ true =
-        touches_let program grounds.well c.x.cell.access c.of operated.1 c.number c.b operable (starts_silently p grounds.well uses (apart_too p may)) c.treatment touches silent c.called c.there frugal in
+        touches_let program grounds.well grounds.propagates_nothing c.x.cell.access c.of operated.1 c.number c.b operable c.treatment touches c.called c.there in
         rw c.is (touching_begins program grounds.well grounds.obeys c.number (touches_apart program grounds.obeys.0 c.of c.number c.treatment touches c.called) c.b c.there single a rest gs s k c.o c.x c.heap c.found (live_there c.x.stage c.live) c.place within c.treatment frugal grounds.spares_own at c.behind frees
         (covers_by may made c.x.cell.access c.of operated.1 c.number c.b c.treatment operable touches c.called c.there) lets e c.of c.tasks c.alters waits (is_awaited p.types c.o c.of c.treatment c.tasks k c.behind waits) stands
         (watched_begins program grounds.well uses a rest gs s c.treatment at.watch c.o c.x.cell.access c.of operated.1 c.number c.b c.place c.behind c.heap operable c.called c.there frugal at.spared))
 
     -- That is known of it, whatever runs behind it.
-    pub touching_starts : operations_may_be_called p ≡ true → makes_parts p ≡ true → (e : Event) (after : State) (c : Begins known a rest s program.types.items (body_forms program) k IsOperated e after) → MayTouch c.treatment → may_be_frugal p ≡ true → LetsNone p c.treatment c.b → is_frugal_body (thrift_of p) c.b ≡ true → TouchesStorage p c.treatment c.b
+    pub touching_starts : operations_may_be_called p ≡ true → makes_parts p ≡ true → (e : Event) (after : State) (c : Begins known a rest s program.types.items (body_forms program) k IsOperated e after) → MayTouch c.treatment → may_be_frugal p ≡ true → is_frugal_body (thrift_of p) c.b ≡ true → TouchesStorage p c.treatment c.b
         → typed.Typed p after → Begun program gs c.treatment c.behind s.masters after
-    touching_starts uses made e after c touches may silent frugal stores typing = (begins_so uses made e after c touches may silent frugal stores typing).0
+    touching_starts uses made e after c touches may frugal stores typing = (begins_so uses made e after c touches may frugal stores typing).0
 
   -- Where no operation runs, nothing is treated behind what is treated, but a record that is assigned to.
   module _ (whole : State) (is : whole.control ≡ Treats v treatment tasks ∷ k) (grounds : Grounds program whole) (still : NoOperationRuns whole.control) where
@@ -325,12 +324,12 @@ module _ (program : Program) (a : Activation Value) (rest : List (Activation Val
           (subst (λ (w : Value). TreatsBy known w c.treatment c.tasks k c.heap a.places a.operands s.masters) (sym c.operated.3) c.treats)
 
       -- Its body runs, as the outermost one.
-      pub touching_outermost : may_be_frugal p ≡ true → LetsNone p c.treatment c.b → is_frugal_body (thrift_of p) c.b ≡ true → TouchesStorage p c.treatment c.b → typed.Typed p after → Touching program after
-      touching_outermost may silent frugal stores typing =
-          let started = begins_so whole same grounds lone_outermost stands (treats_in_use program whole grounds (Treats v treatment tasks ∷ k) is tt) (treats_made program whole grounds v treatment tasks k is) e after c touches may silent frugal stores typing in
+      pub touching_outermost : may_be_frugal p ≡ true → is_frugal_body (thrift_of p) c.b ≡ true → TouchesStorage p c.treatment c.b → typed.Typed p after → Touching program after
+      touching_outermost may frugal stores typing =
+          let started = begins_so whole same grounds lone_outermost stands (treats_in_use program whole grounds (Treats v treatment tasks ∷ k) is tt) (treats_made program whole grounds v treatment tasks k is) e after c touches may frugal stores typing in
           let begun = started.0 in
           let waits : WaitsFor p.types c.o c.of c.treatment c.tasks k c.behind = subst (λ (types : List TypeForm). WaitsFor types c.o c.of c.treatment c.tasks k c.behind) (same_types a.procedure p) c.waits in
-          let runs : Frugally (allowance_of p) s.masters c.behind after = rw c.is (frugal_starts (allowance_of p) c.number c.b (body_thrifty p c.b frugal) (Part c.o c.place) c.behind (record s { activations = a ∷ rest; heap = c.heap; mode = Running; control = k })) in
+          let runs : Frugally (allowance_of p) s.masters c.behind [] after = rw c.is (frugal_starts (allowance_of p) c.number c.b (body_thrifty p c.b frugal) (Part c.o c.place) c.behind (record s { activations = a ∷ rest; heap = c.heap; mode = Running; control = k })) in
           record {
             suspensions = origin program 0 after begun.pause ∷ gs;
             ready = begun.ready;

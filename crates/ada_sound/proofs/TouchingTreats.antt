@@ -1,35 +1,27 @@
--- An object that is freed is finalized while an operation that touches storage is under way (7.6.1, 13.11.2), and one that is allocated begins (4.8): its
--- operation begins, inside the other one, or what is left goes on.
+-- An object that is freed or undone is finalized while an operation that touches storage is under way (7.6.1, 13.11.2), and one that is allocated begins (4.8):
+-- its operation begins, inside the other one, or what is left goes on.
 
-use Rattle.std.proofs.Common.{◌≡◌, ℕ, true, false, not, List, [], ◌∷◌, refl, sym, ap, subst, ◌∙◌, inl, inr, ◌+◌, arith, drop, length, suc}
+use Rattle.std.proofs.Common.{◌≡◌, ℕ, true, List, [], ◌∷◌, ◌++◌, refl, sym, ap, subst, ◌∙◌, inl, inr, ◌+◌, arith, drop, length, suc}
 use Rattle.std.specs.Prelude.{Option, Some, None}
 use Rattle.ada_parts.specs.Task.{Task}
 use Rattle.ada_program.specs.declared.program.Program.{Program}
-use Rattle.ada_program.specs.ProgramForm.{ProgramForm, TypeForm, BodyForm, program_form, body_forms}
-use Rattle.ada_program.specs.Controlled.{operations_of}
-use Rattle.ada_program.specs.Handling.{is_same}
-use Rattle.ada_program.specs.declared.program.Exception.{Exception}
-use Rattle.ada_effects.specs.Effects.{no_calls, body_raises}
+use Rattle.ada_program.specs.ProgramForm.{ProgramForm, TypeForm, program_form, body_forms}
 use Rattle.ada_parts.specs.Part as parts
-use Rattle.ada_quiet.specs.Calm.{has_calm_objects, quietly_begun_types}
-use Rattle.ada_quiet.specs.Quiet.{is_plain_body, is_quiet_body}
-use Rattle.std.proofs.lemmas.Bool.{and_parts, false_from_ne_true}
 use Rattle.ada_meaning.specs.declared.event.Birth.{Birth}
 use Rattle.ada_meaning.specs.declared.event.Birth.TheVariants.{Creation, Copy, Adjustment}
-use Rattle.ada_meaning.specs.Heap.{Cell}
-use Rattle.ada_typed.proofs.Evaluations.{cell_at}
 use Rattle.ada_meaning.specs.declared.state.Id.{Id}
 use Rattle.ada_meaning.specs.declared.state.Mode.TheVariants.{Running}
 use Rattle.ada_meaning.specs.declared.state.Value.{Value}
 use Rattle.ada_meaning.specs.declared.state.Value.TheVariants.{Names, Part}
 use Rattle.ada_meaning.specs.Event.{Quiet}
 use Rattle.ada_meaning.specs.Frame.{Treatment, begins, ends, Awaits, Confines, Treats}
-use Rattle.ada_meaning.specs.State.{Activation, Master}
+use Rattle.ada_meaning.specs.State.{Activation}
 use Rattle.ada_meaning.specs.Step.{halts, moves, tells, asks, picks, older, operating, procedure_of, operands_of, frame_next, treating}
-use Rattle.ada_meaning.specs.Named.{State, Next, named, next, object_at}
+use Rattle.ada_meaning.specs.Named.{State, Next, named, next}
 use Rattle.ada_meaning.specs.Run.{Event, settled}
 use Rattle.ada_quiet.specs.Frugal.{is_frugal_body, thrift_of}
 use Rattle.ada_quiet.specs.InUse.{may_be_frugal}
+use Rattle.ada_finalized.specs.Law.{finalized_before}
 use Rattle.ada_reaching.proofs.Behind.{behind_reaches, treating_inside, waiting_inside, waiting_reaches}
 use Rattle.ada_reaching.specs.Apart.{Apart}
 use Rattle.ada_reaching.specs.Reaching.{IsReaching}
@@ -40,24 +32,22 @@ use Rattle.ada_sound.proofs.Allowance.{Allowance, body_thrifty, is_thrifty_body,
 use Rattle.ada_sound.specs.Agreement.{running_procedure}
 use Rattle.ada_sound.proofs.Alters.{Alters}
 use Rattle.ada_sound.proofs.Callers.{Suspension, known_in, Stands, AreOf}
-use Rattle.ada_sound.proofs.FrugalControl.{BeginsQuietly, EndsFreed, Frugal, Frugally, FrugalLeads, IsFreed, IsInside, ends_leads, frugal_starts_inside, quietly_kept}
+use Rattle.ada_sound.proofs.FrugalControl.{BeginsThere, EndsThere, Frugal, Frugally, FrugalLeads, FrugalOperated, IsInside, begun_leads, ends_leads, frugal_starts_inside, operated_in, operated_on}
 use Rattle.ada_sound.proofs.FrugalSteps.{GoesOrBegins, treats_frugally}
 use Rattle.ada_sound.proofs.Invariant.{Control, Known, Stepped}
-use Rattle.ada_sound.proofs.Operating.{IsCalled, PlainBody, WaitsFor, behind_operation}
+use Rattle.ada_sound.proofs.Operating.{PlainBody, WaitsFor, behind_operation}
 use Rattle.ada_sound.proofs.OperationBegins.{begins_operation}
 use Rattle.ada_sound.proofs.Pauses.{AllWatched, inner_on}
-use Rattle.ada_sound.proofs.QuietOperations.{AdjustsCopy, IsUsedAs, LetsNone, LetsNothingOut, MayTouch, TouchesStorage, used_as}
-use Rattle.ada_sound.proofs.BegunQuietly.{begun_initialize}
-use Rattle.ada_sound.proofs.Raising.{body_more}
+use Rattle.ada_sound.proofs.QuietOperations.{AdjustsCopy, IsUsedAs, LetsNothingOut, MayTouch, TouchesStorage, used_as}
 use Rattle.ada_sound.proofs.CopiedOwners.{BeginsCopy}
 use Rattle.ada_sound.proofs.Ready.{running}
 use Rattle.ada_sound.proofs.Returns.{CrossesTo, same_types}
 use Rattle.ada_sound.proofs.Grounds.{Grounds, treats_made}
-use Rattle.ada_sound.proofs.Touching.{AreInner, Pause, Touching, Watch, Watched, Within, is_unnamed, is_watched, origin, watches}
+use Rattle.ada_sound.proofs.Touching.{AreInner, Pause, Touching, Watch, Watched, Within, is_unnamed, is_watched, operated_among, origin, watches}
 use Rattle.ada_sound.proofs.TouchingBegins.{Begun}
 use Rattle.ada_sound.proofs.TouchingGoes.{GoesTouching, InTouching, Still, Went, behind_it, inner_stays, outermost, stays_on, still_on, touching_on, with_parts, within_on}
 use Rattle.ada_sound.proofs.TouchingStands.{touching_stands, treated_begin}
-use Rattle.ada_sound.proofs.TouchingStarts.{lone_freed, touching_starts}
+use Rattle.ada_sound.proofs.TouchingStarts.{IsLoneBehind, lone_freed, touching_starts}
 use Rattle.ada_sound.proofs.Treating.{IsOperated, told_covered, told_says, treated_next, treats_in_use}
 use Rattle.ada_sound.proofs.Treatments.{Begins, StaysHere, TreatedIn}
 use Rattle.ada_sound.proofs.Waiting.{SameBody}
@@ -75,28 +65,10 @@ copies_outside Creation done copies inside = copies
 copies_outside Copy done copies inside = inside
 copies_outside (Adjustment number) done copies inside = inside
 
--- A quiet body is plain, and no exception comes out of it.
-quiet_parts : (types : List TypeForm) (b : BodyForm) → is_quiet_body types b ≡ true
-    → (is_plain_body types b ≡ true) × (body_raises no_calls b (λ e. true) ≡ false)
-quiet_parts types b quiet =
-    let both = and_parts (is_plain_body types b) (not (body_raises no_calls b (λ e. true))) quiet in
-    (both.0, false_from_ne_true (body_raises no_calls b (λ e. true)) (λ may. let none = both.1 in cc (rw may at none)))
-
--- So none of any kind does.
-none_raised : (types : List TypeForm) (b : BodyForm) → body_raises no_calls b (λ e. true) ≡ false → (e : Exception) → body_raises no_calls b (is_same e) ≡ false
-none_raised types b none e =
-    false_from_ne_true (body_raises no_calls b (is_same e))
-    (λ may.
-    let more : body_raises no_calls b (λ f. true) ≡ true = body_more no_calls tt types b (is_same e) (λ f. true) (λ f same. refl) may in
-    cc (none, more))
-
--- What is behind its Finalize is left to do in such bodies.
-freed_leads :
-    (types : List TypeForm) (allowance : Allowance) (back : Control) (o : Id) (of : ℕ) (treatment : Treatment) (tasks : List Task) (k behind : Control) (ms : List Master) → EndsFreed allowance (Names o) treatment k → FrugalLeads allowance back k ms
-    → WaitsFor types o of treatment tasks k behind → FrugalLeads allowance back behind ms
-freed_leads types allowance back o of (begins by done) tasks k behind ms ending leads waits = absurd ending.0
-freed_leads types allowance back o of (ends cause) tasks k behind ms ending leads (is, inside) =
-    subst (λ (j : Control). FrugalLeads allowance back j ms) (sym is) (ends_leads allowance back (Names o) (ends cause) tasks k ms ending leads)
+-- An object that ceases to exist behind its finalization does so behind what is left of that.
+finalized_behind : (v : Value) (treatment : Treatment) (tasks : List Task) (k : Control) → finalized_before k ≡ v → finalized_before (treating v treatment tasks k) ≡ v
+finalized_behind v treatment [] k ending = ending
+finalized_behind v treatment (task ∷ tasks) k ending = refl
 
 module _ (program : Program) (a : Activation Value) (rest : List (Activation Value)) (k : Control) (s : State) (v : Value) (treatment : Treatment) (tasks : List Task) where
   abbrev whole : State
@@ -111,6 +83,10 @@ module _ (program : Program) (a : Activation Value) (rest : List (Activation Val
 
     abbrev operation : Pause program (length f.within.inner) whole
     operation = outermost program whole f
+
+    -- The objects whose operations run inside it, the nearest one first.
+    abbrev among : List Value
+    among = operated_among f.within.inner
 
     abbrev waiting : List Suspension
     waiting = behind_it program whole f
@@ -132,36 +108,36 @@ module _ (program : Program) (a : Activation Value) (rest : List (Activation Val
       standing = record { suspended = f.stands.standing.suspended; waiting = f.stands.standing.waiting; low = f.stands.standing.low };
     }
 
-    -- The object is freed, or begins quietly, and no operation of it runs behind.
+    -- The object is freed or undone, or begins, and no operation of it runs behind.
     abbrev IsTreated : Treatment → Type 0
-    IsTreated (begins by done) = BeginsQuietly allowance s.heap v by k
-    IsTreated (ends cause) = EndsFreed allowance v (ends cause) k
+    IsTreated (begins by done) = BeginsThere allowance v by k
+    IsTreated (ends cause) = EndsThere allowance v (ends cause) k
 
-    treated_here : IsTreated treatment × FrugalLeads allowance operation.behind k f.within.frugal.upper
+    treated_here : IsTreated treatment × FrugalLeads allowance operation.behind among k f.within.frugal.upper
     treated_here = by treatment f.within.frugal.frugal
       where
-        by : (way : Treatment) → Frugal allowance operation.behind s.heap Running (Treats v way tasks ∷ k) f.within.frugal.upper
-            → IsTreated way × FrugalLeads allowance operation.behind k f.within.frugal.upper
+        by : (way : Treatment) → Frugal allowance operation.behind among Running (Treats v way tasks ∷ k) f.within.frugal.upper
+            → IsTreated way × FrugalLeads allowance operation.behind among k f.within.frugal.upper
         by (begins how done) (inl leads) = absurd leads.0.0
-        by (begins how done) (inr (runs, inl leaving)) = absurd leaving
-        by (begins how done) (inr (runs, inr beginning)) = beginning
+        by (begins how done) (inr (inl leaving)) = absurd leaving.1
+        by (begins how done) (inr (inr beginning)) = beginning.1
         by (ends cause) (inl leads) = leads
-        by (ends cause) (inr (runs, inl leaving)) = absurd leaving
-        by (ends cause) (inr (runs, inr beginning)) = absurd beginning
+        by (ends cause) (inr (inl leaving)) = absurd leaving.1
+        by (ends cause) (inr (inr beginning)) = absurd beginning.1
 
     -- So it is one that may be treated inside another operation.
     inside_so : (way : Treatment) → IsTreated way → IsInside way
-    inside_so (begins Creation done) quietly = tt
-    inside_so (begins Copy done) quietly = let created = quietly.0 in absurd (cc created)
-    inside_so (begins (Adjustment number) done) quietly = let created = quietly.0 in absurd (cc created)
+    inside_so (begins Creation done) beginning = tt
+    inside_so (begins Copy done) beginning = let created = beginning.0 in absurd (cc created)
+    inside_so (begins (Adjustment number) done) beginning = let created = beginning.0 in absurd (cc created)
     inside_so (ends cause) ending = ending.0
 
-    -- It goes on in the body that frees or allocates it.
-    goes_here : (e : Event) (after : State) → Stepped treater s.heap e after × StaysHere treater a rest s program.types.items (body_forms program) k Operated after → GoesOrBegins allowance operation.lower operation.behind program.types.items (body_forms program) whole after → Still program whole f after → InTouching program s.heap e after
+    -- It goes on in the body that frees or allocates it, or out of whose beginning an exception has come.
+    goes_here : (e : Event) (after : State) → Stepped treater s.heap e after × StaysHere treater a rest s program.types.items (body_forms program) k Operated after → GoesOrBegins allowance operation.lower operation.behind among program.types.items (body_forms program) whole after → Still program whole f after → InTouching program s.heap e after
     goes_here e after (st, (acts, behind)) goes still =
         stays_on program whole f e after (record { procedure = ap procedure_of acts; suspended = ap older acts }) st (by goes) still
       where
-        by : GoesOrBegins allowance operation.lower operation.behind program.types.items (body_forms program) whole after → Frugally allowance operation.lower operation.behind after
+        by : GoesOrBegins allowance operation.lower operation.behind among program.types.items (body_forms program) whole after → Frugally allowance operation.lower operation.behind among after
         by (inl frugal) = frugal
         by (inr more) =
             let same : length after.activations ≡ length (a ∷ rest) = ap length acts in
@@ -181,31 +157,38 @@ module _ (program : Program) (a : Activation Value) (rest : List (Activation Val
       alters_here : Alters s.heap e after.heap
       alters_here = rw c.is c.alters
 
-      -- Where the object is freed, what is behind its Finalize is left to do.
-      leads_behind : IsFreed c.treatment → FrugalLeads allowance operation.behind c.behind f.within.frugal.upper
-      leads_behind freed = by c.treatment freed is_treated waits_here
-        where
-          by : (way : Treatment) → IsFreed way → IsTreated way → WaitsFor p.types c.o c.of way c.tasks k c.behind
-              → FrugalLeads allowance operation.behind c.behind f.within.frugal.upper
-          by (begins how done) freed' quietly waits = absurd freed'
-          by (ends cause) freed' ending waits =
-              freed_leads p.types allowance operation.behind c.o c.of (ends cause) c.tasks k c.behind f.within.frugal.upper
-              (subst (λ (u : Value). EndsFreed allowance u (ends cause) k) c.operated.3 ending) treated_here.1 waits
-
-      -- So it is where the object begins.
-      frugal_behind : Frugal allowance operation.behind after.heap Running c.behind f.within.frugal.upper
-      frugal_behind = by c.treatment is_treated waits_here
+      -- What is behind its operation is left to do.
+      leads_behind : FrugalOperated allowance operation.behind (Names c.o ∷ among) c.behind f.within.frugal.upper
+      leads_behind = by c.treatment is_treated waits_here
         where
           by : (way : Treatment) → IsTreated way → WaitsFor p.types c.o c.of way c.tasks k c.behind
-              → Frugal allowance operation.behind after.heap Running c.behind f.within.frugal.upper
-          by (begins how done) quietly (part, is) =
-              let kept = quietly_kept allowance s.heap after.heap e v how k alters_here quietly in
-              let begun = subst (λ (u : Value). BeginsQuietly allowance after.heap u how k) c.operated.3 kept in
-              subst (λ (j : Control). Frugal allowance operation.behind after.heap Running j f.within.frugal.upper) (sym is)
-              (inr (refl, inr (begun, treated_here.1)))
-          by (ends cause) ending waits =
-              inl (freed_leads p.types allowance operation.behind c.o c.of (ends cause) c.tasks k c.behind f.within.frugal.upper
-              (subst (λ (u : Value). EndsFreed allowance u (ends cause) k) c.operated.3 ending) treated_here.1 waits)
+              → FrugalOperated allowance operation.behind (Names c.o ∷ among) c.behind f.within.frugal.upper
+          by (begins how done) beginning (part, is) =
+              subst (λ (j : Control). FrugalOperated allowance operation.behind (Names c.o ∷ among) j f.within.frugal.upper) (sym is)
+              (begun_leads allowance operation.behind among (Names c.o) how done c.of part c.tasks k f.within.frugal.upper
+              (subst (λ (u : Value). BeginsThere allowance u how k) c.operated.3 beginning) treated_here.1)
+          by (ends cause) ending (is, inside) =
+              subst (λ (j : Control). FrugalOperated allowance operation.behind (Names c.o ∷ among) j f.within.frugal.upper) (sym is)
+              (ends_leads allowance operation.behind among (Names c.o) (ends cause) c.tasks k f.within.frugal.upper
+              (subst (λ (u : Value). EndsThere allowance u (ends cause) k) c.operated.3 ending) treated_here.1)
+
+      -- That of the object runs in front of it.
+      operated_here : operated_in c.behind ≡ Names c.o ∷ []
+      operated_here = by c.treatment is_treated waits_here
+        where
+          by : (way : Treatment) → IsTreated way → WaitsFor p.types c.o c.of way c.tasks k c.behind → operated_in c.behind ≡ Names c.o ∷ []
+          by (begins how done) beginning (part, is) = ap operated_in is
+          by (ends cause) ending (is, inside) =
+              let before = finalized_behind (Names c.o) (ends cause) c.tasks k (ending.2 ∙ c.operated.3) in
+              ap operated_in is ∙ ap (λ (u : Value). u ∷ []) before
+
+      leads_operated : FrugalOperated allowance operation.behind (operated_in c.behind ++ among) c.behind f.within.frugal.upper
+      leads_operated =
+          subst (λ (us : List Value). FrugalOperated allowance operation.behind (us ++ among) c.behind f.within.frugal.upper) (sym operated_here) leads_behind
+
+      -- So it is once that has come to its end.
+      frugal_behind : Frugal allowance operation.behind among Running c.behind f.within.frugal.upper
+      frugal_behind = operated_on allowance operation.behind among Running c.behind f.within.frugal.upper tt leads_operated
 
       -- What is behind its operation.
       abbrev behind_it_all : State
@@ -312,47 +295,19 @@ module _ (program : Program) (a : Activation Value) (rest : List (Activation Val
         typed_after : typed.Typed p after
         typed_after = step_typed program grounds.well whole after settled e grounds.typed (rw is (refl, refl))
 
-        -- Where the object begins quietly, it is quiet.
-        quiet_begins : (done : List parts.Part) → IsTreated (begins Creation done) → IsCalled (operations_of program.types.items c.of) (begins Creation done) c.number
-            → is_quiet_body p.types c.b ≡ true
-        quiet_begins done quietly called =
-            let operated = c.operated.1 in
-            let begun = quietly.2 in
-            let x = begun.2 in
-            let same : begun.0 ≡ c.o = let one = begun.1 in let other = c.operated.3 in cc (one, other) in
-            let there = subst (λ (q : Id). object_at s.heap q ≡ Some x) same begun.3 in
-            let cell : operated.2.0 ≡ x.cell = some_same (sym operated.2.1 ∙ cell_at s.heap c.o.0 x there) in
-            let access : x.cell.access ≡ operated.0 = ap (λ (d : Cell Value). d.access) (sym cell) ∙ operated.2.2 in
-            begun_initialize program grounds.well operated.0 c.of operated.1 c.number c.b operated.3
-            (subst (λ (t : ℕ). has_calm_objects p.types (quietly_begun_types p) t ≡ true) access begun.4) called c.there
-          where
-            some_same : {d d' : Cell Value} → Some d ≡ Some d' → d ≡ d'
-            some_same same = cc same
-
-        -- So no exception comes out of it, and none comes out of what finalizes the object.
-        silent_here : LetsNothingOut c.treatment c.b → (raised : Exception) → body_raises no_calls c.b (is_same raised) ≡ false
-        silent_here lets = by c.treatment is_treated c.called lets
-          where
-            by : (way : Treatment) → IsTreated way → IsCalled (operations_of program.types.items c.of) way c.number → LetsNothingOut way c.b → (raised : Exception)
-                → body_raises no_calls c.b (is_same raised) ≡ false
-            by (begins Creation done) quietly called lets' = none_raised p.types c.b (quiet_parts p.types c.b (quiet_begins done quietly called)).1
-            by (begins Copy done) quietly called lets' = none_raised p.types c.b lets'
-            by (begins (Adjustment number) done) quietly called lets' = none_raised p.types c.b lets'
-            by (ends cause) ending called lets' = none_raised p.types c.b lets'
-
         -- One begins that touches no storage.
         begins_quiet : PlainBody p.types c.b × LetsNothingOut c.treatment c.b → Went program s.heap e after
         begins_quiet plain = inr (inl (record {
           operates =
               begins_operation program grounds.well a rest f.suspensions s k Operated e after stands_here typed_after c
-              (inr ((inside_it, within_behind), silent_here plain.1)) plain;
+              (inr (inside_it, within_behind)) plain;
           alters = alters_here;
           says = told_says e s.heap after c.tells;
           covered = told_covered program e c.tells;
         }))
 
         -- One begins that touches storage.
-        module _ (begun : Begun program f.suspensions c.treatment c.behind s.masters after) (frugal : is_frugal_body (thrift_of p) c.b ≡ true) (ends_it : IsFreed c.treatment) where
+        module _ (begun : Begun program f.suspensions c.treatment c.behind s.masters after) (frugal : is_frugal_body (thrift_of p) c.b ≡ true) where
           abbrev waits_for : Suspension
           waits_for = origin program 0 after begun.pause
 
@@ -366,7 +321,7 @@ module _ (program : Program) (a : Activation Value) (rest : List (Activation Val
               let none : 0 + n ≡ n = omega arith in
               rw (one, none) (one_more n)
 
-          -- The one that waits for it is of the body that frees the object.
+          -- The one that waits for it is of the body that treats the object.
           of_body : a.procedure ≡ waits_for.procedure
           of_body =
               let bodies : AreOf program (a ∷ rest) (waits_for ∷ f.suspensions) = subst (λ (all : List (Activation Value)). AreOf program all (waits_for ∷ f.suspensions)) (ap (λ (t : State). older t.activations) c.is) begun.stands.bodies in
@@ -379,22 +334,25 @@ module _ (program : Program) (a : Activation Value) (rest : List (Activation Val
               is = refl;
               behind_it = sym f.within.are ∙ sym begun.suspensions;
               runs = begun.runs;
-              freed = subst IsFreed (sym begun.treated) ends_it;
+              inside = subst IsInside (sym begun.treated) inside_it;
               upper = f.within.frugal.upper;
               masters = begun.is_lower ∙ f.within.frugal.masters;
               own = f.within.frugal.own;
-              leads = subst (λ (j : Control). FrugalLeads allowance operation.behind j f.within.frugal.upper) (sym begun.is_behind) (leads_behind ends_it);
+              leads =
+                  subst (λ (j : Control). FrugalOperated allowance operation.behind (operated_in j ++ among) j f.within.frugal.upper) (sym begun.is_behind)
+                  leads_operated;
             }),
             subst (λ (procedure : Option ℕ). AreInner program after allowance operation.behind operation.lower procedure (suc 0) (Some operation.number) waiting f.within.inner) of_body
                 (inner_on program whole allowance operation.behind operation.lower after e a.procedure 0 (suc 0) (Some operation.number) waiting f.within.inner f.within.within alters_here deeper still.1),
           )
 
           -- Its body is frugal as the others are.
-          runs_begun : Frugally allowance operation.lower operation.behind after
+          runs_begun : Frugally allowance operation.lower operation.behind (operated_among (waits_for ∷ f.within.inner)) after
           runs_begun =
               let body : is_thrifty_body allowance c.b ≡ true = body_thrifty p c.b frugal in
-              subst (λ (t : State). Frugally allowance operation.lower operation.behind t) (sym c.is)
-              (frugal_starts_inside allowance operation.behind f.within.frugal.upper operation.lower c.number c.b body (Part c.o c.place) c.behind (record (running k a rest s) { heap = c.heap }) f.within.frugal.masters f.within.frugal.own (leads_behind ends_it))
+              subst (λ (t : State). Frugally allowance operation.lower operation.behind (operated_among (waits_for ∷ f.within.inner)) t) (sym c.is)
+              (frugal_starts_inside allowance operation.behind (operated_in begun.pause.behind ++ among) f.within.frugal.upper operation.lower c.number c.b body (Part c.o c.place) c.behind (record (running k a rest s) { heap = c.heap }) f.within.frugal.masters f.within.frugal.own
+              (subst (λ (j : Control). FrugalOperated allowance operation.behind (operated_in j ++ among) c.behind f.within.frugal.upper) (sym begun.is_behind) leads_operated))
 
           begins_inside : InTouching program s.heap e after
           begins_inside =
@@ -408,32 +366,22 @@ module _ (program : Program) (a : Activation Value) (rest : List (Activation Val
                 stands = begun.stands;
               }))
 
-        -- One begins that touches storage, where the object is freed.
-        begins_frugal : IsFreed c.treatment → MayTouch c.treatment → may_be_frugal p ≡ true → LetsNone p c.treatment c.b → is_frugal_body (thrift_of p) c.b ≡ true
-            → TouchesStorage p c.treatment c.b → Went program s.heap e after
-        begins_frugal ends_it touches may silent frugal stores =
-            let uses = treats_in_use program whole grounds whole.control refl tt in
-            let freed : IsFreed treatment = subst IsFreed c.operated.0 ends_it in
-            let lone = lone_freed v treatment k freed (treated_begin program whole grounds f.suspensions f.within f.stands v treatment tasks k refl) in
-            inl (begins_inside (touching_starts program a rest s k v treatment tasks f.suspensions whole refl grounds lone stands_here uses (treats_made program whole grounds v treatment tasks k refl) e after c touches may silent frugal stores typed_after) frugal ends_it)
+        -- Nothing of the object begins behind it, where it ends.
+        lone_here : (way : Treatment) → IsInside way → IsLoneBehind v way k
+        lone_here (begins how done) inside = tt
+        lone_here (ends cause) ended = lone_freed v (ends cause) k ended (treated_begin program whole grounds f.suspensions f.within f.stands v treatment tasks k refl)
 
-        -- Where the object begins quietly, none touches storage.
-        begins_stored : MayTouch c.treatment → may_be_frugal p ≡ true → LetsNone p c.treatment c.b → is_frugal_body (thrift_of p) c.b ≡ true
-            → TouchesStorage p c.treatment c.b → Went program s.heap e after
-        begins_stored touches may silent frugal stores =
-            by c.treatment is_treated inside_it c.called stores (λ freed. begins_frugal freed touches may silent frugal stores)
-          where
-            by : (way : Treatment) → IsTreated way → IsInside way → IsCalled (operations_of program.types.items c.of) way c.number → TouchesStorage p way c.b
-                → (IsFreed way → Went program s.heap e after) → Went program s.heap e after
-            by (begins Creation done) quietly inside called stores' on =
-                let plain = (quiet_parts p.types c.b (quiet_begins done quietly called)).0 in absurd (cc (stores', plain))
-            by (begins Copy done) quietly inside called stores' on = absurd inside
-            by (begins (Adjustment number) done) quietly inside called stores' on = absurd inside
-            by (ends cause) ending inside called stores' on = on ending.0
+        -- So one begins inside that touches storage.
+        begins_frugal : MayTouch c.treatment → may_be_frugal p ≡ true → is_frugal_body (thrift_of p) c.b ≡ true → TouchesStorage p c.treatment c.b
+            → Went program s.heap e after
+        begins_frugal touches may frugal stores =
+            let uses = treats_in_use program whole grounds whole.control refl tt in
+            let lone = lone_here treatment (inside_so treatment treated_here.0) in
+            inl (begins_inside (touching_starts program a rest s k v treatment tasks f.suspensions whole refl grounds lone stands_here uses (treats_made program whole grounds v treatment tasks k refl) e after c touches may frugal stores typed_after) frugal)
 
         begins_as : IsUsedAs p c.of c.number c.treatment c.b → Went program s.heap e after
         begins_as (inl plain) = begins_quiet plain
-        begins_as (inr (inl (touches, may, frugal, silent, stores))) = begins_stored touches may silent frugal stores
+        begins_as (inr (inl (touches, may, frugal, stores))) = begins_frugal touches may frugal stores
         begins_as (inr (inr (copies, tracks, own))) = absurd (inside_adjusts c.treatment inside_it copies)
 
         begins_there : Went program s.heap e after
@@ -443,7 +391,7 @@ module _ (program : Program) (a : Activation Value) (rest : List (Activation Val
 
     -- Whatever comes next.
     treated_went : (n : Next) → next program.types.items (body_forms program) whole ≡ n → TreatedIn treater a rest s program.types.items (body_forms program) k Operated v n
-        → Each (GoesOrBegins allowance operation.lower operation.behind program.types.items (body_forms program) whole) n → Each (Still program whole f) n → GoesTouching program whole n
+        → Each (GoesOrBegins allowance operation.lower operation.behind among program.types.items (body_forms program) whole) n → Each (Still program whole f) n → GoesTouching program whole n
     treated_went (halts halt) is t goes still = t
     treated_went (moves e after) is (inl st) goes still = inl (goes_here e after st goes still)
     treated_went (moves e after) is (inr (inl c)) goes still = begins_there e after c still is
@@ -457,5 +405,5 @@ module _ (program : Program) (a : Activation Value) (rest : List (Activation Val
     unfolding next
     treats_step =
         treated_went _ refl (treated_next program a rest k s v treatment tasks grounds f.suspensions (touching_stands program whole grounds f.suspensions f.within f.stands treater.program.types) f.ready.1)
-        (treats_frugally allowance operation.lower operation.behind program.types.items (body_forms program) whole f.within.frugal refl v treatment tasks k refl)
+        (treats_frugally allowance operation.lower operation.behind among program.types.items (body_forms program) whole f.within.frugal refl v treatment tasks k refl)
         (still_on program whole f grounds (λ j awaited last. cc last))

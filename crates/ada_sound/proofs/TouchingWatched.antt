@@ -22,7 +22,7 @@ use Rattle.ada_sound.proofs.FrugalLeaves.{innermost_houses_none, leaves_own}
 use Rattle.ada_sound.proofs.Invariant.{Control}
 use Rattle.ada_sound.proofs.Pauses.{AllWatched}
 use Rattle.ada_sound.proofs.Grounds.{Grounds}
-use Rattle.ada_sound.proofs.Touching.{AreInner, Watch, Watched, Within, is_unnamed, is_watched, watches}
+use Rattle.ada_sound.proofs.Touching.{AreInner, Watch, Watched, Within, is_unnamed, is_watched, operated_among, watches}
 
 -- Two notions of masters that are the home of no objects are one.
 newest_so : (is : List Item) → tracked.NewestHousesNone is → NewestHousesNone is
@@ -74,7 +74,7 @@ module _ (program : Program) (gs : List Suspension) (s : State) (w : Within prog
   pub takes_none : (k : Control) → s.control ≡ k → FirstTakesNone k s.masters
   takes_none [] is = tt
   takes_none (Leaves left ∷ k) is =
-      let inner = leaves_own (allowance_of (program_form program)) w.outermost.behind s.heap s.mode left k w.frugal.upper w.outermost.lower (rw is at w.frugal.frugal) w.frugal.own in
+      let inner = leaves_own (allowance_of (program_form program)) w.outermost.behind (operated_among w.inner) s.mode left k w.frugal.upper w.outermost.lower (rw is at w.frugal.frugal) w.frugal.own in
       rw w.frugal.masters (innermost_so (w.frugal.upper ++ w.outermost.lower) (innermost_houses_none (w.frugal.upper ++ w.outermost.lower) inner))
   takes_none (g ∷ k) is = tt
 

@@ -1,10 +1,8 @@
--- The Adjust that sees to the components of access types of a record (7.6) is simple and silent, and tracks them.
+-- The Adjust that sees to the components of access types of a record (7.6) is simple, and tracks them.
 
-use Rattle.std.proofs.Common.{◌≡◌, ℕ, Bool, true, false, not, ◌&&◌, List, length, refl, sym, ◌∙◌, subst, [], ◌∷◌, ◌≢◌}
-use Rattle.std.proofs.lemmas.Bool.{not-true}
+use Rattle.std.proofs.Common.{◌≡◌, ℕ, Bool, true, false, ◌&&◌, List, length, refl, sym, ◌∙◌, subst, [], ◌∷◌, ◌≢◌}
 use Rattle.std.specs.List.{list_any, slice_get}
 use Rattle.std.specs.Prelude.{Option, Some, None}
-use Rattle.ada_effects.specs.Effects.{body_raises}
 use Rattle.ada_meaning.specs.Frame.{begins, Treatment}
 use Rattle.ada_meaning.specs.Named.{State}
 use Rattle.ada_meaning.specs.Run.{Event}
@@ -23,7 +21,6 @@ use Rattle.ada_program.specs.declared.program.Finalization.{Finalization}
 use Rattle.ada_program.specs.declared.program.ProcedureNo.{ProcedureNo}
 use Rattle.ada_program.specs.declared.program.Program.{Program}
 use Rattle.ada_quiet.specs.Apart.{is_this_one, is_adjust_of, is_tracker}
-use Rattle.ada_quiet.specs.Frugal.{own_effects}
 use Rattle.ada_quiet.specs.Idle.{copies_parts}
 use Rattle.ada_quiet.specs.InUse.{adjusts_alone, adjusts_itself, is_copied_in_order, may_track, operations_may_be_called, stand_in_a_row, uses_adjust, uses_finalize, uses_initialize, uses_operations, uses_called_adjust}
 use Rattle.ada_quiet.specs.Quiet.{has_access}
@@ -52,10 +49,7 @@ uses_body p None number b is there uses = absurd (cc is)
 uses_body p (Some procedure) number b is there uses =
     let same : procedure.0 ≡ number = cc is in
     let body : slice_get p.bodies procedure.0 ≡ Some b = rw same there in
-    let all = rw body at uses in
-    let three = apart (may_track p && is_simple_body p.types (adjusts_alone p) b) (not (body_raises (own_effects p) b (λ e. true))) all in
-    let both = apart (may_track p) (is_simple_body p.types (adjusts_alone p) b) three.0 in
-    (both.0, both.1, not-true (body_raises (own_effects p) b (λ e. true)) three.1)
+    apart (may_track p) (is_simple_body p.types (adjusts_alone p) b) (rw body at uses)
 
 -- What some type of a program has makes a procedure one that tracks.
 tracks_at : (p : ProgramForm) (number r : ℕ) (t : TypeForm) → slice_get p.types r ≡ Some t → has_access (Some t) ≡ true → is_adjust_of number (finalization_in (Some t)) ≡ true → is_tracker p number ≡ true

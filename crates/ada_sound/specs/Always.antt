@@ -28,6 +28,7 @@ use Rattle.ada_meaning.specs.Law.{IsBackHome, items_of, Falls, MastersFall, Give
 use Rattle.ada_scopes.specs.Scopes.{HoldsNames}
 use Rattle.ada_sound.specs.Agreement.{Agrees, Place, Turning, IsFlowAt, IsBehind, IsSpokenOf, running_procedure}
 use Rattle.ada_sound.specs.StandsFor.{IsBeingLeft, StandsFor}
+use Rattle.ada_operations.specs.Operations.{PropagatesNothing}
 use Rattle.ada_quiet.specs.Bare.{is_component_of}
 use Rattle.ada_quiet.specs.Idle.{makes_parts}
 use Rattle.ada_quiet.specs.InUse.{may_be_frugal, operations_are_in_use}
@@ -104,11 +105,11 @@ SparesStarts program =
 pub record IsChecked (program : Program) : Type 0 where
   -- each number is that of something there, and each form has the types that it wants
   pub well_formed : IsWellFormed (program_form program)
-  -- what overrides an operation of a controlled type touches Integers and Booleans alone, and calls nothing, and no exception comes out of Adjust or Finalize
-  -- (7.6); where all that has controlled parts lies in declared objects, or collections are created in order, Initialize and Finalize may also allocate, move,
-  -- follow and free, and call what does so alone, and Adjust of a type that declares components of access types may allocate, move, follow and free, so that
+  -- what overrides an operation of a controlled type touches Integers and Booleans alone, and calls nothing, and its text lets no exception out but of an
+  -- Initialize (7.6); where all that has controlled parts lies in declared objects, or collections are created in order, Initialize and Finalize may also allocate,
+  -- move, follow and free, and call what does so alone, and Adjust of a type that declares components of access types may allocate, move, follow and free, so that
   -- these own what they name, or are null, where no component names an object with a part that has such an Adjust; an Adjust allocates and frees no object with
-  -- controlled parts, and what other bodies allocate begins quietly; where no Adjust is called, a frugal one is in use; and where none is called, each operation is
+  -- controlled parts; where no Adjust is called, a frugal one is in use; and where none is called, each operation is
   pub in_use : operations_are_in_use (program_form program) ≡ true
   -- no object lies in a collection that lasts longer than one in which its components' objects lie (3.10.2, 7.6.1)
   pub nests : CollectionsNest (program_form program)
@@ -116,6 +117,8 @@ pub record IsChecked (program : Program) : Type 0 where
   pub frees_own : FreesItsOwn (program_form program)
   -- where an object ends, none of its own access type is freed or followed, and where one is adjusted, none is freed (7.6.1)
   pub spares_own : SparesOwn program
+  -- no exception comes out where a record is adjusted or finalized (7.6.1)
+  pub propagates_nothing : PropagatesNothing (program_form program)
   -- where a Finalize may touch storage, and something creates an object with controlled parts, no component of a record frees an object whose end reaches an access
   -- type whose objects have such a component (7.6.1)
   pub spares_holders : SparesHolders program
@@ -221,6 +224,7 @@ pub record Breaks (rule : Rule) (program : Program) : Type 0 where
   pub nests : CollectionsNest (program_form program)
   pub frees_own : FreesItsOwn (program_form program)
   pub spares_own : SparesOwn program
+  pub propagates_nothing : PropagatesNothing (program_form program)
   pub spares_holders : SparesHolders program
   pub spares_starts : SparesStarts program
   pub spot : Spot
@@ -233,6 +237,7 @@ pub record IsIllFormed (program : Program) : Type 0 where
   pub nests : CollectionsNest (program_form program)
   pub frees_own : FreesItsOwn (program_form program)
   pub spares_own : SparesOwn program
+  pub propagates_nothing : PropagatesNothing (program_form program)
   pub spares_holders : SparesHolders program
   pub spares_starts : SparesStarts program
   pub obeys : ObeysRules program
@@ -244,6 +249,7 @@ pub record IsIllNested (program : Program) : Type 0 where
   pub ill_nested : CollectionsNest (program_form program) → ⊥
   pub frees_own : FreesItsOwn (program_form program)
   pub spares_own : SparesOwn program
+  pub propagates_nothing : PropagatesNothing (program_form program)
   pub spares_holders : SparesHolders program
   pub spares_starts : SparesStarts program
   pub obeys : ObeysRules program
@@ -255,6 +261,7 @@ pub record FreesOthers (program : Program) : Type 0 where
   pub nests : CollectionsNest (program_form program)
   pub frees_others : FreesItsOwn (program_form program) → ⊥
   pub spares_own : SparesOwn program
+  pub propagates_nothing : PropagatesNothing (program_form program)
   pub spares_holders : SparesHolders program
   pub spares_starts : SparesStarts program
   pub obeys : ObeysRules program
@@ -266,6 +273,19 @@ pub record NotInUse (program : Program) : Type 0 where
   pub not_in_use : operations_are_in_use (program_form program) ≡ false
   pub nests : CollectionsNest (program_form program)
   pub frees_own : FreesItsOwn (program_form program)
+  pub propagates_nothing : PropagatesNothing (program_form program)
+  pub obeys : ObeysRules program
+
+-- The program has passed all other checks, but an exception may come out where a record is adjusted or finalized.
+pub record PropagatesSome (program : Program) : Type 0 where
+  pub well_formed : IsWellFormed (program_form program)
+  pub in_use : operations_are_in_use (program_form program) ≡ true
+  pub nests : CollectionsNest (program_form program)
+  pub frees_own : FreesItsOwn (program_form program)
+  pub spares_own : SparesOwn program
+  pub propagates_some : PropagatesNothing (program_form program) → ⊥
+  pub spares_holders : SparesHolders program
+  pub spares_starts : SparesStarts program
   pub obeys : ObeysRules program
 
 -- The program is well formed, whatever overrides an operation of a controlled type is in use, its collections nest, it frees by the instances for what it frees,
@@ -276,6 +296,7 @@ pub record UsesOwn (program : Program) : Type 0 where
   pub nests : CollectionsNest (program_form program)
   pub frees_own : FreesItsOwn (program_form program)
   pub uses_own : SparesOwn program → ⊥
+  pub propagates_nothing : PropagatesNothing (program_form program)
   pub obeys : ObeysRules program
 
 -- What is known of the operations of a program that are called implicitly (7.6).

@@ -57,15 +57,11 @@ begun_events =
 abbrev pub housed_events : List Event
 housed_events = Followed kept_holder ∷ Back kept_cell 1 2 (Some 0) None (Freeing 6) ∷ Followed kept_holder ∷ Left 5 ∷ []
 
--- K is initialized. K and the holder are followed where Head is found as a target, and the holder where that is written. At the leaving of the main procedure K
--- is finalized, as the master of number 3: it follows K to what Held names, finalizes the holder, whose words go back, and follows K where Held becomes null.
--- Then the words of K go back. Nothing is left in the two collections.
-abbrev pub housing_events : List Event
-housing_events =
-    begun_events
-    ++ Followed object_k
-    ∷ replicate 2 (Followed kept_holder)
-    ++ Finalized object_k 0 0 1 2 (Leaving 0 2)
+-- At the leaving of the main procedure K is finalized, as the master of number 3: it follows K to what Held names, finalizes the holder, whose words go back,
+-- and follows K where Held becomes null. Then the words of K go back. Nothing is left in the two collections.
+abbrev pub unhoused_events : List Event
+unhoused_events =
+    Finalized object_k 0 0 1 2 (Leaving 0 2)
     ∷ Followed object_k
     ∷ Finalized kept_holder 0 0 0 1 (Freeing 4)
     ∷ housed_events
@@ -75,3 +71,7 @@ housing_events =
     ∷ Back object_k 5 0 None None (Leaving 0 2)
     ∷ Left 0
     ∷ []
+
+-- K is initialized. K and the holder are followed where Head is found as a target, and the holder where that is written. Then the main procedure is left.
+abbrev pub housing_events : List Event
+housing_events = begun_events ++ Followed object_k ∷ replicate 2 (Followed kept_holder) ++ unhoused_events

@@ -29,6 +29,7 @@ pub mod UnshelvingExample
 pub mod LeavingExample
 pub mod NestingExample
 pub mod HousingExample
+pub mod StockingExample
 -- what the rules let through
 pub mod Owners
 -- what they say of calls

@@ -1,6 +1,6 @@
 -- The operations, the statements and the events of the programs by which the laws show what operations of controlled types do, where one of them raises an
--- exception and where some of them allocate and free, too, what the rules let through where a type has an Adjust of its own, and that other operations must not
--- be in use.
+-- exception and where some of them allocate and free, too, what the rules let through where a type has an Adjust of its own, that other operations must not
+-- be in use, and that no exception may come out of a Finalize.
 
 use Rattle.std.specs.Prelude.{◌≡◌, ℕ, ◌+◌, List, [], ◌∷◌, ◌++◌, Option, Some, None, false, pos}
 use Rattle.std.proofs.Math.ListN.{replicate}
@@ -1027,12 +1027,13 @@ freeing_finalize = record (operation_body 2 freeing_next no_handlers) {
   declarations = declares 1 nothing ∷ [];
 }
 
--- procedure Finalize (N : in out Node) is begin if N.Next /= null then Put_Line (Integer'Image (N.Next.Value)); end if; end Finalize;
+-- procedure Finalize (N : in out Node) is begin if N.Next /= null then Put_Line (Integer'Image (N.Next.Value)); end if; exception when others => null;
+-- end Finalize;
 abbrev pub following_finalize : BodyForm
 following_finalize =
     operation_body 2
     (a_stmt (chooses (a_branch (is_null false next_now) (a_stmt (writes (reads (object_path 0 (1 ∷ 0 ∷ [])))) no_stmts) (otherwise no_stmts))) no_stmts)
-    no_handlers
+    (a_handler (choice.Others ∷ []) (a_stmt skips no_stmts) no_handlers)
 
 -- The first node, which Head names, and the second one, which the first one names.
 abbrev pub first_node : Value
@@ -1074,6 +1075,30 @@ following_events =
     ++ Back new_cell 4 2 (Some 0) None (Leaving 0 1)
     ∷ Finalized first_node 0 0 0 1 (Leaving 0 0)
     ∷ replicate 2 (Followed first_node)
+
+-- type Count is new Controlled with record N : Integer; end record; which has number 0. X : Count has number 0 in the main procedure, and is known by type 1,
+-- and the formal parameter by type 2.
+
+-- Count overrides Finalize, by this procedure.
+abbrev pub escaping_operations : Operations
+escaping_operations = record { initialize = None; adjust = None; finalize = Some (record { 0 = 0 }) }
+
+-- procedure Finalize (C : in out Count) is begin raise Constraint_Error; end Finalize;
+abbrev pub escaping_finalize : BodyForm
+escaping_finalize = operation_body 2 (a_stmt (raises ConstraintError) no_stmts) no_handlers
+
+-- X : Count;
+abbrev pub escaping_declarations : List DeclarationForm
+escaping_declarations = declares_record 0 1 None ∷ []
+
+-- null;
+abbrev pub escaping_stmts : StmtsForm
+escaping_stmts = a_stmt skips no_stmts
+
+-- X is initialized, for which nothing is called. At the leaving of the main procedure it is finalized: its Finalize raises the exception, which leaves the
+-- body, a master of its own, and would come out of the Finalize (7.6.1). The words of X are out then.
+abbrev pub escaping_events : List Event
+escaping_events = Born object_x 0 0 0 1 Creation ∷ Finalized object_x 0 0 0 1 (Leaving 0 0) ∷ Left 1 ∷ []
 
 -- Head := new Node; Head.Next := new Node; Head.Next.Next := new Node;
 abbrev pub three_nodes : StmtsForm

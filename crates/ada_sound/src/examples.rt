@@ -8,7 +8,7 @@ ghost use Rattle.ada_program.specs.ProgramForm.{body_forms};
 ghost use Rattle.ada_flow.specs.declared.rule.Hold.TheVariants.{Null};
 ghost use Rattle.ada_flow.specs.declared.rule.Rule.TheVariants.{LostValue, AliasMoved, TakePair, LoopState, UnsafePath, FormalNotOwned, RecordCopied};
 ghost use Rattle.ada_program.specs.declared.program.Exception.TheVariants.{ConstraintError, StorageError};
-ghost use Rattle.ada_meaning.specs.declared.event.Halt.TheVariants.{Unhandled, Erroneous};
+ghost use Rattle.ada_meaning.specs.declared.event.Halt.TheVariants.{Unhandled, Escaped, Erroneous};
 ghost use Rattle.ada_meaning.specs.declared.event.Why.TheVariants.{FollowsGone, EndsTwice, GivesElsewhere, FinalizesTwice};
 ghost use Rattle.ada_finalized.specs.Example as controlled_example;
 ghost use Rattle.ada_sound.specs.Always as always;
@@ -26,6 +26,7 @@ ghost use Rattle.ada_sound.specs.UnshelvingExample as unshelving_example;
 ghost use Rattle.ada_sound.specs.LeavingExample as leaving_example;
 ghost use Rattle.ada_sound.specs.NestingExample as nesting_example;
 ghost use Rattle.ada_sound.specs.HousingExample as housing_example;
+ghost use Rattle.ada_sound.specs.StockingExample as stocking_example;
 
 /// The laws are not empty: a program is accepted and comes to a statement; it finishes after it has followed an access
 /// value, written a line, freed an object, and left its main procedure, with which another object went. And one is
@@ -195,6 +196,12 @@ pub fn premises_are_met()
 /// record object frees it by a component of its formal parameter, and its own Finalize frees the cell inside. `flow_invariant`
 /// speaks of where the allocating assignment begins, inside Initialize.
 ///
+/// And one is accepted whose Initialize allocates an object whose own Initialize allocates, too (7.6, 4.8): a record object owns an
+/// object, which owns a cell, and Finalize of each frees what it owns, the inner one inside the outer one. Where the cell is
+/// refused, `Storage_Error` comes out of the inner Initialize, inside the outer one (7.6.1): no part of the object inside has
+/// begun, so that nothing of it is finalized, and its words go back; the outer Initialize handles the exception, and the record
+/// object has its value, and owns nothing. `flow_invariant` speaks of where the inner allocating assignment begins, too.
+///
 /// And one is accepted whose Initialize touches storage, too (7.6, 4.8): it allocates the cell that its record object owns,
 /// and handles `Storage_Error`, so that the program finishes where the cell is granted, and is freed by Finalize, and where
 /// it is refused, and nothing is freed.
@@ -303,6 +310,15 @@ pub fn operations_are_accepted()
         × (declaration_forms program ≡ nesting_example.nesting_declarations)
         × (stmt_forms program ≡ housing_example.housing_stmts)
         × IsChecked program × FinishesAfter housing_example.housing_events program
+        × always.InSomeRun program (λ events last. operation_examples.IsSpokenOfInside program last) }
+    ensures stocks { (program : Program)
+        × (operations_of program.types.items 0 ≡ housing_example.housed_operations)
+        × (operations_of program.types.items 1 ≡ operation_examples.allocating_operations)
+        × (body_forms program ≡ stocking_example.stocking_bodies)
+        × (declaration_forms program ≡ nesting_example.nesting_declarations)
+        × (stmt_forms program ≡ stocking_example.stocking_stmts)
+        × IsChecked program × FinishesAfter stocking_example.stocking_events program
+        × FinishesAfter stocking_example.unstocked_events program
         × always.InSomeRun program (λ events last. operation_examples.IsSpokenOfInside program last) }
     ensures allocates { (program : Program)
         × (operations_of program.types.items 0 ≡ operation_examples.allocating_operations)
@@ -439,6 +455,9 @@ pub fn adjusted_records_are_copied()
 /// names may find it gone, and finalizes it twice; that breaks S8, and not `SparesOwn` alone, but `SparesHolders`, too.
 /// And operations are in use: a newer collection goes before an older one, so a Finalize that only follows what a
 /// component of its object names there comes to an object that is gone; it keeps `SparesOwn`, `SparesHolders` and `SparesStarts`.
+/// And no exception comes out where a record is finalized (`PropagatesNothing`, S9): a record object whose Finalize raises
+/// `Constraint_Error`, and handles nothing, is finalized where the main procedure is left, and the exception would leave that
+/// Finalize (7.6.1), which is no safe end of a run.
 pub fn rules_are_needed()
     ensures follows { (program : Program) × always.Breaks LostValue program × HaltsSomewhere (Erroneous FollowsGone) program }
     ensures ends { (program : Program) × always.Breaks LostValue program × HaltsSomewhere (Erroneous EndsTwice) program }
@@ -532,4 +551,10 @@ pub fn rules_are_needed()
         × (body_forms program ≡ operation_examples.following_finalize ∷ []) × (stmt_forms program ≡ operation_examples.node_and_cell)
         × always.NotInUse program × always.SparesOwn program × always.SparesHolders program × always.SparesStarts program
         × always.HaltsAfter operation_examples.following_events (Erroneous FollowsGone) program }
+    ensures lets_out { (program : Program)
+        × (operations_of program.types.items 0 ≡ operation_examples.escaping_operations)
+        × (body_forms program ≡ operation_examples.escaping_finalize ∷ [])
+        × (declaration_forms program ≡ operation_examples.escaping_declarations)
+        × (stmt_forms program ≡ operation_examples.escaping_stmts)
+        × always.PropagatesSome program × always.HaltsAfter operation_examples.escaping_events (Escaped ConstraintError) program }
 {}

@@ -37,7 +37,7 @@ use Rattle.ada_verdict.specs.declared.fault.UnusedFault.{UnusedFault}
 use Rattle.ada_verdict.specs.declared.fault.UnusedFault.TheVariants as unused
 use Rattle.ada_verdict.specs.declared.fault.Verdict.{Verdict}
 use Rattle.ada_verdict.specs.declared.fault.Verdict.TheVariants as verdict
-use Rattle.ada_verdict.specs.First.{IsSourceOf, IsProgramOf, IsAccepted, IsFirstIn, IsFirst, IsFirstUnused, IsFreedFirst, RefusesRightly, HasFaultOrProgram}
+use Rattle.ada_verdict.specs.First.{IsSourceOf, IsProgramOf, IsAccepted, IsFirstIn, IsFirst, IsFirstUnused, IsFreedFirst, IsStarted, RefusesRightly, HasFaultOrProgram}
 use Rattle.ada_verdict.specs.declared.rules.TheConstants as rules
 use Rattle.ada_verdict.specs.Refusal.{Told, told, rule_text, refusal_of}
 
@@ -177,7 +177,7 @@ no_early tokens text tree syntax source (verdict.Flow f) early b p a = absurd (c
 unused_obeys : (p : Program) (f : UnusedFault) → IsFirstUnused p f → ObeysRules p
 unused_obeys p (unused.Operation spot) first = first.0
 unused_obeys p (unused.Holder spot) first = first.0
-unused_obeys p unused.Start first = first.0
+unused_obeys p (unused.Start spot) first = first.0
 unused_obeys p unused.NoMemory first = first
 
 -- In a program of this form no component of a record frees an object whose end reaches a type whose objects have such a component.
@@ -209,6 +209,12 @@ one_freed : (p q : ProgramForm) (spot other : Spot) → p ≡ q → IsFreedFirst
 one_freed p q spot other same a b text =
     let back = subst (λ (form : ProgramForm). IsFreedFirst form other) (sym same) b in
     ap (told_of text) (sym a.2 ∙ back.2)
+
+-- One Initialize frees first.
+one_started : (p q : ProgramForm) (spot other : Spot) → p ≡ q → IsStarted p spot → IsStarted q other → (text : List ℕ) → told spot text ≡ told other text
+one_started p q spot other same a b text =
+    let back = subst (λ (form : ProgramForm). IsStarted form other) (sym same) b in
+    ap (λ (there : Spot). told there text) (a ∙ sym back)
 
 -- A later phase begins with a program.
 late_program : (source : List ℕ) (v : Verdict) → is_late v ≡ true → IsFirst source v → (p : Program) × IsProgramOf source p
@@ -300,7 +306,7 @@ no_first tokens text tree syntax source (verdict.Unused (unused.Operation spot))
     no_place HasUnused (program_form b.0) (program_form p) spot (one_program tokens tree source b.0 p b.1 a.0) b.2.1.1 a.1.2.0
 no_first tokens text tree syntax source (verdict.Unused (unused.Holder spot)) b p a =
     no_freed b.0 p spot (one_program tokens tree source b.0 p b.1 a.0) b.2.1.2 a.1.2.1
-no_first tokens text tree syntax source (verdict.Unused unused.Start) b p a =
+no_first tokens text tree syntax source (verdict.Unused (unused.Start spot)) b p a =
     absurd (b.2.1.2.1 (same_started p b.0 (one_program tokens tree source p b.0 a.0 b.1) a.1.2.2))
 no_first tokens text tree syntax source (verdict.Unused unused.NoMemory) b p a = refl
 no_first tokens text tree syntax source (verdict.Flow (flow.Broken spot rule)) b p a =
@@ -356,19 +362,20 @@ late_one tokens tree source (verdict.Unused (unused.Operation spot)) (verdict.Un
     one_place HasUnused (program_form a.0) (program_form b.0) spot other (one_program tokens tree source a.0 b.0 a.1 b.1) a.2.1.1 b.2.1.1 rules.NOT_IN_PROFILE.now
 late_one tokens tree source (verdict.Unused (unused.Operation spot)) (verdict.Unused (unused.Holder other)) x y a b n m =
     no_place HasUnused (program_form a.0) (program_form b.0) spot (one_program tokens tree source a.0 b.0 a.1 b.1) a.2.1.1 b.2.1.1
-late_one tokens tree source (verdict.Unused (unused.Operation spot)) (verdict.Unused unused.Start) x y a b n m =
+late_one tokens tree source (verdict.Unused (unused.Operation spot)) (verdict.Unused (unused.Start other)) x y a b n m =
     no_place HasUnused (program_form a.0) (program_form b.0) spot (one_program tokens tree source a.0 b.0 a.1 b.1) a.2.1.1 b.2.1.1
 late_one tokens tree source (verdict.Unused (unused.Holder other)) (verdict.Unused (unused.Operation spot)) x y a b n m =
     no_place HasUnused (program_form b.0) (program_form a.0) spot (one_program tokens tree source b.0 a.0 b.1 a.1) b.2.1.1 a.2.1.1
-late_one tokens tree source (verdict.Unused unused.Start) (verdict.Unused (unused.Operation spot)) x y a b n m =
+late_one tokens tree source (verdict.Unused (unused.Start other)) (verdict.Unused (unused.Operation spot)) x y a b n m =
     no_place HasUnused (program_form b.0) (program_form a.0) spot (one_program tokens tree source b.0 a.0 b.1 a.1) b.2.1.1 a.2.1.1
 late_one tokens tree source (verdict.Unused (unused.Holder spot)) (verdict.Unused (unused.Holder other)) x y a b n m =
     one_freed (program_form a.0) (program_form b.0) spot other (one_program tokens tree source a.0 b.0 a.1 b.1) a.2.1.2 b.2.1.2 rules.NOT_IN_PROFILE.now
-late_one tokens tree source (verdict.Unused (unused.Holder spot)) (verdict.Unused unused.Start) x y a b n m =
+late_one tokens tree source (verdict.Unused (unused.Holder spot)) (verdict.Unused (unused.Start other)) x y a b n m =
     no_freed a.0 b.0 spot (one_program tokens tree source a.0 b.0 a.1 b.1) a.2.1.2 b.2.1.2.0
-late_one tokens tree source (verdict.Unused unused.Start) (verdict.Unused (unused.Holder spot)) x y a b n m =
+late_one tokens tree source (verdict.Unused (unused.Start other)) (verdict.Unused (unused.Holder spot)) x y a b n m =
     no_freed b.0 a.0 spot (one_program tokens tree source b.0 a.0 b.1 a.1) b.2.1.2 a.2.1.2.0
-late_one tokens tree source (verdict.Unused unused.Start) (verdict.Unused unused.Start) x y a b n m = refl
+late_one tokens tree source (verdict.Unused (unused.Start spot)) (verdict.Unused (unused.Start other)) x y a b n m =
+    one_started (program_form a.0) (program_form b.0) spot other (one_program tokens tree source a.0 b.0 a.1 b.1) a.2.1.2.2 b.2.1.2.2 rules.NOT_IN_PROFILE.now
 late_one tokens tree source (verdict.Unused f) (verdict.Flow (flow.Broken other rule)) x y a b n m =
     obeys_none a.0 other rule (same_judgement a.0 b.0 (one_program tokens tree source a.0 b.0 a.1 b.1) ∙ b.2.1) (unused_obeys a.0 f a.2.1)
 late_one tokens tree source (verdict.Flow f) (verdict.Operations (operations.Broken spot rule)) x y a b n m =

@@ -4,5 +4,5 @@ pub mod Firsts
 pub mod Spares
 -- the holders that ends reach
 pub mod SparedHolders
--- the initialization of objects
+-- the initialization of objects, and steps inward
 pub mod SparedStarts

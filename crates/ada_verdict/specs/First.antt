@@ -27,6 +27,7 @@ use Rattle.ada_verdict.specs.declared.fault.UnusedFault.TheVariants as unused
 use Rattle.ada_verdict.specs.declared.fault.Verdict.{Verdict}
 use Rattle.ada_verdict.specs.declared.fault.Verdict.TheVariants as verdict
 use Rattle.ada_verdict.specs.Refusal.{refusal_of}
+use Rattle.ada_verdict.specs.Starts.{or_start, started_spot}
 
 -- The source's tokens are those that the tree is written with (10.1.1).
 pub record IsSourceOf (source : List ℕ) (tree : UnitTree) : Type 0 where
@@ -44,10 +45,10 @@ pub record IsProgramOf (source : List ℕ) (program : Program) : Type 0 where
 abbrev pub OperationsObey : Program → Type 0
 OperationsObey program = IsFirstOf (program_form program) None
 
--- Each operation is in use: Initialize is plain or, where it may be, frugal, Adjust is quiet, or, of a type that declares a component of an access type, simple
--- and silent, where it may track, and Finalize is quiet or, where it may be, frugal and silent. And where one may touch storage, and something creates an
--- object with controlled parts, no component of a record frees an object whose end reaches an access type whose objects have such a component, and the initialization of
--- an object frees none of its own access type.
+-- Each operation is in use: Initialize is plain or, where it may be, frugal, Adjust is quiet, or, of a type that declares a component of an access type, simple,
+-- where it may track, and Finalize is quiet or, where it may be, frugal. And where one may touch storage, and something creates an object with controlled parts, no
+-- component of a record frees an object whose end reaches an access type whose objects have such a component, and the initialization of an object frees none of its
+-- own access type.
 abbrev pub OperationsAreInUse : Program → Type 0
 OperationsAreInUse program = IsFirstNotInUse (program_form program) None × SparesHolders program × SparesStarts program
 
@@ -70,11 +71,15 @@ abbrev pub IsFreedFirst : ProgramForm → Spot → Type 0
 IsFreedFirst p spot =
     (may_be_frugal p ≡ true) × (makes_parts p ≡ true) × (first_spot (text_frees_inside (reaches_holder (implicit_of p) p.types) p) ≡ Some spot)
 
+-- Where the body begins that frees an object while one of the same access type begins.
+abbrev pub IsStarted : ProgramForm → Spot → Type 0
+IsStarted p spot = spot ≡ or_start (started_spot p (implicit_of p))
+
 -- What an end or a beginning does not spare, first in a program: a holder of a component, or an object of the same access type.
 abbrev pub IsFirstUnspared : Program → UnusedFault → Type 0
 IsFirstUnspared program (unused.Operation spot) = ⊥
 IsFirstUnspared program (unused.Holder spot) = IsFreedFirst (program_form program) spot
-IsFirstUnspared program unused.Start = SparesHolders program × (SparesStarts program → ⊥)
+IsFirstUnspared program (unused.Start spot) = SparesHolders program × (SparesStarts program → ⊥) × IsStarted (program_form program) spot
 IsFirstUnspared program unused.NoMemory = Unit {0}
 
 -- The first operation that is not in use, where the rules of flow are obeyed; or each is in use, but an end may not spare a holder of a component that is freed, or a
@@ -82,7 +87,7 @@ IsFirstUnspared program unused.NoMemory = Unit {0}
 abbrev pub IsFirstUnused : Program → UnusedFault → Type 0
 IsFirstUnused program (unused.Operation spot) = ObeysRules program × IsFirstNotInUse (program_form program) (Some spot)
 IsFirstUnused program (unused.Holder spot) = ObeysRules program × IsFirstNotInUse (program_form program) None × IsFirstUnspared program (unused.Holder spot)
-IsFirstUnused program unused.Start = ObeysRules program × IsFirstNotInUse (program_form program) None × IsFirstUnspared program unused.Start
+IsFirstUnused program (unused.Start spot) = ObeysRules program × IsFirstNotInUse (program_form program) None × IsFirstUnspared program (unused.Start spot)
 IsFirstUnused program unused.NoMemory = ObeysRules program
 
 -- The first fault of a program, behind names: that of the first phase that has one.

@@ -70,12 +70,12 @@ abbrev pub operation_told : OperationFault → Option Told
 operation_told (operations.Broken spot broken) = told spot (operation_text broken)
 operation_told operations.NoMemory = None
 
--- An operation that is not in use, or a component that is freed whose object's end may reach another such one; that an initialization may free objects of its own type is
--- told of the whole source.
+-- An operation that is not in use, a component that is freed whose object's end may reach another such one, or an Initialize that may free an object of the access
+-- type of the one that begins.
 abbrev pub unused_told : UnusedFault → Option Told
 unused_told (unused.Operation spot) = told spot rules.NOT_IN_PROFILE.now
 unused_told (unused.Holder spot) = told spot rules.NOT_IN_PROFILE.now
-unused_told unused.Start = Some (record { line = 1; column = 1; name = rules.NOT_IN_PROFILE.now })
+unused_told (unused.Start spot) = told spot rules.NOT_IN_PROFILE.now
 unused_told unused.NoMemory = None
 
 -- The rules of the flow of values.

@@ -18,10 +18,10 @@ ghost use Rattle.ada_verdict.specs.First.{HasNoFault, IsAccepted, IsFirst, IsFir
 use crate::fault::{UnusedFault, Verdict};
 use crate::holders::reaching_holders;
 use crate::laws::accepted_sources_have_no_fault;
-use crate::starts::starts_spare;
+use crate::starts::{first_unspared, freeing_spot};
 use ada_effects::Implicit;
 use ada_flow::{FlowFault, flow};
-use ada_operations::laws::ends_spare_their_own;
+use ada_operations::laws::{ends_spare_their_own, obeying_propagates_nothing};
 use ada_operations::operations;
 use ada_parser::parse;
 use ada_program::Program;
@@ -97,6 +97,7 @@ fn checked(alloc: Global, source: &[u8]) -> Result<Accepted, Verdict>
     ensures refused { IfErr result (λ verdict. IsFirst source.now verdict) }
 {
     ends_spare_their_own();
+    obeying_propagates_nothing();
     let program = program_of(alloc, source)?;
     judge(alloc, &program)?;
     Ok(Accepted { program })
@@ -134,12 +135,12 @@ fn obey(alloc: Global, program: &Program, implicit: &Implicit) -> Result<(), Flo
 }
 
 /// Each operation is in use: Initialize is plain or, where it may be, frugal, Adjust is quiet, or, of a type that declares a component
-/// of an access type, simple and silent, where it may track, and Finalize is quiet or, where it may be, frugal and silent. And where one
-/// may touch storage, and something creates an object with controlled parts, no component of a record frees an object whose end reaches an
-/// access type whose objects have such a component, and the initialization of an object frees none of its own access type.
+/// of an access type, simple, where it may track, and Finalize is quiet or, where it may be, frugal. And where one may touch storage, and
+/// something creates an object with controlled parts, no component of a record frees an object whose end reaches an access type whose
+/// objects have such a component, and the initialization of an object frees none of its own access type.
 ///
 /// # Errors
-/// The first one that is not, the first such component, or that an initialization may free such objects, or want of memory.
+/// The first one that is not, the first such component, or the Initialize that may free such objects, or want of memory.
 fn use_all(alloc: Global, program: &Program, implicit: &Implicit) -> Result<(), UnusedFault>
     requires obeys { ObeysRules program.now }
     requires known { implicit_in implicit.now ≡ implicit_of (program_form program.now) }
@@ -157,7 +158,7 @@ fn use_all(alloc: Global, program: &Program, implicit: &Implicit) -> Result<(), 
 /// are freed, and beginnings the objects of the same access type.
 ///
 /// # Errors
-/// Where the first component is freed that does not, or that a beginning may not, or want of memory.
+/// Where the first component is freed that does not, or where the Initialize begins that does not, or want of memory.
 fn spare_all(alloc: Global, program: &Program, implicit: &Implicit) -> Result<(), UnusedFault>
     requires { implicit_in implicit.now ≡ implicit_of (program_form program.now) }
     ensures holders { IfOk result (λ _. SparesHolders program.now) }
@@ -171,10 +172,9 @@ fn spare_all(alloc: Global, program: &Program, implicit: &Implicit) -> Result<()
     if let Some(spot) = first_freed_inside(program, &asked) {
         return Err(UnusedFault::Holder(spot));
     }
-    if starts_spare(&program.types, implicit) {
-        Ok(())
-    } else {
-        Err(UnusedFault::Start)
+    match first_unspared(&program.types, implicit) {
+        None => Ok(()),
+        Some(access) => Err(UnusedFault::Start(freeing_spot(program, implicit, access))),
     }
 }
 

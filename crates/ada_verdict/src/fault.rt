@@ -25,14 +25,15 @@ pub enum Verdict {
 #[derive(Drop)]
 pub enum UnusedFault {
     /// It is an Initialize that is neither plain nor, where it may be, frugal, a Finalize that is neither quiet nor, where it may be,
-    /// frugal and silent, or an Adjust that is neither quiet nor, of a type that declares a component of an access type, simple and
-    /// silent where it may track, and no theorem speaks of it. Its body begins here.
+    /// frugal, or an Adjust that is neither quiet nor, of a type that declares a component of an access type, simple where it may track,
+    /// and no theorem speaks of it. Its body begins here.
     Operation(Spot),
     /// Each operation is in use, but a Finalize may touch storage, something creates an object with controlled parts, and a component of a
     /// record is freed here, whose object's end may reach an allocated object in which such a component lies (13.11.2).
     Holder(Spot),
-    /// No such component is freed, but the initialization of an object may free one of its own access type (7.6).
-    Start,
+    /// No such component is freed, but the initialization of an object may free one of its own access type (7.6): in an Initialize
+    /// whose body begins here.
+    Start(Spot),
     NoMemory,
 }
 

@@ -90,7 +90,7 @@ fn unused_refusal(fault: &UnusedFault) -> Option<Refusal>
     match fault {
         UnusedFault::Operation(spot) => refused(*spot, rules::NOT_IN_PROFILE),
         UnusedFault::Holder(spot) => refused(*spot, rules::NOT_IN_PROFILE),
-        UnusedFault::Start => refused(START, rules::NOT_IN_PROFILE),
+        UnusedFault::Start(spot) => refused(*spot, rules::NOT_IN_PROFILE),
         UnusedFault::NoMemory => None,
     }
 }

@@ -1,4 +1,4 @@
--- By seventeen programs and their runs.
+-- By eighteen programs and their runs.
 use Rattle.ada_sound.proofs.ExampleOperations as operations
 use Rattle.ada_sound.proofs.ExampleTidying as tidying
 use Rattle.ada_sound.proofs.ExampleOverwriting as overwriting
@@ -9,6 +9,7 @@ use Rattle.ada_sound.proofs.ExampleUnshelving as unshelving
 use Rattle.ada_sound.proofs.ExampleLeaving as leaving
 use Rattle.ada_sound.proofs.ExampleNesting as nesting
 use Rattle.ada_sound.proofs.ExampleHousing as housing
+use Rattle.ada_sound.proofs.ExampleStocking as stocking
 use Rattle.ada_sound.proofs.ExampleAllocating as allocating
 use Rattle.ada_sound.proofs.ExampleUndoing as undoing
 use Rattle.ada_sound.proofs.ExampleFilling as filling
@@ -125,6 +126,18 @@ returns c = record {
     housing.housing_accepted,
     housing.houses,
     housing.is_spoken_of,
+  );
+  stocks = (
+    stocking.stocking,
+    stocking.holder_overrides,
+    stocking.keeper_overrides,
+    stocking.stocking_has,
+    stocking.stocking_declares,
+    stocking.stocking_does,
+    stocking.stocking_accepted,
+    stocking.stocks,
+    stocking.is_refused,
+    stocking.is_spoken_of,
   );
   allocates = (
     allocating.allocating,

@@ -1,4 +1,4 @@
--- By twenty-nine programs and their runs.
+-- By thirty programs and their runs.
 use Rattle.ada_sound.proofs.Example as example
 use Rattle.ada_sound.proofs.ExampleBlocks as blocks
 use Rattle.ada_sound.proofs.ExampleTargets as targets
@@ -141,4 +141,15 @@ returns-clause-follows_gone c = (
   operations.following_spares_holders,
   operations.following_spares_starts,
   operations.follows_gone,
+)
+
+pub returns-clause-lets_out : goal.returns-clause-lets_out
+returns-clause-lets_out c = (
+  operations.escaping,
+  operations.escaping_overrides,
+  operations.escaping_bodies,
+  operations.escaping_declares,
+  operations.escaping_form,
+  operations.escaping_propagates,
+  operations.escapes,
 )

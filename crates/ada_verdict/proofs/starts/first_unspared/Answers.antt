@@ -5,10 +5,10 @@ use Rattle.ada_program.specs.Kept.{types_in}
 use Rattle.ada_program.specs.ProgramForm.{TypeForm, type_form}
 use Rattle.ada_program.specs.declared.program.TypeDefinition.{TypeDefinition}
 use Rattle.ada_sound.specs.Always.{start_spares}
-use Rattle.ada_verdict.proofs.SparedStarts.{spare_behind, spare_no_more}
-use Rattle.ada_verdict.proofs.starts.starts_spare.Goals as goal
+use Rattle.ada_verdict.proofs.SparedStarts.{unspared_behind, unspared_here}
+use Rattle.ada_verdict.proofs.starts.first_unspared.Goals as goal
 
--- one that is not spared is one of all
+-- one that is not spared is the first of all
 pub returns-then-not-start_spares : goal.returns-then-not-start_spares
 returns-then-not-start_spares c =
     let implicit = implicit_in c.args.implicit.now in
@@ -18,7 +18,7 @@ returns-then-not-start_spares c =
     let lt : n < length types = omega (arith, c.types-test.true, length-map c.args.types.now type_form) in
     let at : get_or types n (type_form t) ≡ type_form t = get_or-map type_form c.args.types.now n t (type_form t) c.types-test.true ∙ ap type_form (sym c.index-types-number.is) in
     let not = ap (start_spares implicit n) at ∙ sym c.start_spares.ensures ∙ c.if-not-start_spares.true in
-    sym (spare_no_more implicit types n (type_form t) lt not) ∙ c.types.invariant
+    sym (unspared_here implicit types n (type_form t) lt not) ∙ c.types.invariant
 
 -- one that is spared leaves it to those behind it
 pub types-preserved : goal.types-preserved
@@ -30,4 +30,4 @@ types-preserved c =
     let lt : n < length types = omega (arith, c.types-test.true, length-map c.args.types.now type_form) in
     let at : get_or types n (type_form t) ≡ type_form t = get_or-map type_form c.args.types.now n t (type_form t) c.types-test.true ∙ ap type_form (sym c.index-types-number.is) in
     let so = ap (start_spares implicit n) at ∙ sym c.start_spares.ensures ∙ c.if-not-start_spares.false in
-    spare_behind implicit types n (type_form t) lt so ∙ c.types.invariant
+    unspared_behind implicit types n (type_form t) lt so ∙ c.types.invariant

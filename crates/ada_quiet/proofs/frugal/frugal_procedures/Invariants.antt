@@ -1,10 +1,10 @@
 use Rattle.std.proofs.Common.{◌≡◌, map, drop}
 use Rattle.ada_program.specs.ProgramForm.{type_form, body_form, program_form}
 use Rattle.ada_quiet.specs.Frugal.{frugal_from, frugal_procedures}
-use Rattle.ada_quiet.proofs.known.frugal_procedures.Given as goal
+use Rattle.ada_quiet.proofs.frugal.frugal_procedures.Given as goal
 
 -- what is known so far, and what is left, tell of all
 abbrev pub invariant-procedures : goal.invariant-procedures
 invariant-procedures l =
-    frugal_from (map type_form l.program.types.items) l.begun.items l.frugal.items (map body_form (drop l.procedure-index l.program.procedures.items))
+    frugal_from (map type_form l.program.types.items) l.frugal.items (map body_form (drop l.procedure-index l.program.procedures.items))
     ≡ frugal_procedures (program_form l.program)
