@@ -1,15 +1,17 @@
 -- Bodies of Initialize and Finalize that touch storage, and of procedures that they call (7.6, 4.8, 5.2, 6.4, 13.11.2): they allocate, move, follow and free objects, assign
--- records without controlled parts, and declare variables alone, which may be given what they allocate.
+-- records without controlled parts, and declare variables, which may be given what they allocate, and, where they may, record objects that name nothing.
 
-use Rattle.std.specs.Prelude.{Bool, true, false, not, ◌&&◌, List, [], ◌∷◌, ◌++◌, Option, Some, None, is_some}
+use Rattle.std.specs.Prelude.{ℕ, Bool, true, false, not, ◌&&◌, List, [], ◌∷◌, ◌++◌, Option, Some, None, is_some}
 use Rattle.std.specs.List.{list_all, slice_get, slice_index_or}
 use Rattle.ada_program.specs.Form.{RightForm, nothing, value_of, allocates, allocates_default, computes, StmtForm, skips, assigns, assigns_record, frees, gets, writes, writes_text, chooses, repeats, counts, exits, calls, returns, raises, encloses, StmtsForm, no_stmts, a_stmt, BranchesForm, otherwise, a_branch, HandlersForm, no_handlers, a_handler, DeclarationForm, creates_pool, collects, declares, declares_record}
+use Rattle.ada_program.specs.declared.program.ComponentKind.{ComponentKind}
+use Rattle.ada_program.specs.declared.program.ComponentKind.TheVariants as component
 use Rattle.ada_program.specs.declared.program.ProcedureNo.{ProcedureNo}
 use Rattle.ada_program.specs.ProgramForm.{TypeForm, BodyForm, ProgramForm}
-use Rattle.ada_program.specs.WellFormed.{finalization_of}
+use Rattle.ada_program.specs.WellFormed.{finalization_of, reached_components}
 use Rattle.ada_quiet.specs.Apart.{is_bare_item}
 use Rattle.ada_quiet.specs.Bare.{has_bare_objects}
-use Rattle.ada_quiet.specs.Idle.{declarations_make_parts}
+use Rattle.ada_quiet.specs.Earlier.{declares_earlier_parts}
 
 -- What is assigned is no new object (4.8), or one without controlled parts, or one that is initialized by default (7.6).
 abbrev pub allocates_frugally : List TypeForm → RightForm → Bool
@@ -19,21 +21,39 @@ allocates_frugally types (allocates access items) = has_bare_objects types acces
 allocates_frugally types (allocates_default access) = true
 allocates_frugally types (computes e) = true
 
--- A declaration is that of a variable (3.3.1), and so it is with what that is given at first: no record object, no collection and no pool is created.
-abbrev pub is_frugal_declaration : List TypeForm → DeclarationForm → Bool
-is_frugal_declaration types (creates_pool p) = false
-is_frugal_declaration types (collects access) = false
-is_frugal_declaration types (declares x right) = allocates_frugally types right
-is_frugal_declaration types (declares_record x t initial) = false
+-- A component is an Integer or a Boolean (3.5).
+abbrev pub is_scalar : ComponentKind → Bool
+is_scalar (component.Integer initial) = true
+is_scalar (component.Boolean initial) = true
+is_scalar (component.Access access) = false
 
--- So is each of these.
-abbrev pub are_frugal_declarations : List TypeForm → List DeclarationForm → Bool
-are_frugal_declarations types ds = list_all (is_frugal_declaration types) ds
+-- So is each of these, if there are some.
+abbrev pub are_scalars : Option (List ComponentKind) → Bool
+are_scalars None = false
+are_scalars (Some components) = list_all is_scalar components
 
--- What frugal bodies go by: the types of the program, and of each procedure, by its number, whether its body is frugal.
+-- Each component of the object that is known by a type is so, at any depth: it names nothing (3.8).
+abbrev pub holds_scalars : List TypeForm → (object_type : ℕ) → Bool
+holds_scalars types t = are_scalars (reached_components types t)
+
+-- What frugal bodies go by: the types of the program; whether they may declare record objects; and of each procedure, by its number, whether its body is frugal.
 pub record Thrift : Type 0 where
   pub types : List TypeForm
+  pub objects : Bool
   pub procedures : List Bool
+
+-- A declaration is that of a variable (3.3.1), and so it is with what that is given at first; or, where that may be, of a record object that names nothing and is
+-- initialized by default: no collection and no pool is created.
+abbrev pub is_frugal_declaration : Thrift → DeclarationForm → Bool
+is_frugal_declaration thrift (creates_pool p) = false
+is_frugal_declaration thrift (collects access) = false
+is_frugal_declaration thrift (declares x right) = allocates_frugally thrift.types right
+is_frugal_declaration thrift (declares_record x t None) = thrift.objects && holds_scalars thrift.types t
+is_frugal_declaration thrift (declares_record x t (Some items)) = false
+
+-- So is each of these.
+abbrev pub are_frugal_declarations : Thrift → List DeclarationForm → Bool
+are_frugal_declarations thrift ds = list_all (is_frugal_declaration thrift) ds
 
 module _ (thrift : Thrift) where
   abbrev mutual
@@ -54,7 +74,7 @@ module _ (thrift : Thrift) where
     is_frugal_stmt (calls procedure actuals) = slice_index_or thrift.procedures procedure false
     is_frugal_stmt (returns spot) = true
     is_frugal_stmt (raises e) = true
-    is_frugal_stmt (encloses ds fs hs) = are_frugal_declarations thrift.types ds && are_frugal fs && are_frugal_handlers hs
+    is_frugal_stmt (encloses ds fs hs) = are_frugal_declarations thrift ds && are_frugal fs && are_frugal_handlers hs
 
     -- So it is with statements.
     pub are_frugal : StmtsForm → Bool
@@ -73,28 +93,24 @@ module _ (thrift : Thrift) where
 
 -- All of a body is so.
 abbrev pub is_frugal_body : Thrift → BodyForm → Bool
-is_frugal_body thrift b = are_frugal_declarations thrift.types b.declarations && are_frugal thrift b.statements && are_frugal_handlers thrift b.handlers
+is_frugal_body thrift b = are_frugal_declarations thrift b.declarations && are_frugal thrift b.statements && are_frugal_handlers thrift b.handlers
 
 -- Of these procedures, behind others: each calls those before it.
-abbrev pub frugal_from : List TypeForm → (frugal : List Bool) → List BodyForm → List Bool
-frugal_from types frugal [] = frugal
-frugal_from types frugal (b ∷ bs) = frugal_from types (frugal ++ is_frugal_body (record { types = types; procedures = frugal }) b ∷ []) bs
+abbrev pub frugal_from : List TypeForm → (objects : Bool) → (frugal : List Bool) → List BodyForm → List Bool
+frugal_from types objects frugal [] = frugal
+frugal_from types objects frugal (b ∷ bs) =
+    frugal_from types objects (frugal ++ is_frugal_body (record { types = types; objects = objects; procedures = frugal }) b ∷ []) bs
 
--- Of the procedures of a program.
-abbrev pub frugal_procedures : ProgramForm → List Bool
-frugal_procedures p = frugal_from p.types [] p.bodies
+-- Of the procedures of a program, where they may declare record objects or not.
+abbrev pub frugal_procedures : ProgramForm → (objects : Bool) → List Bool
+frugal_procedures p objects = frugal_from p.types objects [] p.bodies
 
 -- What the frugal bodies of a program go by.
-abbrev pub thrift_of : ProgramForm → Thrift
-thrift_of p = record { types = p.types; procedures = frugal_procedures p }
+abbrev pub thrift_of : ProgramForm → (objects : Bool) → Thrift
+thrift_of p objects = record { types = p.types; objects = objects; procedures = frugal_procedures p objects }
 
--- The declarations of a body, if there is one, create no object with controlled parts (3.3.1): a statement begins before another operation is called.
-abbrev pub declares_no_parts : List TypeForm → Option BodyForm → Bool
-declares_no_parts types None = true
-declares_no_parts types (Some b) = not (declarations_make_parts types false b.declarations)
-
--- What overrides an operation has a frugal body, which declares so, if one is overridden (7.6).
-abbrev pub is_frugal_operation : ProgramForm → Option ProcedureNo → Bool
-is_frugal_operation p None = true
-is_frugal_operation p (Some procedure) =
-    slice_index_or (frugal_procedures p) procedure.0 false && declares_no_parts p.types (slice_get p.bodies procedure.0)
+-- What overrides an operation has a frugal body, whose declarations create parts alone whose operations are overridden earlier, if one is overridden (7.6).
+abbrev pub is_frugal_operation : ProgramForm → (objects : Bool) → Option ProcedureNo → Bool
+is_frugal_operation p objects None = true
+is_frugal_operation p objects (Some procedure) =
+    slice_index_or (frugal_procedures p objects) procedure.0 false && declares_earlier_parts p procedure.0 (slice_get p.bodies procedure.0)
