@@ -1,7 +1,8 @@
 -- Bodies of Initialize and Finalize that touch storage, and of procedures that they call (7.6, 4.8, 5.2, 6.4, 13.11.2): they allocate, move, follow and free objects, assign
--- records without controlled parts, and declare variables, which may be given what they allocate, and, where they may, record objects that name nothing.
+-- records without controlled parts, and declare variables, which may be given what they allocate; and where they may, they declare record objects that name nothing, and
+-- allocate objects with controlled parts. A Finalize may not: it allocates nothing (7.6.1).
 
-use Rattle.std.specs.Prelude.{ℕ, Bool, true, false, not, ◌&&◌, List, [], ◌∷◌, ◌++◌, Option, Some, None, is_some}
+use Rattle.std.specs.Prelude.{ℕ, Bool, true, false, not, ◌&&◌, ◌||◌, List, [], ◌∷◌, ◌++◌, Option, Some, None, is_some}
 use Rattle.std.specs.List.{list_all, slice_get, slice_index_or}
 use Rattle.ada_program.specs.Form.{RightForm, nothing, value_of, allocates, allocates_default, computes, StmtForm, skips, assigns, assigns_record, frees, gets, writes, writes_text, chooses, repeats, counts, exits, calls, returns, raises, encloses, StmtsForm, no_stmts, a_stmt, BranchesForm, otherwise, a_branch, HandlersForm, no_handlers, a_handler, DeclarationForm, creates_pool, collects, declares, declares_record}
 use Rattle.ada_program.specs.declared.program.ComponentKind.{ComponentKind}
@@ -12,14 +13,6 @@ use Rattle.ada_program.specs.WellFormed.{finalization_of, reached_components}
 use Rattle.ada_quiet.specs.Apart.{is_bare_item}
 use Rattle.ada_quiet.specs.Bare.{has_bare_objects}
 use Rattle.ada_quiet.specs.Earlier.{declares_earlier_parts}
-
--- What is assigned is no new object (4.8), or one without controlled parts, or one that is initialized by default (7.6).
-abbrev pub allocates_frugally : List TypeForm → RightForm → Bool
-allocates_frugally types nothing = true
-allocates_frugally types (value_of path) = true
-allocates_frugally types (allocates access items) = has_bare_objects types access
-allocates_frugally types (allocates_default access) = true
-allocates_frugally types (computes e) = true
 
 -- A component is an Integer or a Boolean (3.5).
 abbrev pub is_scalar : ComponentKind → Bool
@@ -36,18 +29,27 @@ are_scalars (Some components) = list_all is_scalar components
 abbrev pub holds_scalars : List TypeForm → (object_type : ℕ) → Bool
 holds_scalars types t = are_scalars (reached_components types t)
 
--- What frugal bodies go by: the types of the program; whether they may declare record objects; and of each procedure, by its number, whether its body is frugal.
+-- What frugal bodies go by: the types of the program; whether they may declare record objects, and allocate objects with controlled parts; and of each procedure, by its
+-- number, whether its body is frugal.
 pub record Thrift : Type 0 where
   pub types : List TypeForm
   pub objects : Bool
   pub procedures : List Bool
+
+-- What is assigned is no new object (4.8), or one without controlled parts, or, where that may be, one that is initialized by default (7.6).
+abbrev pub allocates_frugally : Thrift → RightForm → Bool
+allocates_frugally thrift nothing = true
+allocates_frugally thrift (value_of path) = true
+allocates_frugally thrift (allocates access items) = has_bare_objects thrift.types access
+allocates_frugally thrift (allocates_default access) = thrift.objects || has_bare_objects thrift.types access
+allocates_frugally thrift (computes e) = true
 
 -- A declaration is that of a variable (3.3.1), and so it is with what that is given at first; or, where that may be, of a record object that names nothing and is
 -- initialized by default: no collection and no pool is created.
 abbrev pub is_frugal_declaration : Thrift → DeclarationForm → Bool
 is_frugal_declaration thrift (creates_pool p) = false
 is_frugal_declaration thrift (collects access) = false
-is_frugal_declaration thrift (declares x right) = allocates_frugally thrift.types right
+is_frugal_declaration thrift (declares x right) = allocates_frugally thrift right
 is_frugal_declaration thrift (declares_record x t None) = thrift.objects && holds_scalars thrift.types t
 is_frugal_declaration thrift (declares_record x t (Some items)) = false
 
@@ -61,7 +63,7 @@ module _ (thrift : Thrift) where
     -- parts (4.8), and calls procedures with frugal bodies alone (6.4).
     pub is_frugal_stmt : StmtForm → Bool
     is_frugal_stmt skips = true
-    is_frugal_stmt (assigns target right) = allocates_frugally thrift.types right
+    is_frugal_stmt (assigns target right) = allocates_frugally thrift right
     is_frugal_stmt (assigns_record target items) = not (is_some (finalization_of thrift.types target.record_type)) && list_all (is_bare_item thrift.types) items
     is_frugal_stmt (frees access path) = true
     is_frugal_stmt (gets target) = true
@@ -101,7 +103,7 @@ frugal_from types objects frugal [] = frugal
 frugal_from types objects frugal (b ∷ bs) =
     frugal_from types objects (frugal ++ is_frugal_body (record { types = types; objects = objects; procedures = frugal }) b ∷ []) bs
 
--- Of the procedures of a program, where they may declare record objects or not.
+-- Of the procedures of a program, where they may create such objects or not.
 abbrev pub frugal_procedures : ProgramForm → (objects : Bool) → List Bool
 frugal_procedures p objects = frugal_from p.types objects [] p.bodies
 
