@@ -1,7 +1,8 @@
--- Frugal bodies (7.6, 4.8, 13.11.2) that neither allocate nor free objects with controlled parts, or may do so, as what is proved of them tells them apart.
+-- Frugal bodies (7.6, 4.8, 13.11.2) that neither allocate nor free objects with controlled parts, or may do so, and that may declare record objects or not, as what is
+-- proved of them tells them apart.
 
 use Rattle.std.proofs.Common.{◌≡◌, ℕ, Bool, true, false, ◌&&◌, ◌||◌, List, refl, [], ◌∷◌}
-use Rattle.std.specs.Prelude.{not, is_some}
+use Rattle.std.specs.Prelude.{not, is_some, Some, None}
 use Rattle.std.specs.List.{list_all, slice_index_or}
 use Rattle.std.proofs.lemmas.Bool.{and_parts}
 use Rattle.ada_program.specs.Form.{RightForm, nothing, value_of, allocates, allocates_default, computes, DeclarationForm, creates_pool, collects, declares, declares_record, StmtForm, skips, assigns, assigns_record, frees, gets, writes, writes_text, chooses, repeats, counts, exits, calls, returns, raises, encloses, StmtsForm, no_stmts, a_stmt, BranchesForm, otherwise, a_branch, HandlersForm, no_handlers, a_handler}
@@ -9,12 +10,13 @@ use Rattle.ada_program.specs.ProgramForm.{TypeForm, BodyForm, ProgramForm}
 use Rattle.ada_program.specs.WellFormed.{finalization_of}
 use Rattle.ada_quiet.specs.Apart.{is_bare_item}
 use Rattle.ada_quiet.specs.Bare.{has_bare_objects}
-use Rattle.ada_quiet.specs.Frugal.{allocates_frugally, is_frugal_declaration, are_frugal_declarations, frugal_procedures, is_frugal_stmt, are_frugal, are_frugal_branches, are_frugal_handlers, is_frugal_body, thrift_of}
+use Rattle.ada_quiet.specs.Frugal.{holds_scalars, allocates_frugally, is_frugal_declaration, are_frugal_declarations, frugal_procedures, is_frugal_stmt, are_frugal, are_frugal_branches, are_frugal_handlers, is_frugal_body, thrift_of}
 
--- What such bodies go by: as frugal ones do, and whether they may allocate and free objects with controlled parts.
+-- What such bodies go by: as frugal ones do, whether they may allocate and free objects with controlled parts, and whether they may declare record objects.
 pub record Allowance : Type 0 where
   pub types : List TypeForm
   pub treats_parts : Bool
+  pub objects : Bool
   pub procedures : List Bool
 
 -- Such a body may allocate and free objects of an access type (4.8, 13.11.2): they have no controlled parts, or it may treat those that have some.
@@ -29,12 +31,13 @@ allocates_thriftily allowance (allocates access items) = has_bare_objects allowa
 allocates_thriftily allowance (allocates_default access) = may_treat allowance access
 allocates_thriftily allowance (computes e) = true
 
--- So it is with what a variable is given at first (3.3.1), and nothing but variables is declared.
+-- So it is with what a variable is given at first (3.3.1), and nothing but variables is declared, unless record objects may be.
 abbrev pub is_thrifty_declaration : Allowance → DeclarationForm → Bool
 is_thrifty_declaration allowance (creates_pool p) = false
 is_thrifty_declaration allowance (collects access) = false
 is_thrifty_declaration allowance (declares x right) = allocates_thriftily allowance right
-is_thrifty_declaration allowance (declares_record x t initial) = false
+is_thrifty_declaration allowance (declares_record x t None) = allowance.objects && allowance.treats_parts
+is_thrifty_declaration allowance (declares_record x t (Some items)) = false
 
 -- So it is with declarations.
 abbrev pub are_thrifty_declarations : Allowance → List DeclarationForm → Bool
@@ -79,33 +82,42 @@ module _ (allowance : Allowance) where
 abbrev pub is_thrifty_body : Allowance → BodyForm → Bool
 is_thrifty_body allowance b = are_thrifty_declarations allowance b.declarations && are_thrifty allowance b.statements && are_thrifty_handlers allowance b.handlers
 
--- Those of a program, which may do so.
+-- Those of a program, which may free objects with controlled parts, where they may create such objects or not.
+abbrev pub allowance_by : ProgramForm → (objects : Bool) → Allowance
+allowance_by p objects = record { types = p.types; treats_parts = true; objects = objects; procedures = frugal_procedures p objects }
+
+-- Those that may, as an Initialize.
 abbrev pub allowance_of : ProgramForm → Allowance
-allowance_of p = record { types = p.types; treats_parts = true; procedures = frugal_procedures p }
+allowance_of p = allowance_by p true
+
+-- Those that may not, as a Finalize.
+abbrev pub ending_allowance : ProgramForm → Allowance
+ending_allowance p = allowance_by p false
 
 -- What is frugal is so.
-module _ (p : ProgramForm) where
-  right_thrifty : (right : RightForm) → allocates_frugally p.types right ≡ true → allocates_thriftily (allowance_of p) right ≡ true
+module _ (p : ProgramForm) (objects : Bool) where
+  right_thrifty : (right : RightForm) → allocates_frugally (thrift_of p objects) right ≡ true → allocates_thriftily (allowance_by p objects) right ≡ true
   right_thrifty nothing is = refl
   right_thrifty (value_of path) is = refl
   right_thrifty (allocates access items) is = is
   right_thrifty (allocates_default access) is = refl
   right_thrifty (computes e) is = refl
 
-  declaration_thrifty : (d : DeclarationForm) → is_frugal_declaration p.types d ≡ true → is_thrifty_declaration (allowance_of p) d ≡ true
+  declaration_thrifty : (d : DeclarationForm) → is_frugal_declaration (thrift_of p objects) d ≡ true → is_thrifty_declaration (allowance_by p objects) d ≡ true
   declaration_thrifty (creates_pool pool) is = is
   declaration_thrifty (collects access) is = is
   declaration_thrifty (declares x right) is = right_thrifty right is
-  declaration_thrifty (declares_record x t initial) is = is
+  declaration_thrifty (declares_record x t None) is = rw ((and_parts objects (holds_scalars p.types t) is).0) refl
+  declaration_thrifty (declares_record x t (Some items)) is = is
 
-  declarations_thrifty : (ds : List DeclarationForm) → are_frugal_declarations p.types ds ≡ true → are_thrifty_declarations (allowance_of p) ds ≡ true
+  declarations_thrifty : (ds : List DeclarationForm) → are_frugal_declarations (thrift_of p objects) ds ≡ true → are_thrifty_declarations (allowance_by p objects) ds ≡ true
   declarations_thrifty [] is = refl
   declarations_thrifty (d ∷ ds) is =
-      let both = and_parts (is_frugal_declaration p.types d) (are_frugal_declarations p.types ds) is in
+      let both = and_parts (is_frugal_declaration (thrift_of p objects) d) (are_frugal_declarations (thrift_of p objects) ds) is in
       rw (declaration_thrifty d both.0, declarations_thrifty ds both.1) refl
 
   mutual
-    stmt_thrifty : (f : StmtForm) → is_frugal_stmt (thrift_of p) f ≡ true → is_thrifty_stmt (allowance_of p) f ≡ true
+    stmt_thrifty : (f : StmtForm) → is_frugal_stmt (thrift_of p objects) f ≡ true → is_thrifty_stmt (allowance_by p objects) f ≡ true
     stmt_thrifty skips is = refl
     stmt_thrifty (assigns target right) is = right_thrifty right is
     stmt_thrifty (assigns_record target items) is = (and_parts (not (is_some (finalization_of p.types target.record_type))) (list_all (is_bare_item p.types) items) is).0
@@ -121,31 +133,32 @@ module _ (p : ProgramForm) where
     stmt_thrifty (returns spot) is = refl
     stmt_thrifty (raises e) is = refl
     stmt_thrifty (encloses ds fs hs) is =
-        let two = and_parts (are_frugal_declarations p.types ds && are_frugal (thrift_of p) fs) (are_frugal_handlers (thrift_of p) hs) is in
-        let three = and_parts (are_frugal_declarations p.types ds) (are_frugal (thrift_of p) fs) two.0 in
+        let two = and_parts (are_frugal_declarations (thrift_of p objects) ds && are_frugal (thrift_of p objects) fs) (are_frugal_handlers (thrift_of p objects) hs) is in
+        let three = and_parts (are_frugal_declarations (thrift_of p objects) ds) (are_frugal (thrift_of p objects) fs) two.0 in
         rw (declarations_thrifty ds three.0, stmts_thrifty fs three.1, handlers_thrifty hs two.1) refl
 
-    stmts_thrifty : (fs : StmtsForm) → are_frugal (thrift_of p) fs ≡ true → are_thrifty (allowance_of p) fs ≡ true
+    stmts_thrifty : (fs : StmtsForm) → are_frugal (thrift_of p objects) fs ≡ true → are_thrifty (allowance_by p objects) fs ≡ true
     stmts_thrifty no_stmts is = refl
-    stmts_thrifty (a_stmt f fs) is = let both = and_parts (is_frugal_stmt (thrift_of p) f) (are_frugal (thrift_of p) fs) is in rw (stmt_thrifty f both.0, stmts_thrifty fs both.1) refl
+    stmts_thrifty (a_stmt f fs) is =
+        let both = and_parts (is_frugal_stmt (thrift_of p objects) f) (are_frugal (thrift_of p objects) fs) is in rw (stmt_thrifty f both.0, stmts_thrifty fs both.1) refl
 
-    branches_thrifty : (branches : BranchesForm) → are_frugal_branches (thrift_of p) branches ≡ true → are_thrifty_branches (allowance_of p) branches ≡ true
+    branches_thrifty : (branches : BranchesForm) → are_frugal_branches (thrift_of p objects) branches ≡ true → are_thrifty_branches (allowance_by p objects) branches ≡ true
     branches_thrifty (otherwise fs) is = stmts_thrifty fs is
     branches_thrifty (a_branch e fs branches) is =
-        let both = and_parts (are_frugal (thrift_of p) fs) (are_frugal_branches (thrift_of p) branches) is in
+        let both = and_parts (are_frugal (thrift_of p objects) fs) (are_frugal_branches (thrift_of p objects) branches) is in
         rw (stmts_thrifty fs both.0, branches_thrifty branches both.1) refl
 
-    handlers_thrifty : (hs : HandlersForm) → are_frugal_handlers (thrift_of p) hs ≡ true → are_thrifty_handlers (allowance_of p) hs ≡ true
+    handlers_thrifty : (hs : HandlersForm) → are_frugal_handlers (thrift_of p objects) hs ≡ true → are_thrifty_handlers (allowance_by p objects) hs ≡ true
     handlers_thrifty no_handlers is = refl
     handlers_thrifty (a_handler choices fs hs) is =
-        let both = and_parts (are_frugal (thrift_of p) fs) (are_frugal_handlers (thrift_of p) hs) is in
+        let both = and_parts (are_frugal (thrift_of p objects) fs) (are_frugal_handlers (thrift_of p objects) hs) is in
         rw (stmts_thrifty fs both.0, handlers_thrifty hs both.1) refl
 
   -- So is a body.
-  pub body_thrifty : (b : BodyForm) → is_frugal_body (thrift_of p) b ≡ true → is_thrifty_body (allowance_of p) b ≡ true
+  pub body_thrifty : (b : BodyForm) → is_frugal_body (thrift_of p objects) b ≡ true → is_thrifty_body (allowance_by p objects) b ≡ true
   body_thrifty b is =
-      let two = and_parts (are_frugal_declarations p.types b.declarations && are_frugal (thrift_of p) b.statements) (are_frugal_handlers (thrift_of p) b.handlers) is in
-      let three = and_parts (are_frugal_declarations p.types b.declarations) (are_frugal (thrift_of p) b.statements) two.0 in
+      let two = and_parts (are_frugal_declarations (thrift_of p objects) b.declarations && are_frugal (thrift_of p objects) b.statements) (are_frugal_handlers (thrift_of p objects) b.handlers) is in
+      let three = and_parts (are_frugal_declarations (thrift_of p objects) b.declarations) (are_frugal (thrift_of p objects) b.statements) two.0 in
       rw (declarations_thrifty b.declarations three.0, stmts_thrifty b.statements three.1, handlers_thrifty b.handlers two.1) refl
 
 -- The declarations, the statements and the handlers of such a body are so.
@@ -158,4 +171,4 @@ thrifty_parts allowance b is =
 
 -- What a body goes by that calls nothing, and neither allocates nor frees an object with controlled parts.
 abbrev pub simple_allowance : List TypeForm → Allowance
-simple_allowance types = record { types = types; treats_parts = false; procedures = [] }
+simple_allowance types = record { types = types; treats_parts = false; objects = false; procedures = [] }

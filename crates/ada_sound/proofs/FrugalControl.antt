@@ -1,6 +1,7 @@
 -- The body of an operation runs that touches storage, a frugal one (7.6, 7.6.1, 13.11.2), or one that it calls (6.4), or the operation of an object that it
--- frees or allocates: what is left before its end. Nothing in that is adjusted. Where bodies may allocate and free objects with controlled parts, these are
--- initialized first, and finalized, also where an exception comes out of an Initialize.
+-- frees, allocates or declares: what is left before its end. Nothing in that is adjusted. Where bodies may allocate and free objects with controlled parts, these are
+-- initialized first, and finalized, also where an exception comes out of an Initialize; and where they may declare record objects, these are finalized where their master is
+-- left.
 
 use Rattle.std.proofs.Common.{◌≡◌, ℕ, suc, ◌≤◌, Bool, true, false, List, [], ◌∷◌, ◌++◌, length, refl, sym, ap, subst, ◌⊎◌, inl, inr, arith}
 use Rattle.ada_program.specs.Form.{ActualForm}
@@ -14,7 +15,7 @@ use Rattle.ada_meaning.specs.declared.event.Birth.TheVariants.{Creation, Copy, A
 use Rattle.ada_meaning.specs.declared.event.Cause.TheVariants.{Leaving, Freeing, Assigning, Undoing}
 use Rattle.ada_meaning.specs.Frame.{Frame, is_return, Elaborates, Does, Decides, Repeats, Turns, Ranges, Counts, Exits, Handles, Closes, Leaves, Calls, Returns, Evaluates, Computes, Follows, TestsNull, Refers, RefersIn, Opens, OpensIn, Continues, Applies, AppliesAlone, Stores, Targets, StoresIn, TargetsRecord, StoresRecord, Receives, Fills, Copies, Creates, FreesIn, Declares, Writes, Ends, GivesBack, Resumes, Clears, ClearsIn, Treatment, begins, ends}
 use Rattle.ada_meaning.specs.Frame as frame
-use Rattle.ada_meaning.specs.State.{Master}
+use Rattle.ada_meaning.specs.State.{Owned, declared, collection, record_object, storage_pool, Item, Master}
 use Rattle.ada_meaning.specs.Step.{operating, treating, halts, moves, tells, asks, picks}
 use Rattle.ada_meaning.specs.Named.{State, Next, named}
 use Rattle.ada_parts.specs.Task.{Task}
@@ -23,7 +24,6 @@ use Rattle.ada_typed.proofs.Control.{is_operation}
 use Rattle.ada_typed.proofs.Kept.{is_treatment}
 use Rattle.ada_sound.proofs.Invariant.{Control, IsAwaited}
 use Rattle.ada_sound.proofs.Allowance.{Allowance, may_treat, allocates_thriftily, are_thrifty_declarations, are_thrifty, are_thrifty_branches, are_thrifty_handlers, is_thrifty_body, thrifty_parts}
-use Rattle.ada_sound.proofs.Operating.{OwnVariables}
 
 -- An object ends in a body that frees it (13.11.2), or out of whose initialization an exception comes (7.6.1).
 abbrev pub IsEnded : Treatment → Type 0
@@ -33,12 +33,35 @@ IsEnded (ends (Freeing number)) = Unit {0}
 IsEnded (ends (Assigning number)) = ⊥
 IsEnded (ends (Undoing number)) = Unit {0}
 
--- Or it is initialized, in the body of another operation that allocates it (4.8).
+-- Or where its master is left (7.6.1).
+abbrev pub IsLeft : Treatment → Type 0
+IsLeft (begins by done) = ⊥
+IsLeft (ends (Leaving m item)) = Unit {0}
+IsLeft (ends (Freeing number)) = ⊥
+IsLeft (ends (Assigning number)) = ⊥
+IsLeft (ends (Undoing number)) = ⊥
+
+-- Or it is initialized, in the body of another operation that allocates or declares it (4.8, 3.3.1).
 abbrev pub IsInside : Treatment → Type 0
 IsInside (begins Creation done) = Unit {0}
 IsInside (begins Copy done) = ⊥
 IsInside (begins (Adjustment number) done) = ⊥
-IsInside (ends cause) = IsEnded (ends cause)
+IsInside (ends cause) = IsEnded (ends cause) ⊎ IsLeft (ends cause)
+
+-- A master of such a body owns variables, and record objects, where it may declare some.
+abbrev pub IsOwnedBy : Allowance → Owned → Type 0
+IsOwnedBy allowance (declared x) = Unit {0}
+IsOwnedBy allowance (collection access pool) = ⊥
+IsOwnedBy allowance (record_object t) = (allowance.objects ≡ true)
+IsOwnedBy allowance (storage_pool declaration number) = ⊥
+
+abbrev pub AreOwnedBy : Allowance → List Item → Type 0
+AreOwnedBy allowance [] = Unit {0}
+AreOwnedBy allowance (i ∷ is) = IsOwnedBy allowance i.owned × AreOwnedBy allowance is
+
+abbrev pub OwnBy : Allowance → List Master → Type 0
+OwnBy allowance [] = Unit {0}
+OwnBy allowance (m ∷ ms) = AreOwnedBy allowance m.items × OwnBy allowance ms
 
 -- A new object begins first.
 abbrev pub begins_first : Control → Bool
@@ -53,6 +76,12 @@ MayBegin Running = Unit {0}
 MayBegin (Raising e) = Unit {0}
 MayBegin Exiting = ⊥
 MayBegin Returning = ⊥
+
+-- While a master is left, that goes on; and where a Finalize of an object in it ends, whatever comes out of that.
+abbrev pub MayLeave : Mode → Control → Type 0
+MayLeave mode [] = (mode ≡ Running)
+MayLeave mode (frame.Confines ∷ k) = MayBegin mode
+MayLeave mode (f ∷ k) = (mode ≡ Running)
 
 -- The object whose operation runs in front of this, if one does.
 abbrev pub operated_in : Control → List Value
@@ -111,7 +140,15 @@ module _ (frugal : Allowance) where
   abbrev pub EndsThere : Value → Treatment → Control → Type 0
   EndsThere v treatment k = IsEnded treatment × (frugal.treats_parts ≡ true) × (finalized_before k ≡ v) × NoOperationRunsOn v k
 
+  -- An object is finalized whose master is left, ceases to exist behind that, and no operation of it runs there.
+  abbrev pub LeavesThere : Value → Treatment → Control → Type 0
+  LeavesThere v treatment k = IsLeft treatment × (frugal.objects ≡ true) × (finalized_before k ≡ v) × NoOperationRunsOn v k
+
   -- The operation of such an object runs in front of this, and behind what is left of that no other one of the object does.
+  abbrev pub LeavesOperation : Control → Type 0
+  LeavesOperation k = (frugal.objects ≡ true) × NoOperationRunsOn (finalized_before k) k
+
+  -- So it is with one that is freed or undone.
   abbrev pub EndsOperation : Control → Type 0
   EndsOperation k = (frugal.treats_parts ≡ true) × NoOperationRunsOn (finalized_before k) k
 
@@ -136,11 +173,23 @@ module _ (frugal : Allowance) where
     FrugalLeads behind among (frame.Confines ∷ k) ms = EndsOperation k × FrugalLeads behind among k ms
     FrugalLeads behind among (f ∷ k) ms = FrugalFrame f × FrugalLeads behind among k ms
 
+    -- The innermost master is being left, and an object in it is finalized first, or has been; and then this is left to do.
+    pub FrugalLeaves : (behind : Control) → (among : List Value) → Control → List Master → Type 0
+    FrugalLeaves behind among [] ms = ⊥
+    FrugalLeaves behind among (Leaves left ∷ k) [] = ⊥
+    FrugalLeaves behind among (Leaves left ∷ k) (m ∷ ms) = FrugalLeads behind among k ms
+    FrugalLeaves behind among (Ends v ∷ k) ms = FrugalLeaves behind among k ms
+    FrugalLeaves behind among (GivesBack v cause pool ∷ k) ms = FrugalLeaves behind among k ms
+    FrugalLeaves behind among (frame.Treats v treatment tasks ∷ k) ms = LeavesThere v treatment k × FrugalLeaves behind among k ms
+    FrugalLeaves behind among (frame.Confines ∷ k) ms = LeavesOperation k × FrugalLeaves behind among k ms
+    FrugalLeaves behind among (f ∷ k) ms = ⊥
+
     -- What is left behind an operation of the first of these objects: the object is finalized, or it begins.
     pub FrugalOperated : (behind : Control) → (among : List Value) → Control → List Master → Type 0
     FrugalOperated behind among [] ms = ⊥
     FrugalOperated behind among (frame.Confines ∷ k) ms =
-        (vs : List Value) × (among ≡ finalized_before k ∷ vs) × EndsOperation k × FrugalLeads behind vs k ms
+        (vs : List Value) × (among ≡ finalized_before k ∷ vs)
+        × ((EndsOperation k × FrugalLeads behind vs k ms) ⊎ (LeavesOperation k × FrugalLeaves behind vs k ms))
     FrugalOperated behind among (frame.Awaits v by done of part tasks ∷ k) ms = (vs : List Value) × (among ≡ v ∷ vs) × BeginsThere v by k × FrugalLeads behind vs k ms
     FrugalOperated behind among (f ∷ k) ms = ⊥
 
@@ -148,14 +197,7 @@ module _ (frugal : Allowance) where
   abbrev pub FrugalReturns : (behind : Control) → (among : List Value) → Control → List Master → Type 0
   FrugalReturns behind among k ms = FrugalLeads behind among k ms ⊎ FrugalOperated behind among k ms
 
-  -- The innermost master is being left, and then this is left to do.
-  abbrev pub FrugalLeaves : (behind : Control) → (among : List Value) → Control → List Master → Type 0
-  FrugalLeaves behind among [] ms = ⊥
-  FrugalLeaves behind among (Leaves left ∷ k) [] = ⊥
-  FrugalLeaves behind among (Leaves left ∷ k) (m ∷ ms) = FrugalLeads behind among k ms
-  FrugalLeaves behind among (f ∷ k) ms = ⊥
-
-  -- A new object begins first (4.8, 7.6), and then this is left to do.
+  -- A new object begins first (4.8, 3.3.1, 7.6), and then this is left to do.
   abbrev pub FrugalBegins : (behind : Control) → (among : List Value) → Control → List Master → Type 0
   FrugalBegins behind among [] ms = ⊥
   FrugalBegins behind among (frame.Treats v (begins by done) tasks ∷ k) ms = BeginsThere v by k × FrugalLeads behind among k ms
@@ -165,7 +207,7 @@ module _ (frugal : Allowance) where
   -- What comes next in the body.
   abbrev pub Frugal : (behind : Control) → (among : List Value) → Mode → Control → List Master → Type 0
   Frugal behind among mode k ms =
-      FrugalLeads behind among k ms ⊎ (((mode ≡ Running) × FrugalLeaves behind among k ms) ⊎ (MayBegin mode × FrugalBegins behind among k ms))
+      FrugalLeads behind among k ms ⊎ ((MayLeave mode k × FrugalLeaves behind among k ms) ⊎ (MayBegin mode × FrugalBegins behind among k ms))
 
 -- Is the end of a body next?
 abbrev pub is_return_first : Control → Bool
@@ -173,11 +215,11 @@ is_return_first [] = false
 is_return_first (f ∷ k) = is_return f
 
 module _ (allowance : Allowance) (lower : List Master) (behind : Control) (among : List Value) where
-  -- The body runs still, or one that it calls, or an operation of one of these objects, the nearest one first, in masters of their own that own variables alone.
+  -- The body runs still, or one that it calls, or an operation of one of these objects, the nearest one first, in masters of their own, which own what these declare.
   pub record Frugally (after : State) : Type 0 where
     pub upper : List Master
     pub masters : after.masters ≡ upper ++ lower
-    pub own : OwnVariables upper
+    pub own : OwnBy allowance upper
     pub frugal : Frugal allowance behind among after.mode after.control upper
 
   -- So it does whatever comes next, if the run does not end.
@@ -205,7 +247,7 @@ frugal_starts frugal procedure b is reference behind s = record {
 -- In front of what is left to do already, the body of another operation begins so.
 pub frugal_starts_inside :
     (frugal : Allowance) (back : Control) (among : List Value) (upper lower : List Master) (procedure : ℕ) (b : BodyForm) → is_thrifty_body frugal b ≡ true → (reference : Value) (behind : Control) (s : State)
-    → s.masters ≡ upper ++ lower → OwnVariables upper → FrugalOperated frugal back among behind upper → Frugally frugal lower back among (operating named procedure b reference behind s)
+    → s.masters ≡ upper ++ lower → OwnBy frugal upper → FrugalOperated frugal back among behind upper → Frugally frugal lower back among (operating named procedure b reference behind s)
 frugal_starts_inside frugal back among upper lower procedure b is reference behind s masters own leads = record {
   upper = record { number = s.next; items = [] } ∷ upper;
   masters = ap (λ (ms : List Master). record { number = s.next; items = [] } ∷ ms) masters;
@@ -220,12 +262,34 @@ pub treating_leads :
 treating_leads frugal back among v treatment [] k ms ending q = q
 treating_leads frugal back among v treatment (task ∷ tasks) k ms ending q = (ending, q)
 
+-- So it is with one whose master is left.
+pub treating_leaves :
+    (frugal : Allowance) (back : Control) (among : List Value) (v : Value) (treatment : Treatment) (tasks : List Task) (k : Control) (ms : List Master) → LeavesThere frugal v treatment k
+    → FrugalLeaves frugal back among k ms → FrugalLeaves frugal back among (treating v treatment tasks k) ms
+treating_leaves frugal back among v treatment [] k ms ending q = q
+treating_leaves frugal back among v treatment (task ∷ tasks) k ms ending q = (ending, q)
+
 -- The operation of one of its parts is called: the others are finalized behind that.
 pub ends_leads :
     (frugal : Allowance) (back : Control) (among : List Value) (v : Value) (treatment : Treatment) (tasks : List Task) (k : Control) (ms : List Master) → EndsThere frugal v treatment k → FrugalLeads frugal back among k ms
     → FrugalOperated frugal back (v ∷ among) (frame.Confines ∷ treating v treatment tasks k) ms
 ends_leads frugal back among v treatment tasks k ms ending q =
-    (among, ap (λ (w : Value). w ∷ among) (sym (before tasks)), (ending.1, by tasks), treating_leads frugal back among v treatment tasks k ms ending q)
+    (among, ap (λ (w : Value). w ∷ among) (sym (before tasks)), inl ((ending.1, by tasks), treating_leads frugal back among v treatment tasks k ms ending q))
+  where
+    before : (left : List Task) → finalized_before (treating v treatment left k) ≡ v
+    before [] = ending.2
+    before (task ∷ left) = refl
+
+    by : (left : List Task) → NoOperationRunsOn (finalized_before (treating v treatment left k)) (treating v treatment left k)
+    by [] = subst (λ (w : Value). NoOperationRunsOn w k) (sym ending.2) ending.3
+    by (task ∷ left) = ending.3
+
+-- So it is where its master is left.
+pub leaves_operated :
+    (frugal : Allowance) (back : Control) (among : List Value) (v : Value) (treatment : Treatment) (tasks : List Task) (k : Control) (ms : List Master) → LeavesThere frugal v treatment k
+    → FrugalLeaves frugal back among k ms → FrugalOperated frugal back (v ∷ among) (frame.Confines ∷ treating v treatment tasks k) ms
+leaves_operated frugal back among v treatment tasks k ms ending q =
+    (among, ap (λ (w : Value). w ∷ among) (sym (before tasks)), inr ((ending.1, by tasks), treating_leaves frugal back among v treatment tasks k ms ending q))
   where
     before : (left : List Task) → finalized_before (treating v treatment left k) ≡ v
     before [] = ending.2
@@ -270,6 +334,11 @@ none_treated frugal none behind among frame.Confines k ms q = let treats_parts =
 none_treated frugal none behind among (frame.Awaits v by done of part tasks) k ms q = absurd q.0
 none_treated frugal none behind among f k ms q = (refl, refl)
 
+-- Where they declare no record object, none is finalized where a master is left: that is left first.
+pub none_left : (frugal : Allowance) → frugal.objects ≡ false → (behind : Control) (among : List Value) (v : Value) (treatment : Treatment) (tasks : List Task) (k : Control) (ms : List Master)
+    → FrugalLeaves frugal behind among (frame.Treats v treatment tasks ∷ k) ms → ⊥
+none_left frugal none behind among v treatment tasks k ms q = let objects = q.0.1 in cc (none, objects)
+
 -- Nor does an object begin first.
 pub none_beginning : (frugal : Allowance) → frugal.treats_parts ≡ false → (behind : Control) (among : List Value) (k : Control) (ms : List Master) → FrugalBegins frugal behind among k ms → ⊥
 none_beginning frugal none behind among [] ms q = q
@@ -300,9 +369,20 @@ mutual
   leads_longer frugal behind among (Declares x ∷ k) (m ∷ ms) q = let longer = leads_longer frugal behind among k (m ∷ ms) q.1 in omega (arith, longer)
   leads_longer frugal behind among (f ∷ k) ms q = let longer = leads_longer frugal behind among k ms q.1 in omega (arith, longer)
 
+  leaves_longer : (frugal : Allowance) (behind : Control) (among : List Value) (k : Control) (ms : List Master) → FrugalLeaves frugal behind among k ms → suc (length behind) ≤ length k
+  leaves_longer frugal behind among [] ms q = absurd q
+  leaves_longer frugal behind among (Leaves left ∷ k) [] q = absurd q
+  leaves_longer frugal behind among (Leaves left ∷ k) (m ∷ ms) q = let longer = leads_longer frugal behind among k ms q in omega (arith, longer)
+  leaves_longer frugal behind among (Ends v ∷ k) ms q = let longer = leaves_longer frugal behind among k ms q in omega (arith, longer)
+  leaves_longer frugal behind among (GivesBack v cause pool ∷ k) ms q = let longer = leaves_longer frugal behind among k ms q in omega (arith, longer)
+  leaves_longer frugal behind among (frame.Treats v treatment tasks ∷ k) ms q = let longer = leaves_longer frugal behind among k ms q.1 in omega (arith, longer)
+  leaves_longer frugal behind among (frame.Confines ∷ k) ms q = let longer = leaves_longer frugal behind among k ms q.1 in omega (arith, longer)
+  leaves_longer frugal behind among (f ∷ k) ms q = absurd q
+
   operated_longer : (frugal : Allowance) (behind : Control) (among : List Value) (k : Control) (ms : List Master) → FrugalOperated frugal behind among k ms → suc (length behind) ≤ length k
   operated_longer frugal behind among [] ms q = absurd q
-  operated_longer frugal behind among (frame.Confines ∷ k) ms (vs, is, ending, q) = let longer = leads_longer frugal behind vs k ms q in omega (arith, longer)
+  operated_longer frugal behind among (frame.Confines ∷ k) ms (vs, is, inl (ending, q)) = let longer = leads_longer frugal behind vs k ms q in omega (arith, longer)
+  operated_longer frugal behind among (frame.Confines ∷ k) ms (vs, is, inr (ending, q)) = let longer = leaves_longer frugal behind vs k ms q in omega (arith, longer)
   operated_longer frugal behind among (frame.Awaits v by done of part tasks ∷ k) ms (vs, is, beginning, q) = let longer = leads_longer frugal behind vs k ms q in omega (arith, longer)
   operated_longer frugal behind among (f ∷ k) ms q = absurd q
 
@@ -337,9 +417,12 @@ none_operated (f ∷ k) none = refl
 pub operated_on :
     (frugal : Allowance) (back : Control) (vs : List Value) (mode : Mode) (k : Control) (ms : List Master) → MayBegin mode → FrugalOperated frugal back (operated_in k ++ vs) k ms → Frugal frugal back vs mode k ms
 operated_on frugal back vs mode [] ms may q = absurd q
-operated_on frugal back vs mode (frame.Confines ∷ k) ms may (ws, is, ending, q) =
+operated_on frugal back vs mode (frame.Confines ∷ k) ms may (ws, is, inl (ending, q)) =
     let same : vs ≡ ws = cc is in
     inl (ending, subst (λ (us : List Value). FrugalLeads frugal back us k ms) (sym same) q)
+operated_on frugal back vs mode (frame.Confines ∷ k) ms may (ws, is, inr (ending, q)) =
+    let same : vs ≡ ws = cc is in
+    inr (inl (may, (ending, subst (λ (us : List Value). FrugalLeaves frugal back us k ms) (sym same) q)))
 operated_on frugal back vs mode (frame.Awaits v by done of part tasks ∷ k) ms may (ws, is, beginning, q) =
     let same : vs ≡ ws = cc is in
     inr (inr (may, (beginning, subst (λ (us : List Value). FrugalLeads frugal back us k ms) (sym same) q)))
@@ -385,8 +468,18 @@ mutual
   same_masters frugal behind among (Declares x ∷ k) m n ms q = (q.0, same_masters frugal behind among k m n ms q.1)
   same_masters frugal behind among (f ∷ k) m n ms q = (q.0, same_masters frugal behind among k m n ms q.1)
 
+  pub same_leaves : (frugal : Allowance) (behind : Control) (among : List Value) (j : Control) (m n : Master) (ms : List Master) → FrugalLeaves frugal behind among j (m ∷ ms) → FrugalLeaves frugal behind among j (n ∷ ms)
+  same_leaves frugal behind among [] m n ms q = q
+  same_leaves frugal behind among (Leaves left ∷ k) m n ms q = q
+  same_leaves frugal behind among (Ends v ∷ k) m n ms q = same_leaves frugal behind among k m n ms q
+  same_leaves frugal behind among (GivesBack v cause pool ∷ k) m n ms q = same_leaves frugal behind among k m n ms q
+  same_leaves frugal behind among (frame.Treats v treatment tasks ∷ k) m n ms q = (q.0, same_leaves frugal behind among k m n ms q.1)
+  same_leaves frugal behind among (frame.Confines ∷ k) m n ms q = (q.0, same_leaves frugal behind among k m n ms q.1)
+  same_leaves frugal behind among (f ∷ k) m n ms q = q
+
   same_operated : (frugal : Allowance) (behind : Control) (among : List Value) (j : Control) (m n : Master) (ms : List Master) → FrugalOperated frugal behind among j (m ∷ ms) → FrugalOperated frugal behind among j (n ∷ ms)
   same_operated frugal behind among [] m n ms q = q
-  same_operated frugal behind among (frame.Confines ∷ k) m n ms (vs, is, ending, q) = (vs, is, ending, same_masters frugal behind vs k m n ms q)
+  same_operated frugal behind among (frame.Confines ∷ k) m n ms (vs, is, inl (ending, q)) = (vs, is, inl (ending, same_masters frugal behind vs k m n ms q))
+  same_operated frugal behind among (frame.Confines ∷ k) m n ms (vs, is, inr (ending, q)) = (vs, is, inr (ending, same_leaves frugal behind vs k m n ms q))
   same_operated frugal behind among (frame.Awaits v by done of part tasks ∷ k) m n ms (vs, is, beginning, q) = (vs, is, beginning, same_masters frugal behind vs k m n ms q)
   same_operated frugal behind among (f ∷ k) m n ms q = q
