@@ -1,4 +1,4 @@
--- Frugal bodies (7.6, 4.8, 13.11.2) that neither allocate nor free objects with controlled parts, or may do so, and that may declare record objects or not, as what is
+-- Frugal bodies (7.6, 4.8, 13.11.2) that free no objects with controlled parts, or may do so, and that create none and declare no record objects, or may do so, as what is
 -- proved of them tells them apart.
 
 use Rattle.std.proofs.Common.{◌≡◌, ℕ, Bool, true, false, ◌&&◌, ◌||◌, List, refl, [], ◌∷◌}
@@ -12,23 +12,27 @@ use Rattle.ada_quiet.specs.Apart.{is_bare_item}
 use Rattle.ada_quiet.specs.Bare.{has_bare_objects}
 use Rattle.ada_quiet.specs.Frugal.{holds_scalars, allocates_frugally, is_frugal_declaration, are_frugal_declarations, frugal_procedures, is_frugal_stmt, are_frugal, are_frugal_branches, are_frugal_handlers, is_frugal_body, thrift_of}
 
--- What such bodies go by: as frugal ones do, whether they may allocate and free objects with controlled parts, and whether they may declare record objects.
+-- What such bodies go by: as frugal ones do, whether they may free objects with controlled parts, and whether they may allocate some and declare record objects.
 pub record Allowance : Type 0 where
   pub types : List TypeForm
   pub treats_parts : Bool
   pub objects : Bool
   pub procedures : List Bool
 
--- Such a body may allocate and free objects of an access type (4.8, 13.11.2): they have no controlled parts, or it may treat those that have some.
+-- Such a body may free objects of an access type (13.11.2): they have no controlled parts, or it may treat those that have some.
 abbrev pub may_treat : Allowance → (access : ℕ) → Bool
 may_treat allowance access = allowance.treats_parts || has_bare_objects allowance.types access
+
+-- Or allocate them by default (4.8).
+abbrev pub may_create : Allowance → (access : ℕ) → Bool
+may_create allowance access = allowance.objects || has_bare_objects allowance.types access
 
 -- What is assigned is allocated frugally, and is no new object with controlled parts unless that may be (4.8).
 abbrev pub allocates_thriftily : Allowance → RightForm → Bool
 allocates_thriftily allowance nothing = true
 allocates_thriftily allowance (value_of path) = true
 allocates_thriftily allowance (allocates access items) = has_bare_objects allowance.types access
-allocates_thriftily allowance (allocates_default access) = may_treat allowance access
+allocates_thriftily allowance (allocates_default access) = may_create allowance access
 allocates_thriftily allowance (computes e) = true
 
 -- So it is with what a variable is given at first (3.3.1), and nothing but variables is declared, unless record objects may be.
@@ -36,7 +40,7 @@ abbrev pub is_thrifty_declaration : Allowance → DeclarationForm → Bool
 is_thrifty_declaration allowance (creates_pool p) = false
 is_thrifty_declaration allowance (collects access) = false
 is_thrifty_declaration allowance (declares x right) = allocates_thriftily allowance right
-is_thrifty_declaration allowance (declares_record x t None) = allowance.objects && allowance.treats_parts
+is_thrifty_declaration allowance (declares_record x t None) = allowance.objects
 is_thrifty_declaration allowance (declares_record x t (Some items)) = false
 
 -- So it is with declarations.
@@ -82,17 +86,9 @@ module _ (allowance : Allowance) where
 abbrev pub is_thrifty_body : Allowance → BodyForm → Bool
 is_thrifty_body allowance b = are_thrifty_declarations allowance b.declarations && are_thrifty allowance b.statements && are_thrifty_handlers allowance b.handlers
 
--- Those of a program, which may free objects with controlled parts, where they may create such objects or not.
+-- Those of a program, which may free objects with controlled parts; where they may create such objects, as an Initialize, or not, as a Finalize.
 abbrev pub allowance_by : ProgramForm → (objects : Bool) → Allowance
 allowance_by p objects = record { types = p.types; treats_parts = true; objects = objects; procedures = frugal_procedures p objects }
-
--- Those that may, as an Initialize.
-abbrev pub allowance_of : ProgramForm → Allowance
-allowance_of p = allowance_by p true
-
--- Those that may not, as a Finalize.
-abbrev pub ending_allowance : ProgramForm → Allowance
-ending_allowance p = allowance_by p false
 
 -- What is frugal is so.
 module _ (p : ProgramForm) (objects : Bool) where
@@ -100,14 +96,14 @@ module _ (p : ProgramForm) (objects : Bool) where
   right_thrifty nothing is = refl
   right_thrifty (value_of path) is = refl
   right_thrifty (allocates access items) is = is
-  right_thrifty (allocates_default access) is = refl
+  right_thrifty (allocates_default access) is = is
   right_thrifty (computes e) is = refl
 
   declaration_thrifty : (d : DeclarationForm) → is_frugal_declaration (thrift_of p objects) d ≡ true → is_thrifty_declaration (allowance_by p objects) d ≡ true
   declaration_thrifty (creates_pool pool) is = is
   declaration_thrifty (collects access) is = is
   declaration_thrifty (declares x right) is = right_thrifty right is
-  declaration_thrifty (declares_record x t None) is = rw ((and_parts objects (holds_scalars p.types t) is).0) refl
+  declaration_thrifty (declares_record x t None) is = (and_parts objects (holds_scalars p.types t) is).0
   declaration_thrifty (declares_record x t (Some items)) is = is
 
   declarations_thrifty : (ds : List DeclarationForm) → are_frugal_declarations (thrift_of p objects) ds ≡ true → are_thrifty_declarations (allowance_by p objects) ds ≡ true

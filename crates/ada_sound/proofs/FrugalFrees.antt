@@ -30,7 +30,7 @@ use Rattle.ada_meaning.specs.declared.state.Mode.{Mode}
 use Rattle.ada_meaning.specs.declared.state.Mode.TheVariants.{Running}
 use Rattle.ada_meaning.specs.declared.state.Value.{Value}
 use Rattle.ada_meaning.specs.declared.state.Value.TheVariants.{Null, Names, Scalar, Part}
-use Rattle.ada_meaning.specs.Frame.{Frame, Does, FreesIn}
+use Rattle.ada_meaning.specs.Frame.{Frame, Does, FreesIn, Leaves}
 use Rattle.ada_meaning.specs.Heap.{Cell, Found, on_null, on_gone, on_other, finds}
 use Rattle.ada_meaning.specs.State.{Activation, Master}
 use Rattle.ada_meaning.specs.Step.{has_parts, all_tasks, tasks_for, first_or, places_of, operands_of, places, operands}
@@ -44,11 +44,12 @@ use Rattle.ada_typed.proofs.Runs.{typed_holds}
 use Rattle.ada_typed.proofs.Targets.{component_there}
 use Rattle.ada_typed.proofs.Values as typing
 use Rattle.ada_typed.proofs.Values.{OperandKind, of_kind, AreComputed}
-use Rattle.ada_sound.proofs.Allowance.{Allowance, may_treat, are_thrifty}
+use Rattle.ada_scopes.specs.Scopes.{is_innermost}
+use Rattle.ada_sound.proofs.Allowance.{Allowance, may_create, may_treat, are_thrifty}
 use Rattle.ada_sound.proofs.Assigned.{access_from, this_is}
 use Rattle.ada_sound.proofs.Calm.{ends_operation, operation_ends_there}
 use Rattle.ada_sound.proofs.Fits.{place_at}
-use Rattle.ada_sound.proofs.FrugalControl.{Frugal, FrugalLeads}
+use Rattle.ada_sound.proofs.FrugalControl.{Frugal, FrugalLeads, Thriftiness}
 use Rattle.ada_sound.proofs.Invariant.{Control}
 use Rattle.ada_sound.proofs.OperationStarts.{apart}
 use Rattle.ada_sound.proofs.Standing.{FreesAmong}
@@ -268,6 +269,13 @@ abbrev pub ListedAlone : (may : ℕ → Bool) → List Object → Control → Ty
 ListedAlone may heap k =
     (o : Id) (x : Object) → object_at heap o ≡ Some x → x.listed ≡ true → may x.cell.access ≡ true → NoOperationRunsOn (Names o) k
 
+-- Where the innermost master is left next, no operation of an object in it runs behind this (7.6.1).
+abbrev pub LeftAlone : List Object → List Master → Control → Type 0
+LeftAlone heap ms [] = Unit {0}
+LeftAlone heap ms (Leaves left ∷ k) =
+    (o : Id) (x : Object) → object_at heap o ≡ Some x → x.listed ≡ true → is_innermost ms x.cell.home.item ≡ true → NoOperationRunsOn (Names o) k
+LeftAlone heap ms (f ∷ k) = Unit {0}
+
 -- None runs of an object that does not exist (7.6).
 abbrev pub Unborn : List Object → Control → Type 0
 Unborn heap k = (o : Id) → (NamesExisting heap (Names o) → ⊥) → NoOperationRunsOn (Names o) k
@@ -329,32 +337,35 @@ module _ (frugal : Allowance) (tds : List TypeDefinition) where
 
   -- What is freed next in a frugal body may be so, where it is among these access types.
   pub next_freely :
-      AccessIsBare frugal.types tds → (may : ℕ → Bool) (behind : Control) (among : List Value) (heap : List Object) (values results : List Value) (k : Control) (ms : List Master) → (frugal.treats_parts ≡ true → ListedAlone may heap k)
-      → FrugalLeads frugal behind among k ms → FreesAmong may k → NextFreesOwn k heap values results → NextIsFreely k heap values results
-  next_freely bare may behind among heap values results [] ms alone q freely own = tt
-  next_freely bare may behind among heap values results (Does (a_stmt (frees access path) fs) ∷ k) ms alone q freely own =
-      λ stands. is_freely bare may heap (Does fs ∷ k) alone (place_at values path.root) access (apart (may_treat frugal access) (are_thrifty frugal fs) q.0).0 freely (own stands)
-  next_freely bare may behind among heap values results (FreesIn access c ∷ k) ms alone q freely own =
-      λ cell w found there. is_freely bare may heap k alone w access q.0 freely (own cell w found there)
-  next_freely bare may behind among heap values results (f ∷ k) ms alone q freely own = tt
+      AccessIsBare frugal.types tds → (may : ℕ → Bool) (thrift : Thriftiness) (objects : Bool) → thrift.by objects ≡ frugal → (behind : Control) (among : List Value) (heap : List Object) (values results : List Value) (k : Control) (ms : List Master)
+      → (frugal.treats_parts ≡ true → ListedAlone may heap k)
+      → FrugalLeads thrift objects behind among k ms → FreesAmong may k → NextFreesOwn k heap values results → NextIsFreely k heap values results
+  next_freely bare may thrift objects same behind among heap values results [] ms alone q freely own = tt
+  next_freely bare may thrift objects same behind among heap values results (Does (a_stmt (frees access path) fs) ∷ k) ms alone q freely own =
+      λ stands. is_freely bare may heap (Does fs ∷ k) alone (place_at values path.root) access (rw same at (apart (may_treat (thrift.by objects) access) (are_thrifty (thrift.by objects) fs) q.0).0) freely (own stands)
+  next_freely bare may thrift objects same behind among heap values results (FreesIn access c ∷ k) ms alone q freely own =
+      λ cell w found there. is_freely bare may heap k alone w access (rw same at q.0) freely (own cell w found there)
+  next_freely bare may thrift objects same behind among heap values results (f ∷ k) ms alone q freely own = tt
 
 -- Where bodies treat no objects with controlled parts, what is freed next has none.
-pub frees_bare : (frugal : Allowance) → frugal.treats_parts ≡ false → (behind : Control) (among : List Value) (mode : Mode) (k : Control) (ms : List Master) → Frugal frugal behind among mode k ms → FreesAmong (has_bare_objects frugal.types) k
-frees_bare frugal none behind among mode [] ms q = tt
-frees_bare frugal none behind among mode (Does (a_stmt (frees access path) fs) ∷ k) ms (inl q) = let may = (apart (may_treat frugal access) (are_thrifty frugal fs) q.0).0 in rw none at may
-frees_bare frugal none behind among mode (Does (a_stmt (frees access path) fs) ∷ k) ms (inr (inl leaving)) = absurd leaving.1
-frees_bare frugal none behind among mode (Does (a_stmt (frees access path) fs) ∷ k) ms (inr (inr beginning)) = absurd beginning.1
-frees_bare frugal none behind among mode (FreesIn access c ∷ k) ms (inl q) = let may = q.0 in rw none at may
-frees_bare frugal none behind among mode (FreesIn access c ∷ k) ms (inr (inl leaving)) = absurd leaving.1
-frees_bare frugal none behind among mode (FreesIn access c ∷ k) ms (inr (inr beginning)) = absurd beginning.1
-frees_bare frugal none behind among mode (f ∷ k) ms q = tt
+pub frees_bare : (frugal : Thriftiness) (objects : Bool) → (frugal.by objects).treats_parts ≡ false → (behind : Control) (among : List Value) (mode : Mode) (k : Control) (ms : List Master)
+    → Frugal frugal objects behind among mode k ms → FreesAmong (has_bare_objects (frugal.by objects).types) k
+frees_bare frugal objects none behind among mode [] ms q = tt
+frees_bare frugal objects none behind among mode (Does (a_stmt (frees access path) fs) ∷ k) ms (inl q) =
+    let may = (apart (may_treat (frugal.by objects) access) (are_thrifty (frugal.by objects) fs) q.0).0 in rw none at may
+frees_bare frugal objects none behind among mode (Does (a_stmt (frees access path) fs) ∷ k) ms (inr (inl leaving)) = absurd leaving.1
+frees_bare frugal objects none behind among mode (Does (a_stmt (frees access path) fs) ∷ k) ms (inr (inr beginning)) = absurd beginning.1
+frees_bare frugal objects none behind among mode (FreesIn access c ∷ k) ms (inl q) = let may = q.0 in rw none at may
+frees_bare frugal objects none behind among mode (FreesIn access c ∷ k) ms (inr (inl leaving)) = absurd leaving.1
+frees_bare frugal objects none behind among mode (FreesIn access c ∷ k) ms (inr (inr beginning)) = absurd beginning.1
+frees_bare frugal objects none behind among mode (f ∷ k) ms q = tt
 
--- For a new object there is nothing to do; or bodies may treat those with controlled parts, and none of its operations runs behind this, as none of an object that
+-- For a new object there is nothing to do; or bodies may create those with controlled parts, and none of its operations runs behind this, as none of an object that
 -- is still to be created does.
 abbrev pub IsNewly : Allowance → List TypeDefinition → (access : ℕ) → List Object → Control → Type 0
 IsNewly frugal tds access heap k =
     (all_tasks tds access PartsFirst ≡ [])
-    ⊎ ((frugal.treats_parts ≡ true) × NoOperationRunsOn (Names (next_id heap)) k)
+    ⊎ ((frugal.objects ≡ true) × NoOperationRunsOn (Names (next_id heap)) k)
 
 -- What has no controlled parts is calm, whatever is asked about operations.
 pub bare_calm : (types : List TypeForm) (calm : List Bool) (access : ℕ) → has_bare_objects types access ≡ true → has_calm_objects types calm access ≡ true
@@ -379,10 +390,10 @@ past_unborn heap (o, is, x, found, stage) =
 
 -- What such a body allocates is so.
 pub is_newly :
-    (frugal : Allowance) (tds : List TypeDefinition) → AccessIsBare frugal.types tds → (access : ℕ) (heap : List Object) (k : Control) → (frugal.treats_parts ≡ true → Unborn heap k)
-    → may_treat frugal access ≡ true → IsNewly frugal tds access heap k
-is_newly frugal tds bare access heap k unborn may = by frugal.treats_parts refl may
+    (frugal : Allowance) (tds : List TypeDefinition) → AccessIsBare frugal.types tds → (access : ℕ) (heap : List Object) (k : Control) → (frugal.objects ≡ true → Unborn heap k)
+    → may_create frugal access ≡ true → IsNewly frugal tds access heap k
+is_newly frugal tds bare access heap k unborn may = by frugal.objects refl may
   where
-    by : (treats_parts : Bool) → frugal.treats_parts ≡ treats_parts → (treats_parts || has_bare_objects frugal.types access) ≡ true → IsNewly frugal tds access heap k
+    by : (objects : Bool) → frugal.objects ≡ objects → (objects || has_bare_objects frugal.types access) ≡ true → IsNewly frugal tds access heap k
     by true is either = inr (is, unborn is (next_id heap) (past_unborn heap))
     by false is has = inl (bare access PartsFirst has)

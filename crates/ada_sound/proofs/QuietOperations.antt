@@ -38,7 +38,7 @@ use Rattle.ada_meaning.specs.declared.event.Cause.{Cause}
 use Rattle.ada_meaning.specs.Frame.{Treatment, begins, ends}
 use Rattle.ada_sound.proofs.FrugalBodies.{frugal_nests}
 use Rattle.ada_sound.proofs.SimpleBodies.{simple_nests, simple_with}
-use Rattle.ada_sound.proofs.Operating.{IsCalled, PlainBody}
+use Rattle.ada_sound.proofs.Operating.{IsCalled, PlainBody, may_create_in}
 
 -- Quiet statements create nothing but Integers and Booleans.
 module _ (types : List TypeForm) (variables : List VariableForm) where
@@ -389,7 +389,7 @@ TouchesStorage p (ends cause) b = is_quiet_body p.types b ≡ false
 abbrev pub IsUsedAs : ProgramForm → (of number : ℕ) → Treatment → BodyForm → Type 0
 IsUsedAs p of number treatment b =
     (PlainBody p.types b × LetsNothingOut treatment b)
-    ⊎ ((MayTouch treatment × (may_be_frugal p ≡ true) × (is_frugal_body (thrift_of p) b ≡ true) × TouchesStorage p treatment b)
+    ⊎ ((MayTouch treatment × (may_be_frugal p ≡ true) × (is_frugal_body (thrift_of p (may_create_in treatment)) b ≡ true) × TouchesStorage p treatment b)
     ⊎ (AdjustsCopy treatment × MayTrack p b × AdjustsOwn p.types of number))
 
 -- A type that passes the test of a number has that number among the controlled ones, as what is shown of it says.

@@ -28,14 +28,13 @@ use Rattle.ada_meaning.specs.Heap.{Home}
 use Rattle.ada_meaning.specs.State.{Master}
 use Rattle.ada_meaning.specs.Named.{Object, State, object_at}
 use Rattle.ada_typed.proofs.Kept.{behind_call}
-use Rattle.ada_sound.proofs.Allowance.{Allowance, allowance_of}
 use Rattle.ada_sound.proofs.Bodies.{IsBody}
 use Rattle.ada_sound.proofs.Callers.{Suspension, known_in, Stands, callers_of}
 use Rattle.ada_sound.proofs.Fits.{Fit, Outsiders, IsPlace, IsRelied, IsSaid, IsUnreferred, component_access, none_spared, outer_hold, outer_value, place_at, Reference, IsReferred}
-use Rattle.ada_sound.proofs.FrugalControl.{FrugalOperated, Frugally, IsInside, operated_in}
+use Rattle.ada_sound.proofs.FrugalControl.{FrugalOperated, Frugally, IsInside, Thriftiness, operated_in, thriftiness_of}
 use Rattle.ada_sound.proofs.Held.{FreeIf, holder_if}
 use Rattle.ada_sound.proofs.Invariant.{SparesHolder, body_among, CoveredIn, Control, Rooms, Roomed, GoesTo, MayAwait, RoomFor, RunsOn, Known, IsNewest, Ready, Spares, StartsTo, Unaliased, departs, below, innermost, outers, BeginsWell, CameOut, To, By, ways, IsAwaited, under_in, AssignsWell, IsCopied, LiesAmong, AdjustedBehind, IsCovered, EndsWellBy}
-use Rattle.ada_sound.proofs.Operating.{WaitsFor, IsCalm, lets_out, OwnVariables}
+use Rattle.ada_sound.proofs.Operating.{WaitsFor, IsCalm, lets_out, may_create_in}
 use Rattle.ada_sound.proofs.Stored.{Stored}
 use Rattle.ada_sound.specs.Agreement.{running_procedure}
 use Rattle.ada_finalized.specs.Law.{NothingBegins}
@@ -395,10 +394,11 @@ operated_among [] = []
 operated_among (g ∷ gs) = operated_in g.control ++ operated_among gs
 
 -- In what the outermost operation has called so far, by what bodies go, what is left to do behind it, and the masters that were entered before it.
-module _ (program : Program) (s : State) (allowance : Allowance) (back : Control) (lower : List Master) where
-  -- An activation waits, in front of these, for the operation of an object that it frees or allocates, or that is undone, whose body is this one (7.6, 7.6.1,
-  -- 4.8, 13.11.2): behind that its own body goes on, in masters of its own, in which operations of these objects run.
-  pub record IsOperation (running : Option ℕ) (depth : ℕ) (others : List Suspension) (among : List Value) (g : Suspension) : Type 0 where
+module _ (program : Program) (s : State) (frugal : Thriftiness) (back : Control) (lower : List Master) where
+  -- An activation waits, in front of these, for the operation of an object that it frees, allocates or declares, or that is undone, whose body is this one (7.6, 7.6.1,
+  -- 4.8, 3.3.1, 13.11.2) and may create objects itself or not: behind that its own body goes on, which may or not, in masters of its own, in which operations of these
+  -- objects run.
+  pub record IsOperation (running : Option ℕ) (objects outer : Bool) (depth : ℕ) (others : List Suspension) (among : List Value) (g : Suspension) : Type 0 where
     pub pause : Pause program depth s
     pub is : g ≡ origin program depth s pause
     pub behind_it : others ≡ pause.suspensions
@@ -406,24 +406,26 @@ module _ (program : Program) (s : State) (allowance : Allowance) (back : Control
     pub inside : IsInside pause.treatment
     pub upper : List Master
     pub masters : pause.lower ≡ upper ++ lower
-    pub own : OwnVariables upper
-    pub leads : FrugalOperated allowance back (operated_in pause.behind ++ among) pause.behind upper
+    pub leads : FrugalOperated frugal objects outer back (operated_in pause.behind ++ among) pause.behind upper
 
-  -- These activations wait, in front of others, the nearest one first, for calls or for such operations: the first one for the body that runs, and the last one
-  -- is the body of the outermost operation, if none waits, that is the one that runs.
-  abbrev pub AreInner : (running : Option ℕ) (depth : ℕ) (outermost : Option ℕ) (others : List Suspension) → List Suspension → Type 0
-  AreInner running depth outermost others [] = running ≡ outermost
-  AreInner running depth outermost others (g ∷ inner) =
-      (IsCall g ⊎ IsOperation running depth (inner ++ others) (operated_among inner) g) × AreInner g.procedure (suc depth) outermost others inner
+  -- These activations wait, in front of others, the nearest one first, for calls or for such operations: the first one for the body that runs, which may create objects or
+  -- not, and the last one is the body of the outermost operation, if none waits, that is the one that runs.
+  abbrev pub AreInner : (running : Option ℕ) → (objects : Bool) → (depth : ℕ) → (outermost : Option ℕ) → (others : List Suspension) → List Suspension → Type 0
+  AreInner running objects depth outermost others [] = (running ≡ outermost) × (objects ≡ frugal.last)
+  AreInner running objects depth outermost others (g ∷ inner) =
+      (IsCall g × AreInner g.procedure objects (suc depth) outermost others inner)
+      ⊎ ((outer : Bool) × IsOperation running objects outer depth (inner ++ others) (operated_among inner) g × AreInner g.procedure outer (suc depth) outermost others inner)
 
 -- An operation that touches storage is under way: `inner` are the activations that wait since then, the nearest one first; and behind the outermost operation
 -- none runs.
 pub record Within (program : Program) (gs : List Suspension) (s : State) : Type 0 where
   pub inner : List Suspension
+  pub objects : Bool
   pub outermost : Pause program (length inner) s
   pub are : gs ≡ inner ++ origin program (length inner) s outermost ∷ outermost.suspensions
-  pub within : AreInner program s (allowance_of (program_form program)) outermost.behind outermost.lower (running_procedure s) 0 (Some outermost.number) (origin program (length inner) s outermost ∷ outermost.suspensions) inner
-  pub frugal : Frugally (allowance_of (program_form program)) outermost.lower outermost.behind (operated_among inner) s
+  pub within : AreInner program s (thriftiness_of (program_form program) (may_create_in outermost.treatment)) outermost.behind outermost.lower (running_procedure s) objects 0
+      (Some outermost.number) (origin program (length inner) s outermost ∷ outermost.suspensions) inner
+  pub frugal : Frugally (thriftiness_of (program_form program) (may_create_in outermost.treatment)) outermost.lower objects outermost.behind (operated_among inner) s
   pub untreated : (v : Value) → v ≢ Names outermost.object → NothingBegins v outermost.after
   pub calm : IsCalm (behind_call outermost.behind)
   pub settled : under_in (callers_of program outermost.suspensions) ≡ []
