@@ -1,8 +1,5 @@
 -- By one walk through the components of all types.
 use Rattle.ada_sound.proofs.SparesHolders as holders
-use Rattle.ada_sound.proofs.FrugalControl.{ends_none}
-use Rattle.ada_sound.proofs.Touching.{Touching}
-use Rattle.ada_sound.proofs.FrugalFrees.{frees_bare}
 use Rattle.ada_sound.proofs.laws.holders_are_told.Goals as goal
 
 pub returns : goal.returns
