@@ -42,445 +42,74 @@ use Rattle.ada_sound.specs.Agreement.{running_procedure}
 use Rattle.ada_sound.proofs.Calm.{ends_operation, operation_ends_there}
 use Rattle.ada_sound.proofs.Invariant.{Control, IsAwaited}
 use Rattle.ada_sound.proofs.OperationStarts.{apart}
-use Rattle.ada_sound.proofs.Operating.{OwnVariables}
 use Rattle.ada_sound.proofs.FrugalControl.{FrugalLeads, FrugalLeaves, EndsThere, Frugal, is_return_first, none_treated, treating_leads, Frugally, GoesFrugally, BeginsThere, FrugalBegins, beginning_frugal, begins_first, leads_first, none_beginning}
 use Rattle.ada_sound.proofs.Standing.{FreesAmong}
 use Rattle.ada_sound.proofs.Steps.{crosses}
 use Rattle.ada_sound.proofs.FrugalFrees.{AccessIsBare, bare_by, RecordIsBare, records_bare_by, NextFreesOwn, next_own, ListedAlone, FrameIsFreely, NextIsFreely, next_freely, Unborn, is_newly}
-use Rattle.ada_sound.proofs.FrugalFrames as frames
-
--- The statements of the handler that takes an exception.
-handler_frugal : (allowance : Allowance) (hs : HandlersForm) (e : Exception) (fs : StmtsForm) → handler_of e hs ≡ Some fs → are_thrifty_handlers allowance hs ≡ true → are_thrifty allowance fs ≡ true
-handler_frugal allowance no_handlers e fs is frugal = absurd (cc is)
-handler_frugal allowance (a_handler choices gs hs) e fs is frugal = by (some_takes e choices) is (λ later more. handler_frugal allowance hs e fs later more)
-  where
-    both : (are_thrifty allowance gs ≡ true) × (are_thrifty_handlers allowance hs ≡ true)
-    both = apart (are_thrifty allowance gs) (are_thrifty_handlers allowance hs) frugal
-
-    by : (b : Bool) → (if b then Some gs else handler_of e hs) ≡ Some fs → (handler_of e hs ≡ Some fs → are_thrifty_handlers allowance hs ≡ true → are_thrifty allowance fs ≡ true) → are_thrifty allowance fs ≡ true
-    by true is' more = let same : gs ≡ fs = cc is' in rw (← same) both.0
-    by false is' more = more is' both.1
-
--- The body that a statement calls is frugal, where its procedure is.
-abbrev FindsFrugal : Allowance → List BodyForm → Type 0
-FindsFrugal allowance bodies = (number : ℕ) (b : BodyForm) → slice_get bodies number ≡ Some b → slice_index_or allowance.procedures number false ≡ true → is_thrifty_body allowance b ≡ true
 
 -- No object is treated next (7.6.1).
 abbrev pub TreatsNothing : Control → Type 0
 TreatsNothing k = (v : Value) (treatment : Treatment) (tasks : List Task) (j : Control) → k ≡ Treats v treatment tasks ∷ j → ⊥
 
-module _ (allowance : Allowance) (lower : List Master) (behind : Control) (among : List Value) (tds : List TypeDefinition) (bodies : List BodyForm) (access_bare : AccessIsBare allowance.types tds) (records_bare : RecordIsBare allowance.types tds) (finds_frugal : FindsFrugal allowance bodies) (s : State) where
-  abbrev Fine : Next → Type 0
-  Fine n = GoesFrugally allowance lower behind among n
+-- The body that a statement calls is frugal, where its procedure is.
+abbrev pub FindsFrugal : Allowance → List BodyForm → Type 0
+FindsFrugal allowance bodies = (number : ℕ) (b : BodyForm) → slice_get bodies number ≡ Some b → slice_index_or allowance.procedures number false ≡ true → is_thrifty_body allowance b ≡ true
 
-  abbrev now : List (Activation Value) → Control → List Master → State
-  now all k ms = frames.now allowance lower behind among tds bodies s all k ms
+-- Where the end of a body is next, it is one that was called: what called it goes on.
+abbrev pub EndsInner : (frugal : Thriftiness) (objects : Bool) (behind : Control) (among : List Value) → Control → List Master → Type 0
+EndsInner frugal objects behind among k ms = (actuals : List ActualForm) (references : List Value) (j : Control) → k ≡ Returns actuals references ∷ j → FrugalLeads frugal objects behind among j ms
 
-  -- Where the end of a body is next, it is one that was called: what called it goes on.
-  abbrev IsInner : Frame Value → Control → List Master → Type 0
-  IsInner (Returns actuals references) k ms = FrugalLeads allowance behind among k ms
-  IsInner f k ms = Unit {0}
-
-  -- Without the newest operand, or the two newest ones.
-  abbrev without : List (Activation Value) → List (Activation Value)
-  without all = frames.without allowance lower behind among tds bodies s all
-
-  abbrev twice_without : List (Activation Value) → List (Activation Value)
-  twice_without all = without (without all)
-
-  -- What is left of the body goes on.
-  frame_on : (f : Frame Value) (k : Control) (ms : List Master) → OwnVariables ms → (all : List (Activation Value)) → IsInner f k ms → is_treatment f ≡ false → FrameIsFreely allowance tds f k s.heap (places_of all) (operands_of all) → (allowance.treats_parts ≡ true → Unborn s.heap (f ∷ k)) → FrugalLeads allowance behind among (f ∷ k) ms → Fine (frame_next named tds bodies f (now all k ms))
-  frame_on (Elaborates ds fs hs) k ms own all inner plain freely unborn q = frames.declarations_on allowance lower behind among tds bodies s ms own ds fs hs all k q
-  frame_on (Does no_stmts) k ms own all inner plain freely unborn (frugal, q) = frames.on allowance lower behind among tds bodies s ms own _ refl q
-  frame_on (Does (a_stmt f fs)) k ms own all inner plain freely unborn (frugal, q) =
-      let both = apart _ _ frugal in
-      frames.stmt_on allowance lower behind among tds bodies s ms own f finds_frugal records_bare both.0 all (Does fs ∷ k) freely (both.1, q)
-  frame_on (Decides fs branches) k ms own all inner plain freely unborn (frugal, q) =
-      frames.decided_on allowance lower behind among tds bodies s ms own fs branches (named.reads_boolean (first_or Null (operands_of all))) frugal (without all) k q
-  frame_on (Repeats condition fs) k ms own all inner plain freely unborn (frugal, q) = frames.repeats_on allowance lower behind among tds bodies s ms own condition fs frugal all k q
-  frame_on (Turns e fs) k ms own all inner plain freely unborn (frugal, q) =
-      frames.turned_on allowance lower behind among tds bodies s ms own e fs (named.reads_boolean (first_or Null (operands_of all))) frugal (without all) k q
-  frame_on (Ranges x fs) k ms own all inner plain freely unborn (frugal, q) =
-      frames.ranges_on allowance lower behind among tds bodies s ms own x fs (named.reads_integer (first_or Null (operands_of (without all)))) (named.reads_integer (first_or Null (operands_of all))) frugal
-      (twice_without all) k q
-  frame_on (Counts x value last fs) k ms own all inner plain freely unborn (frugal, q) = frames.counts_on allowance lower behind among tds bodies s ms own x value last fs frugal all k q
-  frame_on Exits k ms own all inner plain freely unborn (frugal, q) =
-      frames.exited_on allowance lower behind among tds bodies s ms own (named.reads_boolean (first_or Null (operands_of all))) (without all) k q
-  frame_on (Handles hs) k ms own all inner plain freely unborn (frugal, q) = frames.on allowance lower behind among tds bodies s ms own _ refl q
-  frame_on Closes k [] own all inner plain freely unborn q = absurd q
-  frame_on Closes k (m ∷ ms) own all inner plain freely unborn q = frames.leaves_first allowance lower behind among tds bodies s (m ∷ ms) own Running k _ refl refl refl q.1
-  frame_on (Calls number b actuals) k ms own all inner plain freely unborn (frugal, q) =
-      frames.begun_on allowance lower behind among tds bodies s ms own number b actuals (newest_ones named (operand_count actuals) (now all k ms)) frugal all k q
-  frame_on (Returns actuals references) k ms own all inner plain freely unborn q = frames.returned_on allowance lower behind among tds bodies s ms own actuals references all k inner
-  frame_on (Refers path) k ms own all inner plain freely unborn (frugal, q) = frames.record_on allowance lower behind among tds bodies s ms own path all k q
-  frame_on (RefersIn place t) k ms own all inner plain freely unborn (frugal, q) =
-      frames.refers_on allowance lower behind among tds bodies s ms own (first_or Null (operands_of all)) place (width_of tds t) (look s.heap (first_or Null (operands_of all))) (without all) k q
-  frame_on (Opens path) k ms own all inner plain freely unborn (frugal, q) = frames.open_on allowance lower behind among tds bodies s ms own path.selectors path.root all k q
-  frame_on (OpensIn c) k ms own all inner plain freely unborn (frugal, q) =
-      frames.opens_on allowance lower behind among tds bodies s ms own (first_or Null (operands_of all)) c (look s.heap (first_or Null (operands_of all))) (without all) k q
-  frame_on (Evaluates right) k ms own all inner plain freely unborn (frugal, q) = frames.right_on allowance lower behind among tds bodies s ms own right frugal all k q
-  frame_on (Computes e) k ms own all inner plain freely unborn (frugal, q) = frames.expression_on allowance lower behind among tds bodies s ms own e all k q
-  frame_on (Follows cs) k ms own all inner plain freely unborn (frugal, q) =
-      frames.path_on allowance lower behind among tds bodies s ms own cs (first_or Null (operands_of all)) (without all) k q
-  frame_on (TestsNull equal) k ms own all inner plain freely unborn (frugal, q) =
-      frames.null_test_on allowance lower behind among tds bodies s ms own equal (named.reads_null (first_or Null (operands_of all))) (without all) k q
-  frame_on (Continues links) k ms own all inner plain freely unborn (frugal, q) = frames.links_on allowance lower behind among tds bodies s ms own links all k q
-  frame_on (Applies operator) k ms own all inner plain freely unborn (frugal, q) =
-      frames.outcome_on allowance lower behind among tds bodies s ms own (named.binary operator (first_or Null (operands_of (without all))) (first_or Null (operands_of all))) (twice_without all) k q
-  frame_on (AppliesAlone operator) k ms own all inner plain freely unborn (frugal, q) =
-      frames.outcome_on allowance lower behind among tds bodies s ms own (named.unary operator (first_or Null (operands_of all))) (without all) k q
-  frame_on (Fills items) k ms own all inner plain freely unborn (frugal, q) = frames.items_on allowance lower behind among tds bodies s ms own items all k q
-  frame_on (Copies first t) k ms own all inner plain freely unborn (frugal, q) =
-      frames.copies_on allowance lower behind among tds bodies s ms own (first_or Null (operands_of all)) first (width_of tds t) (look s.heap (first_or Null (operands_of all))) (without all) k q
-  frame_on (Creates access count) k ms own all inner plain freely unborn (frugal, q) =
-      frames.new_on allowance lower behind among tds bodies s ms own access count (words_of tds access) (home_of access (ms ++ lower)) all k
-      (is_newly allowance tds access_bare access s.heap k unborn frugal) q
-  frame_on (Stores x) k ms own all inner plain freely unborn (frugal, q) =
-      frames.puts_on allowance lower behind among tds bodies s ms own x (first_or Null (operands_of all)) (without all) k q
-  frame_on (Targets c right) k ms own all inner plain freely unborn (frugal, q) =
-      frames.target_on allowance lower behind among tds bodies s ms own (first_or Null (operands_of all)) c right (look s.heap (first_or Null (operands_of all))) frugal (without all) k q
-  frame_on (StoresIn o c) k ms own all inner plain freely unborn (frugal, q) =
-      frames.store_on allowance lower behind among tds bodies s ms own o c (first_or Null (operands_of all)) (look s.heap o) (without all) k q
-  frame_on (TargetsRecord first t items) k ms own all inner plain freely unborn (frugal, q) =
-      frames.record_target_on allowance lower behind among tds bodies s ms own (first_or Null (operands_of all)) first (width_of tds t) items (look s.heap (first_or Null (operands_of all))) (without all) k q
-  frame_on (StoresRecord o first count) k ms own all inner plain freely unborn (frugal, q) =
-      frames.store_record_on allowance lower behind among tds bodies s ms own o first count (look s.heap o) all k q
-  frame_on (Receives c) k ms own all inner plain freely unborn (frugal, q) =
-      frames.receive_on allowance lower behind among tds bodies s ms own (first_or Null (operands_of all)) c (look s.heap (first_or Null (operands_of all))) (without all) k q
-  frame_on (FreesIn access c) k ms own all inner plain freely unborn (frugal, q) =
-      frames.free_in_on allowance lower behind among tds bodies s ms own access (first_or Null (operands_of all)) c (look s.heap (first_or Null (operands_of all))) (without all) k freely q
-  frame_on (Declares x) k ms own all inner plain freely unborn q = frames.declares_on allowance lower behind among tds bodies s ms own x (first_or Null (operands_of all)) (without all) k q
-  frame_on Writes k ms own all inner plain freely unborn (frugal, q) =
-      frames.line_on allowance lower behind among tds bodies s ms own (named.reads_integer (first_or Null (operands_of all))) (without all) k q
-  frame_on (Ends v) k ms own all inner plain freely unborn (frugal, q) = frames.end_on allowance lower behind among tds bodies s ms own v (look s.heap v) all k q
-  frame_on (GivesBack v cause pool) k ms own all inner plain freely unborn (frugal, q) = frames.back_on allowance lower behind among tds bodies s ms own v cause pool (lent s.heap v) all k q
-  frame_on (Clears x) k ms own all inner plain freely unborn (frugal, q) = frames.puts_on allowance lower behind among tds bodies s ms own x Null all k q
-  frame_on (ClearsIn o c) k ms own all inner plain freely unborn (frugal, q) = frames.store_on allowance lower behind among tds bodies s ms own o c Null (look s.heap o) all k q
-  frame_on (Treats v treatment tasks) k ms own all inner plain freely unborn q = absurd (cc plain)
-  frame_on Confines k ms own all inner plain freely unborn q = frames.on allowance lower behind among tds bodies s ms own _ refl q.1
-  frame_on (Resumes mode) k ms own all inner plain freely unborn (frugal, q) = frames.on allowance lower behind among tds bodies s ms own _ refl q
-  frame_on f k ms own all inner plain freely unborn q = absurd q.0
-
-  leaving_on : (k : Control) (ms : List Master) → OwnVariables ms → (all : List (Activation Value)) → FrugalLeaves allowance behind among k ms → Fine (mode_next named tds bodies Running (now all k ms))
-  leaving_on [] ms own all q = absurd q
-  leaving_on (Leaves left ∷ k) ms own all q = frames.leaves_on allowance lower behind among tds bodies s ms own left all k q
-  leaving_on (f ∷ k) ms own all q = absurd q
-
-  -- An object that begins first goes on doing so, where it is not treated next: the body of an operation has ended.
-  beginning_on : (k : Control) (ms : List Master) → OwnVariables ms → (all : List (Activation Value)) → TreatsNothing k → FrugalBegins allowance behind among k ms → Fine (mode_next named tds bodies Running (now all k ms))
-  beginning_on [] ms own all none q = absurd q
-  beginning_on (Treats v treatment tasks ∷ k) ms own all none q = absurd (none v treatment tasks k refl)
-  beginning_on (Awaits v by done of part tasks ∷ k) ms own all none q = frames.awaited_on allowance lower behind among tds bodies s ms own v by done of part tasks (look s.heap v) all k q.0 q.1
-  beginning_on (f ∷ k) ms own all none q = absurd q
-
-  -- An exception has come out of the beginning of an object, or goes on where one is to begin.
-  breaking_on : (e : Exception) (k : Control) (ms : List Master) → OwnVariables ms → (all : List (Activation Value)) → FrugalBegins allowance behind among k ms → Fine (mode_next named tds bodies (Raising e) (frames.jumping_in allowance lower behind among tds bodies s e all k ms))
-  breaking_on e [] ms own all q = absurd q
-  breaking_on e (Treats v (begins by done) tasks ∷ k) ms own all q = frames.on allowance lower behind among tds bodies s ms own _ refl q.1
-  breaking_on e (Treats v (ends cause) tasks ∷ k) ms own all q = absurd q
-  breaking_on e (Awaits v by done of part tasks ∷ k) ms own all q = frames.broken_on allowance lower behind among tds bodies s ms own e v by done all k q.0 q.1
-  breaking_on e (f ∷ k) ms own all q = absurd q
-
-  -- A jump passes what is left of the body, or lands there.
-  abbrev passing : Mode → List (Activation Value) → Control → List Master → State
-  passing m all k ms = record s { mode = m; control = k; activations = all; masters = ms ++ lower }
-
-  handled_on : (e : Exception) (hs : HandlersForm) (found : Option StmtsForm) → handler_of e hs ≡ found → are_thrifty_handlers allowance hs ≡ true → (k : Control) (ms : List Master) → OwnVariables ms → (all : List (Activation Value)) → FrugalLeads allowance behind among k ms → Fine (landed named (handler_landing found) (Raising e) (passing (Raising e) all k ms))
-  handled_on e hs None is frugal k ms own all q = frames.on allowance lower behind among tds bodies s ms own _ refl q
-  handled_on e hs (Some no_stmts) is frugal k ms own all q = tt
-  handled_on e hs (Some (a_stmt f fs)) is frugal k ms own all q = frames.on allowance lower behind among tds bodies s ms own _ refl (handler_frugal allowance hs e (a_stmt f fs) is frugal, q)
-
-  raising_on : (e : Exception) (f : Frame Value) (k : Control) (ms : List Master) → OwnVariables ms → (all : List (Activation Value)) → IsInner f k ms → FrugalLeads allowance behind among (f ∷ k) ms → Fine (jump_next named (Raising e) (f ∷ k) (passing (Raising e) all (f ∷ k) ms))
-  raising_on e (Elaborates ds fs hs) k [] own all inner q = absurd q
-  raising_on e (Elaborates ds fs hs) k (m ∷ ms) own all inner q = frames.leaves_first allowance lower behind among tds bodies s (m ∷ ms) own (Raising e) k _ refl refl refl q.1
-  raising_on e Closes k [] own all inner q = absurd q
-  raising_on e Closes k (m ∷ ms) own all inner q = frames.leaves_first allowance lower behind among tds bodies s (m ∷ ms) own (Raising e) k _ refl refl refl q.1
-  raising_on e (Handles hs) k ms own all inner q = handled_on e hs (handler_of e hs) refl q.0 k ms own all q.1
-  raising_on e (Returns actuals references) k ms own all inner q = frames.on allowance lower behind among tds bodies s ms own _ refl inner
-  raising_on e (Awaits v by done of part tasks) k ms own all inner q = absurd q.0
-  raising_on e Confines k ms own all inner q = tt
-  raising_on e (Declares x) k [] own all inner q = absurd q
-  raising_on e (Declares x) k (m ∷ ms) own all inner q = frames.on allowance lower behind among tds bodies s (m ∷ ms) own _ refl q.1
-  raising_on e f k ms own all inner q = frames.on allowance lower behind among tds bodies s ms own _ refl q.1
-
-  exiting_on : (f : Frame Value) (k : Control) (ms : List Master) → OwnVariables ms → (all : List (Activation Value)) → IsInner f k ms → FrugalLeads allowance behind among (f ∷ k) ms → Fine (jump_next named Exiting (f ∷ k) (passing Exiting all (f ∷ k) ms))
-  exiting_on (Elaborates ds fs hs) k [] own all inner q = absurd q
-  exiting_on (Elaborates ds fs hs) k (m ∷ ms) own all inner q = frames.leaves_first allowance lower behind among tds bodies s (m ∷ ms) own Exiting k _ refl refl refl q.1
-  exiting_on Closes k [] own all inner q = absurd q
-  exiting_on Closes k (m ∷ ms) own all inner q = frames.leaves_first allowance lower behind among tds bodies s (m ∷ ms) own Exiting k _ refl refl refl q.1
-  exiting_on (Returns actuals references) k ms own all inner q = frames.on allowance lower behind among tds bodies s ms own _ refl inner
-  exiting_on (Awaits v by done of part tasks) k ms own all inner q = absurd q.0
-  exiting_on Confines k ms own all inner q = tt
-  exiting_on (Declares x) k [] own all inner q = absurd q
-  exiting_on (Declares x) k (m ∷ ms) own all inner q = frames.on allowance lower behind among tds bodies s (m ∷ ms) own _ refl q.1
-  exiting_on f k ms own all inner q = frames.on allowance lower behind among tds bodies s ms own _ refl q.1
-
-  returning_on : (f : Frame Value) (k : Control) (ms : List Master) → OwnVariables ms → (all : List (Activation Value)) → IsInner f k ms → FrugalLeads allowance behind among (f ∷ k) ms → Fine (jump_next named Returning (f ∷ k) (passing Returning all (f ∷ k) ms))
-  returning_on (Elaborates ds fs hs) k [] own all inner q = absurd q
-  returning_on (Elaborates ds fs hs) k (m ∷ ms) own all inner q = frames.leaves_first allowance lower behind among tds bodies s (m ∷ ms) own Returning k _ refl refl refl q.1
-  returning_on Closes k [] own all inner q = absurd q
-  returning_on Closes k (m ∷ ms) own all inner q = frames.leaves_first allowance lower behind among tds bodies s (m ∷ ms) own Returning k _ refl refl refl q.1
-  returning_on (Returns actuals references) k ms own all inner q = frames.on allowance lower behind among tds bodies s ms own _ refl (frames.storing_left allowance lower behind among tds bodies s ms own references k inner)
-  returning_on (Awaits v by done of part tasks) k ms own all inner q = absurd q.0
-  returning_on Confines k ms own all inner q = tt
-  returning_on (Declares x) k [] own all inner q = absurd q
-  returning_on (Declares x) k (m ∷ ms) own all inner q = frames.on allowance lower behind among tds bodies s (m ∷ ms) own _ refl q.1
-  returning_on f k ms own all inner q = frames.on allowance lower behind among tds bodies s ms own _ refl q.1
-
-  -- Whatever the mode is.
-  is_inner : (f : Frame Value) (k : Control) (ms : List Master) → ((actuals : List ActualForm) (references : List Value) (j : Control) → f ∷ k ≡ Returns actuals references ∷ j → FrugalLeads allowance behind among j ms) → IsInner f k ms
-  is_inner (Returns actuals references) k ms inner = inner actuals references k refl
-  is_inner f k ms inner = tt
-
-  is_plain : (f : Frame Value) (k : Control) → TreatsNothing (f ∷ k) → is_treatment f ≡ false
-  is_plain (Treats v treatment tasks) k none = absurd (none v treatment tasks k refl)
-  is_plain f k none = refl
-
-  mode_on : (mode : Mode) (k : Control) (ms : List Master) → OwnVariables ms → (all : List (Activation Value)) → ((actuals : List ActualForm) (references : List Value) (j : Control) → k ≡ Returns actuals references ∷ j → FrugalLeads allowance behind among j ms) → (mode ≡ Running → TreatsNothing k) → (mode ≡ Running → NextIsFreely allowance tds k s.heap (places_of all) (operands_of all)) → (allowance.treats_parts ≡ true → Unborn s.heap k) → Frugal allowance behind among mode k ms → Fine (mode_next named tds bodies mode (passing mode all k ms))
-  mode_on mode k ms own all inner none freely unborn (inr (inl (runs, leaving))) = rw runs (leaving_on k ms own all leaving)
-  mode_on Running k ms own all inner none freely unborn (inr (inr (may, beginning))) = beginning_on k ms own all (none refl) beginning
-  mode_on (Raising e) k ms own all inner none freely unborn (inr (inr (may, beginning))) = breaking_on e k ms own all beginning
-  mode_on Exiting k ms own all inner none freely unborn (inr (inr (may, beginning))) = absurd may
-  mode_on Returning k ms own all inner none freely unborn (inr (inr (may, beginning))) = absurd may
-  mode_on mode [] ms own all inner none freely unborn (inl q) = absurd q
-  mode_on Running (f ∷ k) ms own all inner none freely unborn (inl q) = frame_on f k ms own all (is_inner f k ms inner) (is_plain f k (none refl)) (freely refl) unborn q
-  mode_on (Raising e) (f ∷ k) ms own all inner none freely unborn (inl q) = raising_on e f k ms own all (is_inner f k ms inner) q
-  mode_on Exiting (f ∷ k) ms own all inner none freely unborn (inl q) = exiting_on f k ms own all (is_inner f k ms inner) q
-  mode_on Returning (f ∷ k) ms own all inner none freely unborn (inl q) = returning_on f k ms own all (is_inner f k ms inner) q
-
--- Where a body comes to its end next, it is one that was called: what called it goes on in these masters.
-abbrev pub EndsInner : (allowance : Allowance) (behind : Control) (among : List Value) → Control → List Master → Type 0
-EndsInner allowance behind among k ms = (actuals : List ActualForm) (references : List Value) (j : Control) → k ≡ Returns actuals references ∷ j → FrugalLeads allowance behind among j ms
-
--- While a frugal body runs, or one that it calls, and its own end is not next, whatever comes next is in such a body, too, where no object is treated next.
--- Each Free of what runs is by the instance for the access type of what it frees (13.11.2), among some types; and where bodies may free objects with controlled
--- parts, no object of these types that is in its collection has an operation that runs, unless one begins first, and none runs of an object that does not
--- exist.
 pub frugal_steps :
-    (p : ProgramForm) → OwnBody p → (tds : List TypeDefinition) (bodies : List BodyForm) (allowance : Allowance) → AccessIsBare allowance.types tds → RecordIsBare allowance.types tds → FindsFrugal allowance bodies
-    → (behind : Control) (among : List Value) (lower : List Master) (s : State) (f : Frugally allowance lower behind among s)
-    → EndsInner allowance behind among s.control f.upper → (s.mode ≡ Running → TreatsNothing s.control) → typed.TypedIn p s
-    → (may : ℕ → Bool) → (s.mode ≡ Running → FreesAmong may s.control) → (allowance.treats_parts ≡ true → begins_first s.control ≡ false → ListedAlone may s.heap s.control)
-    → (allowance.treats_parts ≡ true → Unborn s.heap s.control)
-    → GoesFrugally allowance lower behind among (next tds bodies s)
-unfolding next
-frugal_steps p whole tds bodies allowance bare records_bare finds_frugal behind among lower s f inner none typing may frees alone unborn =
-    subst (λ (t : State). GoesFrugally allowance lower behind among (mode_next named tds bodies s.mode t)) state_is
-    (mode_on allowance lower behind among tds bodies bare records_bare finds_frugal s s.mode s.control f.upper f.own s.activations inner none (λ runs. by f.frugal (frees runs) (next_own p whole s typing runs)) unborn f.frugal)
-  where
-    by : Frugal allowance behind among s.mode s.control f.upper → FreesAmong may s.control → NextFreesOwn s.control s.heap (places_of s.activations) (operands_of s.activations) → NextIsFreely allowance tds s.control s.heap (places_of s.activations) (operands_of s.activations)
-    by (inl q) freely own =
-        next_freely allowance tds bare may behind among s.heap (places_of s.activations) (operands_of s.activations) s.control f.upper (λ treats_parts. alone treats_parts (leads_first allowance behind among s.control f.upper q)) q freely own
-    by (inr (inl (runs, leaving))) freely own = leaving_freely s.control f.upper leaving
-      where
-        leaving_freely : (k : Control) (ms : List Master) → FrugalLeaves allowance behind among k ms → NextIsFreely allowance tds k s.heap (places_of s.activations) (operands_of s.activations)
-        leaving_freely [] ms leaves = tt
-        leaving_freely (Leaves left ∷ k) ms leaves = tt
-        leaving_freely (g ∷ k) ms leaves = absurd leaves
-    by (inr (inr (may', beginning))) freely own = beginning_freely s.control f.upper beginning
-      where
-        beginning_freely : (k : Control) (ms : List Master) → FrugalBegins allowance behind among k ms → NextIsFreely allowance tds k s.heap (places_of s.activations) (operands_of s.activations)
-        beginning_freely [] ms q = tt
-        beginning_freely (Treats v treatment tasks ∷ k) ms q = tt
-        beginning_freely (Awaits v how done of part tasks ∷ k) ms q = tt
-        beginning_freely (g ∷ k) ms q = absurd q
+    (p : ProgramForm) → OwnBody p → (tds : List TypeDefinition) (bodies : List BodyForm) (frugal : Thriftiness) (objects : Bool) → AccessIsBare (frugal.by objects).types tds → RecordIsBare (frugal.by objects).types tds
+    → FindsFrugal (frugal.by objects) bodies
+    → (behind : Control) (among : List Value) (lower : List Master) (s : State) (f : Frugally frugal lower objects behind among s)
+    → EndsInner frugal objects behind among s.control f.upper → (s.mode ≡ Running → TreatsNothing s.control) → typed.TypedIn p s
+    → (may : ℕ → Bool) → (s.mode ≡ Running → FreesAmong may s.control)
+    → ((frugal.by objects).treats_parts ≡ true → begins_first s.control ≡ false → ListedAlone may s.heap s.control)
+    → ((frugal.by objects).objects ≡ true → Unborn s.heap s.control)
+    → ((frugal.by objects).objects ≡ true → s.mode ≡ Running → LeftAlone s.heap s.masters s.control)
+    → GoesFrugally frugal lower objects behind among (next tds bodies s)
+frugal_steps = ?
 
-    -- The state, by its parts.
-    state_is : record s { masters = f.upper ++ lower } ≡ s
-    state_is = subst (λ (ms : List Master). record s { masters = ms } ≡ s) f.masters refl
-
--- The body, or what it calls, runs on, unless its own end is next, or an object is treated, in a run of a well-formed program.
 pub frugal_goes :
     (program : Program) → FreesItsOwn (program_form program)
-    → (lower : List Master) (behind : Control) (among : List Value) (s : State) (f : Frugally (allowance_of (program_form program)) lower behind among s)
-    → EndsInner (allowance_of (program_form program)) behind among s.control f.upper → (s.mode ≡ Running → TreatsNothing s.control)
+    → (last : Bool) (lower : List Master) (objects : Bool) (behind : Control) (among : List Value) (s : State) (f : Frugally (thriftiness_of (program_form program) last) lower objects behind among s)
+    → EndsInner (thriftiness_of (program_form program) last) objects behind among s.control f.upper → (s.mode ≡ Running → TreatsNothing s.control)
     → typed.TypedIn (seen_in (running_procedure s) (program_form program)) s
     → (may : ℕ → Bool) → (s.mode ≡ Running → FreesAmong may s.control) → (begins_first s.control ≡ false → ListedAlone may s.heap s.control)
-    → Unborn s.heap s.control
-    → GoesFrugally (allowance_of (program_form program)) lower behind among (next program.types.items (body_forms program) s)
-frugal_goes program whole lower behind among s f inner none typing may frees alone unborn =
-    let p = program_form program in
-    let procedure = running_procedure s in
-    frugal_steps (seen_in procedure p) (own_bodies p whole procedure) program.types.items (body_forms program) (allowance_of p) (bare_by program) (records_bare_by program)
-    (λ number b there told. body_thrifty p b (frugal_at p number b told there)) behind among lower s f inner none typing may frees (λ treats_parts. alone) (λ treats_parts. unborn)
+    → Unborn s.heap s.control → (s.mode ≡ Running → LeftAlone s.heap s.masters s.control)
+    → GoesFrugally (thriftiness_of (program_form program) last) lower objects behind among (next program.types.items (body_forms program) s)
+frugal_goes = ?
 
--- An object is treated next that such a body frees (7.6.1), or allocates (4.8): the body of an operation begins, or what is left to do is so behind that.
-module _ (allowance : Allowance) (lower : List Master) (back : Control) (among : List Value) (tds : List TypeDefinition) (bodies : List BodyForm) (s : State) where
+module _ (frugal : Thriftiness) (lower : List Master) (objects : Bool) (back : Control) (among : List Value) (tds : List TypeDefinition) (bodies : List BodyForm) (s : State) where
   abbrev pub GoesOrBegins : State → Type 0
-  GoesOrBegins after = Frugally allowance lower back among after ⊎ (length after.activations ≡ suc (length s.activations))
+  GoesOrBegins after = Frugally frugal lower objects back among after ⊎ (length after.activations ≡ suc (length s.activations))
 
   abbrev pub GoesTreating : Next → Type 0
   GoesTreating n = Each GoesOrBegins n
 
-  module _ (v : Value) (k : Control) (f : Frugally allowance lower back among s) (leads : FrugalLeads allowance back among k f.upper) where
-    abbrev left_with : List Object → Control → State
-    left_with heap c = record s { heap = heap; control = c }
-
-    called_on : (heap : List Object) (behind : Control) (procedure : ℕ) (found : Option BodyForm) (reference : Value) (event : Event Value) → GoesTreating (operation_next named procedure found reference behind event (left_with heap k))
-    called_on heap behind procedure None reference event = tt
-    called_on heap behind procedure (Some b) reference event = inr refl
-
-    -- It is freed.
-    module _ (treatment : Treatment) (ending : EndsThere allowance v treatment k) where
-      goes_on : (heap : List Object) (tasks : List Task) → GoesOrBegins (left_with heap (treating v treatment tasks k))
-      goes_on heap tasks = inl (record {
-        upper = f.upper;
-        masters = f.masters;
-        own = f.own;
-        frugal = inl (treating_leads allowance back among v treatment tasks k f.upper ending leads);
-      })
-
-      ended_on : (heap : List Object) (tasks : List Task) (part : ℕ) (state : PartState) (operation : Option ℕ) (event : Event Value) → GoesTreating (ended_next named bodies v part state (treating v treatment tasks k) operation event (left_with heap k))
-      ended_on heap tasks part state None event = goes_on heap tasks
-      ended_on heap tasks part state (Some procedure) event = called_on heap (Confines ∷ treating v treatment tasks k) procedure (slice_get bodies procedure) _ event
-
-    finalized_on : (cause : Cause) → EndsThere allowance v (ends cause) k → (of part : ℕ) (tasks : List Task) (operation : Option ℕ) (found : Option PartState) → GoesTreating (finalized_next named bodies v cause of part tasks operation found (record s { control = k }))
-    finalized_on cause ending of part tasks operation None = tt
-    finalized_on cause ending of part tasks operation (Some state) = by state.alive
-      where
-        by : (alive : Bool) → GoesTreating (if alive then ended_next named bodies v part state (treating v (ends cause) tasks k) operation (Finalized v part state.turn of state.number cause) (record s { heap = finalize s.heap v part; control = k }) else halts (Erroneous FinalizesTwice))
-        by true = ended_on (ends cause) ending (finalize s.heap v part) tasks part state operation _
-        by false = tt
-
-    performed_on : (treatment : Treatment) → EndsThere allowance v treatment k → (of part : ℕ) (tasks : List Task) (found : Found (Cell Value)) → GoesTreating (performed_next named tds bodies v treatment of part tasks found (record s { control = k }))
-    performed_on treatment ending of part tasks on_null = tt
-    performed_on treatment ending of part tasks on_gone = tt
-    performed_on treatment ending of part tasks on_other = tt
-    performed_on (begins by done) ending of part tasks (finds cell) = absurd ending.0
-    performed_on (ends cause) ending of part tasks (finds cell) = finalized_on cause ending of part tasks (procedure_number (operations_of tds of).finalize) (slice_get cell.parts part)
-
-    treats_on : (treatment : Treatment) → EndsThere allowance v treatment k → (tasks : List Task) (n : NextTask) → GoesTreating (treats_next named tds bodies v treatment tasks n (record s { control = k }))
-    treats_on treatment ending tasks Done = goes_on treatment ending s.heap []
-    treats_on treatment ending tasks (Pick count) = by (count == 0)
-      where
-        by : (none : Bool) → GoesTreating (if none then halts Stuck else picks count (λ i. treated_on named v treatment (picked_task (shapes_of tds) (direction_of treatment) tasks i) (record s { control = k })))
-        by true = tt
-        by false = λ i lt. goes_on treatment ending s.heap (picked_task (shapes_of tds) (direction_of treatment) tasks i)
-    treats_on treatment ending tasks (Perform of part) = performed_on treatment ending of part (performed tasks) (look s.heap v)
-
-    -- It is new.
-    module _ (by : Birth) (runs : s.mode ≡ Running) (fresh : BeginsThere allowance v by k) where
-      goes_begun : (done : List Part) (tasks : List Task) → GoesOrBegins (left_with s.heap (treating v (begins by done) tasks k))
-      goes_begun done tasks = inl (record {
-        upper = f.upper;
-        masters = f.masters;
-        own = f.own;
-        frugal = rw runs (beginning_frugal allowance back among v by done tasks k f.upper fresh leads);
-      })
-
-      born_on : (done : List Part) (of part : ℕ) (tasks : List Task) (found : Option PartState) → GoesTreating (born_next named v by done of part tasks found (record s { control = k }))
-      born_on done of part tasks None = tt
-      born_on done of part tasks (Some p) = inl (record {
-        upper = f.upper;
-        masters = f.masters;
-        own = f.own;
-        frugal = rw runs (beginning_frugal allowance back among v by (record { of = of; number = part } ∷ done) tasks k f.upper fresh leads);
-      })
-
-      begun_on : (done : List Part) (of part : ℕ) (tasks : List Task) (operation : Option ℕ) (found : Option PartState) → GoesTreating (begun_next named bodies v by done of part tasks operation found (record s { control = k }))
-      begun_on done of part tasks operation None = tt
-      begun_on done of part tasks None (Some p) = born_on done of part tasks (Some p)
-      begun_on done of part tasks (Some procedure) (Some p) = called_on s.heap (Awaits v by done of part tasks ∷ k) procedure (slice_get bodies procedure) _ Quiet
-
-      starts_on : (done : List Part) (of part : ℕ) (tasks : List Task) (found : Found (Cell Value)) → GoesTreating (performed_next named tds bodies v (begins by done) of part tasks found (record s { control = k }))
-      starts_on done of part tasks on_null = tt
-      starts_on done of part tasks on_gone = tt
-      starts_on done of part tasks on_other = tt
-      starts_on done of part tasks (finds cell) = begun_on done of part tasks (beginning by (operations_of tds of)) (slice_get cell.parts part)
-
-      begins_on : (done : List Part) (tasks : List Task) (n : NextTask) → GoesTreating (treats_next named tds bodies v (begins by done) tasks n (record s { control = k }))
-      begins_on done tasks Done = goes_begun done []
-      begins_on done tasks (Pick count) = by_count (count == 0)
-        where
-          by_count : (none : Bool) → GoesTreating (if none then halts Stuck else picks count (λ i. treated_on named v (begins by done) (picked_task (shapes_of tds) (direction_of (begins by done)) tasks i) (record s { control = k })))
-          by_count true = tt
-          by_count false = λ i lt. goes_begun done (picked_task (shapes_of tds) (direction_of (begins by done)) tasks i)
-      begins_on done tasks (Perform of part) = starts_on done of part (performed tasks) (look s.heap v)
-
 pub treats_frugally :
-    (allowance : Allowance) (lower : List Master) (back : Control) (among : List Value) (tds : List TypeDefinition) (bodies : List BodyForm) (s : State) → Frugally allowance lower back among s → s.mode ≡ Running
-    → (v : Value) (treatment : Treatment) (tasks : List Task) (k : Control) → s.control ≡ Treats v treatment tasks ∷ k → GoesTreating allowance lower back among tds bodies s (next tds bodies s)
-unfolding next
-treats_frugally allowance lower back among tds bodies s f runs v treatment tasks k first =
-    coming s.mode s.control runs first
-  where
-    by_frugal : (treatment' : Treatment) → Frugal allowance back among s.mode (Treats v treatment' tasks ∷ k) f.upper
-        → GoesTreating allowance lower back among tds bodies s (treats_next named tds bodies v treatment' tasks (task_next tasks) (record s { control = k }))
-    by_frugal treatment' (inl q) = treats_on allowance lower back among tds bodies s v k f q.1 treatment' q.0 tasks (task_next tasks)
-    by_frugal treatment' (inr (inl (running, leaving))) = absurd leaving
-    by_frugal (begins how done) (inr (inr (may, q))) = begins_on allowance lower back among tds bodies s v k f q.1 how runs q.0 done tasks (task_next tasks)
-    by_frugal (ends cause) (inr (inr (may, q))) = absurd q
+    (frugal : Thriftiness) (lower : List Master) (objects : Bool) (back : Control) (among : List Value) (tds : List TypeDefinition) (bodies : List BodyForm) (s : State) → Frugally frugal lower objects back among s → s.mode ≡ Running
+    → (v : Value) (treatment : Treatment) (tasks : List Task) (k : Control) → s.control ≡ Treats v treatment tasks ∷ k → GoesTreating frugal lower objects back among tds bodies s (next tds bodies s)
+treats_frugally = ?
 
-    coming : (mode : Mode) (c : Control) → mode ≡ Running → c ≡ Treats v treatment tasks ∷ k → GoesTreating allowance lower back among tds bodies s (mode_next named tds bodies mode (record s { control = c }))
-    coming mode c running is = rw (running, is) (by_frugal treatment (subst (λ (j : Control). Frugal allowance back among s.mode j f.upper) first f.frugal))
-
--- No operation waits for the end of a call (6.4): typing says so.
 pub called_back : (p : ProgramForm) (s : State) (number : ℕ) (b : BodyForm) (given : List ActualForm) (k : Control) → typed.TypedIn p s → s.mode ≡ Running → s.control ≡ Calls number b given ∷ k → IsAwaited k → ⊥
-called_back p s number b given k (typed.running kinds ready fits) runs is awaited = behind_it k (by s.control is fits) awaited
-  where
-    by : (control : Control) → control ≡ Calls number b given ∷ k → typed.Fits p (cells_of s.heap) kinds control → typed.Fits p (cells_of s.heap) [] k
-    by control same fitting = (rw same at fitting).3
+called_back = ?
 
-    behind_it : (j : Control) → typed.Fits p (cells_of s.heap) [] j → IsAwaited j → ⊥
-    behind_it [] fitting waits = waits
-    behind_it (Awaits v by' done of part tasks ∷ j) fitting waits = fitting
-    behind_it (Confines ∷ j) fitting waits = fitting
-    behind_it (f ∷ j) fitting waits = waits
-called_back p s number b given k (typed.operated kinds ready ended) runs is awaited =
-    let there = operation_ends_there p (cells_of s.heap) kinds s.control ended in
-    let none : ends_operation s.control ≡ false = ap ends_operation is in
-    absurd (cc (there, none))
-called_back p s number b given k (typed.out_of_operation e kinds jumps ended) runs is awaited =
-    let there = operation_ends_there p (cells_of s.heap) kinds s.control ended in
-    let none : ends_operation s.control ≡ false = ap ends_operation is in
-    absurd (cc (there, none))
-called_back p s number b given k (typed.on_jump mode jumps goes) runs is awaited =
-    let same : mode ≡ Running = sym jumps.jumps ∙ runs in
-    let nowhere : typed.Goes p (cells_of s.heap) Running s.control = rw same at goes in
-    nowhere
+-- Where bodies free no objects with controlled parts, and declare no record objects, no object is treated.
+pub treats_none : (frugal : Thriftiness) (objects : Bool) → (frugal.by objects).treats_parts ≡ false → (frugal.by objects).objects ≡ false → (behind : Control) (among : List Value) (mode : Mode) (k : Control) (ms : List Master)
+    → Frugal frugal objects behind among mode k ms → TreatsNothing k
+treats_none = ?
 
--- Where bodies free no objects with controlled parts, no object is treated.
-pub treats_none : (allowance : Allowance) → allowance.treats_parts ≡ false → (behind : Control) (among : List Value) (mode : Mode) (k : Control) (ms : List Master) → Frugal allowance behind among mode k ms → TreatsNothing k
-treats_none allowance none behind among mode k ms (inl q) v treatment tasks j is =
-    let first = none_treated allowance none behind among (Treats v treatment tasks) j ms (rw is at q) in
-    let never : true ≡ false = first.0 in
-    absurd (cc never)
-treats_none allowance none behind among mode k ms (inr (inl (runs, leaving))) v treatment tasks j is = let never : ⊥ = rw is at leaving in never
-treats_none allowance none behind among mode k ms (inr (inr (may, beginning))) v treatment tasks j is = none_beginning allowance none behind among k ms beginning
+pub none_ends : (frugal : Thriftiness) (objects : Bool) → (frugal.by objects).treats_parts ≡ false → (frugal.by objects).objects ≡ false → (behind : Control) (among : List Value) (mode : Mode) (k : Control) (ms : List Master)
+    → Frugal frugal objects behind among mode k ms → ends_operation k ≡ false
+none_ends = ?
 
--- No operation of a controlled type ends in such a body, either.
-pub none_ends : (allowance : Allowance) → allowance.treats_parts ≡ false → (behind : Control) (among : List Value) (mode : Mode) (k : Control) (ms : List Master) → Frugal allowance behind among mode k ms → ends_operation k ≡ false
-none_ends allowance none behind among mode [] ms frugal = refl
-none_ends allowance none behind among mode (f ∷ k) ms (inl q) = (none_treated allowance none behind among f k ms q).1
-none_ends allowance none behind among mode (Leaves left ∷ k) ms (inr q) = refl
-none_ends allowance none behind among mode (f ∷ k) ms (inr (inl q)) = absurd q.1
-none_ends allowance none behind among mode (f ∷ k) ms (inr (inr q)) = absurd (none_beginning allowance none behind among (f ∷ k) ms q.1)
-
--- A call comes next.
 abbrev pub is_call_first : Control → Bool
 is_call_first [] = false
 is_call_first (Calls number b actuals ∷ k) = true
 is_call_first (f ∷ k) = false
 
--- A frame calls nothing, but where it is a call, or treats an object.
-calls_nothing : (f : Frame Value) (k : Control) → is_return f ≡ false → is_call_first (f ∷ k) ≡ false → is_treatment f ≡ false → (crosses_by f || is_treatment f) ≡ false
-calls_nothing (Calls number b actuals) k inner none plain = absurd (cc none)
-calls_nothing (Returns actuals references) k inner none plain = absurd (cc inner)
-calls_nothing (Treats v treatment tasks) k inner none plain = absurd (cc plain)
-calls_nothing f k inner none plain = refl
-
-leaving_crosses : (allowance : Allowance) (behind : Control) (among : List Value) (k : Control) (ms : List Master) → FrugalLeaves allowance behind among k ms → crosses Running k ≡ false
-leaving_crosses allowance behind among [] ms leaving = refl
-leaving_crosses allowance behind among (Leaves left ∷ k) ms leaving = refl
-leaving_crosses allowance behind among (f ∷ k) ms leaving = absurd leaving
-
--- Where bodies free no objects with controlled parts, and neither the end of a body is next, nor the beginning of one, no body begins, none ends, and no
--- operation is called.
-pub frugal_crosses : (allowance : Allowance) → allowance.treats_parts ≡ false → (behind : Control) (among : List Value) (mode : Mode) (k : Control) (ms : List Master) → Frugal allowance behind among mode k ms → is_return_first k ≡ false → (mode ≡ Running → is_call_first k ≡ false) → crosses mode k ≡ false
-frugal_crosses allowance ends_none behind among mode k ms (inr (inl (runs, leaving))) inner none = rw runs (leaving_crosses allowance behind among k ms leaving)
-frugal_crosses allowance ends_none behind among mode k ms (inr (inr (may, beginning))) inner none = absurd (none_beginning allowance ends_none behind among k ms beginning)
-frugal_crosses allowance ends_none behind among mode [] ms (inl q) inner none = absurd q
-frugal_crosses allowance ends_none behind among Running (f ∷ k) ms (inl q) inner none = calls_nothing f k inner (none refl) (none_treated allowance ends_none behind among f k ms q).0
-frugal_crosses allowance ends_none behind among (Raising e) (f ∷ k) ms (inl q) inner none = inner
-frugal_crosses allowance ends_none behind among Exiting (f ∷ k) ms (inl q) inner none = inner
-frugal_crosses allowance ends_none behind among Returning (f ∷ k) ms (inl q) inner none = inner
+pub frugal_crosses : (frugal : Thriftiness) (objects : Bool) → (frugal.by objects).treats_parts ≡ false → (frugal.by objects).objects ≡ false → (behind : Control) (among : List Value) (mode : Mode) (k : Control) (ms : List Master)
+    → Frugal frugal objects behind among mode k ms → is_return_first k ≡ false → (mode ≡ Running → is_call_first k ≡ false) → crosses mode k ≡ false
+frugal_crosses = ?
