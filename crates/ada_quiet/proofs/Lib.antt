@@ -10,6 +10,8 @@ pub mod QuietFrugal
 pub mod QuietSimple
 -- procedures that are frugal have frugal bodies
 pub mod FrugalAt
+-- what is frugal is so where it may create more
+pub mod ObjectsMore
 -- collections that are created in order, found in one pass
 pub mod Collecting
 -- which types are calm, by what lies in their objects
