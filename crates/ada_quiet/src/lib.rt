@@ -62,6 +62,7 @@ mod bodies;
 mod calm;
 mod collections;
 mod components;
+mod earlier;
 mod first;
 mod frugal;
 mod idle;
