@@ -1,8 +1,7 @@
 -- How many procedures there are up to the last one that overrides an operation of a part of a record type's objects, found in one pass over the types: at least so many as up to
 -- each of those that override an operation of a record that lies in its objects (7.6).
 
-use Rattle.std.proofs.Common.{◌≡◌, ℕ, zero, suc, ◌+◌, ◌<◌, ◌≤◌, Bool, true, false, List, [], ◌∷◌, ◌++◌, length, map, get_or, Option, Some, None, ◌⊎◌, inl, inr, refl, sym, ap, ◌∙◌, subst, arith, add-one, Bor}
-use Rattle.std.specs.Prelude.{nat_lt}
+use Rattle.std.proofs.Common.{◌≡◌, ℕ, zero, suc, ◌+◌, ◌<◌, ◌≤◌, true, List, [], ◌∷◌, ◌++◌, length, map, get_or, Option, Some, None, inl, inr, refl, sym, ap, ◌∙◌, subst, arith, add-one, Bor}
 use Rattle.std.specs.List.{list_all, slice_get, slice_index_or}
 use Rattle.std.specs.Option.{option_copied, option_map}
 use Rattle.std.proofs.lemmas.Bool.{ltb-true}
@@ -26,13 +25,7 @@ use Rattle.ada_quiet.proofs.InUse.{first_of_both, second_of_both}
 use Rattle.ada_quiet.proofs.NumberedTypes.{item_numbered, table_whole, known_up, kept_up, says}
 use Rattle.ada_quiet.proofs.Unused.{IsAmong}
 
--- The greater one of some numbers.
-
-pub greater_all : (l m n : ℕ) → greater (greater l m) n ≡ greater l (greater m n)
-greater_all l m n = grind (arith, common_steps)
-
-pub greater_none : (n : ℕ) → greater n 0 ≡ n
-greater_none n = grind (arith, common_steps)
+-- The greater one of two numbers.
 
 pub first_within : (m n : ℕ) → m ≤ greater m n
 first_within m n = grind (arith, common_steps)
@@ -40,14 +33,7 @@ first_within m n = grind (arith, common_steps)
 pub second_within : (m n : ℕ) → n ≤ greater m n
 second_within m n = grind (arith, common_steps)
 
-pub ruleset greater_steps = (greater_all, greater_none)
-
--- An item of a table, as it is counted.
-pub counted_at : (xs : List (Option ProcedureNo)) (n : ℕ) → count_up_to (slice_index_or xs n None) ≡ slice_index_or (map count_up_to xs) n 0
-counted_at [] n = refl
-counted_at (x ∷ xs) zero = refl
-counted_at (x ∷ xs) (suc n) = counted_at xs n
-
+-- What is counted behind others.
 counted_behind : (xs : List (Option ProcedureNo)) (x : Option ProcedureNo) → map count_up_to (xs ++ x ∷ []) ≡ map count_up_to xs ++ count_up_to x ∷ []
 counted_behind [] x = refl
 counted_behind (y ∷ xs) x = ap (λ (ns : List ℕ). count_up_to y ∷ ns) (counted_behind xs x)

@@ -170,4 +170,3 @@ says types fit t name ps components f at =
       below = ltb-true f.number.0 (numbered_types types) (first_of_both below one alone);
       found = found_one its types t form at (eq_self f.number.0) (eqb-true (count_by its types) 1 (second_of_both below one alone));
     }
-

@@ -26,11 +26,7 @@ fn later_of(one: Option<ProcedureNo>, other: Option<ProcedureNo>) -> Option<Proc
     match (one, other) {
         (None, other) => other,
         (Some(_), None) => one,
-        (Some(first), Some(second)) => if first.0 < second.0 {
-            other
-        } else {
-            one
-        },
+        (Some(first), Some(second)) => if first.0 < second.0 { other } else { one },
     }
 }
 
@@ -110,7 +106,10 @@ fn type_last(
                 components: _,
                 finalization,
             },
-        ) => later_of(finalization_last(*finalization), parts_last(types, last, parts)),
+        ) => later_of(
+            finalization_last(*finalization),
+            parts_last(types, last, parts),
+        ),
         Some(TypeDefinition::Access { .. }) | Some(TypeDefinition::Object { .. }) | None => None,
     }
 }
@@ -152,7 +151,10 @@ fn object_last(
                 pool: _,
             },
         ) => known_last(last, finalization_of(types, designated.0)),
-        Some(TypeDefinition::Object { record }) => known_last(last, finalization_of(types, record.0)),
+        Some(TypeDefinition::Object { record }) => known_last(
+            last,
+            finalization_of(types, record.0),
+        ),
         Some(TypeDefinition::Record { .. }) | None => None,
     }
 }

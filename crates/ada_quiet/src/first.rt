@@ -116,9 +116,9 @@ fn unused_in(
     owns: bool,
     finalization: Option<Finalization>,
 ) -> Result<Option<Spot>, AllocError>
-    requires creating { known.entry.creating.now ≡ frugal.frugal_procedures (program_form program.now) true }
-    requires sparing { known.entry.sparing.now ≡ frugal.frugal_procedures (program_form program.now) false }
-    requires last { map count_up_to known.entry.last.now ≡ override_counts (types_in program.now.types.items) }
+    requires creating { known.creating.now ≡ frugal.frugal_procedures (program_form program.now) true }
+    requires sparing { known.sparing.now ≡ frugal.frugal_procedures (program_form program.now) false }
+    requires last { map count_up_to known.last.now ≡ override_counts (types_in program.now.types.items) }
     ensures { IfOk result (λ first. first
         ≡ rules.unused_in (program_form program.now) may.frugal may.nothing may.tracks may.alone owns finalization) }
 {
