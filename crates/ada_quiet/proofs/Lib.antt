@@ -10,9 +10,15 @@ pub mod QuietFrugal
 pub mod QuietSimple
 -- procedures that are frugal have frugal bodies
 pub mod FrugalAt
+-- what is frugal is so where it may create more
+pub mod ObjectsMore
 -- collections that are created in order, found in one pass
 pub mod Collecting
+-- record types with controlled parts, by their numbers, and tables of what is known of them
+pub mod NumberedTypes
 -- which types are calm, by what lies in their objects
 pub mod CalmTypes
+-- the last ones of those that override operations of the parts of a record type's objects
+pub mod EarlierParts
 -- the first place where a component of a record frees an object
 pub mod Releasing

@@ -12,24 +12,24 @@ use Rattle.ada_quiet.proofs.InUse.{second_of_both, others}
 
 module _ (thrift : Thrift) (types : List TypeForm) (variables : List VariableForm) where
   -- What is quiet allocates nothing.
-  right_frugal : (right : RightForm) → is_quiet_right types variables right ≡ true → allocates_frugally thrift.types right ≡ true
+  right_frugal : (right : RightForm) → is_quiet_right types variables right ≡ true → allocates_frugally thrift right ≡ true
   right_frugal nothing quiet = refl
   right_frugal (value_of path) quiet = refl
   right_frugal (allocates access items) quiet = absurd (cc quiet)
   right_frugal (allocates_default access) quiet = absurd (cc quiet)
   right_frugal (computes e) quiet = refl
 
-  declaration_frugal : (d : DeclarationForm) → is_quiet_declaration types variables d ≡ true → is_frugal_declaration thrift.types d ≡ true
+  declaration_frugal : (d : DeclarationForm) → is_quiet_declaration types variables d ≡ true → is_frugal_declaration thrift d ≡ true
   declaration_frugal (creates_pool p) quiet = absurd (cc quiet)
   declaration_frugal (collects access) quiet = absurd (cc quiet)
   declaration_frugal (declares x right) quiet =
       right_frugal right (second_of_both (holds_elementary (variable_kind variables x)) (is_quiet_right types variables right) quiet)
   declaration_frugal (declares_record x t initial) quiet = absurd (cc quiet)
 
-  declarations_frugal : (ds : List DeclarationForm) → are_quiet_declarations types variables ds ≡ true → are_frugal_declarations thrift.types ds ≡ true
+  declarations_frugal : (ds : List DeclarationForm) → are_quiet_declarations types variables ds ≡ true → are_frugal_declarations thrift ds ≡ true
   declarations_frugal [] quiet = refl
   declarations_frugal (d ∷ ds) quiet =
-      others (is_quiet_declaration types variables d) (are_quiet_declarations types variables ds) (is_frugal_declaration thrift.types d) (are_frugal_declarations thrift.types ds)
+      others (is_quiet_declaration types variables d) (are_quiet_declarations types variables ds) (is_frugal_declaration thrift d) (are_frugal_declarations thrift ds)
       (declaration_frugal d) (declarations_frugal ds) quiet
 
   mutual
@@ -54,8 +54,8 @@ module _ (thrift : Thrift) (types : List TypeForm) (variables : List VariableFor
     stmt_frugal (raises e) quiet = refl
     stmt_frugal (encloses ds fs hs) quiet =
         others (are_quiet_declarations types variables ds && are_quiet types variables fs) (are_quiet_handlers types variables hs)
-        (are_frugal_declarations thrift.types ds && are_frugal thrift fs) (are_frugal_handlers thrift hs)
-        (others (are_quiet_declarations types variables ds) (are_quiet types variables fs) (are_frugal_declarations thrift.types ds) (are_frugal thrift fs)
+        (are_frugal_declarations thrift ds && are_frugal thrift fs) (are_frugal_handlers thrift hs)
+        (others (are_quiet_declarations types variables ds) (are_quiet types variables fs) (are_frugal_declarations thrift ds) (are_frugal thrift fs)
         (declarations_frugal ds) (stmts_frugal fs))
         (handlers_frugal hs) quiet
 
@@ -81,8 +81,8 @@ module _ (thrift : Thrift) (types : List TypeForm) (variables : List VariableFor
 -- All variables of a plain body but its formal parameter are Integers and Booleans: of a frugal one this is not asked.
 pub frugal_body : (thrift : Thrift) (types : List TypeForm) (b : BodyForm) → is_plain_body types b ≡ true → is_frugal_body thrift b ≡ true
 frugal_body thrift types b plain =
-    others (elementary && declarations && statements) handlers (are_frugal_declarations thrift.types b.declarations && are_frugal thrift b.statements) (are_frugal_handlers thrift b.handlers)
-    (others (elementary && declarations) statements (are_frugal_declarations thrift.types b.declarations) (are_frugal thrift b.statements)
+    others (elementary && declarations && statements) handlers (are_frugal_declarations thrift b.declarations && are_frugal thrift b.statements) (are_frugal_handlers thrift b.handlers)
+    (others (elementary && declarations) statements (are_frugal_declarations thrift b.declarations) (are_frugal thrift b.statements)
     (λ both. declarations_frugal thrift types b.variables b.declarations (second_of_both elementary declarations both))
     (stmts_frugal thrift types b.variables b.statements))
     (handlers_frugal thrift types b.variables b.handlers) plain

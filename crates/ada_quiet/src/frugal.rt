@@ -1,8 +1,10 @@
-//! Declarations, statements and bodies, where they are frugal: they allocate, move, follow and free objects (4.8, 13.11.2), of which those
-//! with controlled parts that they allocate are initialized by default (7.6), assign records without such parts (5.2), call procedures with
-//! frugal bodies alone (6.4), and declare no more than variables.
+//! Declarations, statements and bodies, where they are frugal: they allocate, move, follow and free objects (4.8, 13.11.2), assign records
+//! without controlled parts (5.2), call procedures with frugal bodies alone (6.4), and declare variables. Where they may, they also declare
+//! record objects that name nothing, and allocate objects with controlled parts, both initialized by default (3.3.1, 7.6).
 
 ghost use Rattle.std.specs.Prelude.{◌≡◌, ◌&&◌, false, map, slice_index_or, IfOk};
+ghost use Rattle.std.specs.List.{list_all};
+ghost use Rattle.std.specs.Option.{option_copied};
 ghost use Rattle.ada_program.specs.Form.{StmtsForm, branches_form, declaration_form, handlers_form, initial_form, right_form, stmt_form, stmts_form};
 ghost use Rattle.ada_program.specs.Kept.{types_in};
 ghost use Rattle.ada_program.specs.ProgramForm.{body_form, program_form};
@@ -11,9 +13,12 @@ ghost use Rattle.ada_quiet.specs.Known.{thrift_in};
 
 use crate::apart::are_bare_items;
 use crate::bare::has_bare_objects;
+use ada_program::lookup::reached_components;
 use ada_program::parts::finalization_of;
-use ada_program::program::{Branch, Declaration, Handler, Procedure, Right, TypeDefinition};
-use ada_program::{ProcedureNo, Program, Stmt};
+use ada_program::program::{
+    Branch, ComponentKind, Declaration, Handler, Procedure, Right, TypeDefinition,
+};
+use ada_program::{ProcedureNo, Program, Stmt, TypeNo};
 use std::alloc::{AllocError, Global};
 
 /// What frugal bodies go by.
@@ -21,49 +26,100 @@ use std::alloc::{AllocError, Global};
 struct Thrift<'a> {
     /// The types of the program.
     types: &'a [TypeDefinition],
+    /// Whether they may declare record objects, and allocate objects with controlled parts.
+    objects: bool,
     /// Of each procedure that is known, by its number, whether its body is frugal.
     procedures: &'a [bool],
 }
 
-/// Whether what is assigned is no new object (4.8), or one that has no controlled parts, or is initialized by default (7.6).
-fn allocates_frugally(types: &[TypeDefinition], right: &Right) -> bool
-    ensures { result ≡ rules.allocates_frugally (types_in types.now) (right_form right.now) }
+/// Whether a component is an Integer or a Boolean (3.5).
+fn is_scalar(component: ComponentKind) -> bool
+    ensures { result ≡ rules.is_scalar component }
+{
+    match component {
+        ComponentKind::Integer { initial: _ } | ComponentKind::Boolean { initial: _ } => true,
+        ComponentKind::Access(_) => false,
+    }
+}
+
+/// Whether each of these components is. Linear in them.
+fn are_all_scalars(components: &[ComponentKind]) -> bool
+    ensures { result ≡ list_all rules.is_scalar components.now }
+{
+    'components: for component in components {
+        if !is_scalar(*component) {
+            return false;
+        }
+    }
+    true
+}
+
+/// Whether each component of the object that is known by a type is, at any depth: it names nothing (3.8). Linear in the components.
+fn holds_scalars(types: &[TypeDefinition], object: TypeNo) -> bool
+    ensures { result ≡ rules.holds_scalars (types_in types.now) object.0 }
+{
+    match reached_components(types, object.0) {
+        Some(components) => are_all_scalars(components),
+        None => false,
+    }
+}
+
+/// Whether what is assigned is no new object (4.8), or one that has no controlled parts, or, where that may be, is initialized by default
+/// (7.6).
+fn allocates_frugally(thrift: Thrift<'_>, right: &Right) -> bool
+    ensures { let by = thrift_in thrift.entry.types.now thrift.entry.objects thrift.entry.procedures.now in
+        result ≡ rules.allocates_frugally by (right_form right.now) }
 {
     match right {
-        Right::Null | Right::Path(_) | Right::Default(_) | Right::Value(_) => true,
-        Right::Allocator { access, items: _ } => has_bare_objects(types, *access),
+        Right::Null | Right::Path(_) | Right::Value(_) => true,
+        Right::Default(access) => thrift.objects || has_bare_objects(thrift.types, *access),
+        Right::Allocator { access, items: _ } => has_bare_objects(thrift.types, *access),
     }
 }
 
 /// Whether what a variable is given at first is, if it is given something (3.3.1).
-fn initial_allocates_frugally(types: &[TypeDefinition], initial: &Option<Right>) -> bool
-    ensures { result ≡ rules.allocates_frugally (types_in types.now) (initial_form initial.now) }
+fn initial_allocates_frugally(thrift: Thrift<'_>, initial: &Option<Right>) -> bool
+    ensures { let by = thrift_in thrift.entry.types.now thrift.entry.objects thrift.entry.procedures.now in
+        result ≡ rules.allocates_frugally by (initial_form initial.now) }
 {
     match initial {
         None => true,
-        Some(right) => allocates_frugally(types, right),
+        Some(right) => allocates_frugally(thrift, right),
     }
 }
 
-/// Whether a declaration is that of a variable, and so it is with what that is given at first (3.3.1).
-fn is_frugal_declaration(types: &[TypeDefinition], declaration: &Declaration) -> bool
-    ensures { result ≡ rules.is_frugal_declaration (types_in types.now) (declaration_form declaration.now) }
+/// Whether a declaration is that of a variable, and so it is with what that is given at first (3.3.1), or, where that may be, that of a
+/// record object that names nothing and is initialized by default.
+fn is_frugal_declaration(thrift: Thrift<'_>, declaration: &Declaration) -> bool
+    ensures { let by = thrift_in thrift.entry.types.now thrift.entry.objects thrift.entry.procedures.now in
+        result ≡ rules.is_frugal_declaration by (declaration_form declaration.now) }
 {
     match declaration {
         Declaration::Variable {
             variable: _,
             initial,
-        } => initial_allocates_frugally(types, initial),
-        Declaration::Pool(_) | Declaration::Collection(_) | Declaration::Record { .. } => false,
+        } => initial_allocates_frugally(thrift, initial),
+        Declaration::Record {
+            variable: _,
+            object,
+            initial: None,
+        } => thrift.objects && holds_scalars(thrift.types, *object),
+        Declaration::Record {
+            variable: _,
+            object: _,
+            initial: Some(_),
+        } => false,
+        Declaration::Pool(_) | Declaration::Collection(_) => false,
     }
 }
 
-/// Whether each of these is.
-fn are_frugal_declarations(types: &[TypeDefinition], declarations: &[Declaration]) -> bool
-    ensures { result ≡ rules.are_frugal_declarations (types_in types.now) (map declaration_form declarations.now) }
+/// Whether each of these declarations is.
+fn are_frugal_declarations(thrift: Thrift<'_>, declarations: &[Declaration]) -> bool
+    ensures { let by = thrift_in thrift.entry.types.now thrift.entry.objects thrift.entry.procedures.now in
+        result ≡ rules.are_frugal_declarations by (map declaration_form declarations.now) }
 {
     'declarations: for declaration in declarations {
-        if !is_frugal_declaration(types, declaration) {
+        if !is_frugal_declaration(thrift, declaration) {
             return false;
         }
     }
@@ -85,7 +141,7 @@ pub(crate) fn is_frugal_call(frugal: &[bool], procedure: ProcedureNo) -> bool
 #[cycle(statements)]
 #[tactic(auto, using(std::proofs::lemmas::Grind::common_steps, ada_program::specs::Form::statement_rules))]
 fn is_frugal_stmt(thrift: Thrift<'_>, statement: &Stmt) -> bool
-    ensures { let by = thrift_in thrift.entry.types.now thrift.entry.procedures.now in
+    ensures { let by = thrift_in thrift.entry.types.now thrift.entry.objects thrift.entry.procedures.now in
         result ≡ rules.is_frugal_stmt by (stmt_form statement.now) }
 {
     match statement {
@@ -101,7 +157,7 @@ fn is_frugal_stmt(thrift: Thrift<'_>, statement: &Stmt) -> bool
             finalization_of(thrift.types, target.record.0).is_none()
                 && are_bare_items(thrift.types, items)
         }
-        Stmt::Assign { target: _, value } => allocates_frugally(thrift.types, value),
+        Stmt::Assign { target: _, value } => allocates_frugally(thrift, value),
         Stmt::Call {
             procedure,
             actuals: _,
@@ -126,7 +182,7 @@ fn is_frugal_stmt(thrift: Thrift<'_>, statement: &Stmt) -> bool
             declarations,
             statements,
             handlers,
-        } => are_frugal_declarations(thrift.types, declarations)
+        } => are_frugal_declarations(thrift, declarations)
             && are_frugal(thrift, statements)
             && are_frugal_handlers(thrift, handlers),
     }
@@ -135,7 +191,7 @@ fn is_frugal_stmt(thrift: Thrift<'_>, statement: &Stmt) -> bool
 /// Whether statements are frugal.
 #[cycle(statements)]
 fn are_frugal(thrift: Thrift<'_>, statements: &[Stmt]) -> bool
-    ensures { let by = thrift_in thrift.entry.types.now thrift.entry.procedures.now in
+    ensures { let by = thrift_in thrift.entry.types.now thrift.entry.objects thrift.entry.procedures.now in
         result ≡ rules.are_frugal by (stmts_form statements.now) }
 {
     'statements: for statement in statements {
@@ -149,7 +205,7 @@ fn are_frugal(thrift: Thrift<'_>, statements: &[Stmt]) -> bool
 /// Whether branches are (5.3).
 #[cycle(statements)]
 fn are_frugal_branches(thrift: Thrift<'_>, branches: &[Branch]) -> bool
-    ensures { let by = thrift_in thrift.entry.types.now thrift.entry.procedures.now in
+    ensures { let by = thrift_in thrift.entry.types.now thrift.entry.objects thrift.entry.procedures.now in
         (others : StmtsForm) → rules.are_frugal_branches by (branches_form branches.now others) ≡ (result && rules.are_frugal by others) }
 {
     'branches: for branch in branches {
@@ -163,7 +219,7 @@ fn are_frugal_branches(thrift: Thrift<'_>, branches: &[Branch]) -> bool
 /// Whether handlers are (11.2).
 #[cycle(statements)]
 fn are_frugal_handlers(thrift: Thrift<'_>, handlers: &[Handler]) -> bool
-    ensures { let by = thrift_in thrift.entry.types.now thrift.entry.procedures.now in
+    ensures { let by = thrift_in thrift.entry.types.now thrift.entry.objects thrift.entry.procedures.now in
         result ≡ rules.are_frugal_handlers by (handlers_form handlers.now) }
 {
     'handlers: for handler in handlers {
@@ -175,28 +231,34 @@ fn are_frugal_handlers(thrift: Thrift<'_>, handlers: &[Handler]) -> bool
 }
 
 /// Whether a body is frugal: it allocates objects, moves, follows and frees; it calls procedures with frugal bodies alone, assigns no
-/// record with controlled parts as a whole, gives values to the components of no new one, and declares variables alone. An exception may
-/// come out of it. Linear in the body.
+/// record with controlled parts as a whole, gives values to the components of no new one, and declares variables, and, where it may, record
+/// objects that name nothing. An exception may come out of it. Linear in the body.
 fn is_frugal_body(thrift: Thrift<'_>, procedure: &Procedure) -> bool
-    ensures { let by = thrift_in thrift.entry.types.now thrift.entry.procedures.now in
+    ensures { let by = thrift_in thrift.entry.types.now thrift.entry.objects thrift.entry.procedures.now in
         result ≡ rules.is_frugal_body by (body_form procedure.now) }
 {
-    are_frugal_declarations(thrift.types, &procedure.declarations)
+    are_frugal_declarations(thrift, &procedure.declarations)
         && are_frugal(thrift, &procedure.statements)
         && are_frugal_handlers(thrift, &procedure.handlers)
 }
 
-/// Of each procedure, by its number, whether its body is frugal: it calls those before it. Linear in the bodies.
+/// Of each procedure, by its number, whether its body is frugal, where it may declare record objects, and allocate objects with controlled
+/// parts, or not: it calls those before it. Linear in the bodies.
 ///
 /// # Errors
 /// `AllocError` where memory was refused.
-pub(crate) fn frugal_procedures(alloc: Global, program: &Program) -> Result<Vec<bool>, AllocError>
-    ensures { IfOk result (λ frugal. frugal.items ≡ rules.frugal_procedures (program_form program.now)) }
+pub(crate) fn frugal_procedures(
+    alloc: Global,
+    program: &Program,
+    objects: bool,
+) -> Result<Vec<bool>, AllocError>
+    ensures { IfOk result (λ frugal. frugal.items ≡ rules.frugal_procedures (program_form program.now) objects) }
 {
     let mut frugal = Vec::new(alloc);
     'procedures: for procedure in &program.procedures {
         let thrift = Thrift {
             types: &program.types,
+            objects,
             procedures: &frugal,
         };
         let is_frugal = is_frugal_body(thrift, procedure);

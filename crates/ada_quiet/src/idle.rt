@@ -79,7 +79,7 @@ fn declaration_makes_parts(
 }
 
 /// Whether one of these declarations does.
-pub(crate) fn declarations_make_parts(
+fn declarations_make_parts(
     types: &[TypeDefinition],
     copies: bool,
     declarations: &[Declaration],

@@ -1,11 +1,28 @@
 //! Laws of what is in use, and of calm types, by the definitions alone. Each is a function that does nothing, and whose contract is the
 //! theorem.
 
-ghost use Rattle.ada_quiet.specs.Laws.{CalmIsToldWithin, PlainIsFrugal, QuietIsInUse, QuietIsSimple};
+ghost use Rattle.ada_quiet.specs.Laws.{
+  BodiesWithObjects,
+  CalmIsToldWithin,
+  OperationsWithObjects,
+  OverridesAreCounted,
+  PlainIsFrugal,
+  ProceduresWithObjects,
+  QuietIsInUse,
+  QuietIsSimple,
+};
 
 /// A plain body is frugal, whatever is known of types and procedures: what touches no storage allocates, moves, follows and frees nothing.
 pub fn plain_is_frugal()
     ensures { PlainIsFrugal }
+{}
+
+/// What is frugal where it may declare no record objects, and allocate none with controlled parts, is so where it may: a body, a procedure,
+/// and what overrides an operation.
+pub fn frugal_without_objects_is_frugal()
+    ensures bodies { BodiesWithObjects }
+    ensures procedures { ProceduresWithObjects }
+    ensures operations { OperationsWithObjects }
 {}
 
 /// A quiet body is simple, whether objects may be freed or not: it calls nothing, copies no record, and frees nothing.
@@ -22,4 +39,10 @@ pub fn quiet_is_in_use()
 /// that lies in its objects, itself included, whatever is asked about them.
 pub fn calm_is_told_within()
     ensures { CalmIsToldWithin }
+{}
+
+/// In a well-formed program what overrides an own operation of a record that lies in the objects of a record type is counted for this type:
+/// it is not behind the last one of those that override an operation of a part of these objects.
+pub fn overrides_are_counted()
+    ensures { OverridesAreCounted }
 {}

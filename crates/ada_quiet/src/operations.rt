@@ -1,17 +1,18 @@
 //! The bodies that override operations of controlled types (7.6), where they are plain, quiet, frugal or simple.
 
-ghost use Rattle.std.specs.Prelude.{◌≡◌, ◌&&◌, Some, is_some, map, not, IfOk};
+ghost use Rattle.std.specs.Prelude.{◌≡◌, ◌&&◌, Bool, Some, is_some, map, not, IfOk};
 ghost use Rattle.std.specs.List.{list_any, slice_get};
 ghost use Rattle.ada_program.specs.Kept.{types_in};
 ghost use Rattle.ada_program.specs.ProgramForm.{part_form, program_form, type_form};
 ghost use Rattle.ada_program.specs.WellFormed as fits;
-ghost use Rattle.ada_quiet.specs.Frugal as frugal;
+ghost use Rattle.ada_quiet.specs.Earlier.{count_up_to, override_counts};
+ghost use Rattle.ada_quiet.specs.Frugal as spent;
 ghost use Rattle.ada_quiet.specs.Quiet as rules;
 ghost use Rattle.ada_quiet.specs.Simple as simple;
 
 use crate::bodies::{is_plain_body, is_quiet_body};
+use crate::earlier::declares_earlier_parts;
 use crate::frugal::is_frugal_call;
-use crate::idle::declarations_make_parts;
 use crate::simple::is_simple_body;
 use ada_program::program::{ComponentKind, Finalization, Part, PartKind, TypeDefinition};
 use ada_program::{ProcedureNo, Program};
@@ -50,33 +51,22 @@ pub(crate) fn is_quiet_operation(
     is_quiet_body(alloc, &program.types, procedure)
 }
 
-/// Whether the declarations of a body, if there is one, create no object with controlled parts (3.3.1). Linear in them.
-fn declares_no_parts(program: &Program, number: ProcedureNo) -> bool
-    ensures { let p = program_form program.now in result ≡ frugal.declares_no_parts p.types (slice_get p.bodies number.0) }
-{
-    match program.procedures.get(number.0) {
-        None => true,
-        Some(procedure) => {
-            !declarations_make_parts(&program.types, false, &procedure.declarations)
-        }
-    }
-}
-
-/// Whether it has a frugal one, by the procedures whose bodies are so, and the declarations of this one create no object with controlled
-/// parts. Linear in these.
+/// Whether it has a frugal one, by the procedures whose bodies are so, and the declarations of this one create parts alone whose operations
+/// are overridden earlier, by the last procedures that override some. Linear in these declarations.
 pub(crate) fn is_frugal_operation(
     program: &Program,
-    procedures: &[bool],
+    frugal: &[bool],
+    last: &[Option<ProcedureNo>],
     operation: Option<ProcedureNo>,
 ) -> bool
-    ensures { let p = program_form program.now in
-        procedures.now ≡ frugal.frugal_procedures p → result ≡ frugal.is_frugal_operation p operation }
+    requires { map count_up_to last.now ≡ override_counts (types_in program.now.types.items) }
+    ensures { let p = program_form program.now in (objects : Bool) → frugal.now ≡ spent.frugal_procedures p objects
+        → result ≡ spent.is_frugal_operation p objects operation }
 {
     match operation {
         None => true,
-        Some(procedure) => {
-            is_frugal_call(procedures, procedure) && declares_no_parts(program, procedure)
-        }
+        Some(procedure) => is_frugal_call(frugal, procedure)
+            && declares_earlier_parts(program, last, procedure),
     }
 }
 

@@ -1,7 +1,9 @@
 //! Where an Initialize and a Finalize may be frugal, and where these and an Adjust are in use (7.6, 7.6.1).
 
-ghost use Rattle.std.specs.Prelude.{◌≡◌, IfOk};
+ghost use Rattle.std.specs.Prelude.{◌≡◌, true, false, map, IfOk};
+ghost use Rattle.ada_program.specs.Kept.{types_in};
 ghost use Rattle.ada_program.specs.ProgramForm.{program_form, type_form};
+ghost use Rattle.ada_quiet.specs.Earlier.{count_up_to, override_counts};
 ghost use Rattle.ada_quiet.specs.First as first;
 ghost use Rattle.ada_quiet.specs.Frugal.{frugal_procedures};
 ghost use Rattle.ada_quiet.specs.InUse as rules;
@@ -56,18 +58,21 @@ pub fn may_be_frugal(alloc: Global, program: &Program) -> Result<bool, AllocErro
     )
 }
 
-/// Whether what overrides Initialize is plain, or frugal, where it may be.
+/// Whether what overrides Initialize is plain, or frugal, where it may be: it may declare record objects, and allocate objects with
+/// controlled parts.
 pub(crate) fn uses_initialize(
     program: &Program,
     procedures: &[bool],
+    last: &[Option<ProcedureNo>],
     frugal: bool,
     operation: Option<ProcedureNo>,
 ) -> bool
-    requires { procedures.now ≡ frugal_procedures (program_form program.now) }
+    requires frugal { procedures.now ≡ frugal_procedures (program_form program.now) true }
+    requires last { map count_up_to last.now ≡ override_counts (types_in program.now.types.items) }
     ensures { result ≡ first.initializes (program_form program.now) frugal operation }
 {
     is_plain_operation(program, operation)
-        || frugal && is_frugal_operation(program, procedures, operation)
+        || frugal && is_frugal_operation(program, procedures, last, operation)
 }
 
 /// Whether what overrides Adjust is frugal, where no Adjust is called; else whether it is simple, where it may track, if it is a body, and
@@ -80,16 +85,18 @@ pub(crate) fn uses_adjust(
     alloc: Global,
     program: &Program,
     procedures: &[bool],
+    last: &[Option<ProcedureNo>],
     nothing: bool,
     tracks: bool,
     alone: bool,
     owns: bool,
     operation: Option<ProcedureNo>,
 ) -> Result<bool, AllocError>
-    requires { procedures.now ≡ frugal_procedures (program_form program.now) }
+    requires frugal { procedures.now ≡ frugal_procedures (program_form program.now) true }
+    requires last { map count_up_to last.now ≡ override_counts (types_in program.now.types.items) }
     ensures { IfOk result (λ answer. answer ≡ first.adjusts (program_form program.now) nothing tracks alone owns operation) }
 {
-    if nothing && is_frugal_operation(program, procedures, operation) {
+    if nothing && is_frugal_operation(program, procedures, last, operation) {
         return Ok(true);
     }
     if !(owns && is_overridden(program, operation)) {
@@ -98,7 +105,7 @@ pub(crate) fn uses_adjust(
     Ok(tracks && is_simple_operation(program, alone, operation))
 }
 
-/// Whether what overrides Finalize is quiet, or frugal, where it may be.
+/// Whether what overrides Finalize is quiet, or frugal, where it may be: it may do neither.
 ///
 /// # Errors
 /// `AllocError` where memory for the exceptions that it raises was refused.
@@ -106,14 +113,16 @@ pub(crate) fn uses_finalize(
     alloc: Global,
     program: &Program,
     procedures: &[bool],
+    last: &[Option<ProcedureNo>],
     frugal: bool,
     operation: Option<ProcedureNo>,
 ) -> Result<bool, AllocError>
-    requires { procedures.now ≡ frugal_procedures (program_form program.now) }
+    requires frugal { procedures.now ≡ frugal_procedures (program_form program.now) false }
+    requires last { map count_up_to last.now ≡ override_counts (types_in program.now.types.items) }
     ensures { IfOk result (λ answer. answer ≡ first.finalizes (program_form program.now) frugal operation) }
 {
     Ok(
         is_quiet_operation(alloc, program, operation)?
-            || frugal && is_frugal_operation(program, procedures, operation),
+            || frugal && is_frugal_operation(program, procedures, last, operation),
     )
 }
