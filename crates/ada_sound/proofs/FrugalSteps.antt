@@ -37,15 +37,15 @@ use Rattle.ada_typed.proofs.Bodies.{own_bodies}
 use Rattle.ada_typed.proofs.Control as typed
 use Rattle.ada_typed.proofs.Control.{OwnBody}
 use Rattle.ada_typed.proofs.Kept.{Each, crosses as crosses_by, is_treatment}
-use Rattle.ada_sound.proofs.Allowance.{Allowance, are_thrifty, are_thrifty_handlers, is_thrifty_body, allowance_of, body_thrifty}
+use Rattle.ada_sound.proofs.Allowance.{Allowance, is_thrifty_body}
 use Rattle.ada_sound.specs.Agreement.{running_procedure}
 use Rattle.ada_sound.proofs.Calm.{ends_operation, operation_ends_there}
 use Rattle.ada_sound.proofs.Invariant.{Control, IsAwaited}
 use Rattle.ada_sound.proofs.OperationStarts.{apart}
-use Rattle.ada_sound.proofs.FrugalControl.{FrugalLeads, FrugalLeaves, EndsThere, Frugal, is_return_first, none_treated, treating_leads, Frugally, GoesFrugally, BeginsThere, FrugalBegins, beginning_frugal, begins_first, leads_first, none_beginning}
+use Rattle.ada_sound.proofs.FrugalControl.{Thriftiness, thriftiness_of, Frugal, FrugalLeads, Frugally, GoesFrugally, begins_first, is_return_first}
 use Rattle.ada_sound.proofs.Standing.{FreesAmong}
 use Rattle.ada_sound.proofs.Steps.{crosses}
-use Rattle.ada_sound.proofs.FrugalFrees.{AccessIsBare, bare_by, RecordIsBare, records_bare_by, NextFreesOwn, next_own, ListedAlone, FrameIsFreely, NextIsFreely, next_freely, Unborn, is_newly}
+use Rattle.ada_sound.proofs.FrugalFrees.{AccessIsBare, RecordIsBare, ListedAlone, LeftAlone, Unborn}
 
 -- No object is treated next (7.6.1).
 abbrev pub TreatsNothing : Control → Type 0
