@@ -1,6 +1,6 @@
--- Where no body breaks a rule on operations, no exception comes out where a record is adjusted or finalized (7.6.1); and a test of a program for that.
+-- Where no body breaks a rule on operations, no exception comes out where a record is adjusted or finalized (7.6.1); and a test of a program for each of the two.
 
-use Rattle.std.proofs.Common.{◌≡◌, ℕ, ◌<◌, zero, suc, Bool, true, false, ◌&&◌, List, [], ◌∷◌, length, refl, sym, ap, ◌∙◌, inl, inr, arith}
+use Rattle.std.proofs.Common.{◌≡◌, ℕ, ◌<◌, zero, suc, Bool, true, ◌&&◌, List, [], ◌∷◌, length, refl, sym, ap, ◌∙◌, inl, inr, arith}
 use Rattle.std.proofs.lemmas.Bool.{cases_eq, cases_lt, and_parts, or_cases}
 use Rattle.std.proofs.lemmas.Option.{slice_get_past}
 use Rattle.std.specs.List.{list_all, list_any}
@@ -17,7 +17,7 @@ use Rattle.ada_deeds.proofs.Starting.{of_fits, is_listed}
 use Rattle.ada_deeds.proofs.Within.{counts_are_enough, is_one_of}
 use Rattle.ada_effects.proofs.Sameness.{are_equal}
 use Rattle.ada_operations.specs.Laws.{ObeyingPropagatesNothing}
-use Rattle.ada_operations.specs.Operations.{Overrides, AdjustsOrFinalizes, IsFirstFault, PropagatesNothing}
+use Rattle.ada_operations.specs.Operations.{Overrides, AdjustsOrFinalizes, IsFirstFault}
 use Rattle.ada_operations.specs.declared.rule.OperationRule.TheVariants.{MayPropagate}
 use Rattle.ada_operations.proofs.Parts.{told}
 use Rattle.ada_operations.proofs.Spared.{body_there}
@@ -46,19 +46,18 @@ obeying_propagates p none = record {
 
 -- A test of a program.
 
--- Does this exception come out neither where a record of the type of a number is adjusted nor where it is finalized?
-abbrev pub is_kept_in : ProgramForm → (record_type : ℕ) → Exception → Bool
-is_kept_in p t e =
-    not (does_by p (Raises e) (callee.Parts Adjust (record { 0 = t }))) && not (does_by p (Raises e) (callee.Parts Finalize (record { 0 = t })))
+-- Does this exception not come out where this operation is called for a record of the type of a number?
+abbrev pub is_kept_in : ProgramForm → Operation → (record_type : ℕ) → Exception → Bool
+is_kept_in p operation t e = not (does_by p (Raises e) (callee.Parts operation (record { 0 = t })))
 
 -- Does none of the exceptions of the program, for so many of its types?
-abbrev pub are_kept_in : ProgramForm → (count : ℕ) → Bool
-are_kept_in p zero = true
-are_kept_in p (suc n) = list_all (is_kept_in p n) (exceptions_of p) && are_kept_in p n
+abbrev pub are_kept_in : ProgramForm → Operation → (count : ℕ) → Bool
+are_kept_in p operation zero = true
+are_kept_in p operation (suc n) = list_all (is_kept_in p operation n) (exceptions_of p) && are_kept_in p operation n
 
 -- Does none, for all its types?
-abbrev pub propagates_nothing : ProgramForm → Bool
-propagates_nothing p = are_kept_in p (length p.types)
+abbrev pub none_comes_out : ProgramForm → Operation → Bool
+none_comes_out p operation = are_kept_in p operation (length p.types)
 
 -- What all of a list pass, each one of it does.
 passes : (test : Exception → Bool) (es : List Exception) (e : Exception) → list_any (is_same e) es ≡ true → list_all test es ≡ true → test e ≡ true
@@ -70,38 +69,27 @@ passes test (f ∷ fs) e listed all =
       | inr behind ↦ passes test fs e behind both.1
     ]
 
-module _ (p : ProgramForm) where
-  among_first : (count : ℕ) → are_kept_in p count ≡ true → (t : ℕ) → t < count → (e : Exception) → list_any (is_same e) (exceptions_of p) ≡ true →
-      is_kept_in p t e ≡ true
+module _ (p : ProgramForm) (operation : Operation) where
+  among_first : (count : ℕ) → are_kept_in p operation count ≡ true → (t : ℕ) → t < count → (e : Exception) → list_any (is_same e) (exceptions_of p) ≡ true →
+      is_kept_in p operation t e ≡ true
   among_first zero all t below e listed = absurd (omega (arith, below))
   among_first (suc n) all t below e listed =
-      let both = and_parts (list_all (is_kept_in p n) (exceptions_of p)) (are_kept_in p n) all in
+      let both = and_parts (list_all (is_kept_in p operation n) (exceptions_of p)) (are_kept_in p operation n) all in
       elim (cases_eq t n) [
-        | inl same ↦ ap (λ (m : ℕ). is_kept_in p m e) same ∙ passes (is_kept_in p n) (exceptions_of p) e listed both.0
+        | inl same ↦ ap (λ (m : ℕ). is_kept_in p operation m e) same ∙ passes (is_kept_in p operation n) (exceptions_of p) e listed both.0
         | inr other ↦ among_first n both.1 t (omega (arith, below, other)) e listed
       ]
 
   -- What an operation of the parts of a record does, it does for a type of the program.
-  type_there : (d : Deed) (operation : Operation) (t : TypeNo) → Does p d (callee.Parts operation t) → t.0 < length p.types
-  type_there d operation t (does of known each h) = elim (cases_lt t.0 (length p.types)) [
+  type_there : (d : Deed) (t : TypeNo) → Does p d (callee.Parts operation t) → t.0 < length p.types
+  type_there d t (does of known each h) = elim (cases_lt t.0 (length p.types)) [
     | inl less ↦ less
     | inr more ↦ absurd (cc (sym (ap (operations_do known operation) (slice_get_past p.types t.0 more)) ∙ h))
   ]
 
-  -- What comes out of one is an exception of the program, and so the test is made of it.
-  tested : propagates_nothing p ≡ true → (operation : Operation) (e : Exception) (t : TypeNo) → Does p (Raises e) (callee.Parts operation t) →
-      is_kept_in p t.0 e ≡ true
-  tested all operation e t h =
+  -- What comes out of one is an exception of the program, and so the test is made of it: a program that passes the test lets none out there.
+  pub kept_by : none_comes_out p operation ≡ true → (e : Exception) (t : TypeNo) → ¬ (Does p (Raises e) (callee.Parts operation t))
+  kept_by all e t h =
       let is = is_one_of p (Raises e) (callee.Parts operation t) h in
-      among_first (length p.types) all t.0 (type_there (Raises e) operation t h) e (is_listed p e (of_fits p e is))
-
-  -- A program that passes the test lets no exception out there.
-  pub propagates_by : propagates_nothing p ≡ true → PropagatesNothing p
-  propagates_by all = record {
-    adjusts = λ e t h.
-        let both = and_parts (not (does_by p (Raises e) (callee.Parts Adjust t))) (not (does_by p (Raises e) (callee.Parts Finalize t))) (tested all Adjust e t h) in
-        cc (sym (ap not ((counts_are_enough p (Raises e) (callee.Parts Adjust t)).1 h)) ∙ both.0);
-    finalizes = λ e t h.
-        let both = and_parts (not (does_by p (Raises e) (callee.Parts Adjust t))) (not (does_by p (Raises e) (callee.Parts Finalize t))) (tested all Finalize e t h) in
-        cc (sym (ap not ((counts_are_enough p (Raises e) (callee.Parts Finalize t)).1 h)) ∙ both.1);
-  }
+      let kept = among_first (length p.types) all t.0 (type_there (Raises e) t h) e (is_listed p e (of_fits p e is)) in
+      cc (sym (ap not ((counts_are_enough p (Raises e) (callee.Parts operation t)).1 h)) ∙ kept)

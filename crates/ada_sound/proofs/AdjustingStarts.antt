@@ -23,7 +23,6 @@ use Rattle.ada_meaning.specs.declared.state.Place.{Place}
 use Rattle.ada_meaning.specs.declared.state.Stage.TheVariants.{Existing}
 use Rattle.ada_meaning.specs.declared.state.Value.TheVariants.{Names, Part}
 use Rattle.ada_meaning.specs.declared.state.Value.{Value}
-use Rattle.ada_operations.specs.Operations.{PropagatesNothing}
 use Rattle.ada_parts.specs.Task.{Task, performs}
 use Rattle.ada_program.specs.Controlled.{operations_of}
 use Rattle.ada_program.specs.ProgramForm.{ProgramForm, TypeForm, body_forms, main_body, program_form, seen_by, seen_in}
@@ -34,9 +33,11 @@ use Rattle.ada_program.specs.declared.program.Program.{Program}
 use Rattle.ada_program.specs.declared.program.VariableKind.TheVariants as variable_kinds
 use Rattle.ada_quiet.specs.Apart.{body_calls_apart, is_tracker}
 use Rattle.ada_quiet.specs.Bare.{has_bare_objects}
+use Rattle.ada_quiet.specs.Idle.{copies_parts}
 use Rattle.ada_quiet.specs.InUse.{may_be_frugal, adjusts_alone, count_found, has_one_part}
 use Rattle.ada_quiet.specs.Simple.{is_simple_body}
 use Rattle.ada_quiet.specs.Calm.{are_calmly_copied_in, calmly_copied_types, has_calm_objects}
+use Rattle.ada_sound.specs.Always.{LetsNothingOut}
 use Rattle.ada_sound.proofs.AdjustedParts.{adjusted_frees}
 use Rattle.ada_sound.proofs.Adjusting.{IsOfCopy, copied, assigned, AdjustingCopy, LeavesAlone, is_one_of}
 use Rattle.ada_sound.proofs.AdjustingBegins.{Copied, adjusting_begins, begins_as_judged, AdjustsIn}
@@ -110,7 +111,7 @@ alters_aside owners heap e o x found = rw found (alters_set heap e o x (blank_ob
 
 -- The body of such an Adjust is next.
 module _
-    (program : Program) (well : IsWellFormed (program_form program)) (obeys : Obeys program) (propagates : PropagatesNothing (program_form program))
+    (program : Program) (well : IsWellFormed (program_form program)) (obeys : Obeys program) (none_out : LetsNothingOut (program_form program)) (copies : copies_parts (program_form program) ≡ true)
     (a : Activation Value) (rest : List (Activation Value)) (s : State) (gs : List Suspension) (v : Value) (k : Control) (IsOperated : Treatment → Id → ℕ → Type 0) (e : Event) (after : State)
     (c : BeginsAdjust (known_in program a.procedure gs) a rest s program.types.items (body_forms program) v k IsOperated e after)
     (tracks : MayTrack (program_form program) c.b) (filled : AreFilled (program_form program).types (cells_of s.heap) (cells_of s.heap)) (typing : typed.Typed (program_form program) after)
@@ -329,7 +330,7 @@ module _
         let waiting = resting a.procedure a.places (begins c.by c.done) o x.cell.access [] place behind s.masters kept at.works.rooms at.works.holds in
         adjusting_begins program c.number c.b c.there w lone components a rest gs s k o aside heap place refl within c.by c.done behind kept may_free r c.tasks at
         frees_no_more frees_bare (of_copy c.by c.copies) refl tracker orderly none_other tracks.0 sees_to may thrifty simple
-        (judged_lets_none program well propagates x.cell.access c.of c.part c.number c.b (called_operable program well x.cell.access r c.of c.part c.tasks left) c.there
+        (judged_lets_none program well none_out copies x.cell.access c.of c.part c.number c.b (called_operable program well x.cell.access r c.of c.part c.tasks left) c.there
         (adjust_called c.by (operations_of program.types.items c.of) c.number c.copies c.called) w.tracks components orderly)
         (calls_apart behind_apart)
         (λ spares. judged_runs program c.number c.b w.tracks waiting gs well obeys.1 c.there refl components orderly spares refl)
@@ -360,7 +361,7 @@ module _
 
 -- The body begins.
 pub adjusting_starts :
-    (program : Program) → IsWellFormed (program_form program) → Obeys program → PropagatesNothing (program_form program)
+    (program : Program) → IsWellFormed (program_form program) → Obeys program → LetsNothingOut (program_form program) → copies_parts (program_form program) ≡ true
     → (a : Activation Value) (rest : List (Activation Value)) (s : State) (gs : List Suspension) (v : Value) (k : Control) (IsOperated : Treatment → Id → ℕ → Type 0) (e : Event) (after : State)
     → (c : BeginsAdjust (known_in program a.procedure gs) a rest s program.types.items (body_forms program) v k IsOperated e after)
     → MayTrack (program_form program) c.b → is_tracker (program_form program) c.number ≡ true
@@ -368,6 +369,6 @@ pub adjusting_starts :
     → Stands program gs (record s { activations = a ∷ rest }) → IsCalm (behind_call k) → under_in (callers_of program gs) ≡ []
     → CallApart (program_form program).types (is_tracker (program_form program)) k → ((u : Value) → u ≢ Names c.to.o → NothingBegins u k)
     → AdjustingCopy program after
-adjusting_starts program well obeys propagates a rest s gs v k IsOperated e after c tracks tracker filled typing stands calm settled behind_apart untreated =
+adjusting_starts program well obeys none_out copies a rest s gs v k IsOperated e after c tracks tracker filled typing stands calm settled behind_apart untreated =
     subst (AdjustingCopy program) (sym c.is)
-    (copy_so program well obeys propagates a rest s gs v k IsOperated e after c tracks filled typing tracker stands calm settled behind_apart untreated)
+    (copy_so program well obeys none_out copies a rest s gs v k IsOperated e after c tracks filled typing tracker stands calm settled behind_apart untreated)

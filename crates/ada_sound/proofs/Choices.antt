@@ -1,17 +1,19 @@
 -- A run by its choices: where they lead is computed.
 
 use Rattle.std.proofs.Common.{◌≡◌, ℕ, ℤ, Bool, true, false, List, [], ◌∷◌, refl, sym, ap, ◌∙◌, subst}
-use Rattle.std.specs.Prelude.{◌&&◌, length, Option, Some, None, nat_lt}
+use Rattle.std.specs.Prelude.{not, ◌&&◌, ◌||◌, length, Option, Some, None, nat_lt}
 use Rattle.std.specs.List.{list_all, filter}
 use Rattle.std.proofs.lemmas.Bool.{and_parts, ltb-true}
+use Rattle.ada_deeds.specs.Does.{Does}
 use Rattle.ada_deeds.specs.Implicit.{implicit_of}
 use Rattle.ada_deeds.specs.Within.{does_by}
+use Rattle.ada_deeds.specs.declared.deed.Callee.{Callee}
 use Rattle.ada_deeds.specs.declared.deed.Callee.TheVariants as callee
+use Rattle.ada_deeds.specs.declared.deed.Deed.{Deed}
 use Rattle.ada_deeds.specs.declared.deed.Deed.TheVariants.{Raises}
-use Rattle.ada_deeds.specs.declared.deed.Operation.TheVariants.{Finalize}
+use Rattle.ada_deeds.specs.declared.deed.Operation.TheVariants.{Adjust, Finalize}
 use Rattle.ada_deeds.proofs.Within.{counts_are_enough}
-use Rattle.ada_operations.specs.Operations.{PropagatesNothing}
-use Rattle.ada_operations.proofs.Propagating.{propagates_nothing, propagates_by}
+use Rattle.ada_operations.proofs.Propagating.{none_comes_out, kept_by}
 use Rattle.ada_program.specs.declared.program.Exception.{Exception}
 use Rattle.ada_program.specs.declared.program.TypeNo.{TypeNo}
 use Rattle.ada_text.specs.declared.spot.Spot.{Spot}
@@ -31,9 +33,10 @@ use Rattle.ada_meaning.specs.Event.{Quiet}
 use Rattle.ada_meaning.specs.Step.{halts, moves, tells, asks, picks}
 use Rattle.ada_meaning.specs.Named.{State, Next, next}
 use Rattle.ada_meaning.specs.Run.{Event, Choice, settled, grants, takes, Leads, Run, here, there, Halts, first_state}
+use Rattle.ada_quiet.specs.Idle.{makes_parts, copies_parts}
 use Rattle.ada_quiet.specs.InUse.{may_be_frugal, operations_are_in_use}
 use Rattle.ada_quiet.specs.Releases.{text_frees_inside}
-use Rattle.ada_sound.specs.Always.{IsChecked, reaches_holder, spare_own_types, starts_spare, SparesHolders, SparesOwn, SparesStarts, Breaks, IsIllFormed, IsIllNested, FreesOthers, NotInUse, PropagatesSome, UsesOwn, InSomeRun, is_seen, IsFineAtEnds, HaltsAfter, HaltsSomewhere}
+use Rattle.ada_sound.specs.Always.{IsChecked, LetsNothingOut, reaches_holder, spare_own_types, starts_spare, SparesHolders, SparesOwn, SparesStarts, Breaks, IsIllFormed, IsIllNested, FreesOthers, NotInUse, LetsSomeOut, UsesOwn, InSomeRun, is_seen, IsFineAtEnds, HaltsAfter, HaltsSomewhere}
 
 -- Events, and the state that they lead to.
 abbrev pub Came : Type 0
@@ -172,10 +175,14 @@ spares_types p =
     spare_own_types (implicit_of p) 0 p.types
     && (is_none (text_frees_inside (reaches_holder (implicit_of p) p.types) p) && starts_spare (implicit_of p) 0 p.types)
 
--- Whether what overrides its operations is in use, too, spares these, and lets no exception out where a record is adjusted or finalized; whether its
--- collections nest; and whether it frees by the instances for what it frees.
+-- Whether no exception comes out where a record is finalized, if a Finalize may be called, nor where one is adjusted, if an Adjust may be.
+abbrev pub lets_none_out : ProgramForm → Bool
+lets_none_out p = (not (makes_parts p) || none_comes_out p Finalize) && (not (copies_parts p) || none_comes_out p Adjust)
+
+-- Whether what overrides its operations is in use, too, spares these, and lets no exception out there; whether its collections nest; and whether it frees by the
+-- instances for what it frees.
 abbrev pub is_fine : ProgramForm → Bool
-is_fine p = operations_are_in_use p && (spares_types p && (propagates_nothing p && fits p))
+is_fine p = operations_are_in_use p && (spares_types p && (lets_none_out p && fits p))
 
 abbrev pub is_nested : ProgramForm → Bool
 is_nested p =
@@ -224,19 +231,32 @@ fits_is p e =
     }
 
 -- The last two of these.
-formed_is : (p : ProgramForm) → is_fine p ≡ true → (propagates_nothing p && fits p) ≡ true
+formed_is : (p : ProgramForm) → is_fine p ≡ true → (lets_none_out p && fits p) ≡ true
 formed_is p e =
-    let used = and_parts (operations_are_in_use p) (spares_types p && (propagates_nothing p && fits p)) e in
-    (and_parts (spares_types p) (propagates_nothing p && fits p) used.1).1
+    let used = and_parts (operations_are_in_use p) (spares_types p && (lets_none_out p && fits p)) e in
+    (and_parts (spares_types p) (lets_none_out p && fits p) used.1).1
 
 fine_is : (p : ProgramForm) → is_fine p ≡ true → IsWellFormed p
-fine_is p e = fits_is p (and_parts (propagates_nothing p) (fits p) (formed_is p e)).1
+fine_is p e = fits_is p (and_parts (lets_none_out p) (fits p) (formed_is p e)).1
 
 spares_is : (p : ProgramForm) → is_fine p ≡ true → spares_types p ≡ true
 spares_is p e = (and_parts _ _ (and_parts _ _ e).1).0
 
-propagates_is : (p : ProgramForm) → is_fine p ≡ true → propagates_nothing p ≡ true
-propagates_is p e = (and_parts (propagates_nothing p) (fits p) (formed_is p e)).0
+lets_none_is : (p : ProgramForm) → is_fine p ≡ true → lets_none_out p ≡ true
+lets_none_is p e = (and_parts (lets_none_out p) (fits p) (formed_is p e)).0
+
+-- A test that is asked under a condition is passed where that holds.
+where_asked : (condition test : Bool) → (not condition || test) ≡ true → condition ≡ true → test ≡ true
+where_asked true test e is = e
+where_asked false test e is = absurd (cc is)
+
+lets_none_by : (p : ProgramForm) → lets_none_out p ≡ true → LetsNothingOut p
+lets_none_by p e =
+    let both = and_parts (not (makes_parts p) || none_comes_out p Finalize) (not (copies_parts p) || none_comes_out p Adjust) e in
+    record {
+      finalizes = λ made. kept_by p Finalize (where_asked (makes_parts p) (none_comes_out p Finalize) both.0 made);
+      adjusts = λ copies. kept_by p Adjust (where_asked (copies_parts p) (none_comes_out p Adjust) both.1 copies);
+    }
 
 nested_is : (p : ProgramForm) → is_nested p ≡ true → CollectionsNest p
 nested_is p e =
@@ -286,9 +306,13 @@ module _ (program : Program) (bodies : List BodyForm) (fs : StmtsForm) (hs : Han
   spares_starts_in e may made =
       subst (λ (p : ProgramForm). starts_spare (implicit_of p) 0 p.types ≡ true) (sym form_is) (and_parts _ _ (and_parts _ _ e).1).1
 
-  -- And whether no exception comes out where a record of it is adjusted or finalized.
-  propagates_in : propagates_nothing (form_with program bodies fs hs) ≡ true → PropagatesNothing (program_form program)
-  propagates_in e = subst PropagatesNothing (sym form_is) (propagates_by (form_with program bodies fs hs) e)
+  -- And whether no exception comes out of what may be called of its Finalize and Adjust.
+  lets_none_in : lets_none_out (form_with program bodies fs hs) ≡ true → LetsNothingOut (program_form program)
+  lets_none_in e = subst LetsNothingOut (sym form_is) (lets_none_by (form_with program bodies fs hs) e)
+
+  -- And what its procedures and operations do.
+  pub does_in : (d : Deed) (c : Callee) → does_by (form_with program bodies fs hs) d c ≡ true → Does (program_form program) d c
+  does_in d c e = subst (λ (p : ProgramForm). Does p d c) (sym form_is) ((counts_are_enough (form_with program bodies fs hs) d c).0 e)
 
   -- Nothing is asked of these where no Finalize may touch storage.
   pub never_frugal : may_be_frugal (form_with program bodies fs hs) ≡ false → SparesHolders program
@@ -315,7 +339,7 @@ module _ (program : Program) (bodies : List BodyForm) (fs : StmtsForm) (hs : Han
         nests = nested_in both.0;
         frees_own = own_in both.1;
         spares_own = spares_in (spares_is (form_with program bodies fs hs) fine);
-        propagates_nothing = propagates_in (propagates_is (form_with program bodies fs hs) fine);
+        lets_nothing_out = lets_none_in (lets_none_is (form_with program bodies fs hs) fine);
         spares_holders = spares_holders_in (spares_is (form_with program bodies fs hs) fine);
         spares_starts = spares_starts_in (spares_is (form_with program bodies fs hs) fine);
         obeys = (normal, raising, flow_in (goes normal raising) e);
@@ -331,7 +355,7 @@ module _ (program : Program) (bodies : List BodyForm) (fs : StmtsForm) (hs : Han
         nests = nested_in both.0;
         frees_own = own_in both.1;
         spares_own = spares_in (spares_is (form_with program bodies fs hs) fine);
-        propagates_nothing = propagates_in (propagates_is (form_with program bodies fs hs) fine);
+        lets_nothing_out = lets_none_in (lets_none_is (form_with program bodies fs hs) fine);
         spares_holders = spares_holders_in (spares_is (form_with program bodies fs hs) fine);
         spares_starts = spares_starts_in (spares_is (form_with program bodies fs hs) fine);
         spot = spot;
@@ -339,7 +363,7 @@ module _ (program : Program) (bodies : List BodyForm) (fs : StmtsForm) (hs : Han
       }
 
   pub not_in_use_in : (normal raising : Option Holds) → fits (form_with program bodies fs hs) ≡ true
-      → operations_are_in_use (form_with program bodies fs hs) ≡ false → propagates_nothing (form_with program bodies fs hs) ≡ true
+      → operations_are_in_use (form_with program bodies fs hs) ≡ false → lets_none_out (form_with program bodies fs hs) ≡ true
       → is_kept (form_with program bodies fs hs) ≡ true → flow_with program bodies fs hs ≡ goes normal raising → NotInUse program
   not_in_use_in normal raising formed unused none kept e =
       let both = and_parts _ _ kept in
@@ -348,27 +372,26 @@ module _ (program : Program) (bodies : List BodyForm) (fs : StmtsForm) (hs : Han
         not_in_use = subst (λ (p : ProgramForm). operations_are_in_use p ≡ false) (sym form_is) unused;
         nests = nested_in both.0;
         frees_own = own_in both.1;
-        propagates_nothing = propagates_in none;
+        lets_nothing_out = lets_none_in none;
         obeys = (normal, raising, flow_in (goes normal raising) e);
       }
 
-  pub propagates_some_in : (e : Exception) (record_type : TypeNo) (normal raising : Option Holds)
+  pub lets_some_in : (e : Exception) (record_type : TypeNo) (normal raising : Option Holds) → makes_parts (form_with program bodies fs hs) ≡ true
       → does_by (form_with program bodies fs hs) (Raises e) (callee.Parts Finalize record_type) ≡ true
       → operations_are_in_use (form_with program bodies fs hs) ≡ true → spares_types (form_with program bodies fs hs) ≡ true
       → fits (form_with program bodies fs hs) ≡ true → is_kept (form_with program bodies fs hs) ≡ true
-      → flow_with program bodies fs hs ≡ goes normal raising → PropagatesSome program
-  propagates_some_in e record_type normal raising comes used spares formed kept h =
+      → flow_with program bodies fs hs ≡ goes normal raising → LetsSomeOut program
+  lets_some_in e record_type normal raising made comes used spares formed kept h =
       let both = and_parts _ _ kept in
-      let raised = (counts_are_enough (form_with program bodies fs hs) (Raises e) (callee.Parts Finalize record_type)).0 comes in
+      let raised = does_in (Raises e) (callee.Parts Finalize record_type) comes in
       record {
         well_formed = subst IsWellFormed (sym form_is) (fits_is (form_with program bodies fs hs) formed);
         in_use = subst (λ (p : ProgramForm). operations_are_in_use p ≡ true) (sym form_is) used;
         nests = nested_in both.0;
         frees_own = own_in both.1;
         spares_own = spares_in spares;
-        propagates_some = λ (none : PropagatesNothing (program_form program)).
-            let here : PropagatesNothing (form_with program bodies fs hs) = subst PropagatesNothing form_is none in
-            here.finalizes e record_type raised;
+        lets_some_out = λ (none : LetsNothingOut (program_form program)).
+            none.finalizes (subst (λ (p : ProgramForm). makes_parts p ≡ true) (sym form_is) made) e record_type raised;
         spares_holders = spares_holders_in spares;
         spares_starts = spares_starts_in spares;
         obeys = (normal, raising, flow_in (goes normal raising) h);
@@ -376,7 +399,7 @@ module _ (program : Program) (bodies : List BodyForm) (fs : StmtsForm) (hs : Han
 
   pub uses_own_in : (normal raising : Option Holds) → fits (form_with program bodies fs hs) ≡ true → operations_are_in_use (form_with program bodies fs hs) ≡ true
       → spare_own_types (implicit_of (form_with program bodies fs hs)) 0 (form_with program bodies fs hs).types ≡ false
-      → propagates_nothing (form_with program bodies fs hs) ≡ true → is_kept (form_with program bodies fs hs) ≡ true
+      → lets_none_out (form_with program bodies fs hs) ≡ true → is_kept (form_with program bodies fs hs) ≡ true
       → flow_with program bodies fs hs ≡ goes normal raising → UsesOwn program
   uses_own_in normal raising formed used uses out kept e =
       let both = and_parts _ _ kept in
@@ -387,7 +410,7 @@ module _ (program : Program) (bodies : List BodyForm) (fs : StmtsForm) (hs : Han
         nests = nested_in both.0;
         frees_own = own_in both.1;
         uses_own = λ spares. cc (none, spares);
-        propagates_nothing = propagates_in out;
+        lets_nothing_out = lets_none_in out;
         obeys = (normal, raising, flow_in (goes normal raising) e);
       }
 
@@ -446,7 +469,7 @@ module _ (program : Program) (fs : StmtsForm) (hs : HandlersForm) (is : stmt_for
 
   pub ill_formed_by : (normal raising : Option Holds)
       → stmts_fit whole.types whole.variables whole.texts whole.exceptions (callable_in whole) false fs ≡ false → operations_are_in_use whole ≡ true
-      → spares_types whole ≡ true → propagates_nothing whole ≡ true → is_kept whole ≡ true → flow_of (implicit_of whole) whole ≡ goes normal raising
+      → spares_types whole ≡ true → lets_none_out whole ≡ true → is_kept whole ≡ true → flow_of (implicit_of whole) whole ≡ goes normal raising
       → IsIllFormed program
   ill_formed_by normal raising unfit uses spares none kept e = record {
     ill_formed = λ w.
@@ -456,7 +479,7 @@ module _ (program : Program) (fs : StmtsForm) (hs : HandlersForm) (is : stmt_for
     nests = nested_in program (body_forms program) fs hs refl is has (and_parts _ _ kept).0;
     frees_own = own_in program (body_forms program) fs hs refl is has (and_parts _ _ kept).1;
     spares_own = spares_in program (body_forms program) fs hs refl is has spares;
-    propagates_nothing = propagates_in program (body_forms program) fs hs refl is has none;
+    lets_nothing_out = lets_none_in program (body_forms program) fs hs refl is has none;
     spares_holders = spares_holders_in program (body_forms program) fs hs refl is has spares;
     spares_starts = spares_starts_in program (body_forms program) fs hs refl is has spares;
     obeys = (normal, raising, flow_in program (body_forms program) fs hs refl is has (goes normal raising) e);
@@ -470,7 +493,7 @@ module _ (program : Program) (fs : StmtsForm) (hs : HandlersForm) (is : stmt_for
     ill_nested = λ w. cc (unnested, w.declarations);
     frees_own = own_in program (body_forms program) fs hs refl is has own;
     spares_own = spares_in program (body_forms program) fs hs refl is has (spares_is whole fine);
-    propagates_nothing = propagates_in program (body_forms program) fs hs refl is has (propagates_is whole fine);
+    lets_nothing_out = lets_none_in program (body_forms program) fs hs refl is has (lets_none_is whole fine);
     spares_holders = spares_holders_in program (body_forms program) fs hs refl is has (spares_is whole fine);
     spares_starts = spares_starts_in program (body_forms program) fs hs refl is has (spares_is whole fine);
     obeys = (normal, raising, flow_in program (body_forms program) fs hs refl is has (goes normal raising) e);
@@ -486,7 +509,7 @@ module _ (program : Program) (fs : StmtsForm) (hs : HandlersForm) (is : stmt_for
         let own : statements_free_own whole.types whole.variables fs ≡ true = rw is at (w.statements) in
         cc (other, own);
     spares_own = spares_in program (body_forms program) fs hs refl is has (spares_is whole fine);
-    propagates_nothing = propagates_in program (body_forms program) fs hs refl is has (propagates_is whole fine);
+    lets_nothing_out = lets_none_in program (body_forms program) fs hs refl is has (lets_none_is whole fine);
     spares_holders = spares_holders_in program (body_forms program) fs hs refl is has (spares_is whole fine);
     spares_starts = spares_starts_in program (body_forms program) fs hs refl is has (spares_is whole fine);
     obeys = (normal, raising, flow_in program (body_forms program) fs hs refl is has (goes normal raising) e);

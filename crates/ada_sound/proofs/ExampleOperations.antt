@@ -1,8 +1,11 @@
 -- Programs whose types override operations: in one they are quiet, and it meets the premises of the laws; in the others a Finalize is not, or lets an
--- exception out. With runs of them.
+-- exception out, or would, as an Adjust would, but is never called. With runs of them.
 
 use Rattle.std.proofs.Common.{◌≡◌, ◌≤◌, ℕ, true, false, List, [], ◌∷◌, ◌++◌, length, refl, arith}
 use Rattle.std.specs.Prelude.{Some, None, pos}
+use Rattle.ada_deeds.specs.declared.deed.Callee.TheVariants as callee
+use Rattle.ada_deeds.specs.declared.deed.Deed.TheVariants.{Raises}
+use Rattle.ada_deeds.specs.declared.deed.Operation.TheVariants.{Adjust, Finalize}
 use Rattle.ada_values.specs.declared.operator.BinaryOperator.TheVariants as binary
 use Rattle.ada_values.specs.Outcome.{outcome_of}
 use Rattle.ada_program.specs.declared.program.Choice.{Choice as HandlerChoice}
@@ -36,9 +39,9 @@ use Rattle.ada_meaning.specs.declared.event.Halt.TheVariants.{Finished, Escaped,
 use Rattle.ada_meaning.specs.declared.event.Why.TheVariants.{FollowsGone, FinalizesTwice}
 use Rattle.ada_meaning.specs.Named.{next}
 use Rattle.ada_meaning.specs.Run.{Choice, grants, takes}
-use Rattle.ada_sound.specs.Always.{IsChecked, FinishesAfter, NotInUse, PropagatesSome, UsesOwn, SparesHolders, SparesOwn, SparesStarts, HaltsAfter}
-use Rattle.ada_sound.specs.OperationExamples.{count_operations, count_bodies, operating_declarations, operating_stmts, operating_handlers, operating_events, node_operations, two_nodes, freeing_finalize, freed_events, following_finalize, node_and_cell, following_events, escaping_operations, escaping_finalize, escaping_declarations, escaping_stmts, escaping_events}
-use Rattle.ada_sound.proofs.Choices.{accepted_in, never_frugal, never_frugal_starts, not_in_use_in, propagates_some_in, uses_own_in, spares_with, halts_after_in}
+use Rattle.ada_sound.specs.Always.{IsChecked, FinishesAfter, NotInUse, LetsSomeOut, UsesOwn, SparesHolders, SparesOwn, SparesStarts, HaltsAfter}
+use Rattle.ada_sound.specs.OperationExamples.{count_operations, count_bodies, operating_declarations, operating_stmts, operating_handlers, operating_events, node_operations, two_nodes, freeing_finalize, freed_events, following_finalize, node_and_cell, following_events, escaping_operations, escaping_finalize, escaping_declarations, escaping_stmts, escaping_events, WouldRaise, unfinalized_events, unadjusted_operations, escaping_adjust, unadjusted_events}
+use Rattle.ada_sound.proofs.Choices.{accepted_in, never_frugal, never_frugal_starts, does_in, not_in_use_in, lets_some_in, uses_own_in, spares_with, halts_after_in}
 use Rattle.ada_sound.proofs.Example.{steps, vec, no_name, spot, link, with_number}
 use Rattle.ada_sound.proofs.ExampleOwners.{record_of, access_to, an_integer, an_access, path, whole, part as component}
 use Rattle.ada_sound.proofs.ExampleRecords.{object, of_object, record_at, of_object_type}
@@ -292,9 +295,9 @@ follows_gone =
     (steps 11 ++ grants true ∷ steps 4 ++ grants true ∷ steps 10 ++ takes 0 ∷ steps 3 ++ takes 0 ∷ steps 8) following_events (Erroneous FollowsGone) refl refl refl
 
 -- type Count is new Controlled with record N : Integer; end record; and what X and the formal parameter are known by.
-abbrev escaping_types : List TypeDefinition
-escaping_types =
-    controlled_type (of_kind part.Parent 0 0 ∷ of_kind (part.Elementary an_integer) 0 1 ∷ []) (omega arith) (an_integer ∷ []) (omega arith) escaping_operations
+abbrev escaping_types : Operations → List TypeDefinition
+escaping_types operations =
+    controlled_type (of_kind part.Parent 0 0 ∷ of_kind (part.Elementary an_integer) 0 1 ∷ []) (omega arith) (an_integer ∷ []) (omega arith) operations
     ∷ definition.Object (record { 0 = 0 })
     ∷ definition.Object (record { 0 = 0 })
     ∷ []
@@ -302,7 +305,7 @@ escaping_types =
 -- X : Count; begin null; where Finalize raises Constraint_Error
 abbrev pub escaping : Program
 escaping = record {
-  types = vec escaping_types (omega arith);
+  types = vec (escaping_types escaping_operations) (omega arith);
   pools = vec [] (omega arith);
   procedures = vec (operation 2 (stmt.Raise ConstraintError ∷ []) (omega arith) [] (omega arith) ∷ []) (omega arith);
   variables = vec (of_object_type 1 ∷ []) (omega arith);
@@ -326,11 +329,11 @@ pub escaping_form : stmt_forms escaping ≡ escaping_stmts
 escaping_form = simp statement_rules
 
 -- What a Finalize of the first type raises comes out.
-pub escaping_propagates : PropagatesSome escaping
+pub escaping_lets_some_out : LetsSomeOut escaping
 unfolding uses_in
-escaping_propagates =
-    propagates_some_in escaping (escaping_finalize ∷ []) escaping_stmts no_handlers escaping_bodies escaping_form refl ConstraintError (record { 0 = 0 }) _ _
-    refl refl refl refl refl refl
+escaping_lets_some_out =
+    lets_some_in escaping (escaping_finalize ∷ []) escaping_stmts no_handlers escaping_bodies escaping_form refl ConstraintError (record { 0 = 0 }) _ _
+    refl refl refl refl refl refl refl
 
 -- X is picked at the leaving of the main procedure.
 pub escapes : HaltsAfter escaping_events (Escaped ConstraintError) escaping
@@ -338,3 +341,68 @@ unfolding next
 escapes =
     halts_after_in escaping (escaping_finalize ∷ []) escaping_stmts no_handlers escaping_bodies escaping_form refl []
     (steps 7 ++ takes 0 ∷ steps 8) escaping_events (Escaped ConstraintError) refl refl refl
+
+-- begin null; where Finalize of Count raises Constraint_Error, and there is no X
+abbrev pub unfinalized : Program
+unfinalized = record escaping { variables = vec [] (omega arith); declarations = vec [] (omega arith) }
+
+pub unfinalized_overrides : operations_of unfinalized.types.items 0 ≡ escaping_operations
+unfinalized_overrides = refl
+
+pub unfinalized_bodies : body_forms unfinalized ≡ escaping_finalize ∷ []
+unfinalized_bodies = simp statement_rules
+
+pub unfinalized_declares : declaration_forms unfinalized ≡ []
+unfinalized_declares = refl
+
+pub unfinalized_form : stmt_forms unfinalized ≡ escaping_stmts
+unfinalized_form = simp statement_rules
+
+pub unfinalized_would_raise : WouldRaise Finalize unfinalized
+unfinalized_would_raise =
+    does_in unfinalized (escaping_finalize ∷ []) escaping_stmts no_handlers unfinalized_bodies unfinalized_form refl (Raises ConstraintError)
+    (callee.Parts Finalize (record { 0 = 0 })) refl
+
+pub unfinalized_accepted : IsChecked unfinalized
+unfolding uses_in
+unfinalized_accepted =
+    accepted_in unfinalized (escaping_finalize ∷ []) escaping_stmts no_handlers unfinalized_bodies unfinalized_form refl _ _ refl refl refl
+
+pub finishes_unfinalized : FinishesAfter unfinalized_events unfinalized
+unfolding next
+finishes_unfinalized =
+    halts_after_in unfinalized (escaping_finalize ∷ []) escaping_stmts no_handlers unfinalized_bodies unfinalized_form refl [] (steps 6) unfinalized_events
+    Finished refl refl refl
+
+-- X : Count; begin null; where Adjust of Count raises Constraint_Error
+abbrev pub unadjusted : Program
+unadjusted = record escaping { types = vec (escaping_types unadjusted_operations) (omega arith) }
+
+pub unadjusted_overrides : operations_of unadjusted.types.items 0 ≡ unadjusted_operations
+unadjusted_overrides = refl
+
+pub unadjusted_bodies : body_forms unadjusted ≡ escaping_adjust ∷ []
+unadjusted_bodies = simp statement_rules
+
+pub unadjusted_declares : declaration_forms unadjusted ≡ escaping_declarations
+unadjusted_declares = refl
+
+pub unadjusted_form : stmt_forms unadjusted ≡ escaping_stmts
+unadjusted_form = simp statement_rules
+
+pub unadjusted_would_raise : WouldRaise Adjust unadjusted
+unadjusted_would_raise =
+    does_in unadjusted (escaping_adjust ∷ []) escaping_stmts no_handlers unadjusted_bodies unadjusted_form refl (Raises ConstraintError)
+    (callee.Parts Adjust (record { 0 = 0 })) refl
+
+pub unadjusted_accepted : IsChecked unadjusted
+unfolding uses_in
+unadjusted_accepted =
+    accepted_in unadjusted (escaping_adjust ∷ []) escaping_stmts no_handlers unadjusted_bodies unadjusted_form refl _ _ refl refl refl
+
+-- X is picked at the leaving of the main procedure.
+pub finishes_unadjusted : FinishesAfter unadjusted_events unadjusted
+unfolding next
+finishes_unadjusted =
+    halts_after_in unadjusted (escaping_adjust ∷ []) escaping_stmts no_handlers unadjusted_bodies unadjusted_form refl []
+    (steps 7 ++ takes 0 ∷ steps 5) unadjusted_events Finished refl refl refl

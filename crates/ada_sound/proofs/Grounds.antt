@@ -28,7 +28,6 @@ use Rattle.ada_finalized.specs.Law.{NoOperationRuns, NoOperationRunsOn, NothingB
 use Rattle.ada_meaning.specs.Finalization.{NothingTreated}
 use Rattle.ada_idle.proofs.Idle.{ControlIsIdle, IsIdle}
 use Rattle.ada_idle.proofs.Unadjusted.{AdjustsNone}
-use Rattle.ada_operations.specs.Operations.{PropagatesNothing}
 use Rattle.ada_quiet.specs.Apart.{is_tracker, operations_stand_apart}
 use Rattle.ada_quiet.specs.Idle.{copies_parts, makes_parts}
 use Rattle.ada_quiet.specs.InUse.{may_be_frugal, operations_are_in_use}
@@ -36,7 +35,7 @@ use Rattle.ada_scopes.proofs.Runs.{Scoped}
 use Rattle.ada_typed.proofs.Control as typed
 use Rattle.ada_typed.proofs.Kept.{behind_call}
 use Rattle.ada_sound.specs.Agreement.{running_procedure}
-use Rattle.ada_sound.specs.Always.{SparesOwn, SparesStarts, reaches_holder}
+use Rattle.ada_sound.specs.Always.{LetsNothingOut, SparesOwn, SparesStarts, reaches_holder}
 use Rattle.ada_sound.proofs.Callers.{Suspension, known_in, Stands, callers_of}
 use Rattle.ada_sound.proofs.CallsApart.{CallApart}
 use Rattle.ada_sound.proofs.FreesInside.{FreesNoneInside}
@@ -75,7 +74,7 @@ pub record Grounds (program : Program) (s : State) : Type 0 where
   pub in_use : operations_are_in_use (program_form program) ≡ true
   pub frees_own : FreesItsOwn (program_form program)
   pub spares_own : SparesOwn program
-  pub propagates_nothing : PropagatesNothing (program_form program)
+  pub lets_nothing_out : LetsNothingOut (program_form program)
   pub spares_starts : SparesStarts program
   pub obeys : Obeys program
   -- what is left to do, and values

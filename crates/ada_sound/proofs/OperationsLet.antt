@@ -19,7 +19,6 @@ use Rattle.ada_deeds.specs.declared.deed.Operation.TheVariants.{Initialize, Adju
 use Rattle.ada_deeds.specs.declared.deed.Operation.{Operation}
 use Rattle.ada_meaning.specs.Frame.{Treatment, begins, ends}
 use Rattle.ada_meaning.specs.declared.event.Birth.TheVariants.{Creation, Copy, Adjustment}
-use Rattle.ada_operations.specs.Operations.{PropagatesNothing}
 use Rattle.ada_program.specs.Controlled.{procedure_number, operations_of}
 use Rattle.ada_program.specs.Handling.{is_same}
 use Rattle.ada_program.specs.ProgramForm.{BodyForm, ProgramForm, seen_in, program_form, body_forms}
@@ -27,6 +26,8 @@ use Rattle.ada_program.specs.WellFormed.{IsWellFormed}
 use Rattle.ada_program.specs.declared.program.Exception.{Exception}
 use Rattle.ada_program.specs.declared.program.Program.{Program}
 use Rattle.ada_program.specs.declared.program.TypeNo.{TypeNo}
+use Rattle.ada_quiet.specs.Idle.{copies_parts, makes_parts}
+use Rattle.ada_sound.specs.Always.{LetsNothingOut}
 use Rattle.ada_sound.proofs.Bodies.{seen_is, effect_at}
 use Rattle.ada_sound.proofs.FrugalUseEnds.{done_lying}
 use Rattle.ada_sound.proofs.Invariant.{body_among}
@@ -71,22 +72,22 @@ module _
         by None h = cc h
         by (Some r) h = none (record { 0 = r }) ((counts_are_enough p (Raises e) (callee.Parts operation (record { 0 = r }))).0 h)
 
-    -- So it is with an Adjust.
-    pub adjusts_let : PropagatesNothing p → procedure_number (operations_of program.types.items of).adjust ≡ Some number → ⊥
-    adjusts_let propagates overrides = lets_none Adjust (propagates.adjusts e) overrides
+    -- So it is with an Adjust, where the program copies a record with controlled parts.
+    pub adjusts_let : LetsNothingOut p → copies_parts p ≡ true → procedure_number (operations_of program.types.items of).adjust ≡ Some number → ⊥
+    adjusts_let none_out copies overrides = lets_none Adjust (none_out.adjusts copies e) overrides
 
-    -- So it is with a Finalize.
-    ends_let : PropagatesNothing p → procedure_number (operations_of program.types.items of).finalize ≡ Some number → ⊥
-    ends_let propagates overrides = lets_none Finalize (propagates.finalizes e) overrides
+    -- So it is with a Finalize, where it creates an object with controlled parts, or assigns a record with some.
+    ends_let : LetsNothingOut p → makes_parts p ≡ true → procedure_number (operations_of program.types.items of).finalize ≡ Some number → ⊥
+    ends_let none_out made overrides = lets_none Finalize (none_out.finalizes made e) overrides
 
 -- What comes out of the body of an operation that may touch storage may come out of the treatment that calls it: of an Initialize what the creation of the
 -- object may raise, and of a Finalize nothing (7.6, 7.6.1).
 pub touches_let :
-    (program : Program) → IsWellFormed (program_form program) → PropagatesNothing (program_form program) → (access of part number : ℕ) (b : BodyForm) → IsOperable (program_form program).types access of part
+    (program : Program) → IsWellFormed (program_form program) → LetsNothingOut (program_form program) → makes_parts (program_form program) ≡ true → (access of part number : ℕ) (b : BodyForm) → IsOperable (program_form program).types access of part
     → (treatment : Treatment) → MayTouch treatment → IsCalled (operations_of program.types.items of) treatment number → slice_get (body_forms program) number ≡ Some b
     → (e : Exception) → body_among (implicit_of (program_form program)) (seen_in (Some number) (program_form program)) e ≡ true → lets_out (implicit_of (program_form program)) access treatment e ≡ true
-touches_let program well propagates access of part number b operable (begins Creation done) touch called there e among = starts_let program well access of part number b operable there e among called
-touches_let program well propagates access of part number b operable (begins Copy done) touch called there e among = absurd touch
-touches_let program well propagates access of part number b operable (begins (Adjustment n) done) touch called there e among = absurd touch
-touches_let program well propagates access of part number b operable (ends cause) touch called there e among =
-    absurd (ends_let program well access of part number b operable there e among propagates called)
+touches_let program well none_out made access of part number b operable (begins Creation done) touch called there e among = starts_let program well access of part number b operable there e among called
+touches_let program well none_out made access of part number b operable (begins Copy done) touch called there e among = absurd touch
+touches_let program well none_out made access of part number b operable (begins (Adjustment n) done) touch called there e among = absurd touch
+touches_let program well none_out made access of part number b operable (ends cause) touch called there e among =
+    absurd (ends_let program well access of part number b operable there e among none_out made called)

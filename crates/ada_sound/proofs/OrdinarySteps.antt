@@ -307,9 +307,10 @@ module _ (program : Program) (a : Activation Value) (rest : List (Activation Val
     -- The Adjust is called that tracks the components of a copy.
     pub begins_adjusting : (e : Event) (after : State) → next program.types.items (body_forms program) whole ≡ moves e after → BeginsAdjust treater a rest s program.types.items (body_forms program) v k IsOperated e after → Led program s.heap e after
     begins_adjusting e after is c =
-        let tracks = adjust_tracks program grounds.well (copied_by c.by c.done c.operated.0 c.copies) in_use_here a rest s o.suspensions v k IsOperated e after c in
+        let copies = copied_by c.by c.done c.operated.0 c.copies in
+        let tracks = adjust_tracks program grounds.well copies in_use_here a rest s o.suspensions v k IsOperated e after c in
         let untreated = grounds.untreated_start calm_here v c.by c.done tasks k (ap (λ (by : Treatment). Treats v by tasks ∷ k) (sym c.operated.0)) in
-        let adjusting = adjusting_starts program grounds.well grounds.obeys grounds.propagates_nothing a rest s o.suspensions v k IsOperated e after c tracks.0 tracks.1
+        let adjusting = adjusting_starts program grounds.well grounds.obeys grounds.lets_nothing_out copies a rest s o.suspensions v k IsOperated e after c tracks.0 tracks.1
         (filled_in_program (program_form program) a.procedure whole grounds.typed.inside)
         (step_typed program grounds.well whole after settled e grounds.typed (rw is (refl, refl)))
         (restand Running (Treats v treatment tasks) o.suspensions o.stands) o.calm o.settled (grounds.apart (stands_apart (program_form program) tracks.0.0)).1 (λ u ne. nothing_begins u k untreated) in

@@ -342,7 +342,7 @@ module _ (program : Program) {access item : ℕ} {pool : Option ℕ} {ghosts : I
         in_use = grounds.in_use;
         frees_own = grounds.frees_own;
         spares_own = grounds.spares_own;
-        propagates_nothing = grounds.propagates_nothing;
+        lets_nothing_out = grounds.lets_nothing_out;
         spares_starts = grounds.spares_starts;
         obeys = grounds.obeys;
         idle = λ none. record {

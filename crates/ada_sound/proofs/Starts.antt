@@ -5,7 +5,6 @@ use Rattle.std.proofs.Common.{◌≡◌, ℕ, zero, suc, true, false, List, [], 
 use Rattle.std.specs.Prelude.{ℤ, Option, Some, None}
 use Rattle.std.specs.List.{slice_get}
 use Rattle.ada_deeds.specs.Implicit.{implicit_of}
-use Rattle.ada_operations.specs.Operations.{PropagatesNothing}
 use Rattle.ada_quiet.specs.InUse.{may_be_frugal}
 use Rattle.ada_program.specs.declared.program.Program.{Program}
 use Rattle.ada_program.specs.ProgramForm.{TypeForm, VariableForm, BodyForm, program_form, main_body, seen_in}
@@ -19,7 +18,7 @@ use Rattle.ada_flow.specs.Tracking.{Tracks, no_tracks}
 use Rattle.ada_meaning.specs.Step.{blanks}
 use Rattle.ada_meaning.specs.Named.{State, named}
 use Rattle.ada_meaning.specs.Run.{here, first_state}
-use Rattle.ada_sound.specs.Always.{SparesHolders, SparesOwn, SparesStarts, reaches_holder}
+use Rattle.ada_sound.specs.Always.{LetsNothingOut, SparesHolders, SparesOwn, SparesStarts, reaches_holder}
 use Rattle.ada_idle.proofs.Idle.{IsIdle}
 use Rattle.ada_idle.proofs.Runs.{first_idle}
 use Rattle.ada_idle.proofs.Unadjusted.{AdjustsNone}
@@ -59,7 +58,7 @@ pub record Sound (program : Program) (s : State) : Type 0 where
   pub in_use : operations_are_in_use (program_form program) ≡ true
   pub frees_own : FreesItsOwn (program_form program)
   pub spares_own : SparesOwn program
-  pub propagates_nothing : PropagatesNothing (program_form program)
+  pub lets_nothing_out : LetsNothingOut (program_form program)
   pub spares_holders : SparesHolders program
   pub spares_starts : SparesStarts program
   pub obeys : Obeys program
@@ -119,14 +118,14 @@ ready_first program input well obeys =
       },
     )
 
-pub sound_first : (program : Program) (input : List ℤ) → IsWellFormed (program_form program) → operations_are_in_use (program_form program) ≡ true → CollectionsNest (program_form program) → FreesItsOwn (program_form program) → SparesOwn program → PropagatesNothing (program_form program) → SparesHolders program → SparesStarts program → ObeysRules program → Sound program (first_state program input)
-sound_first program input well uses nest own spares propagates holders starts obeys = let obeys_so : Obeys program = (tracks_safely (program_form program) well uses, obeys) in record {
+pub sound_first : (program : Program) (input : List ℤ) → IsWellFormed (program_form program) → operations_are_in_use (program_form program) ≡ true → CollectionsNest (program_form program) → FreesItsOwn (program_form program) → SparesOwn program → LetsNothingOut (program_form program) → SparesHolders program → SparesStarts program → ObeysRules program → Sound program (first_state program input)
+sound_first program input well uses nest own spares lets_none holders starts obeys = let obeys_so : Obeys program = (tracks_safely (program_form program) well uses, obeys) in record {
   reached = (input, [], here);
   well = well;
   in_use = uses;
   frees_own = own;
   spares_own = spares;
-  propagates_nothing = propagates;
+  lets_nothing_out = lets_none;
   spares_holders = holders;
   spares_starts = starts;
   obeys = obeys_so;

@@ -251,7 +251,7 @@ module _ (program : Program) (a : Activation Value) (rest : List (Activation Val
         let frees : (t : ℕ) → CoveredIn (implicit_of p) (seen_in (Some c.number) p) t → at.may t ≡ true =
         λ t covered. at.includes t (treated_frees_of program grounds.well c.x.cell.access c.of operated.1 c.number c.b operable c.treatment k (rw (c.operated.0) (c.operated.2)) (copied_behind (Names c.o) c.treatment c.tasks k c.heap c.treats) touches c.called c.there t covered) in
         let lets : (raised : Exception) → body_among (implicit_of p) (seen_in (Some c.number) p) raised ≡ true → lets_out (implicit_of p) c.x.cell.access c.treatment raised ≡ true =
-        touches_let program grounds.well grounds.propagates_nothing c.x.cell.access c.of operated.1 c.number c.b operable c.treatment touches c.called c.there in
+        touches_let program grounds.well grounds.lets_nothing_out made c.x.cell.access c.of operated.1 c.number c.b operable c.treatment touches c.called c.there in
         rw c.is (touching_begins program grounds.well grounds.obeys c.number (touches_apart program grounds.obeys.0 c.of c.number c.treatment touches c.called) c.b c.there single a rest gs s k c.o c.x c.heap c.found (live_there c.x.stage c.live) c.place within c.treatment frugal grounds.spares_own at c.behind frees
         (covers_by may made c.x.cell.access c.of operated.1 c.number c.b c.treatment operable touches c.called c.there) lets e c.of c.tasks c.alters waits (is_awaited p.types c.o c.of c.treatment c.tasks k c.behind waits) stands
         (watched_begins program grounds.well uses a rest gs s c.treatment at.watch c.o c.x.cell.access c.of operated.1 c.number c.b c.place c.behind c.heap operable c.called c.there frugal at.spared))

@@ -3,16 +3,21 @@
 use Rattle.std.specs.Prelude.{◌≡◌, ◌↔◌, ◌⊎◌, ℕ, suc, ℤ, Bool, true, false, not, ◌&&◌, ◌||◌, List, [], ◌∷◌, Option, Some, None, All, AllPairs}
 use Rattle.std.specs.List.{filter, list_any}
 use Rattle.ada_program.specs.declared.program.ComponentKind.{ComponentKind}
+use Rattle.ada_program.specs.declared.program.Exception.{Exception}
 use Rattle.ada_program.specs.declared.program.Program.{Program}
 use Rattle.ada_program.specs.declared.program.TypeNo.{TypeNo}
 use Rattle.ada_text.specs.declared.spot.Spot.{Spot}
 use Rattle.ada_flow.specs.declared.rule.Rule.{Rule}
 use Rattle.ada_program.specs.Form.{declaration_forms, stmt_forms, handler_forms}
-use Rattle.ada_program.specs.ProgramForm.{TypeForm, record_of, access_to, object_of, main_body, program_form, seen_in}
+use Rattle.ada_program.specs.ProgramForm.{ProgramForm, TypeForm, record_of, access_to, object_of, main_body, program_form, seen_in}
 use Rattle.ada_program.specs.WellFormed.{IsWellFormed, components_reached, named_in}
 use Rattle.ada_program.specs.Nested.{CollectionsNest}
 use Rattle.ada_program.specs.Freed.{FreesItsOwn}
+use Rattle.ada_deeds.specs.Does.{Does}
 use Rattle.ada_deeds.specs.Implicit.{implicit_of}
+use Rattle.ada_deeds.specs.declared.deed.Callee.TheVariants as callee
+use Rattle.ada_deeds.specs.declared.deed.Deed.TheVariants.{Raises}
+use Rattle.ada_deeds.specs.declared.deed.Operation.TheVariants.{Adjust, Finalize}
 use Rattle.ada_effects.specs.Effects.{Implicit, effects_of}
 use Rattle.ada_flow.specs.Flow.{Holds, goes, faults, Around, body_around, keeping_of, declarations_flow, stmts_flow, handlers_flow, first_holds, program_flow, types_of, variables_of, ObeysRules}
 use Rattle.ada_flow.specs.Tracking.{no_tracks}
@@ -28,9 +33,8 @@ use Rattle.ada_meaning.specs.Law.{IsBackHome, items_of, Falls, MastersFall, Give
 use Rattle.ada_scopes.specs.Scopes.{HoldsNames}
 use Rattle.ada_sound.specs.Agreement.{Agrees, Place, Turning, IsFlowAt, IsBehind, IsSpokenOf, running_procedure}
 use Rattle.ada_sound.specs.StandsFor.{IsBeingLeft, StandsFor}
-use Rattle.ada_operations.specs.Operations.{PropagatesNothing}
 use Rattle.ada_quiet.specs.Bare.{is_component_of}
-use Rattle.ada_quiet.specs.Idle.{makes_parts}
+use Rattle.ada_quiet.specs.Idle.{makes_parts, copies_parts}
 use Rattle.ada_quiet.specs.InUse.{may_be_frugal, operations_are_in_use}
 use Rattle.ada_quiet.specs.Releases.{text_frees_inside}
 
@@ -53,6 +57,13 @@ spare_own_types implicit n (t ∷ ts) = spares_own_type implicit n t && spare_ow
 -- earlier (7.6.1).
 abbrev pub SparesOwn : Program → Type 0
 SparesOwn program = spare_own_types (implicit_of (program_form program)) 0 (program_form program).types ≡ true
+
+-- In a program in which something creates an object with controlled parts, or assigns a record with some, no exception comes out where a record is finalized, out of
+-- no Finalize of a part of it; and in one in which something copies a record with some, none comes out where one is adjusted (7.6, 7.6.1). In other programs no
+-- Finalize is called, or no Adjust.
+pub record LetsNothingOut (p : ProgramForm) : Type 0 where
+  pub finalizes : makes_parts p ≡ true → (e : Exception) (t : TypeNo) → ¬ (Does p (Raises e) (callee.Parts Finalize t))
+  pub adjusts : copies_parts p ≡ true → (e : Exception) (t : TypeNo) → ¬ (Does p (Raises e) (callee.Parts Adjust t))
 
 -- One of the components of the objects of a type, if there are some, is of this access type (3.8, 3.10).
 abbrev pub hold_one : (access : ℕ) → Option (List ComponentKind) → Bool
@@ -117,8 +128,8 @@ pub record IsChecked (program : Program) : Type 0 where
   pub frees_own : FreesItsOwn (program_form program)
   -- where an object ends, none of its own access type is freed or followed, and where one is adjusted, none is freed (7.6.1)
   pub spares_own : SparesOwn program
-  -- no exception comes out where a record is adjusted or finalized (7.6.1)
-  pub propagates_nothing : PropagatesNothing (program_form program)
+  -- no exception comes out where a record is finalized, in a program in which a Finalize may be called, or adjusted, in one in which an Adjust may be (7.6.1)
+  pub lets_nothing_out : LetsNothingOut (program_form program)
   -- where a Finalize may touch storage, and something creates an object with controlled parts, no component of a record frees an object whose end reaches an access
   -- type whose objects have such a component (7.6.1)
   pub spares_holders : SparesHolders program
@@ -224,7 +235,7 @@ pub record Breaks (rule : Rule) (program : Program) : Type 0 where
   pub nests : CollectionsNest (program_form program)
   pub frees_own : FreesItsOwn (program_form program)
   pub spares_own : SparesOwn program
-  pub propagates_nothing : PropagatesNothing (program_form program)
+  pub lets_nothing_out : LetsNothingOut (program_form program)
   pub spares_holders : SparesHolders program
   pub spares_starts : SparesStarts program
   pub spot : Spot
@@ -237,7 +248,7 @@ pub record IsIllFormed (program : Program) : Type 0 where
   pub nests : CollectionsNest (program_form program)
   pub frees_own : FreesItsOwn (program_form program)
   pub spares_own : SparesOwn program
-  pub propagates_nothing : PropagatesNothing (program_form program)
+  pub lets_nothing_out : LetsNothingOut (program_form program)
   pub spares_holders : SparesHolders program
   pub spares_starts : SparesStarts program
   pub obeys : ObeysRules program
@@ -249,7 +260,7 @@ pub record IsIllNested (program : Program) : Type 0 where
   pub ill_nested : CollectionsNest (program_form program) → ⊥
   pub frees_own : FreesItsOwn (program_form program)
   pub spares_own : SparesOwn program
-  pub propagates_nothing : PropagatesNothing (program_form program)
+  pub lets_nothing_out : LetsNothingOut (program_form program)
   pub spares_holders : SparesHolders program
   pub spares_starts : SparesStarts program
   pub obeys : ObeysRules program
@@ -261,7 +272,7 @@ pub record FreesOthers (program : Program) : Type 0 where
   pub nests : CollectionsNest (program_form program)
   pub frees_others : FreesItsOwn (program_form program) → ⊥
   pub spares_own : SparesOwn program
-  pub propagates_nothing : PropagatesNothing (program_form program)
+  pub lets_nothing_out : LetsNothingOut (program_form program)
   pub spares_holders : SparesHolders program
   pub spares_starts : SparesStarts program
   pub obeys : ObeysRules program
@@ -273,17 +284,18 @@ pub record NotInUse (program : Program) : Type 0 where
   pub not_in_use : operations_are_in_use (program_form program) ≡ false
   pub nests : CollectionsNest (program_form program)
   pub frees_own : FreesItsOwn (program_form program)
-  pub propagates_nothing : PropagatesNothing (program_form program)
+  pub lets_nothing_out : LetsNothingOut (program_form program)
   pub obeys : ObeysRules program
 
--- The program has passed all other checks, but an exception may come out where a record is adjusted or finalized.
-pub record PropagatesSome (program : Program) : Type 0 where
+-- The program has passed all other checks, but an exception may come out where a record is finalized, and a Finalize may be called, or where one is adjusted, and an
+-- Adjust may be.
+pub record LetsSomeOut (program : Program) : Type 0 where
   pub well_formed : IsWellFormed (program_form program)
   pub in_use : operations_are_in_use (program_form program) ≡ true
   pub nests : CollectionsNest (program_form program)
   pub frees_own : FreesItsOwn (program_form program)
   pub spares_own : SparesOwn program
-  pub propagates_some : PropagatesNothing (program_form program) → ⊥
+  pub lets_some_out : LetsNothingOut (program_form program) → ⊥
   pub spares_holders : SparesHolders program
   pub spares_starts : SparesStarts program
   pub obeys : ObeysRules program
@@ -296,7 +308,7 @@ pub record UsesOwn (program : Program) : Type 0 where
   pub nests : CollectionsNest (program_form program)
   pub frees_own : FreesItsOwn (program_form program)
   pub uses_own : SparesOwn program → ⊥
-  pub propagates_nothing : PropagatesNothing (program_form program)
+  pub lets_nothing_out : LetsNothingOut (program_form program)
   pub obeys : ObeysRules program
 
 -- What is known of the operations of a program that are called implicitly (7.6).

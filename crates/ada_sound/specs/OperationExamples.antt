@@ -1,6 +1,6 @@
 -- The operations, the statements and the events of the programs by which the laws show what operations of controlled types do, where one of them raises an
 -- exception and where some of them allocate and free, too, what the rules let through where a type has an Adjust of its own, that other operations must not
--- be in use, and that no exception may come out of a Finalize.
+-- be in use, that no exception may come out of a Finalize, and that one may come out of what is never called.
 
 use Rattle.std.specs.Prelude.{◌≡◌, ℕ, ◌+◌, List, [], ◌∷◌, ◌++◌, Option, Some, None, false, pos}
 use Rattle.std.proofs.Math.ListN.{replicate}
@@ -12,8 +12,12 @@ use Rattle.ada_program.specs.declared.program.Operations.{Operations}
 use Rattle.ada_program.specs.declared.program.Program.{Program}
 use Rattle.ada_program.specs.declared.program.VariableKind.TheVariants as variable
 use Rattle.ada_program.specs.Form.{PathForm, RecordPathForm, in_out_record, integer, reads, is_null, item_of_value, item_of_record, nothing, allocates, allocates_default, value_of, computes, DeclarationForm, collects, declares, declares_record, StmtForm, skips, assigns, assigns_record, frees, writes, writes_text, chooses, calls, raises, encloses, StmtsForm, no_stmts, a_stmt, otherwise, a_branch, HandlersForm, no_handlers, a_handler}
-use Rattle.ada_program.specs.ProgramForm.{TypeForm, access_to, BodyForm}
+use Rattle.ada_program.specs.ProgramForm.{TypeForm, access_to, BodyForm, program_form}
 use Rattle.ada_program.specs.WellFormed.{record_components, reached_components}
+use Rattle.ada_deeds.specs.Does.{Does}
+use Rattle.ada_deeds.specs.declared.deed.Callee.TheVariants as callee
+use Rattle.ada_deeds.specs.declared.deed.Deed.TheVariants.{Raises}
+use Rattle.ada_deeds.specs.declared.deed.Operation.{Operation}
 use Rattle.ada_effects.specs.Effects.{Implicit}
 use Rattle.ada_flow.specs.declared.rule.Hold.TheVariants.{Null, Own, Lost}
 use Rattle.ada_flow.specs.declared.rule.Region.TheVariants.{Whole}
@@ -1099,6 +1103,27 @@ escaping_stmts = a_stmt skips no_stmts
 -- body, a master of its own, and would come out of the Finalize (7.6.1). The words of X are out then.
 abbrev pub escaping_events : List Event
 escaping_events = Born object_x 0 0 0 1 Creation ∷ Finalized object_x 0 0 0 1 (Leaving 0 0) ∷ Left 1 ∷ []
+
+-- Constraint_Error would come out where this operation is called for a record of the type of number 0 (7.6, 7.6.1).
+abbrev pub WouldRaise : Operation → Program → Type 0
+WouldRaise operation program = Does (program_form program) (Raises ConstraintError) (callee.Parts operation (record { 0 = 0 }))
+
+-- The same, but without X: no object has controlled parts, so that nothing is finalized where the main procedure is left.
+abbrev pub unfinalized_events : List Event
+unfinalized_events = Left 0 ∷ []
+
+-- The same with X, but that Count overrides Adjust in place of Finalize, by this procedure.
+abbrev pub unadjusted_operations : Operations
+unadjusted_operations = record { initialize = None; adjust = Some (record { 0 = 0 }); finalize = None }
+
+-- procedure Adjust (C : in out Count) is begin raise Constraint_Error; end Adjust;
+abbrev pub escaping_adjust : BodyForm
+escaping_adjust = operation_body 2 (a_stmt (raises ConstraintError) no_stmts) no_handlers
+
+-- X is initialized and finalized, for which nothing is called, and its words go back.
+abbrev pub unadjusted_events : List Event
+unadjusted_events =
+    Born object_x 0 0 0 1 Creation ∷ Finalized object_x 0 0 0 1 (Leaving 0 0) ∷ Back object_x 1 0 None None (Leaving 0 0) ∷ Left 0 ∷ []
 
 -- Head := new Node; Head.Next := new Node; Head.Next.Next := new Node;
 abbrev pub three_nodes : StmtsForm

@@ -1,6 +1,7 @@
 //! Beside the laws, programs: those that meet the premises, and those that each rule is needed to refuse.
 
 ghost use Rattle.std.specs.Prelude.{◌≡◌, [], ◌∷◌};
+ghost use Rattle.ada_deeds.specs.declared.deed.Operation.TheVariants.{Adjust, Finalize};
 ghost use Rattle.ada_program.specs.declared.program.Program.{Program};
 ghost use Rattle.ada_program.specs.Controlled.{operations_of, shapes_of};
 ghost use Rattle.ada_program.specs.Form.{declaration_forms, stmt_forms, handler_forms};
@@ -399,6 +400,26 @@ pub fn operations_run_apart()
         × IsChecked program × always.InSomeRun program (λ events last. operation_examples.DisagreesInside program last) }
 {}
 
+/// What the text of a program has never called may raise: the laws speak of a program in which `Constraint_Error` would come out of
+/// the Finalize of a type (7.6.1), but which creates no object with controlled parts; and of one in which it would come out of the
+/// Adjust, but which copies no record with some: a record object is initialized and finalized, and its words go back.
+pub fn uncalled_operations_may_raise()
+    ensures finalizes { (program : Program)
+        × (operations_of program.types.items 0 ≡ operation_examples.escaping_operations)
+        × (body_forms program ≡ operation_examples.escaping_finalize ∷ [])
+        × (declaration_forms program ≡ [])
+        × (stmt_forms program ≡ operation_examples.escaping_stmts)
+        × operation_examples.WouldRaise Finalize program
+        × IsChecked program × FinishesAfter operation_examples.unfinalized_events program }
+    ensures adjusts { (program : Program)
+        × (operations_of program.types.items 0 ≡ operation_examples.unadjusted_operations)
+        × (body_forms program ≡ operation_examples.escaping_adjust ∷ [])
+        × (declaration_forms program ≡ operation_examples.escaping_declarations)
+        × (stmt_forms program ≡ operation_examples.escaping_stmts)
+        × operation_examples.WouldRaise Adjust program
+        × IsChecked program × FinishesAfter operation_examples.unadjusted_events program }
+{}
+
 /// The premise of `records_are_copied_plain` is needed, that no type which declares components of access types has an Adjust
 /// of its own (7.6): of the two programs of `operations_are_accepted` whose Adjust allocates, the rules let through what
 /// copies a record with a component of an access type. One assigns it as a whole (5.2), as its only item (4.3.1), and the
@@ -455,7 +476,7 @@ pub fn adjusted_records_are_copied()
 /// names may find it gone, and finalizes it twice; that breaks S8, and not `SparesOwn` alone, but `SparesHolders`, too.
 /// And operations are in use: a newer collection goes before an older one, so a Finalize that only follows what a
 /// component of its object names there comes to an object that is gone; it keeps `SparesOwn`, `SparesHolders` and `SparesStarts`.
-/// And no exception comes out where a record is finalized (`PropagatesNothing`, S9): a record object whose Finalize raises
+/// And no exception comes out where a record is finalized (`LetsNothingOut`, S9): a record object whose Finalize raises
 /// `Constraint_Error`, and handles nothing, is finalized where the main procedure is left, and the exception would leave that
 /// Finalize (7.6.1), which is no safe end of a run.
 pub fn rules_are_needed()
@@ -556,5 +577,5 @@ pub fn rules_are_needed()
         × (body_forms program ≡ operation_examples.escaping_finalize ∷ [])
         × (declaration_forms program ≡ operation_examples.escaping_declarations)
         × (stmt_forms program ≡ operation_examples.escaping_stmts)
-        × always.PropagatesSome program × always.HaltsAfter operation_examples.escaping_events (Escaped ConstraintError) program }
+        × always.LetsSomeOut program × always.HaltsAfter operation_examples.escaping_events (Escaped ConstraintError) program }
 {}

@@ -1,14 +1,14 @@
--- An accepted program uses, where an object ends, none of the same access type, and frees none where one is adjusted.
+-- An accepted program uses, where an object ends, none of the same access type, and frees none where one is adjusted; and it lets no exception out there.
 use Rattle.std.proofs.Common.{◌≡◌, ℕ, ◌+◌, suc, Bool, true, false, not, ◌&&◌, List, [], ◌∷◌, refl, ap, ◌∙◌, arith}
 use Rattle.std.specs.List.{slice_get}
 use Rattle.std.specs.Prelude.{Option, Some, None, is_some}
 use Rattle.ada_deeds.specs.Implicit.{implicit_of}
 use Rattle.ada_effects.specs.Effects.{Implicit}
 use Rattle.ada_operations.specs.Laws.{EndsSpareTheirOwn}
-use Rattle.ada_operations.specs.Operations.{IsFirstFault}
+use Rattle.ada_operations.specs.Operations.{IsFirstFault, PropagatesNothing}
 use Rattle.ada_program.specs.ProgramForm.{TypeForm, record_of, access_to, object_of, ProgramForm}
 use Rattle.ada_program.specs.WellFormed.{is_access, designated_in}
-use Rattle.ada_sound.specs.Always.{spares_own_type, spare_own_types}
+use Rattle.ada_sound.specs.Always.{LetsNothingOut, spares_own_type, spare_own_types}
 
 -- An object of the access type of a number spares that type, where it ends, and where it is adjusted.
 abbrev Spares : Implicit → ℕ → Type 0
@@ -35,3 +35,7 @@ from_on implicit types each n (form ∷ rest) at =
 -- All types do, where no body breaks a rule on operations.
 pub all_spare : EndsSpareTheirOwn → (p : ProgramForm) → IsFirstFault p None → spare_own_types (implicit_of p) 0 p.types ≡ true
 all_spare law p none = from_on (implicit_of p) p.types (law p none) 0 p.types (λ i. ap (slice_get p.types) (omega arith))
+
+-- Where no exception comes out of any Adjust or Finalize, none comes out of one that may be called.
+pub none_called : (p : ProgramForm) → PropagatesNothing p → LetsNothingOut p
+none_called p none = record { finalizes = λ made. none.finalizes; adjusts = λ copies. none.adjusts }

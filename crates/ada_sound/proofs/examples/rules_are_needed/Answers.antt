@@ -150,6 +150,6 @@ returns-clause-lets_out c = (
   operations.escaping_bodies,
   operations.escaping_declares,
   operations.escaping_form,
-  operations.escaping_propagates,
+  operations.escaping_lets_some_out,
   operations.escapes,
 )

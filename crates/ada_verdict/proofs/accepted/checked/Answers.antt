@@ -1,6 +1,6 @@
 use Rattle.ada_program.specs.ProgramForm.{program_form}
 use Rattle.ada_verdict.proofs.Firsts.{first_told, program_first}
-use Rattle.ada_verdict.proofs.Spares.{all_spare}
+use Rattle.ada_verdict.proofs.Spares.{all_spare, none_called}
 use Rattle.ada_verdict.proofs.accepted.checked.Goals as goal
 
 -- the first fault of the program of the source
@@ -18,7 +18,8 @@ invariant_of-result c = record {
   nests = c.in_ok-program.ensures.nests;
   frees_own = c.in_ok-program.ensures.frees_own;
   spares_own = all_spare c.ends_spare_their_own.ensures (program_form c.in_ok-program.program) c.in_ok-judge.ensures.fine.0;
-  propagates_nothing = c.obeying_propagates_nothing.ensures (program_form c.in_ok-program.program) c.in_ok-judge.ensures.fine.0;
+  lets_nothing_out = none_called (program_form c.in_ok-program.program)
+      (c.obeying_propagates_nothing.ensures (program_form c.in_ok-program.program) c.in_ok-judge.ensures.fine.0);
   spares_holders = c.in_ok-judge.ensures.holders;
   spares_starts = c.in_ok-judge.ensures.starts;
   obeys = c.in_ok-judge.ensures.fine.1;
@@ -31,7 +32,8 @@ returns-clause-sound c = record {
   nests = c.in_ok-program.ensures.nests;
   frees_own = c.in_ok-program.ensures.frees_own;
   spares_own = all_spare c.ends_spare_their_own.ensures (program_form c.in_ok-program.program) c.in_ok-judge.ensures.fine.0;
-  propagates_nothing = c.obeying_propagates_nothing.ensures (program_form c.in_ok-program.program) c.in_ok-judge.ensures.fine.0;
+  lets_nothing_out = none_called (program_form c.in_ok-program.program)
+      (c.obeying_propagates_nothing.ensures (program_form c.in_ok-program.program) c.in_ok-judge.ensures.fine.0);
   spares_holders = c.in_ok-judge.ensures.holders;
   spares_starts = c.in_ok-judge.ensures.starts;
   obeys = c.in_ok-judge.ensures.fine.1;
