@@ -6,6 +6,8 @@ pub mod Members
 pub mod Jumps
 -- each step makes a state lighter
 pub mod Weight
+-- what treatments cost, where each call of an operation has its cost
+pub mod Costs
 -- no step leaves more operations to be called, so each makes another number smaller
 pub mod OperationsLeft
 pub mod Pace

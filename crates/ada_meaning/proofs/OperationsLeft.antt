@@ -1,17 +1,16 @@
 -- No step that begins no statement leaves more operations of controlled types to be called than there were, and one that calls an operation leaves less.
 
-use Rattle.std.proofs.Common.{◌≡◌, ℕ, zero, suc, ℤ, ◌+◌, ◌-◌, ◌<◌, ◌≤◌, int_le, Bool, true, false, ◌==◌, ◌||◌, if◌then◌else◌, List, [], ◌∷◌, ◌++◌, length, map, Option, Some, None, is_some, Result, Ok, Err, arith, refl, sym, ap, subst}
+use Rattle.std.proofs.Common.{◌≡◌, ℕ, zero, suc, ℤ, ◌+◌, ◌-◌, ◌<◌, ◌≤◌, int_le, Bool, true, false, ◌==◌, if◌then◌else◌, List, [], ◌∷◌, ◌++◌, length, map, Option, Some, None, is_some, Result, Ok, Err, arith, refl, sym, ap, subst}
 use Rattle.std.specs.List.{slice_get, slice_set, slice_index_or}
 use Rattle.ada_program.specs.declared.program.TypeDefinition.{TypeDefinition}
 use Rattle.ada_program.specs.Form.{RecordPathForm, ExpressionForm, integer, boolean, reads, is_null, applied_to, chained, LinksForm, no_more_links, a_link, ItemForm, null_item, item_of_path, item_of_value, item_of_record, RightForm, nothing, value_of, allocates, allocates_default, computes, StmtsForm, no_stmts, a_stmt, BranchesForm, otherwise, a_branch, HandlersForm, DeclarationForm, creates_pool, collects, declares, declares_record}
 use Rattle.ada_program.specs.Handling.{handler_of}
 use Rattle.ada_program.specs.ProgramForm.{BodyForm, body_forms}
-use Rattle.ada_program.specs.Controlled.{number_reached, shapes_of, operations_of, procedure_number}
+use Rattle.ada_program.specs.Controlled.{shapes_of, operations_of, procedure_number}
 use Rattle.ada_program.specs.declared.program.ProcedureNo.{ProcedureNo}
 use Rattle.ada_parts.specs.declared.tasks.Direction.TheVariants.{PartsFirst, WholeFirst}
 use Rattle.ada_parts.specs.declared.tasks.Next.TheVariants.{Done, Pick, Perform}
 use Rattle.ada_parts.specs.declared.tasks.Component.{Component}
-use Rattle.ada_parts.specs.Shape.{Shape}
 use Rattle.ada_parts.specs.Part.{Part}
 use Rattle.ada_parts.specs.Task.{Task, performs, treats, next as task_next}
 use Rattle.ada_program.specs.Typed.{reached_of, words_of, width_of}
@@ -38,13 +37,13 @@ use Rattle.ada_meaning.specs.Frame as frame
 use Rattle.ada_meaning.specs.State.{Owned, declared, collection, record_object, storage_pool, Item, Master, Destination, height, home_of, pool_freed_to, counted, begins, begins_in, begins_among}
 use Rattle.ada_meaning.specs.Event.{Back, Finalized, Followed, Quiet}
 use Rattle.ada_meaning.specs.Heap.{PartState, Cell, Found, on_null, on_gone, on_other, finds}
-use Rattle.ada_meaning.specs.Step.{direction_of, tasks_for, operation_next, part_reference, stored_from, picked_task, all_tasks, record_tasks, treating, treated_on, beginning, born_next, begun_next, awaited_next, ended_next, finalized_next, performed_next, treats_next, made, taken_out, same_pool, told_back, record_cell, record_in, newest_ones, without_newest, initial_values, copied_next, copies_next, record_target_next, record_stored_next, store_record_next, record_next, halts, moves, tells, asks, picks, at, popped, held, newest, reading, component_next, follow_next, path_next, selected, named_next, holder_next, place_in, record_holder_next, referred_next, refers_next, open_next, opened_next, opens_next, storing, unwound, expression_next, null_test_next, is_decided, link_next, links_next, outcome_next, item_next, items_next, answered, new_next, new_cell, right_next, freeing, freeing_next, end_next, given_back, back_next, assigns_next, freed_next, free_component_next, free_in_next, branches_next, decided_next, turn_next, repeats_next, turned_next, count_turn_next, counts_next, ranges_next, exited_next, line_next, before_last, last_of, target_next, stored_next, store_next, received_next, receive_next, declaration_next, declarations_next, members_next, item_leave_next, master_leave_next, leave_next, frame_next, undo_next, broken_next, landed, pass_next, running_next, mode_next}
+use Rattle.ada_meaning.specs.Step.{direction_of, operation_next, part_reference, stored_from, picked_task, all_tasks, record_tasks, treating, treated_on, beginning, born_next, begun_next, awaited_next, ended_next, finalized_next, performed_next, treats_next, made, taken_out, same_pool, told_back, record_cell, record_in, newest_ones, without_newest, initial_values, copied_next, copies_next, record_target_next, record_stored_next, store_record_next, record_next, halts, moves, tells, asks, picks, at, popped, held, newest, reading, component_next, follow_next, path_next, selected, named_next, holder_next, place_in, record_holder_next, referred_next, refers_next, open_next, opened_next, opens_next, storing, unwound, expression_next, null_test_next, is_decided, link_next, links_next, outcome_next, item_next, items_next, answered, new_next, new_cell, right_next, freeing, freeing_next, end_next, given_back, back_next, assigns_next, freed_next, free_component_next, free_in_next, branches_next, decided_next, turn_next, repeats_next, turned_next, count_turn_next, counts_next, ranges_next, exited_next, line_next, before_last, last_of, target_next, stored_next, store_next, received_next, receive_next, declaration_next, declarations_next, members_next, item_leave_next, master_leave_next, leave_next, frame_next, undo_next, broken_next, landed, pass_next, running_next, mode_next}
 use Rattle.ada_meaning.specs.Named.{Object, changed, parted, finished, filled, treated, store, State, Next, existing, created, born_part, finalized_part, finalize, next, named, whole, inside, base, part_base, same, look, standing, lent, reads_boolean, reads_null, reads_integer, unary_given, binary_given, members, on_object, returned, new_object, an_integer}
 use Rattle.ada_meaning.specs.Run.{Event, Choice, settled, grants, takes, Leads}
-use Rattle.ada_meaning.specs.Ending.{steps_of_any, tasks_weight, has_handlers, by_mode, behind_weight, task_calls, frame_calls, calls_among, calls_in, calls_operation}
-use Rattle.ada_meaning.specs.Pace.{right_creates, declaration_creates, declarations_create, body_creates, operation_creates, OperationsDeclareNoParts, treatment_operations, new_operations, assigned_operations, right_operations, declaration_operations, declarations_operations, treats_operations, frame_operations, pass_operations, passed_operations, run_operations, exit_operations, return_operations, object_operations, heap_operations, operations_left, OperationsGrowFewer}
+use Rattle.ada_meaning.specs.Ending.{has_handlers, by_mode, behind_weight, task_calls, frame_calls, calls_among, calls_in, calls_operation}
+use Rattle.ada_meaning.specs.Pace.{cost_of_any, tasks_cost, done_cost, treatment_operations, new_operations, assigned_operations, right_operations, declaration_operations, declarations_operations, body_operations, operation_operations, type_operations, treats_operations, frame_operations, pass_operations, passed_operations, run_operations, exit_operations, return_operations, object_operations, heap_operations, operations_left, full_cost, DeclarationsSettle, OperationsGrowFewer}
 use Rattle.ada_meaning.proofs.Members.{IsListed, member_seen, member_listed, named_so}
-use Rattle.ada_meaning.proofs.Treatments.{tasks_lighter, treatment_any, record_lighter, picked_lighter}
+use Rattle.ada_meaning.proofs.Costs.{tasks_within, treatment_within, record_within, picked_within, done_more}
 use Rattle.ada_meaning.proofs.Jumps.{unwound_to, unwound_by, master_no_loop, master_no_return}
 
 -- The state in a mode.
@@ -62,95 +61,95 @@ called_once : (is : Bool) → called is ≤ 1
 called_once true = omega arith
 called_once false = omega arith
 
--- The lemmas, for a program with these types.
-module _ (types : List TypeDefinition) where
+-- The lemmas, for a program with these types, and where the calls of operations cost so much.
+module _ (types : List TypeDefinition) (cost : (of : ℕ) → ℕ) where
   -- What is left for the heap with one object more.
-  heap_append : (xs ys : List Object) → heap_operations types (xs ++ ys) ≡ heap_operations types xs + heap_operations types ys
+  heap_append : (xs ys : List Object) → heap_operations types cost (xs ++ ys) ≡ heap_operations types cost xs + heap_operations types cost ys
   heap_append [] ys = omega arith
   heap_append (x ∷ xs) ys = omega (arith, heap_append xs ys)
 
   -- An object that changes: the heap loses what the object loses.
   set_operations :
       (xs : List Object) (i : ℕ) (x y : Object) → slice_get xs i ≡ Some x
-      → heap_operations types (slice_set xs i y) + object_operations types x ≡ heap_operations types xs + object_operations types y
+      → heap_operations types cost (slice_set xs i y) + object_operations types cost x ≡ heap_operations types cost xs + object_operations types cost y
   set_operations [] i x y is = absurd (cc)
-  set_operations (z ∷ xs) zero x y is = let same : object_operations types z ≡ object_operations types x = cc in omega (arith, same)
+  set_operations (z ∷ xs) zero x y is = let same : object_operations types cost z ≡ object_operations types cost x = cc in omega (arith, same)
   set_operations (z ∷ xs) (suc i) x y is = omega (arith, set_operations xs i x y is)
 
   changed_fewer :
       (change : Object → Object) (at_o : Option Object) (objects : List Object) (o : Id)
-      → ((object : Object) → object_operations types (change object) ≤ object_operations types object) → slice_get objects o.0 ≡ at_o
-      → heap_operations types (changed change at_o objects o) ≤ heap_operations types objects
+      → ((object : Object) → object_operations types cost (change object) ≤ object_operations types cost object) → slice_get objects o.0 ≡ at_o
+      → heap_operations types cost (changed change at_o objects o) ≤ heap_operations types cost objects
   changed_fewer change None objects o fewer is = omega arith
   changed_fewer change (Some object) objects o fewer is = omega (arith, set_operations objects o.0 object (change object) is, fewer object)
 
   on_object_fewer :
       (change : Object → Object) (objects : List Object) (v : Value)
-      → ((object : Object) → object_operations types (change object) ≤ object_operations types object)
-      → heap_operations types (on_object change objects v) ≤ heap_operations types objects
+      → ((object : Object) → object_operations types cost (change object) ≤ object_operations types cost object)
+      → heap_operations types cost (on_object change objects v) ≤ heap_operations types cost objects
   on_object_fewer change objects Null fewer = omega arith
   on_object_fewer change objects (Names o) fewer = changed_fewer change (slice_get objects o.0) objects o fewer refl
   on_object_fewer change objects (Scalar v) fewer = omega arith
   on_object_fewer change objects (InPart o first) fewer = omega arith
 
-  finished_fewer : (objects : List Object) (v : Value) → heap_operations types (on_object finished objects v) ≤ heap_operations types objects
+  finished_fewer : (objects : List Object) (v : Value) → heap_operations types cost (on_object finished objects v) ≤ heap_operations types cost objects
   finished_fewer objects v = on_object_fewer finished objects v (λ object. omega arith)
 
-  returned_fewer : (objects : List Object) (v : Value) → heap_operations types (on_object returned objects v) ≤ heap_operations types objects
+  returned_fewer : (objects : List Object) (v : Value) → heap_operations types cost (on_object returned objects v) ≤ heap_operations types cost objects
   returned_fewer objects v = on_object_fewer returned objects v (λ object. omega arith)
 
-  parted_fewer : (objects : List Object) (v : Value) → heap_operations types (on_object parted objects v) ≤ heap_operations types objects
+  parted_fewer : (objects : List Object) (v : Value) → heap_operations types cost (on_object parted objects v) ≤ heap_operations types cost objects
   parted_fewer objects v = on_object_fewer parted objects v (λ object. omega arith)
 
   filled_fewer :
       (objects : List Object) (v : Value) (c : ℕ) (u : Value)
-      → heap_operations types (on_object (filled c u) objects v) ≤ heap_operations types objects
+      → heap_operations types cost (on_object (filled c u) objects v) ≤ heap_operations types cost objects
   filled_fewer objects v c u = on_object_fewer (filled c u) objects v (λ object. omega arith)
 
   stored_fewer :
       (objects : List Object) (v : Value) (c : ℕ) (vs : List Value)
-      → heap_operations types (stored_from named objects v c vs) ≤ heap_operations types objects
+      → heap_operations types cost (stored_from named objects v c vs) ≤ heap_operations types cost objects
   stored_fewer objects v c [] = omega arith
   stored_fewer objects v c (u ∷ us) = omega (arith, filled_fewer objects v c u, stored_fewer (store objects v c u) v (c + 1) us)
 
   part_fewer :
       (change : PartState → PartState) (part : ℕ) (objects : List Object) (v : Value)
-      → heap_operations types (on_object (treated change part) objects v) ≤ heap_operations types objects
+      → heap_operations types cost (on_object (treated change part) objects v) ≤ heap_operations types cost objects
   part_fewer change part objects v = on_object_fewer (treated change part) objects v (λ object. omega arith)
 
   -- A member that is taken out of its collection leaves as many less as it is to be treated by.
   taken_object :
       (objects : List Object) (o : Id) (object : Object) (at_o : Option Object) → slice_get objects o.0 ≡ Some object → at_o ≡ Some object
       → object.listed ≡ true
-      → heap_operations types (changed parted at_o objects o) + treatment_operations types object.cell.access ≡ heap_operations types objects
+      → heap_operations types cost (changed parted at_o objects o) + treatment_operations types cost object.cell.access ≡ heap_operations types cost objects
   taken_object objects o object None there is listed = absurd (cc)
   taken_object objects o object (Some x) there is listed =
       let same : x ≡ object = cc in
-      let whole : object_operations types object ≡ treatment_operations types object.cell.access =
-      ap (λ (b : Bool). if b then treatment_operations types object.cell.access else 0) listed in
+      let whole : object_operations types cost object ≡ treatment_operations types cost object.cell.access =
+      ap (λ (b : Bool). if b then treatment_operations types cost object.cell.access else 0) listed in
       rw same (omega (arith, whole, set_operations objects o.0 object (parted object) there))
 
   taken_fewer :
       (objects : List Object) (v : Value) (h : IsListed 0 objects v)
-      → heap_operations types (on_object parted objects v) + treatment_operations types h.object.cell.access ≡ heap_operations types objects
+      → heap_operations types cost (on_object parted objects v) + treatment_operations types cost h.object.cell.access ≡ heap_operations types cost objects
   taken_fewer objects v h =
       let o : Id = record { 0 = h.place } in
-      subst (λ (u : Value). heap_operations types (on_object parted objects u) + treatment_operations types h.object.cell.access ≡ heap_operations types objects) (sym (named_so objects v h))
+      subst (λ (u : Value). heap_operations types cost (on_object parted objects u) + treatment_operations types cost h.object.cell.access ≡ heap_operations types cost objects) (sym (named_so objects v h))
       (taken_object objects o h.object (slice_get objects h.place) h.there h.there h.listed)
 
   -- A treatment in front of what comes behind.
   treating_operations :
       (v : Value) (treatment : Treatment) (tasks : List Task) (k : List (Frame Value))
-      → run_operations types (treating v treatment tasks k) ≤ treats_operations types treatment tasks + run_operations types k
+      → run_operations types cost (treating v treatment tasks k) ≤ treats_operations types cost treatment tasks + run_operations types cost k
   treating_operations v treatment [] k = omega arith
   treating_operations v treatment (task ∷ tasks) k = omega arith
 
   -- What is left for the objects, and for a state, open.
   abbrev stored : State → ℕ
-  stored s = heap_operations types s.heap
+  stored s = heap_operations types cost s.heap
 
   abbrev load : State → ℕ
-  load s = stored s + by_mode s.mode (passed_operations s.control) (exit_operations types s.control) (return_operations types s.control) (run_operations types s.control)
+  load s = stored s + by_mode s.mode (passed_operations types cost s.control) (exit_operations types cost s.control) (return_operations types cost s.control) (run_operations types cost s.control)
 
   -- What comes next has no more, whatever is answered.
   abbrev Keeps : Next → ℕ → Type 0
@@ -180,7 +179,7 @@ module _ (types : List TypeDefinition) where
 
   frame_passed :
       (f : Frame Value) (passed exited returned run : ℕ) → passed ≤ run → passed ≤ exited → passed ≤ returned
-      → pass_operations f + passed ≤ frame_operations types f + behind_weight f passed exited returned run
+      → pass_operations types cost f + passed ≤ frame_operations types cost f + behind_weight f passed exited returned run
   frame_passed (frame.Does no_stmts) passed exited returned run h i j = omega (arith, h)
   frame_passed (frame.Does (a_stmt f fs)) passed exited returned run h i j = omega arith
   frame_passed (frame.Leaves mode) passed exited returned run h i j = omega (arith, mode_passed mode passed exited returned run h i j)
@@ -192,22 +191,22 @@ module _ (types : List TypeDefinition) where
   lands_passed false passed onward run h i = i
 
   mutual
-    passed_run : (k : List (Frame Value)) → passed_operations k ≤ run_operations types k
+    passed_run : (k : List (Frame Value)) → passed_operations types cost k ≤ run_operations types cost k
     passed_run [] = omega arith
     passed_run (f ∷ k) =
-        frame_passed f (passed_operations k) (exit_operations types k) (return_operations types k) (run_operations types k) (passed_run k) (passed_exit k) (passed_return k)
+        frame_passed f (passed_operations types cost k) (exit_operations types cost k) (return_operations types cost k) (run_operations types cost k) (passed_run k) (passed_exit k) (passed_return k)
 
-    passed_exit : (k : List (Frame Value)) → passed_operations k ≤ exit_operations types k
+    passed_exit : (k : List (Frame Value)) → passed_operations types cost k ≤ exit_operations types cost k
     passed_exit [] = omega arith
-    passed_exit (f ∷ k) = omega (arith, lands_passed (is_loop f) (passed_operations k) (exit_operations types k) (run_operations types k) (passed_run k) (passed_exit k))
+    passed_exit (f ∷ k) = omega (arith, lands_passed (is_loop f) (passed_operations types cost k) (exit_operations types cost k) (run_operations types cost k) (passed_run k) (passed_exit k))
 
-    passed_return : (k : List (Frame Value)) → passed_operations k ≤ return_operations types k
+    passed_return : (k : List (Frame Value)) → passed_operations types cost k ≤ return_operations types cost k
     passed_return [] = omega arith
     passed_return (f ∷ k) =
-        omega (arith, lands_passed (is_return f) (passed_operations k) (return_operations types k) (run_operations types k) (passed_run k) (passed_return k))
+        omega (arith, lands_passed (is_return f) (passed_operations types cost k) (return_operations types cost k) (run_operations types cost k) (passed_run k) (passed_return k))
 
   -- Statements that are to be done count nothing, and what is behind them.
-  does_none : (fs : StmtsForm) (k : List (Frame Value)) → run_operations types (frame.Does fs ∷ k) ≤ run_operations types k
+  does_none : (fs : StmtsForm) (k : List (Frame Value)) → run_operations types cost (frame.Does fs ∷ k) ≤ run_operations types cost k
   does_none no_stmts k = omega arith
   does_none (a_stmt f fs) k = omega (arith, passed_run k)
 
@@ -232,7 +231,7 @@ module _ (types : List TypeDefinition) where
 
   -- A frame that counts nothing, whatever component or place it is for.
   abbrev CountsNone : (X : Type 0) → (X → Frame Value) → List (Frame Value) → Type 0
-  CountsNone X frame_of k = (x : X) → run_operations types (frame_of x ∷ k) ≤ run_operations types k
+  CountsNone X frame_of k = (x : X) → run_operations types cost (frame_of x ∷ k) ≤ run_operations types cost k
 
   named_keeps : (cs : List ℕ) (x : ℕ) (s : State) (w : ℕ) → load (running s) ≤ w → Keeps (named_next named cs x (running s)) w
   named_keeps cs x s w h =
@@ -310,7 +309,7 @@ module _ (types : List TypeDefinition) where
   copies_keep o first count (finds cell) s w h = copied_keeps o (record_in cell.values first count) s w h
 
   answered_keeps :
-      (access count words : ℕ) (home : Destination) (s : State) (w : ℕ) → load (running s) + new_operations types access ≤ w
+      (access count words : ℕ) (home : Destination) (s : State) (w : ℕ) → load (running s) + new_operations types cost access ≤ w
       → (granted : Bool) → load (answered named types access count words home (running s) granted) ≤ w
   answered_keeps access count words home s w h true =
       let initializes = treating_operations (created s.heap words) (frame.begins Creation []) (all_tasks types access PartsFirst) s.control in
@@ -319,18 +318,18 @@ module _ (types : List TypeDefinition) where
         h,
         heap_append s.heap (new_object (new_cell named types access count home s) ∷ []),
         initializes,
-        tasks_lighter types access PartsFirst,
+        tasks_within types cost access PartsFirst,
       )
   answered_keeps access count words home s w h false = omega (arith, h, passed_run s.control)
 
   new_keeps :
-      (access count words : ℕ) (home : Option Destination) (s : State) (w : ℕ) → load (running s) + new_operations types access ≤ w
+      (access count words : ℕ) (home : Option Destination) (s : State) (w : ℕ) → load (running s) + new_operations types cost access ≤ w
       → Keeps (new_next named types access count words home (running s)) w
   new_keeps access count words None s w h = omega (arith, h, passed_run s.control)
   new_keeps access count words (Some home) s w h = answered_keeps access count words home s w h
 
   right_keeps :
-      (right : RightForm) (s : State) (w : ℕ) → load (running s) + right_operations types right ≤ w
+      (right : RightForm) (s : State) (w : ℕ) → load (running s) + right_operations types cost right ≤ w
       → Keeps (right_next named types right (running s)) w
   right_keeps nothing s w h = omega (arith, h)
   right_keeps (value_of path) s w h = named_keeps path.selectors path.root s w (omega (arith, h))
@@ -362,7 +361,7 @@ module _ (types : List TypeDefinition) where
   -- Components that are assigned to.
   target_keeps :
       (o : Value) (c : ℕ) (right : RightForm) (found : Found (Cell Value)) (s : State) (w : ℕ)
-      → load (running s) + right_operations types right ≤ w → Keeps (target_next named o c right found (running s)) w
+      → load (running s) + right_operations types cost right ≤ w → Keeps (target_next named o c right found (running s)) w
   target_keeps o c right on_null s w h = omega (arith, h, passed_run s.control)
   target_keeps o c right on_gone s w h = tt
   target_keeps o c right on_other s w h = tt
@@ -399,7 +398,7 @@ module _ (types : List TypeDefinition) where
   -- A record with controlled parts that is assigned: its target is finalized, gets its components, and is adjusted.
   assigns_keep :
       (t : ℕ) (target source : Value) (same : Option Bool) (s : State) (w : ℕ)
-      → load (running s) + assigned_operations types t ≤ w
+      → load (running s) + assigned_operations types cost t ≤ w
       → Keeps (assigns_next named types t target source same (running s)) w
   assigns_keep t target source None s w h = tt
   assigns_keep t target source (Some true) s w h = omega (arith, h)
@@ -410,7 +409,7 @@ module _ (types : List TypeDefinition) where
       let copies = frame.Copies (base source) t ∷ frame.StoresRecord o (base target) (width_of types t) ∷ adjusts in
       let adjusted = treating_operations o (frame.begins (Adjustment s.next) []) (record_tasks types t PartsFirst part) s.control in
       let finalized = treating_operations o (frame.ends (Assigning s.next)) (record_tasks types t WholeFirst part) copies in
-      omega (arith, h, adjusted, finalized, record_lighter types t PartsFirst part, record_lighter types t WholeFirst part)
+      omega (arith, h, adjusted, finalized, record_within types cost t PartsFirst part, record_within types cost t WholeFirst part)
 
   received_keeps : (o : Value) (c : ℕ) (input : List ℤ) (before : Option Value) (s : State) (w : ℕ) → load (running s) ≤ w → Keeps (received_next named o c input before (running s)) w
   received_keeps o c input None s w h = tt
@@ -426,8 +425,8 @@ module _ (types : List TypeDefinition) where
   -- An object that is freed: an end and a back are to come, and then what held its name is to be cleared.
   freeing_keeps :
       (access : ℕ) (v : Value) (cell : Cell Value) (clears : Frame Value) (event : Event) (s : State) (w : ℕ)
-      → run_operations types (clears ∷ s.control) ≤ run_operations types s.control
-      → load (running s) + steps_of_any (shapes_of types) ≤ w → Keeps (freeing_next named types access v cell clears event (running s)) w
+      → run_operations types cost (clears ∷ s.control) ≤ run_operations types cost s.control
+      → load (running s) + cost_of_any types cost (shapes_of types) ≤ w → Keeps (freeing_next named types access v cell clears event (running s)) w
   freeing_keeps access v cell clears event s w one h = by_pool (same_pool (Some (pool_freed_to (home_of access s.masters))) cell.home.pool)
     where
       by_pool :
@@ -436,27 +435,27 @@ module _ (types : List TypeDefinition) where
       by_pool true =
           let behind = frame.Ends v ∷ frame.GivesBack v (Freeing s.next) (Some (pool_freed_to (home_of access s.masters))) ∷ clears ∷ s.control in
           let finalizes = treating_operations v (frame.ends (Freeing s.next)) (all_tasks types cell.access WholeFirst) behind in
-          omega (arith, h, one, parted_fewer s.heap v, finalizes, treatment_any types cell.access)
+          omega (arith, h, one, parted_fewer s.heap v, finalizes, tasks_within types cost cell.access WholeFirst, treatment_within types cost cell.access)
       by_pool false = tt
 
   -- A component that is freed.
   freed_keeps :
       (access : ℕ) (o : Value) (c : ℕ) (v : Value) (found : Found (Cell Value)) (s : State) (w : ℕ)
-      → load (running s) + steps_of_any (shapes_of types) ≤ w → Keeps (freed_next named types access o c v found (running s)) w
+      → load (running s) + cost_of_any types cost (shapes_of types) ≤ w → Keeps (freed_next named types access o c v found (running s)) w
   freed_keeps access o c v on_null s w h = omega (arith, h)
   freed_keeps access o c v on_gone s w h = tt
   freed_keeps access o c v on_other s w h = tt
   freed_keeps access o c v (finds cell) s w h = freeing_keeps access v cell (frame.ClearsIn o c) (Followed o) s w (omega arith) h
 
   free_component_keeps :
-      (access : ℕ) (o : Value) (c : ℕ) (held : Option Value) (s : State) (w : ℕ) → load (running s) + steps_of_any (shapes_of types) ≤ w
+      (access : ℕ) (o : Value) (c : ℕ) (held : Option Value) (s : State) (w : ℕ) → load (running s) + cost_of_any types cost (shapes_of types) ≤ w
       → Keeps (free_component_next named types access o c held (running s)) w
   free_component_keeps access o c None s w h = tt
   free_component_keeps access o c (Some v) s w h = freed_keeps access o c v (standing s.heap v) s w h
 
   free_in_keeps :
       (access : ℕ) (o : Value) (c : ℕ) (found : Found (Cell Value)) (s : State) (w : ℕ)
-      → load (running s) + steps_of_any (shapes_of types) ≤ w → Keeps (free_in_next named types access o c found (running s)) w
+      → load (running s) + cost_of_any types cost (shapes_of types) ≤ w → Keeps (free_in_next named types access o c found (running s)) w
   free_in_keeps access o c on_null s w h = omega (arith, h, passed_run s.control)
   free_in_keeps access o c on_gone s w h = tt
   free_in_keeps access o c on_other s w h = tt
@@ -503,7 +502,7 @@ module _ (types : List TypeDefinition) where
   ranges_keep x fs (Some low) (Some high) s w h = counts_keep x low high fs s w h
 
   exited_keeps :
-      (truth : Option Bool) (s : State) (w : ℕ) → load (running s) + exit_operations types s.control ≤ w
+      (truth : Option Bool) (s : State) (w : ℕ) → load (running s) + exit_operations types cost s.control ≤ w
       → Keeps (exited_next named truth (running s)) w
   exited_keeps None s w h = tt
   exited_keeps (Some true) s w h = omega (arith, h)
@@ -545,29 +544,29 @@ module _ (types : List TypeDefinition) where
   opens_keep o c (finds cell) s w h = opened_keeps o c (slice_get cell.values c) s w h
 
   -- What gets something back calls nothing.
-  storing_operations : (references : List Value) (k : List (Frame Value)) → run_operations types (storing named references k) ≤ run_operations types k
+  storing_operations : (references : List Value) (k : List (Frame Value)) → run_operations types cost (storing named references k) ≤ run_operations types cost k
   storing_operations [] k = omega arith
   storing_operations (r ∷ rs) k = omega (arith, storing_operations rs k)
 
   -- A record object that is made: it is to be initialized, and to be finalized and ended later.
   made_keeps :
-      (x t : ℕ) (by : Birth) (values : List Value) (s : State) (w : ℕ) → load (running s) + new_operations types t ≤ w
+      (x t : ℕ) (by : Birth) (values : List Value) (s : State) (w : ℕ) → load (running s) + new_operations types cost t ≤ w
       → load (made named types x t by values (running s)) ≤ w
   made_keeps x t by values s w h =
       let initializes = treating_operations (created s.heap (words_of types t)) (frame.begins by []) (all_tasks types t PartsFirst) s.control in
       let more = heap_append s.heap (new_object (record_cell named types t (height s.masters) values) ∷ []) in
-      omega (arith, h, more, initializes, tasks_lighter types t PartsFirst)
+      omega (arith, h, more, initializes, tasks_within types cost t PartsFirst)
 
   -- Declarations.
   record_keeps :
       (x t : ℕ) (initial : Option (List ItemForm)) (s : State) (w : ℕ)
-      → load (running s) + new_operations types t ≤ w
+      → load (running s) + new_operations types cost t ≤ w
       → Keeps (record_next named types x t initial (running s)) w
   record_keeps x t None s w h = made_keeps x t Creation (initial_values named (reached_of types t)) s w (omega (arith, h))
   record_keeps x t (Some items) s w h = omega (arith, h)
 
   declaration_keeps :
-      (d : DeclarationForm) (s : State) (w : ℕ) → load (running s) + declaration_operations types d ≤ w
+      (d : DeclarationForm) (s : State) (w : ℕ) → load (running s) + declaration_operations types cost d ≤ w
       → Keeps (declaration_next named types d (running s)) w
   declaration_keeps (creates_pool pool) s w h =
       omega (arith, h)
@@ -578,14 +577,14 @@ module _ (types : List TypeDefinition) where
 
   declarations_keep :
       (ds : List DeclarationForm) (fs : StmtsForm) (hs : HandlersForm) (s : State) (w : ℕ)
-      → load (running s) + declarations_operations types ds ≤ w → Keeps (declarations_next named types ds fs hs (running s)) w
+      → load (running s) + declarations_operations types cost ds ≤ w → Keeps (declarations_next named types ds fs hs (running s)) w
   declarations_keep [] fs hs s w h = omega (arith, h, does_none fs (frame.Handles hs ∷ frame.Closes ∷ s.control))
   declarations_keep (d ∷ ds) fs hs s w h = declaration_keeps d (at (frame.Elaborates ds fs hs ∷ s.control) s) w (omega (arith, h))
 
   -- A member that is taken out: its object is found as long as it exists.
   out_keeps :
       (cause : Cause) (pool : Option ℕ) (v : Value) (cell : Cell Value) (found : Found (Cell Value)) (s : State) (w : ℕ) → Reaches cell found
-      → heap_operations types (on_object parted s.heap v) + treatment_operations types cell.access ≡ heap_operations types s.heap → load (running s) ≤ w
+      → heap_operations types cost (on_object parted s.heap v) + treatment_operations types cost cell.access ≡ heap_operations types cost s.heap → load (running s) ≤ w
       → load (taken_out named types cause pool v found (running s)) ≤ w
   out_keeps cause pool v cell on_null s w reaches less h = omega (arith, h, less)
   out_keeps cause pool v cell on_gone s w reaches less h = omega (arith, h, less)
@@ -593,8 +592,8 @@ module _ (types : List TypeDefinition) where
   out_keeps cause pool v cell (finds found) s w reaches less h =
       let behind = frame.Ends v ∷ frame.GivesBack v cause pool ∷ s.control in
       let finalizes = treating_operations v (frame.ends cause) (all_tasks types found.access WholeFirst) behind in
-      let alike = ap (treatment_operations types) (ap (λ (c : Cell Value). c.access) reaches) in
-      omega (arith, h, less, finalizes, alike)
+      let alike = ap (treatment_operations types cost) (ap (λ (c : Cell Value). c.access) reaches) in
+      omega (arith, h, less, finalizes, alike, tasks_within types cost found.access WholeFirst)
 
   taken_keeps :
       (cause : Cause) (pool : Option ℕ) (v : Value) (s : State) (w : ℕ) → IsListed 0 s.heap v → load (running s) ≤ w
@@ -632,46 +631,43 @@ module _ (types : List TypeDefinition) where
   leave_keeps mode [] s w h = tt
   leave_keeps mode (m ∷ ms) s w h = master_leaves_fewer mode m.number m.items s w h
 
-  -- The body of an operation that is called.
-  abbrev body_operations : Option BodyForm → ℕ
-  body_operations None = 0
-  body_operations (Some b) = declarations_operations types b.declarations
-
+  -- What the body of an operation declares that is called.
   abbrev called_operations : List BodyForm → Option ℕ → ℕ
   called_operations bodies None = 0
-  called_operations bodies (Some procedure) = body_operations (slice_get bodies procedure)
+  called_operations bodies (Some procedure) = body_operations types cost (slice_get bodies procedure)
 
   operation_keeps :
       (procedure : ℕ) (found : Option BodyForm) (reference : Value) (behind : List (Frame Value)) (event : Event) (s : State) (w : ℕ)
-      → stored s + body_operations found + run_operations types behind ≤ w
+      → stored s + body_operations types cost found + run_operations types cost behind ≤ w
       → Keeps (operation_next named procedure found reference behind event (running s)) w
   operation_keeps procedure None reference behind event s w h = tt
   operation_keeps procedure (Some b) reference behind event s w h = omega (arith, h)
 
-  -- The treatment of an object, where one operation less is left, if it is called.
+  -- The treatment of an object, where less is left, if an operation is called.
   born_keeps :
       (v : Value) (by : Birth) (done : List Part) (of part : ℕ) (tasks : List Task) (state : Option PartState) (s : State) (w : ℕ)
-      → load (running s) + 1 + treats_operations types (frame.begins by done) tasks ≤ w
+      → load (running s) + cost of + treats_operations types cost (frame.begins by done) tasks ≤ w
       → Keeps (born_next named v by done of part tasks state (running s)) w
   born_keeps v by done of part tasks None s w h = tt
   born_keeps v by done of part tasks (Some p) s w h =
-      let begins = treating_operations v (frame.begins by (record { of = of; number = part } ∷ done)) tasks s.control in
-      omega (arith, h, part_fewer (born_part (counted s.born)) part s.heap v, begins)
+      let begun : Part = record { of = of; number = part } in
+      let begins = treating_operations v (frame.begins by (begun ∷ done)) tasks s.control in
+      omega (arith, h, part_fewer (born_part (counted s.born)) part s.heap v, begins, done_more types cost begun done)
 
   begun_keeps :
       (bodies : List BodyForm) (v : Value) (by : Birth) (done : List Part) (of part : ℕ) (tasks : List Task) (operation : Option ℕ)
-      (state : Option PartState) (s : State) (w : ℕ) → called_operations bodies operation ≡ 0
-      → load (running s) + 2 + treats_operations types (frame.begins by done) tasks ≤ w + called (is_some operation)
+      (state : Option PartState) (s : State) (w : ℕ)
+      → load (running s) + called_operations bodies operation + cost of + treats_operations types cost (frame.begins by done) tasks ≤ w
       → Keeps (begun_next named bodies v by done of part tasks operation state (running s)) w
-  begun_keeps bodies v by done of part tasks operation None s w few h = tt
-  begun_keeps bodies v by done of part tasks None (Some p) s w few h = born_keeps v by done of part tasks (Some p) s w (omega (arith, h))
-  begun_keeps bodies v by done of part tasks (Some procedure) (Some p) s w few h =
+  begun_keeps bodies v by done of part tasks operation None s w h = tt
+  begun_keeps bodies v by done of part tasks None (Some p) s w h = born_keeps v by done of part tasks (Some p) s w (omega (arith, h))
+  begun_keeps bodies v by done of part tasks (Some procedure) (Some p) s w h =
       operation_keeps procedure (slice_get bodies procedure) (part_reference named v part p) (frame.Awaits v by done of part tasks ∷ s.control) Quiet s w
-      (omega (arith, h, few))
+      (omega (arith, h))
 
   awaited_keeps :
       (v : Value) (by : Birth) (done : List Part) (of part : ℕ) (tasks : List Task) (found : Found (Cell Value)) (s : State) (w : ℕ)
-      → load (running s) + 1 + treats_operations types (frame.begins by done) tasks ≤ w
+      → load (running s) + cost of + treats_operations types cost (frame.begins by done) tasks ≤ w
       → Keeps (awaited_next named v by done of part tasks found (running s)) w
   awaited_keeps v by done of part tasks on_null s w h = tt
   awaited_keeps v by done of part tasks on_gone s w h = tt
@@ -680,19 +676,19 @@ module _ (types : List TypeDefinition) where
 
   ended_keeps :
       (bodies : List BodyForm) (v : Value) (part : ℕ) (p : PartState) (behind : List (Frame Value)) (operation : Option ℕ) (event : Event) (s : State) (w : ℕ)
-      → called_operations bodies operation ≡ 0 → stored s + run_operations types behind ≤ w
+      → stored s + called_operations bodies operation + run_operations types cost behind ≤ w
       → Keeps (ended_next named bodies v part p behind operation event (running s)) w
-  ended_keeps bodies v part p behind None event s w few h = h
-  ended_keeps bodies v part p behind (Some procedure) event s w few h =
-      operation_keeps procedure (slice_get bodies procedure) (part_reference named v part p) (frame.Confines ∷ behind) event s w (omega (arith, h, few))
+  ended_keeps bodies v part p behind None event s w h = omega (arith, h)
+  ended_keeps bodies v part p behind (Some procedure) event s w h =
+      operation_keeps procedure (slice_get bodies procedure) (part_reference named v part p) (frame.Confines ∷ behind) event s w (omega (arith, h))
 
   finalized_keeps :
       (bodies : List BodyForm) (v : Value) (cause : Cause) (of part : ℕ) (tasks : List Task) (operation : Option ℕ)
-      (state : Option PartState) (s : State) (w : ℕ) → called_operations bodies operation ≡ 0
-      → load (running s) + tasks_weight (shapes_of types) tasks ≤ w
+      (state : Option PartState) (s : State) (w : ℕ)
+      → load (running s) + called_operations bodies operation + tasks_cost types cost tasks ≤ w
       → Keeps (finalized_next named bodies v cause of part tasks operation state (running s)) w
-  finalized_keeps bodies v cause of part tasks operation None s w few h = tt
-  finalized_keeps bodies v cause of part tasks operation (Some p) s w few h = by_life p.alive
+  finalized_keeps bodies v cause of part tasks operation None s w h = tt
+  finalized_keeps bodies v cause of part tasks operation (Some p) s w h = by_life p.alive
     where
       behind : List (Frame Value)
       behind = treating v (frame.ends cause) tasks s.control
@@ -706,37 +702,39 @@ module _ (types : List TypeDefinition) where
           (if alive then ended_next named bodies v part p behind operation event (running (record s { heap = finalize s.heap v part }))
           else halts (Erroneous FinalizesTwice)) w
       by_life true =
-          ended_keeps bodies v part p behind operation event (record s { heap = finalize s.heap v part }) w few
+          ended_keeps bodies v part p behind operation event (record s { heap = finalize s.heap v part }) w
           (omega (arith, h, part_fewer finalized_part part s.heap v, treating_operations v (frame.ends cause) tasks s.control))
       by_life false = tt
 
-  -- No operation of a type leads to another one.
-  abbrev CallsFew : List BodyForm → Type 0
-  CallsFew bodies = (n : ℕ) →
-      (called_operations bodies (procedure_number (operations_of types n).initialize) ≡ 0)
-      × (called_operations bodies (procedure_number (operations_of types n).adjust) ≡ 0)
-      × (called_operations bodies (procedure_number (operations_of types n).finalize) ≡ 0)
+  -- A call of an operation costs more than what the declarations of its body create.
+  abbrev CostsCover : List BodyForm → Type 0
+  CostsCover bodies = (n : ℕ) →
+      (called_operations bodies (procedure_number (operations_of types n).initialize) < cost n)
+      × (called_operations bodies (procedure_number (operations_of types n).adjust) < cost n)
+      × (called_operations bodies (procedure_number (operations_of types n).finalize) < cost n)
 
-  beginning_few : (bodies : List BodyForm) (by : Birth) (n : ℕ) → CallsFew bodies → called_operations bodies (beginning by (operations_of types n)) ≡ 0
-  beginning_few bodies Creation n few = (few n).0
-  beginning_few bodies Copy n few = (few n).1
-  beginning_few bodies (Adjustment number) n few = (few n).1
+  beginning_covered :
+      (bodies : List BodyForm) (by : Birth) (n : ℕ) → CostsCover bodies → called_operations bodies (beginning by (operations_of types n)) < cost n
+  beginning_covered bodies Creation n covers = (covers n).0
+  beginning_covered bodies Copy n covers = (covers n).1
+  beginning_covered bodies (Adjustment number) n covers = (covers n).1
 
   performed_keeps :
       (bodies : List BodyForm) (v : Value) (treatment : Treatment) (of part : ℕ) (tasks : List Task) (found : Found (Cell Value)) (s : State) (w : ℕ)
-      → CallsFew bodies
-      → load (running s) + treats_operations types treatment (performs of part ∷ tasks) ≤ w + called (task_calls types treatment (Perform of part))
+      → CostsCover bodies
+      → load (running s) + treats_operations types cost treatment (performs of part ∷ tasks) ≤ w + called (task_calls types treatment (Perform of part))
       → Keeps (performed_next named types bodies v treatment of part tasks found (running s)) w
-  performed_keeps bodies v treatment of part tasks on_null s w few h = tt
-  performed_keeps bodies v treatment of part tasks on_gone s w few h = tt
-  performed_keeps bodies v treatment of part tasks on_other s w few h = tt
-  performed_keeps bodies v (frame.begins by done) of part tasks (finds cell) s w few h =
-      begun_keeps bodies v by done of part tasks (beginning by (operations_of types of)) (slice_get cell.parts part) s w (beginning_few bodies by of few)
-      (omega (arith, h))
-  performed_keeps bodies v (frame.ends cause) of part tasks (finds cell) s w few h =
+  performed_keeps bodies v treatment of part tasks on_null s w covers h = tt
+  performed_keeps bodies v treatment of part tasks on_gone s w covers h = tt
+  performed_keeps bodies v treatment of part tasks on_other s w covers h = tt
+  performed_keeps bodies v (frame.begins by done) of part tasks (finds cell) s w covers h =
+      let operation = beginning by (operations_of types of) in
+      begun_keeps bodies v by done of part tasks operation (slice_get cell.parts part) s w
+      (omega (arith, h, called_once (is_some operation), beginning_covered bodies by of covers))
+  performed_keeps bodies v (frame.ends cause) of part tasks (finds cell) s w covers h =
       let operation = (operations_of types of).finalize in
-      finalized_keeps bodies v cause of part tasks (procedure_number operation) (slice_get cell.parts part) s w (few of).2
-      (omega (arith, h, called_once (is_some operation)))
+      finalized_keeps bodies v cause of part tasks (procedure_number operation) (slice_get cell.parts part) s w
+      (omega (arith, h, called_once (is_some operation), (covers of).2))
 
   picked_keeps :
       (none : Bool) (count : ℕ) (taking : ℕ → State) (w : ℕ) → ((i : ℕ) → i < count → load (taking i) ≤ w)
@@ -747,10 +745,10 @@ module _ (types : List TypeDefinition) where
   -- What is left once a component is picked.
   picked_fewer :
       (treatment : Treatment) (cs : List Component) (tasks : List Task) (i : ℕ) → i < length cs
-      → treats_operations types treatment (picked_task (shapes_of types) (direction_of treatment) (treats cs ∷ tasks) i)
-      ≤ treats_operations types treatment (treats cs ∷ tasks)
-  picked_fewer (frame.begins by done) cs tasks i lt = omega (arith, picked_lighter types PartsFirst cs tasks i lt)
-  picked_fewer (frame.ends cause) cs tasks i lt = omega (arith, picked_lighter types WholeFirst cs tasks i lt)
+      → treats_operations types cost treatment (picked_task (shapes_of types) (direction_of treatment) (treats cs ∷ tasks) i)
+      ≤ treats_operations types cost treatment (treats cs ∷ tasks)
+  picked_fewer (frame.begins by done) cs tasks i lt = omega (arith, picked_within types cost PartsFirst cs tasks i lt)
+  picked_fewer (frame.ends cause) cs tasks i lt = omega (arith, picked_within types cost WholeFirst cs tasks i lt)
 
   picks_none : (treatment : Treatment) (count : ℕ) → task_calls types treatment (Pick count) ≡ false
   picks_none (frame.begins by done) count = refl
@@ -761,114 +759,114 @@ module _ (types : List TypeDefinition) where
   ends_none (frame.ends cause) = refl
 
   treats_keeps :
-      (bodies : List BodyForm) (v : Value) (treatment : Treatment) (tasks : List Task) (s : State) (w : ℕ) → CallsFew bodies
-      → load (running s) + treats_operations types treatment tasks ≤ w + called (task_calls types treatment (task_next tasks))
+      (bodies : List BodyForm) (v : Value) (treatment : Treatment) (tasks : List Task) (s : State) (w : ℕ) → CostsCover bodies
+      → load (running s) + treats_operations types cost treatment tasks ≤ w + called (task_calls types treatment (task_next tasks))
       → Keeps (treats_next named types bodies v treatment tasks (task_next tasks) (running s)) w
-  treats_keeps bodies v treatment [] s w few h = omega (arith, h, ap called (ends_none treatment))
-  treats_keeps bodies v treatment (performs of part ∷ tasks) s w few h =
-      performed_keeps bodies v treatment of part tasks (look s.heap v) s w few h
-  treats_keeps bodies v treatment (treats [] ∷ tasks) s w few h = tt
-  treats_keeps bodies v treatment (treats (c ∷ cs) ∷ tasks) s w few h =
+  treats_keeps bodies v treatment [] s w covers h = omega (arith, h, ap called (ends_none treatment))
+  treats_keeps bodies v treatment (performs of part ∷ tasks) s w covers h =
+      performed_keeps bodies v treatment of part tasks (look s.heap v) s w covers h
+  treats_keeps bodies v treatment (treats [] ∷ tasks) s w covers h = tt
+  treats_keeps bodies v treatment (treats (c ∷ cs) ∷ tasks) s w covers h =
       let left : ℕ → List Task = λ i. picked_task (shapes_of types) (direction_of treatment) (treats (c ∷ cs) ∷ tasks) i in
       picked_keeps (length (c ∷ cs) == 0) (length (c ∷ cs)) (λ i. treated_on named v treatment (left i) (running s)) w (λ i lt.
       omega (arith, h, ap called (picks_none treatment (length (c ∷ cs))), treating_operations v treatment (left i) s.control, picked_fewer treatment (c ∷ cs) tasks i lt))
 
   -- Each frame that is taken off, unless a statement begins.
   frame_keeps :
-      (bodies : List BodyForm) (f : Frame Value) (s : State) (w : ℕ) → begins_by f ≡ false → CallsFew bodies
-      → stored s + run_operations types (f ∷ s.control) ≤ w + called (frame_calls types f) → Keeps (frame_next named types bodies f (running s)) w
-  frame_keeps bodies (frame.Elaborates ds fs hs) s w b few h = declarations_keep ds fs hs s w (omega (arith, h))
-  frame_keeps bodies (frame.Does no_stmts) s w b few h = omega (arith, h)
-  frame_keeps bodies (frame.Does (a_stmt f fs)) s w b few h = absurd (cc)
-  frame_keeps bodies (frame.Decides fs branches) s w b few h =
+      (bodies : List BodyForm) (f : Frame Value) (s : State) (w : ℕ) → begins_by f ≡ false → CostsCover bodies
+      → stored s + run_operations types cost (f ∷ s.control) ≤ w + called (frame_calls types f) → Keeps (frame_next named types bodies f (running s)) w
+  frame_keeps bodies (frame.Elaborates ds fs hs) s w b covers h = declarations_keep ds fs hs s w (omega (arith, h))
+  frame_keeps bodies (frame.Does no_stmts) s w b covers h = omega (arith, h)
+  frame_keeps bodies (frame.Does (a_stmt f fs)) s w b covers h = absurd (cc)
+  frame_keeps bodies (frame.Decides fs branches) s w b covers h =
       decided_keeps fs branches (reads_boolean (newest named s)) (popped s) w (omega (arith, h))
-  frame_keeps bodies (frame.Repeats condition fs) s w b few h = repeats_keep condition fs s w (omega (arith, h))
-  frame_keeps bodies (frame.Turns condition fs) s w b few h = turned_keeps condition fs (reads_boolean (newest named s)) (popped s) w (omega (arith, h))
-  frame_keeps bodies (frame.Ranges x fs) s w b few h =
+  frame_keeps bodies (frame.Repeats condition fs) s w b covers h = repeats_keep condition fs s w (omega (arith, h))
+  frame_keeps bodies (frame.Turns condition fs) s w b covers h = turned_keeps condition fs (reads_boolean (newest named s)) (popped s) w (omega (arith, h))
+  frame_keeps bodies (frame.Ranges x fs) s w b covers h =
       ranges_keep x fs (reads_integer (newest named (popped s))) (reads_integer (newest named s)) (popped (popped s)) w (omega (arith, h))
-  frame_keeps bodies (frame.Counts x value last fs) s w b few h = counts_keep x value last fs s w (omega (arith, h))
-  frame_keeps bodies frame.Exits s w b few h = exited_keeps (reads_boolean (newest named s)) (popped s) w (omega (arith, h))
-  frame_keeps bodies (frame.Handles hs) s w b few h = omega (arith, h)
-  frame_keeps bodies frame.Closes s w b few h = omega (arith, h)
-  frame_keeps bodies (frame.Leaves mode) s w b few h = leave_keeps mode s.masters s w (omega (arith, h))
-  frame_keeps bodies (frame.Calls procedure body actuals) s w b few h =
+  frame_keeps bodies (frame.Counts x value last fs) s w b covers h = counts_keep x value last fs s w (omega (arith, h))
+  frame_keeps bodies frame.Exits s w b covers h = exited_keeps (reads_boolean (newest named s)) (popped s) w (omega (arith, h))
+  frame_keeps bodies (frame.Handles hs) s w b covers h = omega (arith, h)
+  frame_keeps bodies frame.Closes s w b covers h = omega (arith, h)
+  frame_keeps bodies (frame.Leaves mode) s w b covers h = leave_keeps mode s.masters s w (omega (arith, h))
+  frame_keeps bodies (frame.Calls procedure body actuals) s w b covers h =
       omega (arith, h)
-  frame_keeps bodies (frame.Returns actuals references) s w b few h = omega (arith, h, storing_operations references s.control)
-  frame_keeps bodies (frame.Evaluates right) s w b few h = right_keeps right s w (omega (arith, h))
-  frame_keeps bodies (frame.Computes e) s w b few h = expression_keeps e s w (omega (arith, h))
-  frame_keeps bodies (frame.Follows cs) s w b few h = path_keeps cs (newest named s) (popped s) w (omega (arith, h))
-  frame_keeps bodies (frame.TestsNull equal) s w b few h = null_test_keeps equal (reads_null (newest named s)) (popped s) w (omega (arith, h))
-  frame_keeps bodies (frame.Refers p) s w b few h =
+  frame_keeps bodies (frame.Returns actuals references) s w b covers h = omega (arith, h, storing_operations references s.control)
+  frame_keeps bodies (frame.Evaluates right) s w b covers h = right_keeps right s w (omega (arith, h))
+  frame_keeps bodies (frame.Computes e) s w b covers h = expression_keeps e s w (omega (arith, h))
+  frame_keeps bodies (frame.Follows cs) s w b covers h = path_keeps cs (newest named s) (popped s) w (omega (arith, h))
+  frame_keeps bodies (frame.TestsNull equal) s w b covers h = null_test_keeps equal (reads_null (newest named s)) (popped s) w (omega (arith, h))
+  frame_keeps bodies (frame.Refers p) s w b covers h =
       record_holder_keeps p (λ place. frame.RefersIn place p.record_type) s w (λ place. omega arith) (omega (arith, h))
-  frame_keeps bodies (frame.RefersIn place t) s w b few h =
+  frame_keeps bodies (frame.RefersIn place t) s w b covers h =
       refers_keep (newest named s) place (width_of types t) (look s.heap (newest named s)) (popped s) w (omega (arith, h))
-  frame_keeps bodies (frame.Opens path) s w b few h = open_keeps path.selectors path.root s w (omega (arith, h))
-  frame_keeps bodies (frame.OpensIn c) s w b few h = opens_keep (newest named s) c (look s.heap (newest named s)) (popped s) w (omega (arith, h))
-  frame_keeps bodies (frame.Continues links) s w b few h = links_keep links s w (omega (arith, h))
-  frame_keeps bodies (frame.Applies operator) s w b few h =
+  frame_keeps bodies (frame.Opens path) s w b covers h = open_keeps path.selectors path.root s w (omega (arith, h))
+  frame_keeps bodies (frame.OpensIn c) s w b covers h = opens_keep (newest named s) c (look s.heap (newest named s)) (popped s) w (omega (arith, h))
+  frame_keeps bodies (frame.Continues links) s w b covers h = links_keep links s w (omega (arith, h))
+  frame_keeps bodies (frame.Applies operator) s w b covers h =
       outcome_keeps (binary_given operator (newest named (popped s)) (newest named s)) (popped (popped s)) w (omega (arith, h))
-  frame_keeps bodies (frame.AppliesAlone operator) s w b few h = outcome_keeps (unary_given operator (newest named s)) (popped s) w (omega (arith, h))
-  frame_keeps bodies (frame.Fills items) s w b few h = items_keep items s w (omega (arith, h))
-  frame_keeps bodies (frame.Copies first t) s w b few h =
+  frame_keeps bodies (frame.AppliesAlone operator) s w b covers h = outcome_keeps (unary_given operator (newest named s)) (popped s) w (omega (arith, h))
+  frame_keeps bodies (frame.Fills items) s w b covers h = items_keep items s w (omega (arith, h))
+  frame_keeps bodies (frame.Copies first t) s w b covers h =
       copies_keep (newest named s) first (width_of types t) (look s.heap (newest named s)) (popped s) w (omega (arith, h))
-  frame_keeps bodies (frame.Creates access count) s w b few h =
+  frame_keeps bodies (frame.Creates access count) s w b covers h =
       new_keeps access count (words_of types access) (home_of access s.masters) s w (omega (arith, h))
-  frame_keeps bodies (frame.Stores x) s w b few h = omega (arith, h)
-  frame_keeps bodies (frame.Targets c right) s w b few h =
+  frame_keeps bodies (frame.Stores x) s w b covers h = omega (arith, h)
+  frame_keeps bodies (frame.Targets c right) s w b covers h =
       target_keeps (newest named s) c right (look s.heap (newest named s)) (popped s) w (omega (arith, h))
-  frame_keeps bodies (frame.StoresIn object c) s w b few h =
+  frame_keeps bodies (frame.StoresIn object c) s w b covers h =
       store_keeps object c (newest named s) (look s.heap object) (popped s) w (omega (arith, h))
-  frame_keeps bodies (frame.TargetsRecord first t items) s w b few h =
+  frame_keeps bodies (frame.TargetsRecord first t items) s w b covers h =
       record_target_keeps (newest named s) first (width_of types t) items (look s.heap (newest named s)) (popped s) w (omega (arith, h))
-  frame_keeps bodies (frame.StoresRecord object first count) s w b few h =
+  frame_keeps bodies (frame.StoresRecord object first count) s w b covers h =
       store_record_keeps object first count (look s.heap object) s w (omega (arith, h))
-  frame_keeps bodies (frame.Assigns t) s w b few h =
+  frame_keeps bodies (frame.Assigns t) s w b covers h =
       let target = newest named (popped s) in
       let source = newest named s in
       assigns_keep t target source (same target source) (popped (popped s)) w (omega (arith, h))
-  frame_keeps bodies (frame.Receives c) s w b few h =
+  frame_keeps bodies (frame.Receives c) s w b covers h =
       receive_keeps (newest named s) c (look s.heap (newest named s)) (popped s) w (omega (arith, h))
-  frame_keeps bodies (frame.FreesIn access c) s w b few h =
+  frame_keeps bodies (frame.FreesIn access c) s w b covers h =
       free_in_keeps access (newest named s) c (look s.heap (newest named s)) (popped s) w (omega (arith, h))
-  frame_keeps bodies (frame.Declares x) s w b few h = omega (arith, h)
-  frame_keeps bodies (frame.DeclaresRecord x t) s w b few h =
+  frame_keeps bodies (frame.Declares x) s w b covers h = omega (arith, h)
+  frame_keeps bodies (frame.DeclaresRecord x t) s w b covers h =
       made_keeps x t Copy (newest_ones named (words_of types t) s) (without_newest named (words_of types t) s) w (omega (arith, h))
-  frame_keeps bodies (frame.Treats v treatment tasks) s w b few h = treats_keeps bodies v treatment tasks s w few (omega (arith, h))
-  frame_keeps bodies (frame.Awaits v by done of part tasks) s w b few h =
+  frame_keeps bodies (frame.Treats v treatment tasks) s w b covers h = treats_keeps bodies v treatment tasks s w covers (omega (arith, h))
+  frame_keeps bodies (frame.Awaits v by done of part tasks) s w b covers h =
       awaited_keeps v by done of part tasks (look s.heap v) s w (omega (arith, h))
-  frame_keeps bodies frame.Confines s w b few h = omega (arith, h)
-  frame_keeps bodies (frame.Resumes mode) s w b few h = omega (arith, h)
-  frame_keeps bodies frame.Writes s w b few h = line_keeps (reads_integer (newest named s)) (popped s) w (omega (arith, h))
-  frame_keeps bodies (frame.Ends v) s w b few h = end_keeps v (look s.heap v) s w (omega (arith, h))
-  frame_keeps bodies (frame.GivesBack v cause pool) s w b few h = back_keeps v cause pool (lent s.heap v) s w (omega (arith, h))
-  frame_keeps bodies (frame.Clears x) s w b few h = omega (arith, h)
-  frame_keeps bodies (frame.ClearsIn object c) s w b few h = store_keeps object c Null (look s.heap object) s w (omega (arith, h))
+  frame_keeps bodies frame.Confines s w b covers h = omega (arith, h)
+  frame_keeps bodies (frame.Resumes mode) s w b covers h = omega (arith, h)
+  frame_keeps bodies frame.Writes s w b covers h = line_keeps (reads_integer (newest named s)) (popped s) w (omega (arith, h))
+  frame_keeps bodies (frame.Ends v) s w b covers h = end_keeps v (look s.heap v) s w (omega (arith, h))
+  frame_keeps bodies (frame.GivesBack v cause pool) s w b covers h = back_keeps v cause pool (lent s.heap v) s w (omega (arith, h))
+  frame_keeps bodies (frame.Clears x) s w b covers h = omega (arith, h)
+  frame_keeps bodies (frame.ClearsIn object c) s w b covers h = store_keeps object c Null (look s.heap object) s w (omega (arith, h))
 
   running_keeps :
-      (bodies : List BodyForm) (k : List (Frame Value)) (s : State) (w : ℕ) → begins_among k ≡ false → CallsFew bodies
-      → stored s + run_operations types k ≤ w + called (calls_among types k) → Keeps (running_next named types bodies k (running s)) w
-  running_keeps bodies [] s w b few h = tt
-  running_keeps bodies (f ∷ k) s w b few h = frame_keeps bodies f (at k s) w b few h
+      (bodies : List BodyForm) (k : List (Frame Value)) (s : State) (w : ℕ) → begins_among k ≡ false → CostsCover bodies
+      → stored s + run_operations types cost k ≤ w + called (calls_among types k) → Keeps (running_next named types bodies k (running s)) w
+  running_keeps bodies [] s w b covers h = tt
+  running_keeps bodies (f ∷ k) s w b covers h = frame_keeps bodies f (at k s) w b covers h
 
   -- Where a jump comes out of an operation, what has begun of its object is undone, or the run ends.
-  done_weight : (done : List Part) → tasks_weight (shapes_of types) (map (λ p. performs p.of p.number) done) ≡ length done
-  done_weight [] = refl
-  done_weight (p ∷ done) = omega (arith, done_weight done)
+  done_costs : (done : List Part) → tasks_cost types cost (map (λ p. performs p.of p.number) done) ≡ done_cost types cost done
+  done_costs [] = refl
+  done_costs (p ∷ done) = omega (arith, done_costs done, done_more types cost p done)
 
   undo_keeps :
       (e : Exception) (v : Value) (done : List Part) (found : Found (Cell Value)) (s : State) (w : ℕ)
-      → stored s + passed_operations s.control + length done ≤ w → Keeps (undo_next named e v done found (in_mode (Raising e) s)) w
+      → stored s + passed_operations types cost s.control + done_cost types cost done ≤ w → Keeps (undo_next named e v done found (in_mode (Raising e) s)) w
   undo_keeps e v done on_null s w h = tt
   undo_keeps e v done on_gone s w h = tt
   undo_keeps e v done on_other s w h = tt
   undo_keeps e v done (finds cell) s w h =
       let behind = frame.Ends v ∷ frame.GivesBack v (Undoing s.next) cell.home.pool ∷ frame.Resumes (Raising e) ∷ s.control in
       let finalizes = treating_operations v (frame.ends (Undoing s.next)) (map (λ p. performs p.of p.number) done) behind in
-      omega (arith, h, parted_fewer s.heap v, finalizes, done_weight done)
+      omega (arith, h, parted_fewer s.heap v, finalizes, done_costs done)
 
   broken_keeps :
       (e : Exception) (v : Value) (by : Birth) (done : List Part) (s : State) (w : ℕ)
-      → stored s + passed_operations s.control + length done ≤ w → Keeps (broken_next named e v by done (in_mode (Raising e) s)) w
+      → stored s + passed_operations types cost s.control + done_cost types cost done ≤ w → Keeps (broken_next named e v by done (in_mode (Raising e) s)) w
   broken_keeps e v Creation done s w h = undo_keeps e v done (look s.heap v) s w h
   broken_keeps e v Copy done s w h = tt
   broken_keeps e v (Adjustment number) done s w h = tt
@@ -878,14 +876,14 @@ module _ (types : List TypeDefinition) where
   LandsIn handlers undone passes_on = Unit {0}
   LandsIn handlers undone goes_behind = ⊥
   LandsIn handlers undone (goes_in fs) = handlers ≡ true
-  LandsIn handlers undone (breaks_off v by done) = undone ≡ length done
+  LandsIn handlers undone (breaks_off v by done) = undone ≡ done_cost types cost done
   LandsIn handlers undone escapes = Unit {0}
 
   handler_lands : (undone : ℕ) (taken : Option StmtsForm) → LandsIn true undone (handler_landing taken)
   handler_lands undone None = tt
   handler_lands undone (Some fs) = refl
 
-  exception_lands : (e : Exception) (f : Frame Value) → LandsIn (has_handlers f) (pass_operations f) (exception_landing e f)
+  exception_lands : (e : Exception) (f : Frame Value) → LandsIn (has_handlers f) (pass_operations types cost f) (exception_landing e f)
   exception_lands e (frame.Handles hs) = handler_lands 0 (handler_of e hs)
   exception_lands e (frame.Awaits v by done of part tasks) = refl
   exception_lands e f = tt
@@ -921,7 +919,7 @@ module _ (types : List TypeDefinition) where
   operation_lands f = tt
 
   nowhere_exits :
-      (l : Landing Value) (s : State) (w : ℕ) → LandsNowhere l → stored s + exit_operations types s.control ≤ w
+      (l : Landing Value) (s : State) (w : ℕ) → LandsNowhere l → stored s + exit_operations types cost s.control ≤ w
       → Keeps (landed named l Exiting (in_mode Exiting s)) w
   nowhere_exits passes_on s w lands h = h
   nowhere_exits goes_behind s w lands h = absurd lands
@@ -930,7 +928,7 @@ module _ (types : List TypeDefinition) where
   nowhere_exits escapes s w lands h = tt
 
   nowhere_returns :
-      (l : Landing Value) (s : State) (w : ℕ) → LandsNowhere l → stored s + return_operations types s.control ≤ w
+      (l : Landing Value) (s : State) (w : ℕ) → LandsNowhere l → stored s + return_operations types cost s.control ≤ w
       → Keeps (landed named l Returning (in_mode Returning s)) w
   nowhere_returns passes_on s w lands h = h
   nowhere_returns goes_behind s w lands h = absurd lands
@@ -940,7 +938,7 @@ module _ (types : List TypeDefinition) where
 
   exit_keeps :
       (master loop : Bool) (l : Landing Value) (s : State) (w : ℕ) → (master ≡ true → loop ≡ false) → LandsNowhere l
-      → stored s + (if loop then run_operations types s.control else exit_operations types s.control) ≤ w
+      → stored s + (if loop then run_operations types cost s.control else exit_operations types cost s.control) ≤ w
       → Keeps (pass_next named master (if loop then goes_behind else l) Exiting (in_mode Exiting s)) w
   exit_keeps true true l s w apart lands h = let never : true ≡ false = apart refl in absurd (cc)
   exit_keeps true false l s w apart lands h = omega (arith, h)
@@ -949,7 +947,7 @@ module _ (types : List TypeDefinition) where
 
   return_keeps :
       (master ends : Bool) (l : Landing Value) (s : State) (w : ℕ) → (master ≡ true → ends ≡ false) → LandsNowhere l
-      → stored s + (if ends then run_operations types s.control else return_operations types s.control) ≤ w
+      → stored s + (if ends then run_operations types cost s.control else return_operations types cost s.control) ≤ w
       → Keeps (pass_next named master (if ends then goes_behind else l) Returning (in_mode Returning s)) w
   return_keeps true true l s w apart lands h = let never : true ≡ false = apart refl in absurd (cc)
   return_keeps true false l s w apart lands h = omega (arith, h)
@@ -967,10 +965,10 @@ module _ (types : List TypeDefinition) where
 
   -- What is left where an exit, or a return, has passed a frame.
   abbrev behind_exit : (loop : Bool) → List (Frame Value) → ℕ
-  behind_exit loop k = if loop then run_operations types k else exit_operations types k
+  behind_exit loop k = if loop then run_operations types cost k else exit_operations types cost k
 
   abbrev behind_return : (ends : Bool) → List (Frame Value) → ℕ
-  behind_return ends k = if ends then run_operations types k else return_operations types k
+  behind_return ends k = if ends then run_operations types cost k else return_operations types cost k
 
   returned_left :
       (f : Frame Value) (s : State) → behind_return (is_return f) (unwound named Returning f s).control ≤ behind_return (is_return f) s.control
@@ -979,55 +977,62 @@ module _ (types : List TypeDefinition) where
 
   -- What is left to do, in each mode: one less, where an operation is called.
   control_keeps :
-      (bodies : List BodyForm) (mode : Mode) (k : List (Frame Value)) (s : State) (w : ℕ) → CallsFew bodies → begins_in mode k ≡ false
+      (bodies : List BodyForm) (mode : Mode) (k : List (Frame Value)) (s : State) (w : ℕ) → CostsCover bodies → begins_in mode k ≡ false
       → load (in_mode mode (at k s)) ≤ w + called (calls_in types mode k) → s.control ≡ k
       → Keeps (mode_next named types bodies mode (in_mode mode s)) w
-  control_keeps bodies Running k s w few b h is = rw is (running_keeps bodies k (at k s) w b few h)
-  control_keeps bodies (Raising e) [] s w few b h is = rw is tt
-  control_keeps bodies (Raising e) (f ∷ k) s w few b h is =
+  control_keeps bodies Running k s w covers b h is = rw is (running_keeps bodies k (at k s) w b covers h)
+  control_keeps bodies (Raising e) [] s w covers b h is = rw is tt
+  control_keeps bodies (Raising e) (f ∷ k) s w covers b h is =
       rw (is, unwound_by (Raising e) f (in_mode (Raising e) (at k s)))
-      (raise_keeps (is_master f) (has_handlers f) (pass_operations f) (exception_landing e f) e (unwound_to (Raising e) f (in_mode (Raising e) (at k s))) w (exception_lands e f)
-      (omega (arith, h, ap passed_operations (raised_left e f (in_mode (Raising e) (at k s))))))
-  control_keeps bodies Exiting [] s w few b h is = rw is tt
-  control_keeps bodies Exiting (f ∷ k) s w few b h is =
+      (raise_keeps (is_master f) (has_handlers f) (pass_operations types cost f) (exception_landing e f) e (unwound_to (Raising e) f (in_mode (Raising e) (at k s))) w (exception_lands e f)
+      (omega (arith, h, ap (passed_operations types cost) (raised_left e f (in_mode (Raising e) (at k s))))))
+  control_keeps bodies Exiting [] s w covers b h is = rw is tt
+  control_keeps bodies Exiting (f ∷ k) s w covers b h is =
       rw (is, unwound_by Exiting f (in_mode Exiting (at k s)))
       (exit_keeps (is_master f) (is_loop f) (operation_landing f) (unwound_to Exiting f (in_mode Exiting (at k s))) w (master_no_loop f)
       (operation_lands f)
       (omega (arith, h, ap (behind_exit (is_loop f)) (exited_left f (in_mode Exiting (at k s))))))
-  control_keeps bodies Returning [] s w few b h is = rw is tt
-  control_keeps bodies Returning (f ∷ k) s w few b h is =
+  control_keeps bodies Returning [] s w covers b h is = rw is tt
+  control_keeps bodies Returning (f ∷ k) s w covers b h is =
       rw (is, unwound_by Returning f (in_mode Returning (at k s)))
       (return_keeps (is_master f) (is_return f) (operation_landing f) (unwound_to Returning f (in_mode Returning (at k s))) w
       (master_no_return f) (operation_lands f)
       (omega (arith, h, returned_left f (in_mode Returning (at k s)))))
 
   next_keeps :
-      (bodies : List BodyForm) (s : State) (w : ℕ) → CallsFew bodies → begins s ≡ false → load s ≤ w + called (calls_operation types s)
+      (bodies : List BodyForm) (s : State) (w : ℕ) → CostsCover bodies → begins s ≡ false → load s ≤ w + called (calls_operation types s)
       → Keeps (next types bodies s) w
   unfolding next
-  next_keeps bodies s w few b h = control_keeps bodies s.mode s.control s w few b h refl
+  next_keeps bodies s w covers b h = control_keeps bodies s.mode s.control s w covers b h refl
 
   -- Where an operation is called, one is left.
+  pub costs_some : (bodies : List BodyForm) (n : ℕ) → CostsCover bodies → 1 ≤ cost n
+  costs_some bodies n covers = omega (arith, (covers n).0)
+
   task_called :
-      (treatment : Treatment) (tasks : List Task) → called (task_calls types treatment (task_next tasks)) ≤ treats_operations types treatment tasks
-  task_called treatment [] = omega (arith, ap called (ends_none treatment))
-  task_called treatment (treats cs ∷ tasks) = omega (arith, ap called (picks_none treatment (length cs)))
-  task_called (frame.begins by done) (performs of part ∷ tasks) = omega (arith, called_once (is_some (beginning by (operations_of types of))))
-  task_called (frame.ends cause) (performs of part ∷ tasks) = omega (arith, called_once (is_some (operations_of types of).finalize))
+      (bodies : List BodyForm) (treatment : Treatment) (tasks : List Task) → CostsCover bodies
+      → called (task_calls types treatment (task_next tasks)) ≤ treats_operations types cost treatment tasks
+  task_called bodies treatment [] covers = omega (arith, ap called (ends_none treatment))
+  task_called bodies treatment (treats cs ∷ tasks) covers = omega (arith, ap called (picks_none treatment (length cs)))
+  task_called bodies (frame.begins by done) (performs of part ∷ tasks) covers =
+      omega (arith, called_once (is_some (beginning by (operations_of types of))), costs_some bodies of covers)
+  task_called bodies (frame.ends cause) (performs of part ∷ tasks) covers =
+      omega (arith, called_once (is_some (operations_of types of).finalize), costs_some bodies of covers)
 
-  frame_called : (f : Frame Value) → called (frame_calls types f) ≤ frame_operations types f
-  frame_called (frame.Treats v treatment tasks) = task_called treatment tasks
-  frame_called f = omega arith
+  frame_called : (bodies : List BodyForm) (f : Frame Value) → CostsCover bodies → called (frame_calls types f) ≤ frame_operations types cost f
+  frame_called bodies (frame.Treats v treatment tasks) covers = task_called bodies treatment tasks covers
+  frame_called bodies f covers = omega arith
 
-  among_called : (k : List (Frame Value)) → called (calls_among types k) ≤ run_operations types k
-  among_called [] = omega arith
-  among_called (f ∷ k) = omega (arith, frame_called f)
+  among_called : (bodies : List BodyForm) (k : List (Frame Value)) → CostsCover bodies → called (calls_among types k) ≤ run_operations types cost k
+  among_called bodies [] covers = omega arith
+  among_called bodies (f ∷ k) covers = omega (arith, frame_called bodies f covers)
 
-  state_called : (mode : Mode) (s : State) → s.mode ≡ mode → called (calls_in types mode s.control) ≤ load (in_mode mode s)
-  state_called Running s is = omega (arith, among_called s.control)
-  state_called (Raising e) s is = omega arith
-  state_called Exiting s is = omega arith
-  state_called Returning s is = omega arith
+  state_called :
+      (bodies : List BodyForm) (mode : Mode) (s : State) → CostsCover bodies → s.mode ≡ mode → called (calls_in types mode s.control) ≤ load (in_mode mode s)
+  state_called bodies Running s covers is = omega (arith, among_called bodies s.control covers)
+  state_called bodies (Raising e) s covers is = omega arith
+  state_called bodies Exiting s covers is = omega arith
+  state_called bodies Returning s covers is = omega arith
 
   leads_fewer : (coming : Next) (choice : Choice) (event : Event) (w : ℕ) (after : State) → Keeps coming w → Leads coming choice event after → load after ≤ w
   leads_fewer (halts halt) choice event w after h l = absurd l
@@ -1045,64 +1050,34 @@ module _ (types : List TypeDefinition) where
   leads_fewer (picks n taking) (takes i) event w after h l = rw (l.2) (h i l.0)
 
   step_fewer :
-      (bodies : List BodyForm) (s : State) (choice : Choice) (event : Event) (after : State) → CallsFew bodies → begins s ≡ false
+      (bodies : List BodyForm) (s : State) (choice : Choice) (event : Event) (after : State) → CostsCover bodies → begins s ≡ false
       → Leads (next types bodies s) choice event after → load after + called (calls_operation types s) ≤ load s
-  step_fewer bodies s choice event after few b leads =
-      let some : called (calls_operation types s) ≤ load s = state_called s.mode s refl in
+  step_fewer bodies s choice event after covers b leads =
+      let some : called (calls_operation types s) ≤ load s = state_called bodies s.mode s covers refl in
       let left = load s - called (calls_operation types s) in
-      let fewer = leads_fewer (next types bodies s) choice event left after (next_keeps bodies s left few b (omega (arith, some))) leads in
+      let fewer = leads_fewer (next types bodies s) choice event left after (next_keeps bodies s left covers b (omega (arith, some))) leads in
       omega (arith, some, fewer)
 
--- Declarations that create no controlled parts lead to no operation.
-for_none : (shapes : List Shape) (number : Option ℕ) → is_some number ≡ false → tasks_weight shapes (tasks_for shapes WholeFirst number) ≡ 0
-for_none shapes None none = refl
-for_none shapes (Some n) none = absurd (cc)
+-- Where declarations settle, a call costs more than what the declarations of each body create that it may enter.
+operation_called :
+    (types : List TypeDefinition) (cost : (of : ℕ) → ℕ) (bodies : List BodyForm) (operation : Option ProcedureNo)
+    → called_operations types cost bodies (procedure_number operation) ≡ operation_operations types cost bodies operation
+operation_called types cost bodies None = refl
+operation_called types cost bodies (Some procedure) = refl
 
-none_new : (types : List TypeDefinition) (access : ℕ) → is_some (number_reached types access) ≡ false → new_operations types access ≡ 0
-none_new types access none = let zero_so = for_none (shapes_of types) (number_reached types access) none in omega (arith, zero_so)
-
-right_none : (types : List TypeDefinition) (right : RightForm) → right_creates types right ≡ false → right_operations types right ≡ 0
-right_none types nothing none = refl
-right_none types (value_of path) none = refl
-right_none types (allocates access items) none = none_new types access none
-right_none types (allocates_default access) none = none_new types access none
-right_none types (computes e) none = refl
-
-declaration_none : (types : List TypeDefinition) (d : DeclarationForm) → declaration_creates types d ≡ false → declaration_operations types d ≡ 0
-declaration_none types (creates_pool pool) none = refl
-declaration_none types (collects access) none = refl
-declaration_none types (declares x right) none = right_none types right none
-declaration_none types (declares_record x object initial) none = none_new types object none
-
-both_false : (a b : Bool) → (a || b) ≡ false → (a ≡ false) × (b ≡ false)
-both_false true b none = absurd (cc)
-both_false false b none = (refl, none)
-
-declarations_none : (types : List TypeDefinition) (ds : List DeclarationForm) → declarations_create types ds ≡ false → declarations_operations types ds ≡ 0
-declarations_none types [] none = refl
-declarations_none types (d ∷ ds) none =
-    let each = both_false (declaration_creates types d) (declarations_create types ds) none in
-    omega (arith, declaration_none types d each.0, declarations_none types ds each.1)
-
-body_none : (types : List TypeDefinition) (found : Option BodyForm) → body_creates types found ≡ false → body_operations types found ≡ 0
-body_none types None none = refl
-body_none types (Some b) none = declarations_none types b.declarations none
-
-operation_none :
-    (types : List TypeDefinition) (bodies : List BodyForm) (operation : Option ProcedureNo) → operation_creates types bodies operation ≡ false
-    → called_operations types bodies (procedure_number operation) ≡ 0
-operation_none types bodies None none = refl
-operation_none types bodies (Some procedure) none = body_none types (slice_get bodies procedure.0) none
-
-calls_few : (types : List TypeDefinition) (bodies : List BodyForm) → OperationsDeclareNoParts types bodies → CallsFew types bodies
-calls_few types bodies none n = (
-  operation_none types bodies (operations_of types n).initialize (none n).0,
-  operation_none types bodies (operations_of types n).adjust (none n).1,
-  operation_none types bodies (operations_of types n).finalize (none n).2,
-)
+pub costs_cover : (types : List TypeDefinition) (bodies : List BodyForm) → DeclarationsSettle types bodies → CostsCover types (full_cost types bodies) bodies
+costs_cover types bodies settle n =
+    let o = operations_of types n in
+    let i = operation_called types (full_cost types bodies) bodies o.initialize in
+    let a = operation_called types (full_cost types bodies) bodies o.adjust in
+    let f = operation_called types (full_cost types bodies) bodies o.finalize in
+    let all : 1 + type_operations types (full_cost types bodies) bodies o ≤ full_cost types bodies n = settle n in
+    (omega (arith, i, all), omega (arith, a, all), omega (arith, f, all))
 
 -- No step leaves more operations to be called.
 pub operations_grow_fewer : OperationsGrowFewer
 unfolding operations_left
-operations_grow_fewer program s choice event after none b step =
-    step_fewer program.types.items (body_forms program) s choice event after (calls_few program.types.items (body_forms program) none) b step
+operations_grow_fewer program s choice event after settle b step =
+    let types = program.types.items in
+    let bodies = body_forms program in
+    step_fewer types (full_cost types bodies) bodies s choice event after (costs_cover types bodies settle) b step

@@ -1,8 +1,9 @@
 -- A run comes to the next statement, or to its end, where operations are called, too: a call adds no more to the weight than it takes from what is left.
 
-use Rattle.std.proofs.Common.{◌≡◌, ℕ, zero, suc, ◌+◌, ◌*◌, ◌<◌, ◌≤◌, Bool, true, false, if◌then◌else◌, List, [], ◌∷◌, length, Option, Some, None, is_some, arith, refl, ◌∙◌}
+use Rattle.std.proofs.Common.{◌≡◌, ℕ, zero, suc, ◌+◌, ◌*◌, ◌<◌, ◌≤◌, Bool, true, false, if◌then◌else◌, List, [], ◌∷◌, length, Option, Some, None, is_some, arith, refl, ap, ◌∙◌}
 use Rattle.std.specs.List.{slice_get}
 use Rattle.std.proofs.Math.Nat.{suc-mul}
+use Rattle.std.proofs.Math.Path.{fun_ext}
 use Rattle.std.proofs.lemmas.Nat.{mul-le}
 use Rattle.std.proofs.lemmas.List.Sums.{sum_by-cons}
 use Rattle.ada_program.specs.declared.program.TypeDefinition.{TypeDefinition}
@@ -26,10 +27,11 @@ use Rattle.ada_meaning.specs.Named.{State, Next, next, named, look, finalize, fi
 use Rattle.ada_meaning.specs.Run.{Event, Choice, settled, grants, takes, Leads}
 use Rattle.ada_meaning.specs.Step.{beginning, treating, operation_next, begun_next, ended_next, finalized_next, part_reference, performed_next, treats_next, halts, moves, tells, asks, picks, at, frame_next, running_next, mode_next}
 use Rattle.ada_meaning.specs.Ending.{tasks_weight, declarations_weight, by_mode, passed_weight, exit_weight, return_weight, run_weight, heap_weight, masters_weight, task_calls, frame_calls, calls_among, calls_in, calls_operation, weight, here, there}
-use Rattle.ada_meaning.specs.Pace.{treats_operations, frame_operations, run_operations, operations_left, bodies_weight, full_weight, OperationsGrowFewer, StepsMakeFullyLighter, StatementsEndWithOperations}
+use Rattle.ada_meaning.specs.Pace.{type_operations, cost_within, done_cost, treats_operations, frame_operations, run_operations, operations_left, full_cost, bodies_weight, full_weight, OperationsGrowFewer, StepsMakeFullyLighter, StatementsEndWithOperations, DeclarationsWithoutPartsSettle}
 use Rattle.ada_meaning.proofs.Activations.{number_there}
 use Rattle.ada_meaning.proofs.Members.{part_lighter}
 use Rattle.ada_meaning.proofs.Treatments.{treating_weight}
+use Rattle.ada_meaning.proofs.Costs.{done_more}
 use Rattle.ada_meaning.proofs.OperationsLeft as left
 use Rattle.ada_meaning.proofs.Weight.{steps_make_lighter}
 
@@ -40,7 +42,7 @@ in_mode mode s = record s { mode = mode }
 abbrev running : State → State
 running s = in_mode Running s
 
-module _ (types : List TypeDefinition) where
+module _ (types : List TypeDefinition) (cost : (of : ℕ) → ℕ) (each : (n : ℕ) → 1 ≤ cost n) where
   -- What the objects and the items weigh, and the weight of a state, open.
   abbrev stored : State → ℕ
   stored s = heap_weight types s.heap + masters_weight s.masters
@@ -147,15 +149,19 @@ module _ (types : List TypeDefinition) where
   never_done (frame.begins by done) some = cc
   never_done (frame.ends cause) some = cc
 
+  done_within : (done : List Part) → length done ≤ done_cost types cost done
+  done_within [] = omega arith
+  done_within (p ∷ done) = omega (arith, done_within done, done_more types cost p done, each p.of)
+
   -- So many are left at least.
-  begun_within : (treatment : Treatment) (of part : ℕ) (tasks : List Task) → begun_parts treatment ≤ treats_operations types treatment (performs of part ∷ tasks)
-  begun_within (frame.begins by done) of part tasks = omega arith
+  begun_within : (treatment : Treatment) (of part : ℕ) (tasks : List Task) → begun_parts treatment ≤ treats_operations types cost treatment (performs of part ∷ tasks)
+  begun_within (frame.begins by done) of part tasks = omega (arith, done_within done)
   begun_within (frame.ends cause) of part tasks = omega arith
 
   treats_grow :
       (bodies : List BodyForm) (v : Value) (treatment : Treatment) (tasks : List Task) (s : State) (w : ℕ)
       → task_calls types treatment (task_next tasks) ≡ true
-      → load (running s) + bodies_weight types bodies + 10 + treats_operations types treatment tasks + tasks_weight (shapes_of types) tasks ≤ w
+      → load (running s) + bodies_weight types bodies + 10 + treats_operations types cost treatment tasks + tasks_weight (shapes_of types) tasks ≤ w
       → Grows (treats_next named types bodies v treatment tasks (task_next tasks) (running s)) w
   treats_grow bodies v treatment [] s w some h = absurd (never_done treatment some)
   treats_grow bodies v treatment (performs of part ∷ tasks) s w some h =
@@ -164,21 +170,21 @@ module _ (types : List TypeDefinition) where
 
   frame_grows :
       (bodies : List BodyForm) (f : Frame Value) (s : State) (w : ℕ) → frame_calls types f ≡ true
-      → stored s + run_weight types (f ∷ s.control) + bodies_weight types bodies + 9 + frame_operations types f ≤ w
+      → stored s + run_weight types (f ∷ s.control) + bodies_weight types bodies + 9 + frame_operations types cost f ≤ w
       → Grows (frame_next named types bodies f (running s)) w
   frame_grows bodies (frame.Treats v treatment tasks) s w some h = treats_grow bodies v treatment tasks s w some (omega (arith, h))
   frame_grows bodies f s w some h = absurd (cc)
 
   among_grows :
       (bodies : List BodyForm) (k : List (Frame Value)) (s : State) (w : ℕ) → calls_among types k ≡ true
-      → stored s + run_weight types k + bodies_weight types bodies + 9 + run_operations types k ≤ w
+      → stored s + run_weight types k + bodies_weight types bodies + 9 + run_operations types cost k ≤ w
       → Grows (running_next named types bodies k (running s)) w
   among_grows bodies [] s w some h = absurd (cc)
   among_grows bodies (f ∷ k) s w some h = frame_grows bodies f (at k s) w some (omega (arith, h))
 
   mode_grows :
       (bodies : List BodyForm) (mode : Mode) (s : State) (w : ℕ) → calls_in types mode s.control ≡ true
-      → load (in_mode mode s) + bodies_weight types bodies + 9 + operations_left types (in_mode mode s) ≤ w
+      → load (in_mode mode s) + bodies_weight types bodies + 9 + operations_left types cost (in_mode mode s) ≤ w
       → Grows (mode_next named types bodies mode (in_mode mode s)) w
   unfolding operations_left
   mode_grows bodies Running s w some h = among_grows bodies s.control s w some (omega (arith, h))
@@ -198,10 +204,10 @@ module _ (types : List TypeDefinition) where
   -- A step that calls an operation adds no more than this to the weight.
   call_grows :
       (bodies : List BodyForm) (s : State) (choice : Choice) (event : Event) (after : State) → calls_operation types s ≡ true
-      → Leads (next types bodies s) choice event after → weight types after ≤ weight types s + bodies_weight types bodies + 9 + operations_left types s
+      → Leads (next types bodies s) choice event after → weight types after ≤ weight types s + bodies_weight types bodies + 9 + operations_left types cost s
   unfolding weight next
   call_grows bodies s choice event after some leads =
-      let w = load s + bodies_weight types bodies + 9 + operations_left types s in
+      let w = load s + bodies_weight types bodies + 9 + operations_left types cost s in
       grown (next types bodies s) choice event w after (mode_grows bodies s.mode s w some (omega arith)) leads
 
 -- The numbers: less of what is left takes more than a call adds to the weight.
@@ -227,7 +233,7 @@ operations_grow_fewer = left.operations_grow_fewer
 -- Each step that begins no statement makes the full weight smaller.
 pub steps_make_fully_lighter : StepsMakeFullyLighter
 unfolding full_weight
-steps_make_fully_lighter program s choice event after none b step = by_call (calls_operation program.types.items s) refl
+steps_make_fully_lighter program s choice event after settle b step = by_call (calls_operation types s) refl
   where
     types : List TypeDefinition
     types = program.types.items
@@ -235,22 +241,44 @@ steps_make_fully_lighter program s choice event after none b step = by_call (cal
     bodies : List BodyForm
     bodies = body_forms program
 
-    fewer : operations_left types after + (if calls_operation types s then 1 else 0) ≤ operations_left types s
-    fewer = left.operations_grow_fewer program s choice event after none b step
+    cost : (of : ℕ) → ℕ
+    cost = full_cost types bodies
+
+    fewer : operations_left types cost after + (if calls_operation types s then 1 else 0) ≤ operations_left types cost s
+    fewer = left.operations_grow_fewer program s choice event after settle b step
+
+    each : (n : ℕ) → 1 ≤ cost n
+    each n = left.costs_some types cost bodies n (left.costs_cover types bodies settle)
 
     by_call : (is_called : Bool) → calls_operation types s ≡ is_called → full_weight program after < full_weight program s
     by_call true is =
         let less = rw is at fewer in
-        call_lighter (weight types s) (weight types after) (operations_left types after) (operations_left types s) (bodies_weight types bodies)
-        (call_grows types bodies s choice event after is step) less
+        call_lighter (weight types s) (weight types after) (operations_left types cost after) (operations_left types cost s) (bodies_weight types bodies)
+        (call_grows types cost each bodies s choice event after is step) less
     by_call false is =
         let less = rw is at fewer in
-        other_lighter (weight types s) (weight types after) (operations_left types after) (operations_left types s) (bodies_weight types bodies)
+        other_lighter (weight types s) (weight types after) (operations_left types cost after) (operations_left types cost s) (bodies_weight types bodies)
         (steps_make_lighter program s choice event after b is step) (omega (arith, less))
+
+-- Where the declarations of no such body count, each call costs 1, however many calls are followed.
+one_each :
+    (types : List TypeDefinition) (bodies : List BodyForm) → ((of : ℕ) → type_operations types (λ n. 1) bodies (operations_of types of) ≡ 0) → (calls : ℕ)
+    → cost_within types bodies calls ≡ (λ of. 1)
+one_each types bodies none zero = fun_ext (λ of. refl)
+one_each types bodies none (suc n) =
+    fun_ext (λ of.
+    ap (λ (cost : ℕ → ℕ). 1 + type_operations types cost bodies (operations_of types of)) (one_each types bodies none n)
+    ∙ ap (λ (m : ℕ). 1 + m) (none of))
+
+pub declarations_without_parts_settle : DeclarationsWithoutPartsSettle
+declarations_without_parts_settle types bodies none of =
+    let more = ap (λ (cost : ℕ → ℕ). cost of) (one_each types bodies none (suc (length bodies))) in
+    let all = ap (λ (cost : ℕ → ℕ). cost of) (one_each types bodies none (length bodies)) in
+    omega (arith, more, all)
 
 -- So as many steps as the first state's full weight follow one another at most before a statement begins.
 pub statements_end : StatementsEndWithOperations
-statements_end program none s last events here = omega arith
-statements_end program none s last (e ∷ events) (there choice mid b step rest) =
-    let lighter = steps_make_fully_lighter program s choice e mid none b step in
-    omega (arith, statements_end program none mid last events rest, lighter)
+statements_end program settle s last events here = omega arith
+statements_end program settle s last (e ∷ events) (there choice mid b step rest) =
+    let lighter = steps_make_fully_lighter program s choice e mid settle b step in
+    omega (arith, statements_end program settle mid last events rest, lighter)

@@ -85,7 +85,7 @@ pub are_table : (types : List TypeDefinition) → IsTable (shapes_of types)
 are_table types = table_up_to types (count_by has_parts types)
 
 -- What is not in the table has no components.
-shape_unknown : (shapes : List Shape) (t : ℕ) → length shapes ≤ t → shape_of shapes t ≡ record { controlled = false; components = [] }
+pub shape_unknown : (shapes : List Shape) (t : ℕ) → length shapes ≤ t → shape_of shapes t ≡ record { controlled = false; components = [] }
 shape_unknown [] t le = refl
 shape_unknown (s ∷ older) t le = shape_older s older t (λ e. omega (arith, e, le)) ∙ shape_unknown older t (omega (arith, le))
 
@@ -154,7 +154,7 @@ operation_steps shapes s of first = go s.controlled
     go true = refl
     go false = refl
 
-order_steps : (f : ℕ → ℕ) (g : ℕ → ℕ) (ts : List ℕ) (p : ℕ) → sum_by (λ (c : Component). g c.of) (in_order f ts p) ≡ sum_by g ts
+pub order_steps : (f : ℕ → ℕ) (g : ℕ → ℕ) (ts : List ℕ) (p : ℕ) → sum_by (λ (c : Component). g c.of) (in_order f ts p) ≡ sum_by g ts
 order_steps f g [] p = refl
 order_steps f g (t ∷ ts) p =
     let a = sum_by-cons (λ (c : Component). g c.of) (record { of = t; first = p }) (in_order f ts (p + f t)) in
@@ -239,7 +239,7 @@ record_lighter types t d first = go (number_of types (Some t))
     go (Some n) = let a = opened_steps (shapes_of types) d n first (are_table types) in omega (arith, a)
 
 -- What is left once a component is picked weighs less.
-sum_picked : (f : Component → ℕ) (cs : List Component) (i : ℕ) (c : Component) → slice_get cs i ≡ Some c → sum_by f cs ≡ f c + sum_by f (remove cs i)
+pub sum_picked : (f : Component → ℕ) (cs : List Component) (i : ℕ) (c : Component) → slice_get cs i ≡ Some c → sum_by f cs ≡ f c + sum_by f (remove cs i)
 sum_picked f [] i c e = absurd (cc e)
 sum_picked f (d ∷ cs) zero c e =
     let a = sum_by-cons f d cs in
@@ -252,7 +252,7 @@ sum_picked f (d ∷ cs) (suc i) c e =
     let more = sum_picked f cs i c e in
     omega (arith, a, b, more)
 
-get_some : (cs : List Component) (i : ℕ) → i < length cs → (c : Component) × (slice_get cs i ≡ Some c)
+pub get_some : (cs : List Component) (i : ℕ) → i < length cs → (c : Component) × (slice_get cs i ≡ Some c)
 get_some [] i lt = absurd (omega (arith, lt))
 get_some (c ∷ cs) zero lt = (c, refl)
 get_some (c ∷ cs) (suc i) lt = get_some cs i (omega (arith, lt))

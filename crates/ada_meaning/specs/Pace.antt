@@ -214,6 +214,12 @@ StatementsEndWithOperations =
     (program : Program) → DeclarationsSettle program.types.items (body_forms program) → (s last : State) (events : List Event)
     → WithinStatement program s events last → length events ≤ full_weight program s
 
+-- Declarations settle where those of no body that overrides an operation create an object with controlled parts, so where they count no operation, each as one.
+abbrev pub DeclarationsWithoutPartsSettle : Type 0
+DeclarationsWithoutPartsSettle =
+    (types : List TypeDefinition) (bodies : List BodyForm)
+    → ((of : ℕ) → type_operations types (λ n. 1) bodies (operations_of types of) ≡ 0) → DeclarationsSettle types bodies
+
 -- Some such premise is needed: there is a well-formed program in which steps follow one another without end, and no statement begins. It has a type whose
 -- Initialize declares an object of this very type.
 abbrev pub SomeDeclarationsNeverEnd : Type 0

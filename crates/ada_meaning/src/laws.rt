@@ -6,7 +6,7 @@ ghost use Rattle.ada_meaning.specs.References.{RecordsAreReferredTo, ComponentsA
 ghost use Rattle.ada_meaning.specs.Defaults.{MakesByDefault, MakesRecords};
 ghost use Rattle.ada_meaning.specs.Life.{NamesAreUsedOnce, GoneForEver, BackOnce};
 ghost use Rattle.ada_meaning.specs.Ending.{StepsMakeLighter, NothingIsCalled, StatesGoOn, StatementsEnd};
-ghost use Rattle.ada_meaning.specs.Pace.{OperationsGrowFewer, SomeDeclarationsNeverEnd, StatementsEndWithOperations, StepsMakeFullyLighter};
+ghost use Rattle.ada_meaning.specs.Pace.{DeclarationsWithoutPartsSettle, OperationsGrowFewer, SomeDeclarationsNeverEnd, StatementsEndWithOperations, StepsMakeFullyLighter};
 ghost use Rattle.ada_meaning.specs.Operations.{OperationsAreCalled, AwaitedPartsAreBorn, PlainPartsAreBorn, GoneObjectsAreNotTreated};
 ghost use Rattle.ada_meaning.specs.Operations.{FinalizeIsCalled, FinalizesEnd, NoFinalizeIsCalled, EndedValuesAreNotFinalized};
 ghost use Rattle.ada_meaning.specs.Operations.{FailedInitializesAreUndone, ObjectsEnd, WordsGoBack, ExceptionsGoOn, NothingEscapes};
@@ -29,9 +29,9 @@ pub fn states_go_on()
     ensures { StatesGoOn }
 {}
 
-/// Operations are called, too, and a number says how many of them at most before the next statement begins, where the
-/// declarations of their bodies create no controlled parts. There each step that begins no statement makes another
-/// number smaller, so a loop that runs a machine comes to the next statement, or to the end (7.6).
+/// Operations are called, too, and a number says how many of them at most before the next statement begins, where what
+/// the declarations of their bodies create leads through other operations only so deep. There each step that begins no
+/// statement makes another number smaller, so a loop that runs a machine comes to the next statement, or to the end (7.6).
 pub fn operations_grow_fewer()
     ensures fewer { OperationsGrowFewer }
     ensures lighter { StepsMakeFullyLighter }
@@ -43,11 +43,13 @@ pub fn some_declarations_never_end()
     ensures { SomeDeclarationsNeverEnd }
 {}
 
-/// A statement ends, or another one begins, where no type overrides an operation, or where the declarations of operations
-/// create no controlled parts: there is a number of steps that no run passes before.
+/// A statement ends, or another one begins, where no type overrides an operation, or where what the declarations of
+/// operations create leads through other operations only so deep: there is a number of steps that no run passes before.
+/// So it is where these declarations create no controlled parts.
 pub fn statements_end()
     ensures inheriting { StatementsEnd }
     ensures operating { StatementsEndWithOperations }
+    ensures settling { DeclarationsWithoutPartsSettle }
 {}
 
 /// A name is never used twice: each keeps its object, with the home and the trace number that it had.

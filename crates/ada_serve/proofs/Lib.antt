@@ -6,7 +6,7 @@ pub mod Writing
 pub mod Past
 -- the runner's run, step by step
 pub mod Steps
--- operations that are in use create nothing with controlled parts in their declarations
+-- what operations that are in use create in their declarations leads through other operations only so deep
 pub mod Plain
 -- the number that a word gives
 pub mod Numbers

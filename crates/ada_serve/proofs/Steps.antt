@@ -16,7 +16,7 @@ use Rattle.ada_meaning.specs.Named.{State, Next, next}
 use Rattle.ada_meaning.specs.Run.{Event, Choice, settled, grants, takes, Leads, Step, Halts, first_state}
 use Rattle.ada_meaning.specs.Chosen.{begun_with, begun, goes_on}
 use Rattle.ada_meaning.specs.Ending.{GoesOn, StatesGoOn}
-use Rattle.ada_meaning.specs.Pace.{OperationsDeclareNoParts, full_weight, StepsMakeFullyLighter}
+use Rattle.ada_meaning.specs.Pace.{DeclarationsSettle, full_weight, StepsMakeFullyLighter}
 use Rattle.ada_untouched.specs.Law.{PastObjectsDoNotMatter, PastObjectsWeighNothing}
 use Rattle.ada_untouched.specs.Past.{StatesButForPast}
 use Rattle.ada_interpreter.specs.declared.machine.Machine.{Machine}
@@ -156,9 +156,9 @@ abbrev pub Lightens : Program → Type 0
 Lightens program =
     (s : State) (choice : Choice) (event : Event) (after : State) → begins s ≡ false → Step program s choice event after → full_weight program after < full_weight program s
 
--- So it is where operations create no controlled parts in their declarations.
-pub steps_lighten : StepsMakeFullyLighter → (program : Program) → OperationsDeclareNoParts program.types.items (body_forms program) → Lightens program
-steps_lighten lighter program none s choice event after b step = lighter program s choice event after none b step
+-- So it is where what operations create in their declarations leads through other operations only so deep.
+pub steps_lighten : StepsMakeFullyLighter → (program : Program) → DeclarationsSettle program.types.items (body_forms program) → Lightens program
+steps_lighten lighter program settle s choice event after b step = lighter program s choice event after settle b step
 
 -- So it goes on from each state if it does from each that begins a statement, since the steps before it make the state lighter.
 up_to_statement : StatesGoOn → (program : Program) → Lightens program → (trace : Bool) (numbers : List ℤ) (limit : ℕ) (start : Runner) (statements : ℕ) → statements ≤ limit → ((s : State) → begins s ≡ true → GoesOnFrom program trace numbers limit start statements s) → (n : ℕ) (s : State) (starts : Bool) → begins s ≡ starts → full_weight program s < n → GoesOnFrom program trace numbers limit start statements s

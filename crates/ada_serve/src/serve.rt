@@ -5,7 +5,7 @@ ghost use Rattle.ada_untouched.specs.Past.{StatesButForPast};
 ghost use Rattle.ada_interpreter.specs.Machine.{state_in, program_of, choices_of, halt_of};
 ghost use Rattle.ada_meaning.specs.declared.event.Halt.TheVariants.{Memory};
 ghost use Rattle.ada_meaning.specs.Event.{event_of};
-ghost use Rattle.ada_meaning.specs.Pace.{OperationsDeclareNoParts};
+ghost use Rattle.ada_meaning.specs.Pace.{DeclarationsSettle};
 ghost use Rattle.ada_meaning.specs.Safe.{Safe};
 ghost use Rattle.ada_meaning.specs.Run.{first_state};
 ghost use Rattle.ada_pools.specs.View.{runner_of};
@@ -246,9 +246,9 @@ fn refuse<W: ByteWriter>(
     Ok(Status::Refused)
 }
 
-/// Runs a program on these numbers, and writes its lines and how it ended. The operations of its controlled types create no
-/// controlled parts before their first statements. Its pools have the sizes that are asked for, one request for storage is
-/// refused, or none, and so many statements may begin.
+/// Runs a program on these numbers, and writes its lines and how it ended. What the operations of its controlled types
+/// create in their declarations leads through other operations only so deep. Its pools have the sizes that are asked for,
+/// one request for storage is refused, or none, and so many statements may begin.
 fn run<W: ByteWriter>(
     alloc: Global,
     program: &Program,
@@ -256,7 +256,7 @@ fn run<W: ByteWriter>(
     options: &Options,
     out: &mut W,
 ) -> Result<Status, ServeFault>
-    requires operations { OperationsDeclareNoParts program.now.types.items (body_forms program.now) }
+    requires operations { DeclarationsSettle program.now.types.items (body_forms program.now) }
     ensures text { SaysFront (HasRun program.now options.now.trace numbers.items options.now.steps
         (runner_before program.now options.now)) (W.contents out.old) (W.contents out.new) result }
     ensures writer { OnlyWrites W.writes out.old out.new result }
@@ -284,7 +284,7 @@ fn take_turns<W: ByteWriter>(
     requires first { state_in machine.old ≡ first_state program.now (state_in machine.old).input }
     requires runs { halt_of machine.old ≡ None }
     requires same { program_of machine.old ≡ program.now }
-    requires operations { OperationsDeclareNoParts program.now.types.items (body_forms program.now) }
+    requires operations { DeclarationsSettle program.now.types.items (body_forms program.now) }
     ensures text { SaysFront (HasRun program.now options.now.trace (state_in machine.old).input options.now.steps
         (runner_of (choices_of machine.old))) (W.contents out.old) (W.contents out.new) result }
     ensures writer { OnlyWrites W.writes out.old out.new result }

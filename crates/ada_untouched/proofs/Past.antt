@@ -6,6 +6,7 @@ use Rattle.std.specs.Prelude.{not, ◌&&◌, if◌then◌else◌}
 use Rattle.std.specs.List.{slice_get, slice_set}
 use Rattle.ada_program.specs.declared.program.TypeDefinition.{TypeDefinition}
 use Rattle.ada_program.specs.Form.{ExpressionForm, reads, is_null, ItemForm, item_of_path, item_of_record, RightForm, value_of, StmtForm, assigns, assigns_record, frees, gets, StmtsForm, no_stmts, a_stmt}
+use Rattle.ada_program.specs.ProgramForm.{body_forms}
 use Rattle.ada_meaning.specs.declared.state.Id.{Id}
 use Rattle.ada_meaning.specs.declared.state.Mode.{Mode}
 use Rattle.ada_meaning.specs.declared.state.Mode.TheVariants.{Running, Raising, Exiting, Returning}
@@ -17,7 +18,7 @@ use Rattle.ada_meaning.specs.Ending.{object_weight, heap_weight, weight}
 use Rattle.ada_meaning.specs.Frame.{Frame}
 use Rattle.ada_meaning.specs.Frame as frame
 use Rattle.ada_meaning.specs.Heap.{Cell, Found, on_null, on_gone, on_other, finds}
-use Rattle.ada_meaning.specs.Pace.{object_operations, heap_operations, operations_left, full_weight}
+use Rattle.ada_meaning.specs.Pace.{object_operations, heap_operations, operations_left, full_cost, full_weight}
 use Rattle.ada_meaning.specs.Step.{halts, moves, tells, asks, picks, held, newest, selected, before_last}
 use Rattle.ada_meaning.specs.Named.{Object, State, Next, named, object_at, changed, existing, seen, look, lent_by, lent, all_alive, standing_by, standing, new_object, create, parted, finished, returned, filled, treated, on_object, whole, inside, next}
 use Rattle.ada_untouched.specs.Alike.{NextBy}
@@ -277,14 +278,14 @@ past_does_not_matter types bodies s t both =
     whatever_spared (next types bodies s) (next types bodies t) (steps_so heaps_but_for_past_keep types bodies s t (first_open s s.mode s.control) both)
 
 -- What is in no collection weighs nothing.
-module _ (types : List TypeDefinition) where
+module _ (types : List TypeDefinition) (cost : (of : ℕ) → ℕ) where
   abbrev weight_at : Option Object → ℕ
   weight_at None = 0
   weight_at (Some x) = object_weight types x
 
   abbrev operations_at : Option Object → ℕ
   operations_at None = 0
-  operations_at (Some x) = object_operations types x
+  operations_at (Some x) = object_operations types cost x
 
   heaps_weigh : (h k : List Object) → length h ≡ length k → ((i : ℕ) → weight_at (slice_get k i) ≡ weight_at (slice_get h i)) → heap_weight types k ≡ heap_weight types h
   heaps_weigh [] [] e each = refl
@@ -294,18 +295,18 @@ module _ (types : List TypeDefinition) where
       ap (λ (n : ℕ). n + heap_weight types ys) (each 0)
       ∙ ap (λ (n : ℕ). object_weight types x + n) (heaps_weigh xs ys (omega (arith, e)) (λ i. each (suc i)))
 
-  heaps_operate : (h k : List Object) → length h ≡ length k → ((i : ℕ) → operations_at (slice_get k i) ≡ operations_at (slice_get h i)) → heap_operations types k ≡ heap_operations types h
+  heaps_operate : (h k : List Object) → length h ≡ length k → ((i : ℕ) → operations_at (slice_get k i) ≡ operations_at (slice_get h i)) → heap_operations types cost k ≡ heap_operations types cost h
   heaps_operate [] [] e each = refl
   heaps_operate [] (y ∷ ys) e each = absurd (omega (arith, e))
   heaps_operate (x ∷ xs) [] e each = absurd (omega (arith, e))
   heaps_operate (x ∷ xs) (y ∷ ys) e each =
-      ap (λ (n : ℕ). n + heap_operations types ys) (each 0)
-      ∙ ap (λ (n : ℕ). object_operations types x + n) (heaps_operate xs ys (omega (arith, e)) (λ i. each (suc i)))
+      ap (λ (n : ℕ). n + heap_operations types cost ys) (each 0)
+      ∙ ap (λ (n : ℕ). object_operations types cost x + n) (heaps_operate xs ys (omega (arith, e)) (λ i. each (suc i)))
 
   past_weight : (x : Object) → Past x → object_weight types x ≡ 0
   past_weight x past = rw (past.unlisted)
 
-  past_operations : (x : Object) → Past x → object_operations types x ≡ 0
+  past_operations : (x : Object) → Past x → object_operations types cost x ≡ 0
   past_operations x past = rw (past.unlisted)
 
   heap_weight_same : (h k : List Object) → HeapsButForPast h k → heap_weight types k ≡ heap_weight types h
@@ -314,7 +315,7 @@ module _ (types : List TypeDefinition) where
       (λ i. by_past (λ f g. weight_at g ≡ weight_at f) (λ f. refl) (λ x y px py. past_weight y py ∙ sym (past_weight x px))
       (slice_get h i) (slice_get k i) (a.objects (record { 0 = i })))
 
-  heap_operations_same : (h k : List Object) → HeapsButForPast h k → heap_operations types k ≡ heap_operations types h
+  heap_operations_same : (h k : List Object) → HeapsButForPast h k → heap_operations types cost k ≡ heap_operations types cost h
   heap_operations_same h k a =
       heaps_operate h k a.count
       (λ i. by_past (λ f g. operations_at g ≡ operations_at f) (λ f. refl) (λ x y px py. past_operations y py ∙ sym (past_operations x px))
@@ -324,14 +325,16 @@ module _ (types : List TypeDefinition) where
   unfolding weight
   weight_same s t both = rw (both.rest, heap_weight_same s.heap t.heap both.heaps)
 
-  operations_same : (s t : State) → StatesButForPast s t → operations_left types t ≡ operations_left types s
+  operations_same : (s t : State) → StatesButForPast s t → operations_left types cost t ≡ operations_left types cost s
   unfolding operations_left
   operations_same s t both = rw (both.rest, heap_operations_same s.heap t.heap both.heaps)
 
 pub past_weighs_nothing : PastObjectsWeighNothing
 unfolding full_weight
 past_weighs_nothing program s t both =
-    rw (weight_same program.types.items s t both, operations_same program.types.items s t both)
+    let types = program.types.items in
+    let cost = full_cost types (body_forms program) in
+    rw (weight_same types cost s t both, operations_same types cost s t both)
 
 -- One more object is forgotten.
 forgotten_by : (b : Bool) (x : Object) → is_past x ≡ b → is_past (if b then nothing_left else x) ≡ b

@@ -2,10 +2,10 @@ use Rattle.std.proofs.Common.{sym, subst}
 use Rattle.std.proofs.lemmas.Result.{err_from_is_err_and}
 use Rattle.ada_program.specs.declared.program.Program.{Program}
 use Rattle.ada_program.specs.ProgramForm.{body_forms}
-use Rattle.ada_meaning.specs.Pace.{OperationsDeclareNoParts}
+use Rattle.ada_meaning.specs.Pace.{DeclarationsSettle}
 use Rattle.ada_serve.specs.Calls.{IsRead}
 use Rattle.ada_serve.proofs.Answering.{input_unwritten, answers_run}
-use Rattle.ada_serve.proofs.Plain.{used_declare_none}
+use Rattle.ada_serve.proofs.Plain.{used_settles}
 use Rattle.ada_serve.proofs.serve.answer.Goals as goal
 
 pub returns-in_err-numbers-clause-writer : goal.returns-in_err-numbers-clause-writer
@@ -20,6 +20,6 @@ returns-then-options-clause-text g c =
 pub run-requires : goal.run-requires
 run-requires g c = record {
   operations =
-      subst (λ (p : Program). OperationsDeclareNoParts p.types.items (body_forms p)) (sym c.program-program.ensures.program)
-      (used_declare_none c.args.accepted.now c.program-program.ensures.formed c.program-program.ensures.in_use);
+      subst (λ (p : Program). DeclarationsSettle p.types.items (body_forms p)) (sym c.program-program.ensures.program)
+      (used_settles c.args.accepted.now c.program-program.ensures.formed c.program-program.ensures.in_use);
 }
