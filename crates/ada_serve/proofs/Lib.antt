@@ -6,7 +6,9 @@ pub mod Writing
 pub mod Past
 -- the runner's run, step by step
 pub mod Steps
--- what operations that are in use create in their declarations leads through other operations only so deep
+-- what calls of operations cost settles where each leads to earlier ones alone
+pub mod Settled
+-- operations that are in use lead to earlier ones alone
 pub mod Plain
 -- the number that a word gives
 pub mod Numbers
