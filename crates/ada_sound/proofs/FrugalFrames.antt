@@ -51,6 +51,12 @@ use Rattle.ada_sound.proofs.Stored.{IsTaken, taken_is}
 abbrev pub EndsCreated : Allowance → Type 0
 EndsCreated allowance = allowance.objects ≡ true → allowance.treats_parts ≡ true
 
+-- A master that is left goes on being left.
+pub may_leave : (k : Control) → MayLeave Running k
+may_leave [] = refl
+may_leave (Confines ∷ k) = tt
+may_leave (f ∷ k) = refl
+
 -- The newest item has its number among all.
 first_number : (n : ℕ) (others : Bool) → ((n == n) || others) ≡ true
 first_number n others = rw (eq-eqb n n refl) refl
@@ -546,14 +552,27 @@ module _ (frugal : Thriftiness) (lower : List Master) (objects : Bool) (behind :
   leaves_so : (ms : List Master) (after : State) → after.masters ≡ ms ++ lower → MayLeave after.mode after.control → FrugalLeaves frugal objects behind among after.control ms → Goes after
   leaves_so ms after masters may q = record { upper = ms; masters = masters; frugally = inr (inl (may, q)) }
 
-  pub may_leave : (k : Control) → MayLeave Running k
-  may_leave [] = refl
-  may_leave (Confines ∷ k) = tt
-  may_leave (f ∷ k) = refl
-
   -- So it goes on.
   pub leaving_on : (ms : List Master) (heap : List Object) (all : List (Activation Value)) (k : Control) → FrugalLeaves frugal objects behind among k ms → Goes (record (now all k ms) { heap = heap })
   leaving_on ms heap all k q = leaves_so ms (record (now all k ms) { heap = heap }) refl (may_leave k) q
+
+  -- An object of the master ceases to exist, and its storage goes back.
+  pub end_left_on : (v : Value) (found : Found (Cell Value)) (ms : List Master) (all : List (Activation Value)) (k : Control) → FrugalLeaves frugal objects behind among k ms → Fine (end_next named v found (now all k ms))
+  end_left_on v on_null ms all k q = tt
+  end_left_on v on_gone ms all k q = tt
+  end_left_on v on_other ms all k q = tt
+  end_left_on v (finds cell) ms all k q = leaving_on ms (named.finish s.heap v) all k q
+
+  pub back_left_on : (v : Value) (cause : Cause) (pool : Option ℕ) (found : Found (Cell Value)) (ms : List Master) (all : List (Activation Value)) (k : Control) → FrugalLeaves frugal objects behind among k ms
+      → Fine (back_next named v cause pool found (now all k ms))
+  back_left_on v cause pool on_null ms all k q = tt
+  back_left_on v cause pool on_gone ms all k q = tt
+  back_left_on v cause pool on_other ms all k q = tt
+  back_left_on v cause pool (finds cell) ms all k q = by (same_pool pool cell.home.pool)
+    where
+      by : (one : Bool) → Fine (if one then given_back named v cause cell (now all k ms) else halts (Erroneous GivesElsewhere))
+      by true = told_on ms cell.home.pool v _ _ (leaving_on ms (named.back s.heap v) all k q)
+      by false = tt
 
   pub leaves_first : (ms : List Master) (left : Mode) (k : Control) (after : State) → after.masters ≡ ms ++ lower → after.mode ≡ Running → after.control ≡ Leaves left ∷ k → FrugalLeaves frugal objects behind among (Leaves left ∷ k) ms → Goes after
   leaves_first ms left k after masters in_mode is q = record {
