@@ -1,5 +1,6 @@
--- A frugal body (7.6, 7.6.1, 13.11.2) comes to what is left of an expression, an assignment, an allocator, a Free, a declaration, a call or a statement: nothing is
--- treated next but an object that is freed or undone, or whose master is left, or a new one that begins (4.8, 3.3.1), and what is called is frugal, too (6.4).
+-- A frugal body (7.6, 7.6.1, 13.11.2) comes to what is left of an expression, an assignment, an allocator, a Free, a declaration, a call or a statement:
+-- nothing is treated next but an object that is freed or undone, or whose master is left, or a new one that begins (4.8, 3.3.1), and what is called is frugal,
+-- too (6.4).
 
 use Rattle.std.proofs.Common.{◌≡◌, ℕ, Bool, true, false, List, [], ◌∷◌, ◌++◌, refl, sym, subst, inl, inr}
 use Rattle.std.specs.Prelude.{ℤ, map, Option, Some, None, drop, Result, Ok, Err, ◌&&◌, ◌||◌, ◌==◌, int_le, if◌then◌else◌}

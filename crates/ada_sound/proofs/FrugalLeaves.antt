@@ -1,4 +1,5 @@
--- A frugal body leaves a master of its own, which owns variables, and record objects, where it may declare some (7.6.1): no component names an object whose home is there.
+-- A frugal body leaves a master of its own, which owns variables, and record objects, where it may declare some (7.6.1): no component names an object whose
+-- home is there.
 
 use Rattle.std.proofs.Common.{◌≡◌, ℕ, Bool, true, false, ◌&&◌, List, [], ◌∷◌, ◌++◌, if◌then◌else◌, refl, sym, ap, ◌∙◌, inl, inr, arith}
 use Rattle.std.proofs.lemmas.Bool.{eqb-true}

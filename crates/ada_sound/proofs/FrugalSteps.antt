@@ -1,5 +1,5 @@
 -- Any step of a frugal body (7.6, 7.6.1, 13.11.2) in front of its end leads on in it, or in one that it calls (6.4), or to the end of an object that it frees,
--- or to the beginning of one that it allocates (4.8).
+-- or whose master it leaves, or to the beginning of one that it allocates or declares (4.8, 3.3.1).
 
 use Rattle.std.proofs.Common.{◌≡◌, ℕ, suc, Bool, true, false, if◌then◌else◌, List, [], ◌∷◌, ◌++◌, length, refl, sym, ap, ◌∙◌, subst, ◌⊎◌, inl, inr}
 use Rattle.std.specs.Prelude.{Option, Some, None, ◌||◌, ◌==◌}
@@ -277,8 +277,8 @@ EndsInner frugal objects behind among k ms = (actuals : List ActualForm) (refere
 
 -- While a frugal body runs, or one that it calls, and its own end is not next, whatever comes next is in such a body, too, where no object is treated next.
 -- Each Free of what runs is by the instance for the access type of what it frees (13.11.2), among some types; and where bodies may free objects with controlled
--- parts, no object of these types that is in its collection has an operation that runs, unless one begins first. Where they may create such objects, they may free
--- some, no operation runs of an object that does not exist, and none of one in a master that is left next.
+-- parts, no object of these types that is in its collection has an operation that runs, unless one begins first. Where they may create such objects, they may
+-- free some, no operation runs of an object that does not exist, and none of one in a master that is left next.
 pub frugal_steps :
     (p : ProgramForm) → OwnBody p → (tds : List TypeDefinition) (bodies : List BodyForm) (frugal : Thriftiness) (objects : Bool) → AccessIsBare (frugal.by objects).types tds → RecordIsBare (frugal.by objects).types tds
     → FindsFrugal (frugal.by objects) bodies → EndsCreated (frugal.by objects)
@@ -523,8 +523,8 @@ leaving_crosses frugal objects idle behind among mode (Treats v treatment tasks 
 leaving_crosses frugal objects idle behind among mode (Confines ∷ k) ms may leaving = let creates = leaving.0.0 in absurd (cc (idle, creates))
 leaving_crosses frugal objects idle behind among mode (f ∷ k) ms may leaving = absurd leaving
 
--- Where bodies free no objects with controlled parts, and declare no record objects, and neither the end of a body is next, nor the beginning of one, no body begins,
--- none ends, and no operation is called.
+-- Where bodies free no objects with controlled parts, and declare no record objects, and neither the end of a body is next, nor the beginning of one, no body
+-- begins, none ends, and no operation is called.
 pub frugal_crosses : (frugal : Thriftiness) (objects : Bool) → (frugal.by objects).treats_parts ≡ false → (frugal.by objects).objects ≡ false → (behind : Control) (among : List Value) (mode : Mode) (k : Control) (ms : List Master)
     → Frugal frugal objects behind among mode k ms → is_return_first k ≡ false → (mode ≡ Running → is_call_first k ≡ false) → crosses mode k ≡ false
 frugal_crosses frugal objects ends_none idle behind among mode k ms (inr (inl (may, leaving))) inner none = leaving_crosses frugal objects idle behind among mode k ms may leaving
