@@ -2,7 +2,7 @@
 -- them, is a sound one.
 
 use Rattle.std.proofs.Common.{◌≡◌, ◌≢◌, ◌≤◌, ℕ, ◌+◌, zero, suc, Bool, true, false, List, [], ◌∷◌, ◌++◌, length, drop, refl, sym, ap, ◌∙◌, subst, inl, inr}
-use Rattle.std.specs.Prelude.{Option, Some}
+use Rattle.std.specs.Prelude.{Option, Some, None}
 use Rattle.std.specs.List.{slice_get, slice_index_or}
 use Rattle.ada_deeds.specs.Implicit.{implicit_of}
 use Rattle.ada_effects.specs.Effects.{body_frees, effects_of}
