@@ -1,7 +1,7 @@
 -- The end of a body while an operation that touches storage is under way (6.5, 7.6.1): that of the outermost operation, of the operation of an object that is
 -- freed, undone, allocated or declared, or whose master is left, or of a procedure that was called.
 
-use Rattle.std.proofs.Common.{◌≡◌, ℕ, Bool, List, [], ◌∷◌, refl, sym, ap, subst, ◌∙◌, inl, inr, ◌++◌, ◌+◌, drop, length, suc}
+use Rattle.std.proofs.Common.{◌≡◌, ℕ, Bool, false, List, [], ◌∷◌, refl, sym, ap, subst, ◌∙◌, inl, inr, ◌++◌, ◌+◌, drop, length, suc}
 use Rattle.std.specs.Prelude.{Option, Some}
 use Rattle.ada_finalized.specs.Law.{finalized_before}
 use Rattle.ada_flow.specs.Flow.{Holds}
@@ -25,18 +25,18 @@ use Rattle.ada_typed.proofs.Kept.{behind_call, Each}
 use Rattle.ada_sound.proofs.Alters.{alters_same}
 use Rattle.ada_sound.proofs.CallBegins.{placed_in}
 use Rattle.ada_sound.proofs.Callers.{Suspension, known_in, Stands, AreOf}
-use Rattle.ada_sound.proofs.FrugalControl.{Frugal, FrugalLeads, MayBegin, Thriftiness, frugal_ends, frugal_returns, none_operated, operated_in, operated_on, operated_shorter, thriftiness_of}
+use Rattle.ada_sound.proofs.FrugalControl.{Frugal, FrugalLeads, MayBegin, Thriftiness, ends_none, frugal_ends, frugal_returns, none_operated, operated_in, operated_on, operated_shorter}
 use Rattle.ada_sound.proofs.Invariant.{Control, GoesOn, IsAwaited, Ready, Roomed, Rooms, Working, below}
-use Rattle.ada_sound.proofs.Operating.{IsCalm, behind_operation, may_create_in}
+use Rattle.ada_sound.proofs.Operating.{IsCalm, behind_operation}
 use Rattle.ada_sound.proofs.OperationStarts.{is_awaited}
 use Rattle.ada_sound.proofs.Pauses.{AllWatched, inner_on, pause_on}
 use Rattle.ada_sound.proofs.Returns.{CrossesTo, crosses_to, same_control, left_to, resumed_in, behind_call as behind_mode, behind_frames, behind_body}
 use Rattle.ada_sound.proofs.Grounds.{Grounds}
 use Rattle.ada_sound.proofs.Touching.{AreInner, IsCall, IsOperation, Pause, Touching, Watched, operated_among, origin}
 use Rattle.ada_sound.proofs.TouchingEnds.{touching_ends}
-use Rattle.ada_sound.proofs.TouchingGoes.{InTouching, Went, behind_it, none_end, operands_deeper, outermost, touching_on, with_parts}
+use Rattle.ada_sound.proofs.TouchingGoes.{InTouching, Went, behind_it, none_end, operands_deeper, outermost, thrifty, touching_on, with_parts}
 use Rattle.ada_sound.proofs.TouchingStands.{IsAmong, later_among, operated_is, operated_once, touching_unlisted}
-use Rattle.ada_sound.proofs.TouchingWatched.{AllGoOnInside, all_watched, watched_stays}
+use Rattle.ada_sound.proofs.TouchingWatched.{AllGoOnInside, all_watched, idle_within, watched_stays}
 
 -- Where components get something back, that goes on in front.
 storing_leads :
@@ -134,21 +134,24 @@ module _ (program : Program) (a : Activation Value) (k : Control) (s : State) (m
       operation = outermost program ending f
 
       abbrev frugal : Thriftiness
-      frugal = thriftiness_of (program_form program) (may_create_in operation.treatment)
+      frugal = thrifty program ending f
 
       abbrev Inner : (running : Option ℕ) (objects : Bool) (depth : ℕ) → List Suspension → Type 0
       Inner running objects depth inner = AreInner program ending frugal operation.behind operation.lower running objects depth (Some operation.number) waiting inner
 
       -- What is watched behind the end.
       outermost_watched : (ending.control ≡ Returns [] [] ∷ operation.behind → ⊥) → Watched program operation.watch operation.behind back
-      outermost_watched on = subst (Each (Watched program operation.watch operation.behind)) is (watched_stays program f.suspensions ending f.within grounds operation.watch operation.behind operation.still on)
+      outermost_watched on =
+          subst (Each (Watched program operation.watch operation.behind)) is (watched_stays program f.suspensions ending f.within grounds operation.watch operation.behind
+          (λ x known. idle_within program f.suspensions ending f.within (operation.at_end x known)) operation.still on)
 
-      inner_watched : (running : Option ℕ) (objects : Bool) (depth : ℕ) (inner : List Suspension) (are : Inner running objects depth inner)
+      inner_watched : (running : Option ℕ) (objects : Bool) (depth : ℕ) (inner : List Suspension) → (objects ≡ false → f.within.objects ≡ false)
+          → (are : Inner running objects depth inner)
           → AllGoOnInside program f.suspensions ending f.within grounds frugal operation.behind operation.lower running objects depth (Some operation.number) waiting inner are
           → AllWatched program ending frugal operation.behind operation.lower back running objects depth (Some operation.number) waiting inner are
-      inner_watched running objects depth inner are on =
+      inner_watched running objects depth inner front are on =
           subst (Each (λ (after : State). AllWatched program ending frugal operation.behind operation.lower after running objects depth (Some operation.number) waiting inner are)) is
-          (all_watched program f.suspensions ending f.within grounds frugal operation.behind operation.lower running objects depth (Some operation.number) waiting inner are on)
+          (all_watched program f.suspensions ending f.within grounds frugal operation.behind operation.lower running objects depth (Some operation.number) waiting inner front are on)
 
       -- The masters of the body have been left.
       left_masters : (g : Suspension) (gs : List Suspension) (rooms : Rooms) (holds : Holds) → Roomed (below (known_in program a.procedure (g ∷ gs))) s.masters rooms → GoesOn (known_in program a.procedure (g ∷ gs)) mode (Returns actuals references ∷ k) rooms holds → s.masters ≡ g.masters
@@ -189,8 +192,10 @@ module _ (program : Program) (a : Activation Value) (k : Control) (s : State) (m
             let reached : back ≡ after = cc (goes, is) in
             let c : CrossesTo program (gs ++ waiting) s.heap Quiet after = subst (λ (others : List Suspension). CrossesTo program others s.heap Quiet after) (sym o.behind_it) crosses in
             let apart = operated_once frugal f.within.objects outer (Names o.pause.object) operation.behind (operated_among gs) o.pause.behind o.upper (operated_is program 0 ending o.pause) o.leads in
+            let front : outer ≡ false → f.within.objects ≡ false =
+            ends_none frugal f.within.objects outer operation.behind (operated_in o.pause.behind ++ operated_among gs) o.pause.behind o.upper o.leads in
             let watched = subst (λ (u : State). AllWatched program ending frugal operation.behind operation.lower u g.procedure outer (suc 0) (Some operation.number) waiting gs more) reached
-            (inner_watched g.procedure outer (suc 0) gs more (ends_other g.procedure outer (suc 0) gs more control apart)) in
+            (inner_watched g.procedure outer (suc 0) gs front more (ends_other g.procedure outer (suc 0) gs more control apart)) in
             let are = inner_on program ending frugal operation.behind operation.lower after Quiet g.procedure outer (suc 0) 0 (Some operation.number) waiting gs more c.stepped.alters
             (λ n. operands_deeper n rest a b) watched in
             let further : ending.control ≡ Returns [] [] ∷ operation.behind → ⊥ = λ last. (
@@ -232,7 +237,7 @@ module _ (program : Program) (a : Activation Value) (k : Control) (s : State) (m
           let awaits = is_awaited form.types operation.object operation.of operation.treatment operation.tasks operation.after operation.behind operation.awaited in
           let placed = placed_in (seen_in a.procedure form) a (b ∷ rest) ending refl grounds.typed.inside in
           let objects = f.within.objects in
-          let watched = inner_watched g.procedure objects (suc 0) gs more (none_end program ending f grounds on g.procedure objects (suc 0) (Some operation.number) waiting gs more) in
+          let watched = inner_watched g.procedure objects (suc 0) gs (λ idle. idle) more (none_end program ending f grounds on g.procedure objects (suc 0) (Some operation.number) waiting gs more) in
           let among : operated_among f.within.inner ≡ operated_among gs =
           ap operated_among inner_is ∙ ap (λ (vs : List Value). vs ++ operated_among gs) (none_operated g.control call.0) in
           let leads = subst (λ (vs : List Value). FrugalLeads frugal objects operation.behind vs k f.within.frugal.upper) among

@@ -33,7 +33,7 @@ use Rattle.ada_sound.proofs.Allowance.{body_thrifty, is_thrifty_body}
 use Rattle.ada_sound.specs.Agreement.{running_procedure}
 use Rattle.ada_sound.proofs.Alters.{Alters}
 use Rattle.ada_sound.proofs.Callers.{Suspension, known_in, Stands, AreOf}
-use Rattle.ada_sound.proofs.FrugalControl.{BeginsThere, EndsThere, LeavesThere, Frugal, Frugally, FrugalLeads, FrugalLeaves, FrugalOperated, IsInside, Thriftiness, begun_leads, ends_leads, leaves_operated, frugal_starts_inside, operated_in, operated_on, thriftiness_of}
+use Rattle.ada_sound.proofs.FrugalControl.{BeginsThere, EndsThere, LeavesThere, Frugal, Frugally, FrugalLeads, FrugalLeaves, FrugalOperated, IsInside, Thriftiness, begun_leads, ends_leads, leaves_operated, frugal_starts_inside, operated_in, operated_on}
 use Rattle.ada_sound.proofs.FrugalSteps.{GoesOrBegins, treats_frugally}
 use Rattle.ada_sound.proofs.Invariant.{Control, Known, Stepped}
 use Rattle.ada_sound.proofs.Operating.{PlainBody, WaitsFor, behind_operation, may_create_in}
@@ -46,7 +46,7 @@ use Rattle.ada_sound.proofs.Returns.{CrossesTo, same_types}
 use Rattle.ada_sound.proofs.Grounds.{Grounds, treats_made}
 use Rattle.ada_sound.proofs.Touching.{AreInner, Pause, Touching, Watch, Watched, Within, is_unnamed, is_watched, operated_among, origin, watches}
 use Rattle.ada_sound.proofs.TouchingBegins.{Begun}
-use Rattle.ada_sound.proofs.TouchingGoes.{GoesTouching, InTouching, Still, Went, behind_it, inner_stays, outermost, stays_on, still_on, touching_on, with_parts, within_on}
+use Rattle.ada_sound.proofs.TouchingGoes.{GoesTouching, InTouching, Still, Went, behind_it, inner_stays, outermost, stays_on, still_on, thrifty, touching_on, with_parts, within_on}
 use Rattle.ada_sound.proofs.TouchingStands.{touching_stands, treated_begin}
 use Rattle.ada_sound.proofs.TouchingStarts.{IsLoneBehind, lone_inside, touching_starts}
 use Rattle.ada_sound.proofs.Treating.{IsOperated, told_covered, told_says, treated_next, treats_in_use}
@@ -84,7 +84,7 @@ module _ (program : Program) (a : Activation Value) (rest : List (Activation Val
 
     -- What bodies go by, and whether the one that runs may create objects.
     abbrev frugal : Thriftiness
-    frugal = thriftiness_of (program_form program) (may_create_in operation.treatment)
+    frugal = thrifty program whole f
 
     abbrev objects : Bool
     objects = f.within.objects
