@@ -39,6 +39,7 @@ use Rattle.ada_sound.proofs.Bodies.{IsBody, seen_is}
 use Rattle.ada_sound.proofs.BodyRuns.{body_runs}
 use Rattle.ada_sound.proofs.Calls.{home_low, relied_says}
 use Rattle.ada_sound.proofs.Callers.{Suspension, caller_of, known_in, Stands}
+use Rattle.ada_sound.proofs.Pauses.{spared_at_end}
 use Rattle.ada_sound.proofs.Touching.{CoversBy, Enters, Pause, under_way, Watched, holding, origin}
 use Rattle.ada_sound.proofs.SparesOwn.{spares_end}
 use Rattle.ada_sound.specs.Agreement.{running_procedure}
@@ -276,6 +277,7 @@ module _ (program : Program) (well : IsWellFormed (program_form program)) (obeys
               held = at.held;
               watch = at.watch;
               still = watched;
+              at_end = spared_at_end known treatment o x.cell.access heap at.watch at.spared;
               rests = at.rests;
               lets = lets;
             };
