@@ -29,10 +29,10 @@ module _ (frugal : Thriftiness) (idle : (frugal.by false).objects ≡ false) (la
     leads_idly objects behind among (Returns actuals references ∷ k) ms (inr (inr (outer, q))) = operated_idly objects outer behind among k ms q
     leads_idly objects behind among (Elaborates ds fs hs ∷ k) [] q = absurd q
     leads_idly objects behind among (Elaborates ds fs hs ∷ k) (m ∷ ms) ((own, frugally), q) =
-        let later = leads_idly objects behind among k ms q in (later.0, own_idly objects later.0 m.items own, later.1)
+        let later = leads_idly objects behind among k ms q in (later.0, (own_idly objects later.0 m.items own, later.1))
     leads_idly objects behind among (Closes ∷ k) [] q = absurd q
     leads_idly objects behind among (Closes ∷ k) (m ∷ ms) (own, q) =
-        let later = leads_idly objects behind among k ms q in (later.0, own_idly objects later.0 m.items own, later.1)
+        let later = leads_idly objects behind among k ms q in (later.0, (own_idly objects later.0 m.items own, later.1))
     leads_idly objects behind among (Declares x ∷ k) [] q = absurd q
     leads_idly objects behind among (Declares x ∷ k) (m ∷ ms) q = leads_idly objects behind among k (m ∷ ms) q.1
     leads_idly objects behind among (f ∷ k) ms q = leads_idly objects behind among k ms q.1
@@ -41,7 +41,7 @@ module _ (frugal : Thriftiness) (idle : (frugal.by false).objects ≡ false) (la
     leaves_idly objects behind among [] ms q = absurd q
     leaves_idly objects behind among (Leaves left ∷ k) [] q = absurd q
     leaves_idly objects behind among (Leaves left ∷ k) (m ∷ ms) (own, q) =
-        let later = leads_idly objects behind among k ms q in (later.0, own_idly objects later.0 m.items own, later.1)
+        let later = leads_idly objects behind among k ms q in (later.0, (own_idly objects later.0 m.items own, later.1))
     leaves_idly objects behind among (Ends v ∷ k) ms q = leaves_idly objects behind among k ms q
     leaves_idly objects behind among (GivesBack v cause pool ∷ k) ms q = leaves_idly objects behind among k ms q
     leaves_idly objects behind among (frame.Treats v treatment tasks ∷ k) ms q = leaves_idly objects behind among k ms q.1
