@@ -1,5 +1,5 @@
 -- The treatment of an object calls an operation that touches storage: its body begins in a sound state (7.6, 7.6.1), where no operation runs, or inside another
--- one, in which the object is freed, allocated or undone (13.11.2, 4.8, 7.6.1).
+-- one, in which the object is freed, allocated, declared or undone, or its master is left (13.11.2, 4.8, 3.3.1, 7.6.1).
 
 use Rattle.std.proofs.Common.{◌≡◌, ◌≢◌, ℕ, Bool, true, false, not, ◌&&◌, ◌⊎◌, inl, inr, List, ◌∷◌, refl, sym, ap, subst, ◌∙◌, []}
 use Rattle.std.specs.Prelude.{Option, Some, None}
