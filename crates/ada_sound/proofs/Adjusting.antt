@@ -52,7 +52,7 @@ pub data IsOfCopy : Birth → Type 0 where
   copied : IsOfCopy Copy
   assigned : (number : ℕ) → IsOfCopy (Adjustment number)
 
--- Its body creates no object and frees none with controlled parts: an operation would run inside it.
+-- What its body goes by: it calls nothing, declares variables alone, and neither allocates nor frees an object with controlled parts.
 abbrev pub simple_thriftiness : List TypeForm → Thriftiness
 simple_thriftiness types = record { by = λ objects. simple_allowance types; last = false }
 

@@ -179,7 +179,7 @@ module _
   low left k runs at =
       let parting : Parting known f.t.heap (places f.t) f.t.masters (RunsOn known (Leaves left ∷ k)) = rw (runs, at) at f.ready.1 in (
         held_in_none known f.t.heap (places f.t) f.t.masters (RunsOn known (Leaves left ∷ k)) parting (simple_allowance p.types) (own_masters program s f left k at)
-        (rw of_t.masters (subst (λ (types : List TypeForm). ItemsFit types (items_of s.masters)) (sym types_are) orderly.fit)),
+            (rw of_t.masters (subst (λ (types : List TypeForm). ItemsFit types (items_of s.masters)) (sym types_are) orderly.fit)),
         named_below known f.t.heap f.standing.waiting f.standing.low left k f.t.masters parting,
         rw of_t.masters (subst (λ (types : List TypeForm). AreInOrder (ahead_in p) types (innermost s.masters)) (sym types_are) orderly.ordered),
       )
