@@ -282,7 +282,7 @@ module _ (types : List TypeDefinition) (bodies : List BodyForm) (w : View) where
   no_treatment getting c k l v treatment tasks e = absurd (cc e)
   no_treatment (freeing access) c k l v treatment tasks e = absurd (cc e)
 
-  -- So none is, where the other one is frugal, and frees no objects with controlled parts.
+  -- So none is, where the other one is frugal, frees no objects with controlled parts, and declares no record objects.
   treated_not : (frugal : Thriftiness) (objects : Bool) → (frugal.by objects).treats_parts ≡ false → (frugal.by objects).objects ≡ false → (back : Control) (among : List Value) (s t : State) (ms : List Master) (v : Value) (treatment : frame.Treatment) (tasks : List Task) (k : Control) → Seen types bodies w s t → Frugal frugal objects back among t.mode t.control ms → s.control ≡ frame.Treats v treatment tasks ∷ k → ⊥
   treated_not frugal objects none_parts none_objects back among s t ms v treatment tasks k (plainly others is) frugally e =
       let control : t.control ≡ frame.Treats v treatment tasks ∷ seen_control w k = rw (is, e) refl in
