@@ -179,7 +179,7 @@ module _
   low left k runs at =
       let parting : Parting known f.t.heap (places f.t) f.t.masters (RunsOn known (Leaves left ∷ k)) = rw (runs, at) at f.ready.1 in (
         held_in_none known f.t.heap (places f.t) f.t.masters (RunsOn known (Leaves left ∷ k)) parting (simple_allowance p.types) (own_masters program s f left k at)
-            (rw of_t.masters (subst (λ (types : List TypeForm). ItemsFit types (items_of s.masters)) (sym types_are) orderly.fit)),
+            (rw of_t.masters (subst (λ (types : List TypeForm). ItemsFit types (items_of s.masters)) (sym types_are) orderly.fit)) (λ objects. absurd (cc objects)),
         named_below known f.t.heap f.standing.waiting f.standing.low left k f.t.masters parting,
         rw of_t.masters (subst (λ (types : List TypeForm). AreInOrder (ahead_in p) types (innermost s.masters)) (sym types_are) orderly.ordered),
       )
@@ -218,7 +218,7 @@ module _
 
   frugal_on : GoesFrugally (simple_thriftiness p.types) f.lower false f.behind [] (next tds bodies f.t)
   frugal_on =
-      frugal_steps known.program judged.owns tds bodies (simple_thriftiness p.types) false (bare_by program) (records_bare_by program) (λ number b there told. absurd (cc told)) f.behind [] f.lower f.t f.frugal
+      frugal_steps known.program judged.owns tds bodies (simple_thriftiness p.types) false (bare_by program) (records_bare_by program) (λ number b there told. absurd (cc told)) (λ objects. absurd (cc objects)) f.behind [] f.lower f.t f.frugal
       (λ actuals references k is. absurd (let first = firsts.0 in cc (rw is at first))) (λ runs. treats_none (simple_thriftiness p.types) false refl refl f.behind [] f.t.mode f.t.control f.frugal.upper f.frugal.frugally) f.typed
       bare_types (λ runs. freely) (λ treats_parts first. absurd (cc treats_parts)) (λ objects. absurd (cc objects)) (λ objects runs. absurd (cc objects))
 
