@@ -483,7 +483,8 @@ module _ (program : Program) (spares : SparesOwn program) (s : State) where
             → (t : ℕ) × IsReferred (g.referenced ++ behind) o t
         by further (inl same) =
             let f = operation.pause in
-            let one : f.object ≡ o = cc same in (
+            let one : f.object ≡ o = cc same in
+            (
               f.access,
               referred_first g.referenced behind o f.access (subst (λ (waiting : Suspension). IsReferred waiting.referenced o f.access) (sym operation.is) (inl (one, refl))),
             )
