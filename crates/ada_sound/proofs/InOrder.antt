@@ -122,7 +122,7 @@ module _ (types : List TypeForm) (calm : ℕ → Bool) (t : ℕ) where
       by (storage_pool declaration number) at later apart' = later apart'
 
   -- No objects have a component of a type that is no access type.
-  none_of_record : list_all (type_fits types) types ≡ true → is_access types t ≡ false → (is : List Item) → HoldNone types t is
+  pub none_of_record : list_all (type_fits types) types ≡ true → is_access types t ≡ false → (is : List Item) → HoldNone types t is
   none_of_record fit none [] = tt
   none_of_record fit none (i ∷ is) =
       (λ v pool houses c is'. (let one = component_is_access types fit v c t is' in cc (one, none)), none_of_record fit none is)

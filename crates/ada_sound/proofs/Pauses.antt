@@ -2,7 +2,7 @@
 -- was, and each activation that waits keeps the operands that it had. Where a part of an object has been finalized that ends behind, or has been begun of one
 -- that begins, what is watched is another object. So it stays where an exception comes out of what begins the part.
 
-use Rattle.std.proofs.Common.{◌≡◌, ◌≢◌, ℕ, zero, suc, false, List, [], ◌∷◌, length, drop, refl, sym, ap, ◌∙◌, subst, ◌⊎◌, inl, inr, arith}
+use Rattle.std.proofs.Common.{◌≡◌, ◌≢◌, ℕ, zero, suc, Bool, false, List, [], ◌∷◌, length, drop, refl, sym, ap, ◌∙◌, subst, ◌⊎◌, inl, inr, arith}
 use Rattle.std.proofs.Math.Nat.{add-zero}
 use Rattle.std.specs.Prelude.{◌+◌, ◌==◌, Option, Some, None}
 use Rattle.ada_parts.specs.Task.{Task}
@@ -17,7 +17,7 @@ use Rattle.ada_meaning.specs.declared.state.Mode.{Mode}
 use Rattle.ada_meaning.specs.declared.state.Mode.TheVariants.{Raising}
 use Rattle.ada_meaning.specs.declared.state.Value.{Value}
 use Rattle.ada_meaning.specs.declared.state.Value.TheVariants.{Names}
-use Rattle.ada_meaning.specs.Frame.{ends}
+use Rattle.ada_meaning.specs.Frame.{Treatment, begins, ends}
 use Rattle.ada_meaning.specs.Frame as frame
 use Rattle.ada_meaning.specs.Named.{Object, State, object_at}
 use Rattle.ada_meaning.specs.Event.{Quiet}
@@ -30,13 +30,13 @@ use Rattle.ada_reaching.specs.Law.{GhostsStay}
 use Rattle.ada_reaching.specs.Reaching.{IsReaching, LeftShuns}
 use Rattle.ada_reaching.proofs.Behind.{ends_other, reaching_kept, waiting_kept}
 use Rattle.ada_tracked.proofs.Lists.{is_apart, is_same}
-use Rattle.ada_sound.proofs.FrugalControl.{Frugal}
-use Rattle.ada_sound.proofs.Allowance.{Allowance, allowance_of}
+use Rattle.ada_sound.proofs.FrugalControl.{Frugal, Thriftiness, thriftiness_of}
 use Rattle.ada_sound.specs.Agreement.{running_procedure}
 use Rattle.ada_sound.proofs.Alters.{Alters, alters_same}
 use Rattle.ada_sound.proofs.Callers.{Suspension}
-use Rattle.ada_sound.proofs.Invariant.{Control}
-use Rattle.ada_sound.proofs.Touching.{Pause, Watch, Watched, Within, AreInner, operated_among, origin, is_unnamed, is_watched, watches}
+use Rattle.ada_sound.proofs.Invariant.{Control, Known}
+use Rattle.ada_sound.proofs.Operating.{may_create_in}
+use Rattle.ada_sound.proofs.Touching.{IsSpared, Pause, Watch, Watched, Within, AreInner, operated_among, origin, is_unnamed, is_watched, watches}
 
 -- What is known of an activation that waits for an operation, behind a step: of the object, what the step leaves, and the operands.
 abbrev pub pause_on :
@@ -74,17 +74,25 @@ pause_on program depth later s after e f alters same still = record {
   held = f.held;
   watch = f.watch;
   still = still;
+  at_end = f.at_end;
   rests = f.rests;
   lets = f.lets;
 }
 
-module _ (program : Program) (s : State) (allowance : Allowance) (back : Control) (lower : List Master) where
+-- Where something is watched, an object is finalized, whose Finalize creates none (7.6.1).
+pub spared_at_end : (known : Known) (treatment : Treatment) (o : Id) (access : ℕ) (heap : List Object) (watch : Option Watch)
+    → IsSpared known treatment o access heap watch → (w : Watch) → watch ≡ Some w → may_create_in treatment ≡ false
+spared_at_end known (begins by done) o access heap None spared w is = absurd (cc is)
+spared_at_end known (begins by done) o access heap (Some x) spared w is = absurd spared
+spared_at_end known (ends cause) o access heap watch spared w is = refl
+
+module _ (program : Program) (s : State) (frugal : Thriftiness) (back : Control) (lower : List Master) where
   -- What is watched in each of these activations that waits for an operation is so still in a state.
-  abbrev pub AllWatched : (after : State) (running : Option ℕ) (depth : ℕ) (outermost : Option ℕ) (others inner : List Suspension) → AreInner program s allowance back lower running depth outermost others inner → Type 0
-  AllWatched after running depth outermost others [] w = Unit {0}
-  AllWatched after running depth outermost others (g ∷ inner) (inl call, more) = AllWatched after g.procedure (suc depth) outermost others inner more
-  AllWatched after running depth outermost others (g ∷ inner) (inr operation, more) =
-      Watched program operation.pause.watch operation.pause.behind after × AllWatched after g.procedure (suc depth) outermost others inner more
+  abbrev pub AllWatched : (after : State) (running : Option ℕ) (objects : Bool) (depth : ℕ) (outermost : Option ℕ) (others inner : List Suspension) → AreInner program s frugal back lower running objects depth outermost others inner → Type 0
+  AllWatched after running objects depth outermost others [] w = Unit {0}
+  AllWatched after running objects depth outermost others (g ∷ inner) (inl (call, more)) = AllWatched after g.procedure objects (suc depth) outermost others inner more
+  AllWatched after running objects depth outermost others (g ∷ inner) (inr (outer, operation, more)) =
+      Watched program operation.pause.watch operation.pause.behind after × AllWatched after g.procedure outer (suc depth) outermost others inner more
 
   -- The activations that wait, these and those behind them, have the operands that they had.
   abbrev pub SameBehind : (after : State) (depth later : ℕ) → Type 0
@@ -105,14 +113,16 @@ module _ (program : Program) (s : State) (allowance : Allowance) (back : Control
 
   -- What they wait for is known behind a step, too.
   pub inner_on :
-      (after : State) (e : Event) (running : Option ℕ) (depth later : ℕ) (outermost : Option ℕ) (others inner : List Suspension) (w : AreInner program s allowance back lower running depth outermost others inner)
+      (after : State) (e : Event) (running : Option ℕ) (objects : Bool) (depth later : ℕ) (outermost : Option ℕ) (others inner : List Suspension)
+      (w : AreInner program s frugal back lower running objects depth outermost others inner)
       → Alters s.heap e after.heap → SameBehind after depth later
-      → AllWatched after running depth outermost others inner w → AreInner program after allowance back lower running later outermost others inner
-  inner_on after e running depth later outermost others [] w alters same still = w
-  inner_on after e running depth later outermost others (g ∷ inner) (inl call, more) alters same still =
-      (inl call, inner_on after e g.procedure (suc depth) (suc later) outermost others inner more alters (same_further after depth later same) still)
-  inner_on after e running depth later outermost others (g ∷ inner) (inr operation, more) alters same still = (
-    inr (record {
+      → AllWatched after running objects depth outermost others inner w → AreInner program after frugal back lower running objects later outermost others inner
+  inner_on after e running objects depth later outermost others [] w alters same still = w
+  inner_on after e running objects depth later outermost others (g ∷ inner) (inl (call, more)) alters same still =
+      inl (call, inner_on after e g.procedure objects (suc depth) (suc later) outermost others inner more alters (same_further after depth later same) still)
+  inner_on after e running objects depth later outermost others (g ∷ inner) (inr (outer, operation, more)) alters same still = inr (
+    outer,
+    record {
       pause = pause_on program depth later s after e operation.pause alters (same_first after depth later same) still.0;
       is = operation.is;
       behind_it = operation.behind_it;
@@ -120,10 +130,9 @@ module _ (program : Program) (s : State) (allowance : Allowance) (back : Control
       inside = operation.inside;
       upper = operation.upper;
       masters = operation.masters;
-      own = operation.own;
       leads = operation.leads;
-    }),
-    inner_on after e g.procedure (suc depth) (suc later) outermost others inner more alters (same_further after depth later same) still.1,
+    },
+    inner_on after e g.procedure outer (suc depth) (suc later) outermost others inner more alters (same_further after depth later same) still.1,
   )
 
 -- A part of an object has been finalized, and what is left of its finalization is next, behind which it ends (7.6.1).
@@ -155,43 +164,45 @@ module _ (program : Program) (s after : State) (active : after.activations ≡ s
     (still : (watch : Option Watch) (behind : Control) → Watched program watch behind s → Watched program watch behind after) where
   -- What is watched in each of these activations is so still.
   all_on :
-      (allowance : Allowance) (back : Control) (lower : List Master) (running : Option ℕ) (depth : ℕ) (outermost : Option ℕ) (waiting inner : List Suspension)
-      (w : AreInner program s allowance back lower running depth outermost waiting inner)
-      → AllWatched program s allowance back lower after running depth outermost waiting inner w
-  all_on allowance back lower running depth outermost waiting [] w = tt
-  all_on allowance back lower running depth outermost waiting (g ∷ inner) (inl call, more) =
-      all_on allowance back lower g.procedure (suc depth) outermost waiting inner more
-  all_on allowance back lower running depth outermost waiting (g ∷ inner) (inr operation, more) = (
+      (frugal : Thriftiness) (back : Control) (lower : List Master) (running : Option ℕ) (objects : Bool) (depth : ℕ) (outermost : Option ℕ) (waiting inner : List Suspension)
+      (w : AreInner program s frugal back lower running objects depth outermost waiting inner)
+      → AllWatched program s frugal back lower after running objects depth outermost waiting inner w
+  all_on frugal back lower running objects depth outermost waiting [] w = tt
+  all_on frugal back lower running objects depth outermost waiting (g ∷ inner) (inl (call, more)) =
+      all_on frugal back lower g.procedure objects (suc depth) outermost waiting inner more
+  all_on frugal back lower running objects depth outermost waiting (g ∷ inner) (inr (outer, operation, more)) = (
     still operation.pause.watch operation.pause.behind operation.pause.still,
-    all_on allowance back lower g.procedure (suc depth) outermost waiting inner more,
+    all_on frugal back lower g.procedure outer (suc depth) outermost waiting inner more,
   )
 
   within_by :
       (gs : List Suspension) (e : Event) (w : Within program gs s) → after.masters ≡ s.masters → Alters s.heap e after.heap
-      → Frugal (allowance_of (program_form program)) w.outermost.behind (operated_among w.inner) after.mode after.control w.frugal.upper
+      → Frugal (thriftiness_of (program_form program) (may_create_in w.outermost.treatment)) w.objects w.outermost.behind (operated_among w.inner) after.mode after.control
+      w.frugal.upper
       → Within program gs after
   within_by gs e w masters alters goes =
       let same : (n : ℕ) → operands_of (drop (suc n) after.activations) ≡ operands_of (drop (suc n) s.activations) =
       λ n. ap (λ (all : List (Activation Value)). operands_of (drop (suc n) all)) active in
+      let frugal = thriftiness_of (program_form program) (may_create_in w.outermost.treatment) in
       let last = Some w.outermost.number in
       let waiting = origin program (length w.inner) s w.outermost ∷ w.outermost.suspensions in
       record {
         inner = w.inner;
+        objects = w.objects;
         outermost =
             pause_on program (length w.inner) (length w.inner) s after e w.outermost alters (same (length w.inner))
             (still w.outermost.watch w.outermost.behind w.outermost.still);
         are = w.are;
         within =
-            subst (λ (procedure : Option ℕ). AreInner program after (allowance_of (program_form program)) w.outermost.behind w.outermost.lower procedure 0 last waiting w.inner)
+            subst (λ (procedure : Option ℕ). AreInner program after frugal w.outermost.behind w.outermost.lower procedure w.objects 0 last waiting w.inner)
             (sym (ap procedure_of active))
-            (inner_on program s (allowance_of (program_form program)) w.outermost.behind w.outermost.lower after e (running_procedure s) 0 0 last waiting w.inner w.within alters
+            (inner_on program s frugal w.outermost.behind w.outermost.lower after e (running_procedure s) w.objects 0 0 last waiting w.inner w.within alters
             (λ n. same (0 + n))
-            (all_on (allowance_of (program_form program)) w.outermost.behind w.outermost.lower (running_procedure s) 0 last waiting w.inner w.within));
+            (all_on frugal w.outermost.behind w.outermost.lower (running_procedure s) w.objects 0 last waiting w.inner w.within));
         frugal = record {
           upper = w.frugal.upper;
           masters = masters ∙ w.frugal.masters;
-          own = w.frugal.own;
-          frugal = goes;
+          frugally = goes;
         };
         untreated = w.untreated;
         calm = w.calm;
@@ -244,16 +255,16 @@ module _ (program : Program) (s after : State) (o : Id) (going : GoesOnBehind o 
   pub within_kept :
       (gs : List Suspension) (e : Event) → Within program gs s → after.mode ≡ s.mode → after.masters ≡ s.masters → Alters s.heap e after.heap
       → Within program gs after
-  within_kept gs e w mode masters alters = within_by program s after active watched_on gs e w masters alters (rw (mode, control) w.frugal.frugal)
+  within_kept gs e w mode masters alters = within_by program s after active watched_on gs e w masters alters (rw (mode, control) w.frugal.frugally)
 
 -- Where the operation has come to its end that begins a part of a new object, frugal bodies go on, too, if an exception has come out of it (7.6).
 raised_frugal :
-    (allowance : Allowance) (back : Control) (among : List Value) (mode : Mode) (e : Exception) (v : Value) (done : List parts.Part) (of part : ℕ) (tasks : List Task)
-    (k : Control) (ms : List Master) → Frugal allowance back among mode (frame.Awaits v Creation done of part tasks ∷ k) ms
-    → Frugal allowance back among (Raising e) (frame.Awaits v Creation done of part tasks ∷ k) ms
-raised_frugal allowance back among mode e v done of part tasks k ms (inl leads) = absurd leads.0
-raised_frugal allowance back among mode e v done of part tasks k ms (inr (inl leaving)) = absurd leaving.1
-raised_frugal allowance back among mode e v done of part tasks k ms (inr (inr beginning)) = inr (inr (tt, beginning.1))
+    (frugal : Thriftiness) (objects : Bool) (back : Control) (among : List Value) (mode : Mode) (e : Exception) (v : Value) (done : List parts.Part) (of part : ℕ)
+    (tasks : List Task) (k : Control) (ms : List Master) → Frugal frugal objects back among mode (frame.Awaits v Creation done of part tasks ∷ k) ms
+    → Frugal frugal objects back among (Raising e) (frame.Awaits v Creation done of part tasks ∷ k) ms
+raised_frugal frugal objects back among mode e v done of part tasks k ms (inl leads) = absurd leads.0
+raised_frugal frugal objects back among mode e v done of part tasks k ms (inr (inl leaving)) = absurd leaving.1
+raised_frugal frugal objects back among mode e v done of part tasks k ms (inr (inr beginning)) = inr (inr (tt, beginning.1))
 
 -- What is around stays around then.
 module _ (program : Program) (gs : List Suspension) (s : State) (e : Exception) where
@@ -276,8 +287,8 @@ module _ (program : Program) (gs : List Suspension) (s : State) (e : Exception) 
 
   pub raised_within : {o : Id} → BeginsBehind o s.control → Within program gs s → Within program gs raised
   raised_within {o} begun w =
-      let allowance = allowance_of (program_form program) in
+      let frugal = thriftiness_of (program_form program) (may_create_in w.outermost.treatment) in
       within_by program s raised refl (raised_watched o begun) gs Quiet w refl (alters_same s.heap Quiet)
-      (subst (λ (k : Control). Frugal allowance w.outermost.behind (operated_among w.inner) (Raising e) k w.frugal.upper) (sym begun.is)
-      (raised_frugal allowance w.outermost.behind (operated_among w.inner) s.mode e (Names o) begun.done begun.of begun.part begun.tasks begun.rest w.frugal.upper
-      (subst (λ (k : Control). Frugal allowance w.outermost.behind (operated_among w.inner) s.mode k w.frugal.upper) begun.is w.frugal.frugal)))
+      (subst (λ (k : Control). Frugal frugal w.objects w.outermost.behind (operated_among w.inner) (Raising e) k w.frugal.upper) (sym begun.is)
+      (raised_frugal frugal w.objects w.outermost.behind (operated_among w.inner) s.mode e (Names o) begun.done begun.of begun.part begun.tasks begun.rest w.frugal.upper
+      (subst (λ (k : Control). Frugal frugal w.objects w.outermost.behind (operated_among w.inner) s.mode k w.frugal.upper) begun.is w.frugal.frugally)))

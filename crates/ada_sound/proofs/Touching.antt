@@ -377,6 +377,7 @@ pub record Pause (program : Program) (depth : ℕ) (s : State) : Type 0 where
   pub held : Bool
   pub watch : Option Watch
   pub still : Watched program watch behind s
+  pub at_end : (w : Watch) → watch ≡ Some w → may_create_in treatment ≡ false
   pub rests : Rests (known_in program procedure suspensions) treatment held watch object access home places operands also after lower rooms holds
   pub lets : (e : Exception) → body_among (implicit_of (program_form program)) (seen_in (Some number) (program_form program)) e ≡ true → lets_out (implicit_of (program_form program)) access treatment e ≡ true
 
