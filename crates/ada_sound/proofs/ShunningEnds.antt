@@ -48,7 +48,7 @@ abbrev is_frugal_one : ProgramForm → Option BodyForm → Bool
 is_frugal_one p None = true
 is_frugal_one p (Some b) = is_frugal_body (thrift_of p false) b
 
--- Such a procedure frees and follows no value of an access type.
+-- A procedure is so, and it frees and follows no value of an access type.
 abbrev is_shunning : ProgramForm → (access procedure : ℕ) → Bool
 is_shunning p u n =
     is_frugal_one p (slice_get p.bodies n) && not (does_by p (freeing u) (calling n)) && not (does_by p (following u) (calling n))
@@ -184,7 +184,7 @@ module _ (program : Program) (well : IsWellFormed (program_form program)) (uses 
       → is_frugal_one p (slice_get p.bodies number) ≡ true
   finalize_frugal of number overrides = by (slice_get p.bodies number) refl
     where
-      -- Of whatever an object is freed.
+      -- An object is finalized that is freed.
       finalizing : Treatment
       finalizing = ends (Freeing number)
 
