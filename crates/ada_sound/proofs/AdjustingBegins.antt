@@ -2,7 +2,7 @@
 -- them, is a sound one.
 
 use Rattle.std.proofs.Common.{◌≡◌, ◌≢◌, ◌≤◌, ℕ, ◌+◌, zero, suc, Bool, true, false, List, [], ◌∷◌, ◌++◌, length, drop, refl, sym, ap, ◌∙◌, subst, inl, inr}
-use Rattle.std.specs.Prelude.{Option, Some}
+use Rattle.std.specs.Prelude.{Option, Some, None}
 use Rattle.std.specs.List.{slice_get, slice_index_or}
 use Rattle.ada_deeds.specs.Implicit.{implicit_of}
 use Rattle.ada_effects.specs.Effects.{body_frees, effects_of}
@@ -83,7 +83,8 @@ module _ (allowance : Allowance) (tracks : Tracks) where
   declarations_same (creates_pool p ∷ ds) = refl
   declarations_same (collects access ∷ ds) = refl
   declarations_same (declares x right ∷ ds) = rw (right_same right, declarations_same ds) refl
-  declarations_same (declares_record x t initial ∷ ds) = refl
+  declarations_same (declares_record x t None ∷ ds) = rw (declarations_same ds) refl
+  declarations_same (declares_record x t (Some items) ∷ ds) = refl
 
   mutual
     stmt_same : (f : StmtForm) → is_thrifty_stmt allowance (seen_stmt tracks f) ≡ is_thrifty_stmt allowance f
@@ -378,8 +379,7 @@ module _ (program : Program) (number : ℕ) (b : BodyForm) (there : slice_get (p
           frugal = record {
             upper = record { number = s.next; items = [] } ∷ [];
             masters = refl;
-            own = (tt, tt);
-            frugal = inl (thrifty_as_judged (simple_allowance p.types) w.tracks b frugal, inl ((refl, refl), refl, refl, refl));
+            frugally = inl ((tt, thrifty_as_judged (simple_allowance p.types) w.tracks b frugal), inl ((refl, refl), refl, refl, refl, refl));
           };
           waits = record {
             parted = at.parted;

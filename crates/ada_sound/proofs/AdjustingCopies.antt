@@ -37,7 +37,7 @@ use Rattle.ada_program.specs.ProgramForm.{BodyForm, body_forms, program_form, se
 use Rattle.ada_program.specs.WellFormed.{IsWellFormed, kind_among, reached_components}
 use Rattle.ada_quiet.specs.Bare.{has_bare_objects}
 use Rattle.ada_quiet.specs.InUse.{may_track}
-use Rattle.ada_scopes.proofs.Components.{collect_two}
+use Rattle.ada_scopes.proofs.Components.{collect_two, items_fit}
 use Rattle.ada_scopes.proofs.Runs.{Scoped}
 use Rattle.ada_sound.specs.Agreement.{running_procedure}
 use Rattle.ada_tracked.specs.Frames.{View, blank_object, shifted, values_at}
@@ -133,6 +133,7 @@ module _ (program : Program) (well : IsWellFormed (program_form program)) (s : S
         (parts_alive program well s reached p x.object x.found
         (listed_stand program reached.0 reached.1 s reached.2 p x.object x.found (x.alike.listed ∙ listed) (begins_nothing (Names p) (other_object p y found bare)))));
     two = collect_two (program_form program) s nested;
+    fit = items_fit (program_form program) s nested;
     ordered = in_order program well s nested (apart_where_reached program s reached) (program_form program).types refl s.masters refl;
   }
 

@@ -23,7 +23,6 @@ use Rattle.ada_meaning.specs.Law.{items_of}
 use Rattle.ada_meaning.specs.Named.{Object, State, object_at, next}
 use Rattle.ada_meaning.specs.State.{Activation, Item, Master, Owned, declared, collection, record_object, storage_pool}
 use Rattle.ada_meaning.specs.Step.{moves, older, operands, places, procedure_of, treating}
-use Rattle.ada_sound.proofs.Allowance.{Allowance}
 use Rattle.ada_reaching.specs.Apart.{Apart}
 use Rattle.ada_reaching.specs.Law.{none_hidden}
 use Rattle.ada_reaching.specs.Reaching.{IsReaching, LeftShuns, none_unnamed}
@@ -32,7 +31,7 @@ use Rattle.ada_typed.proofs.Kept.{behind_call}
 use Rattle.ada_untouched.specs.Untouched.{Untouched}
 use Rattle.ada_sound.proofs.Ahead.{ahead_in}
 use Rattle.ada_sound.proofs.Departing.{IsGoing, ending}
-use Rattle.ada_sound.proofs.FrugalControl.{Frugal, FrugalLeads, FrugalOperated}
+use Rattle.ada_sound.proofs.FrugalControl.{Frugal, FrugalLeads, FrugalLeaves, FrugalOperated, MayLeave, Thriftiness}
 use Rattle.ada_sound.proofs.Invariant.{ConfinesBy, Control, EndsTo, IsNewest, Known, ReadyIn, TreatsBy, innermost}
 use Rattle.ada_sound.proofs.Items.{Counted, HasItem, Houses, has_after, houses_pool, houses_type, newest_is}
 use Rattle.ada_sound.proofs.Operating.{AreVariables, Comes, IsCalm, OwnVariables, Sight}
@@ -40,6 +39,12 @@ use Rattle.ada_sound.proofs.OrdinarySteps.{state_with}
 use Rattle.ada_sound.proofs.Stored.{Stored}
 use Rattle.ada_sound.proofs.TouchingLeaves.{variable_houses}
 use Rattle.ada_sound.proofs.TouchingStands.{frugal_calm}
+
+-- A master may be left, where nothing goes wrong.
+may_leave : (k : Control) → MayLeave Running k
+may_leave [] = refl
+may_leave (frame.Confines ∷ k) = tt
+may_leave (f ∷ k) = refl
 
 -- What is left of bodies that shun an access type, in front of the end of the outermost one.
 module _ (p : ProgramForm) (shuns : ℕ → Bool) (apart : Apart) (ghosts : Id → Bool) (behind : Control) where
@@ -96,63 +101,79 @@ module _ (p : ProgramForm) (shuns : ℕ → Bool) (apart : Apart) (ghosts : Id �
   ends_or_not procedure (f ∷ k) suspended left = inr (λ is. cc is)
 
   -- Frugal bodies go on up to the same end, where no operation runs behind what is behind it, of the one and of the other.
-  module _ (waits : NoOperationRuns behind → ⊥) (calm : IsCalm (behind_call behind)) (allowance : Allowance) (back : Control) (back_waits : NoOperationRuns back → ⊥) (back_calm : IsCalm (behind_call back)) where
+  module _ (waits : NoOperationRuns behind → ⊥) (calm : IsCalm (behind_call behind)) (frugal : Thriftiness) (back : Control) (back_waits : NoOperationRuns back → ⊥) (back_calm : IsCalm (behind_call back)) where
     -- Behind an operation one runs there.
-    operated_calm : (among : List Value) (k : Control) (ms : List Master) → IsCalm (behind_call k) → FrugalOperated allowance back among k ms → ⊥
-    operated_calm among [] ms calm_there q = q
-    operated_calm among (frame.Confines ∷ k) ms calm_there (vs, is, ending, q) = back_waits (frugal_calm allowance back vs Running k ms calm_there (inl q))
-    operated_calm among (frame.Awaits v by done of part tasks ∷ k) ms calm_there (vs, is, beginning, q) = back_waits (frugal_calm allowance back vs Running k ms calm_there (inl q))
-    operated_calm among (f ∷ k) ms calm_there q = q
+    operated_calm : (objects outer : Bool) (among : List Value) (k : Control) (ms : List Master) → IsCalm (behind_call k) → FrugalOperated frugal objects outer back among k ms → ⊥
+    operated_calm objects outer among [] ms calm_there q = q
+    operated_calm objects outer among (frame.Confines ∷ k) ms calm_there (vs, is, idle, inl (ending, q)) = back_waits (frugal_calm frugal outer back vs Running k ms calm_there (inl q))
+    operated_calm objects outer among (frame.Confines ∷ k) ms calm_there (vs, is, idle, inr (ending, q)) =
+        back_waits (frugal_calm frugal outer back vs Running k ms calm_there (inr (inl (may_leave k, q))))
+    operated_calm objects outer among (frame.Awaits v by done of part tasks ∷ k) ms calm_there (vs, is, creates, may, beginning, q) =
+        back_waits (frugal_calm frugal outer back vs Running k ms calm_there (inl q))
+    operated_calm objects outer among (f ∷ k) ms calm_there q = q
 
     mutual
       -- Where no master is being left.
       leads_same :
-          (among : List Value) (k : Control) (ms : List Master) (procedure : Option ℕ) (suspended : List (Activation Value))
-          → FrugalLeads allowance back among k ms → Left procedure k suspended → back ≡ behind
-      leads_same among [] ms procedure suspended q left = absurd q
-      leads_same among (Returns actuals references ∷ k) ms procedure suspended (inl q) (inl last) = let same : k ≡ behind = cc last in sym q.2 ∙ same
-      leads_same among (Returns actuals references ∷ k) ms procedure suspended (inl q) (inr inner) =
+          (objects : Bool) (among : List Value) (k : Control) (ms : List Master) (procedure : Option ℕ) (suspended : List (Activation Value))
+          → FrugalLeads frugal objects back among k ms → Left procedure k suspended → back ≡ behind
+      leads_same objects among [] ms procedure suspended q left = absurd q
+      leads_same objects among (Returns actuals references ∷ k) ms procedure suspended (inl q) (inl last) = let same : k ≡ behind = cc last in sym q.2 ∙ same
+      leads_same objects among (Returns actuals references ∷ k) ms procedure suspended (inl q) (inr inner) =
           absurd (left_not_calm waits (procedure_of suspended) k (older suspended) inner.others (subst (λ (j : Control). IsCalm (behind_call j)) (sym q.2) back_calm))
-      leads_same among (Returns actuals references ∷ k) ms procedure suspended (inr (inl q)) (inl last) =
+      leads_same objects among (Returns actuals references ∷ k) ms procedure suspended (inr (inl q)) (inl last) =
           let same : k ≡ behind = cc last in
-          absurd (back_waits (frugal_calm allowance back among Running k ms (subst (λ (j : Control). IsCalm (behind_call j)) (sym same) calm) (inl q)))
-      leads_same among (Returns actuals references ∷ k) ms procedure suspended (inr (inr q)) (inl last) =
+          absurd (back_waits (frugal_calm frugal objects back among Running k ms (subst (λ (j : Control). IsCalm (behind_call j)) (sym same) calm) (inl q)))
+      leads_same objects among (Returns actuals references ∷ k) ms procedure suspended (inr (inr (outer, q))) (inl last) =
           let same : k ≡ behind = cc last in
-          absurd (operated_calm among k ms (subst (λ (j : Control). IsCalm (behind_call j)) (sym same) calm) q)
-      leads_same among (Returns actuals references ∷ k) ms procedure suspended (inr (inl q)) (inr inner) = leads_same among k ms (procedure_of suspended) (older suspended) q inner.others
-      leads_same among (Returns actuals references ∷ k) ms procedure suspended (inr (inr q)) (inr inner) = operated_same among k ms (procedure_of suspended) (older suspended) q inner.others
-      leads_same among (frame.Elaborates ds fs hs ∷ k) [] procedure suspended q left = absurd q
-      leads_same among (frame.Elaborates ds fs hs ∷ k) (m ∷ ms) procedure suspended q left = leads_same among k ms procedure suspended q.1 left.2
-      leads_same among (frame.Closes ∷ k) [] procedure suspended q left = absurd q
-      leads_same among (frame.Closes ∷ k) (m ∷ ms) procedure suspended q left = leads_same among k ms procedure suspended q.1 left.2
-      leads_same among (frame.Declares x ∷ k) [] procedure suspended q left = absurd q
-      leads_same among (frame.Declares x ∷ k) (m ∷ ms) procedure suspended q left = leads_same among k (m ∷ ms) procedure suspended q.1 left.2
-      leads_same among (f ∷ k) ms procedure suspended q left = leads_same among k ms procedure suspended q.1 left.2
+          absurd (operated_calm objects outer among k ms (subst (λ (j : Control). IsCalm (behind_call j)) (sym same) calm) q)
+      leads_same objects among (Returns actuals references ∷ k) ms procedure suspended (inr (inl q)) (inr inner) = leads_same objects among k ms (procedure_of suspended) (older suspended) q inner.others
+      leads_same objects among (Returns actuals references ∷ k) ms procedure suspended (inr (inr (outer, q))) (inr inner) =
+          operated_same objects outer among k ms (procedure_of suspended) (older suspended) q inner.others
+      leads_same objects among (frame.Elaborates ds fs hs ∷ k) [] procedure suspended q left = absurd q
+      leads_same objects among (frame.Elaborates ds fs hs ∷ k) (m ∷ ms) procedure suspended q left = leads_same objects among k ms procedure suspended q.1 left.2
+      leads_same objects among (frame.Closes ∷ k) [] procedure suspended q left = absurd q
+      leads_same objects among (frame.Closes ∷ k) (m ∷ ms) procedure suspended q left = leads_same objects among k ms procedure suspended q.1 left.2
+      leads_same objects among (frame.Declares x ∷ k) [] procedure suspended q left = absurd q
+      leads_same objects among (frame.Declares x ∷ k) (m ∷ ms) procedure suspended q left = leads_same objects among k (m ∷ ms) procedure suspended q.1 left.2
+      leads_same objects among (f ∷ k) ms procedure suspended q left = leads_same objects among k ms procedure suspended q.1 left.2
+
+      -- Where one is.
+      leaves_same :
+          (objects : Bool) (among : List Value) (k : Control) (ms : List Master) (procedure : Option ℕ) (suspended : List (Activation Value))
+          → FrugalLeaves frugal objects back among k ms → Left procedure k suspended → back ≡ behind
+      leaves_same objects among [] ms procedure suspended q left = absurd q
+      leaves_same objects among (Leaves exit ∷ k) [] procedure suspended q left = absurd q
+      leaves_same objects among (Leaves exit ∷ k) (m ∷ ms) procedure suspended q left = leads_same objects among k ms procedure suspended q.1 left.2
+      leaves_same objects among (frame.Ends v ∷ k) ms procedure suspended q left = leaves_same objects among k ms procedure suspended q left.2
+      leaves_same objects among (frame.GivesBack v cause pool ∷ k) ms procedure suspended q left = leaves_same objects among k ms procedure suspended q left.2
+      leaves_same objects among (frame.Treats v treatment tasks ∷ k) ms procedure suspended q left = leaves_same objects among k ms procedure suspended q.1 left.2
+      leaves_same objects among (frame.Confines ∷ k) ms procedure suspended q left = leaves_same objects among k ms procedure suspended q.1 left.2
+      leaves_same objects among (f ∷ k) ms procedure suspended q left = absurd q
 
       -- So it is behind an operation.
       operated_same :
-          (among : List Value) (k : Control) (ms : List Master) (procedure : Option ℕ) (suspended : List (Activation Value))
-          → FrugalOperated allowance back among k ms → Left procedure k suspended → back ≡ behind
-      operated_same among [] ms procedure suspended q left = absurd q
-      operated_same among (frame.Confines ∷ k) ms procedure suspended (vs, is, ending, q) left = leads_same vs k ms procedure suspended q left.2
-      operated_same among (frame.Awaits v by done of part tasks ∷ k) ms procedure suspended (vs, is, beginning, q) left = leads_same vs k ms procedure suspended q left.2
-      operated_same among (f ∷ k) ms procedure suspended q left = absurd q
+          (objects outer : Bool) (among : List Value) (k : Control) (ms : List Master) (procedure : Option ℕ) (suspended : List (Activation Value))
+          → FrugalOperated frugal objects outer back among k ms → Left procedure k suspended → back ≡ behind
+      operated_same objects outer among [] ms procedure suspended q left = absurd q
+      operated_same objects outer among (frame.Confines ∷ k) ms procedure suspended (vs, is, idle, inl (ending, q)) left = leads_same outer vs k ms procedure suspended q left.2
+      operated_same objects outer among (frame.Confines ∷ k) ms procedure suspended (vs, is, idle, inr (ending, q)) left = leaves_same outer vs k ms procedure suspended q left.2
+      operated_same objects outer among (frame.Awaits v by done of part tasks ∷ k) ms procedure suspended (vs, is, creates, may, beginning, q) left =
+          leads_same outer vs k ms procedure suspended q left.2
+      operated_same objects outer among (f ∷ k) ms procedure suspended q left = absurd q
 
     -- Wherever they are.
     pub same_end :
-        (among : List Value) (mode : Mode) (k : Control) (ms : List Master) (procedure : Option ℕ) (suspended : List (Activation Value))
-        → Frugal allowance back among mode k ms → Left procedure k suspended → back ≡ behind
-    same_end among mode k ms procedure suspended (inl q) left = leads_same among k ms procedure suspended q left
-    same_end among mode [] ms procedure suspended (inr (inl (runs, leaving))) left = absurd leaving
-    same_end among mode (Leaves exit ∷ k) [] procedure suspended (inr (inl (runs, leaving))) left = absurd leaving
-    same_end among mode (Leaves exit ∷ k) (m ∷ ms) procedure suspended (inr (inl (runs, leaving))) left = leads_same among k ms procedure suspended leaving left.2
-    same_end among mode (f ∷ k) ms procedure suspended (inr (inl (runs, leaving))) left = absurd leaving
-    same_end among mode [] ms procedure suspended (inr (inr (may, beginning))) left = absurd beginning
-    same_end among mode (frame.Treats v (begins by done) tasks ∷ k) ms procedure suspended (inr (inr (may, beginning))) left =
-        leads_same among k ms procedure suspended beginning.1 left.2
-    same_end among mode (frame.Awaits v by done of part tasks ∷ k) ms procedure suspended (inr (inr (may, beginning))) left =
-        leads_same among k ms procedure suspended beginning.1 left.2
-    same_end among mode (f ∷ k) ms procedure suspended (inr (inr (may, beginning))) left = absurd beginning
+        (objects : Bool) (among : List Value) (mode : Mode) (k : Control) (ms : List Master) (procedure : Option ℕ) (suspended : List (Activation Value))
+        → Frugal frugal objects back among mode k ms → Left procedure k suspended → back ≡ behind
+    same_end objects among mode k ms procedure suspended (inl q) left = leads_same objects among k ms procedure suspended q left
+    same_end objects among mode k ms procedure suspended (inr (inl (may, leaving))) left = leaves_same objects among k ms procedure suspended leaving left
+    same_end objects among mode [] ms procedure suspended (inr (inr (may, beginning))) left = absurd beginning
+    same_end objects among mode (frame.Treats v (begins by done) tasks ∷ k) ms procedure suspended (inr (inr (may, beginning))) left =
+        leads_same objects among k ms procedure suspended beginning.1 left.2
+    same_end objects among mode (frame.Awaits v by done of part tasks ∷ k) ms procedure suspended (inr (inr (may, beginning))) left =
+        leads_same objects among k ms procedure suspended beginning.1 left.2
+    same_end objects among mode (f ∷ k) ms procedure suspended (inr (inr (may, beginning))) left = absurd beginning
 
 -- Items that are variables are the home of no objects, so it is among those behind them; and so it is with masters that own variables alone.
 home_behind : (n access : ℕ) (pool : Option ℕ) (is js : List Item) → AreVariables is → HasItem n access pool (is ++ js) → HasItem n access pool js
@@ -251,17 +272,7 @@ confines_running known (Raising e) k heap places operands masters ready = absurd
 confines_running known Exiting k heap places operands masters ready = absurd (ready.rest)
 confines_running known Returning k heap places operands masters ready = absurd (ready.rest)
 
--- No body runs in front of the end of a member.
-pub none_frugal :
-    (allowance : Allowance) (back : Control) (among : List Value) (mode m : Mode) (object : Id) (master item : ℕ) (pool : Option ℕ) (tasks : List Task) (k : Control)
-    (ms : List Master)
-    → Frugal allowance back among mode (frame.Confines ∷ treating (Names object) (ends (Leaving master item)) tasks (ending object master item pool m k)) ms → ⊥
-none_frugal allowance back among mode m object master item pool [] k ms (inl q) = q.1.1.1.0
-none_frugal allowance back among mode m object master item pool (task ∷ tasks) k ms (inl q) = q.1.0.0
-none_frugal allowance back among mode m object master item pool tasks k ms (inr (inl (runs, leaving))) = leaving
-none_frugal allowance back among mode m object master item pool tasks k ms (inr (inr (may, beginning))) = beginning
-
--- Nor does one that touches no storage.
+-- No body that touches no storage runs in front of the end of a member.
 pub none_quiet : (sight : Sight) (back : Control) (ms : List Master) (mode : Mode) (k : Control) (operands : List Value) → Comes sight back ms mode (frame.Confines ∷ k) operands → ⊥
 none_quiet sight back ms mode k operands (inl (scalars, goes, leads)) = leads
 none_quiet sight back ms mode k [] (inr (runs, finds)) = finds

@@ -38,24 +38,24 @@ use Rattle.ada_typed.proofs.Kept.{behind_call}
 use Rattle.ada_untouched.proofs.Law.{steps_alike}
 use Rattle.ada_untouched.specs.Alike.{NextAlike, SparesGhosts, StatesAlike}
 use Rattle.ada_untouched.specs.Untouched.{Untouched}
-use Rattle.ada_sound.proofs.Allowance.{allowance_of}
 use Rattle.ada_sound.specs.Agreement.{running_procedure}
 use Rattle.ada_sound.specs.Callees.{IsCovered}
 use Rattle.ada_sound.proofs.Alters.{Alters, alters_same}
 use Rattle.ada_sound.proofs.Callers.{Suspension, callers_of, known_in}
 use Rattle.ada_sound.proofs.CoveredBy.{covered_by}
 use Rattle.ada_sound.proofs.Departing.{IsGoing, IsLeft, IsMember, Seen, Within, confined, ending}
-use Rattle.ada_sound.proofs.DepartingBehind.{BodyEnds, body_ends, confines_running, ending_member, ends_or_not, going_by, has_home, home_inside, home_outside, left_operated, none_frugal, none_quiet, reaching_not_calm, returns_untouched, same_end}
+use Rattle.ada_sound.proofs.DepartingBehind.{BodyEnds, body_ends, confines_running, ending_member, ends_or_not, going_by, has_home, home_inside, home_outside, left_operated, none_quiet, reaching_not_calm, returns_untouched, same_end}
 use Rattle.ada_sound.proofs.DepartingGoes.{GoesDeparting, InDeparting}
 use Rattle.ada_sound.proofs.DepartingTreats.{is_member_still}
-use Rattle.ada_sound.proofs.FrugalControl.{Frugal}
+use Rattle.ada_sound.proofs.FrugalControl.{Frugal, Thriftiness, thriftiness_of}
+use Rattle.ada_sound.proofs.FrugalIdle.{frugal_idly}
 use Rattle.ada_sound.proofs.FrugalLeaves.{innermost_houses_none}
 use Rattle.ada_sound.proofs.Grounded.{grounds}
 use Rattle.ada_sound.proofs.Grounds.{Grounds, may_free}
 use Rattle.ada_sound.proofs.Invariant.{AllWait, Control, CoveredIn, EndsWell, IsNewest, ReadyIn, Says, innermost}
 use Rattle.ada_sound.proofs.Items.{HasItem}
 use Rattle.ada_sound.proofs.Operates.{Operates}
-use Rattle.ada_sound.proofs.Operating.{Comes, IsCalm, OwnVariables, Sight, WaitsFor, behind_operation}
+use Rattle.ada_sound.proofs.Operating.{Comes, IsCalm, OwnVariables, Sight, WaitsFor, behind_operation, may_create_in}
 use Rattle.ada_sound.proofs.OperationLaw.{operation_ends}
 use Rattle.ada_sound.proofs.OrdinarySteps.{operating_goes, state_with}
 use Rattle.ada_sound.proofs.SeenGrounds.{HasHomeThere, home_around, reaching_seen, seen_grounds_within, seen_typed}
@@ -66,9 +66,23 @@ use Rattle.ada_sound.proofs.StoredStates.{ready_stored}
 use Rattle.ada_sound.proofs.Touching.{Pause, Rests, Touching, operated_among, origin}
 use Rattle.ada_sound.proofs.TouchingGoes.{GoesTouching, Went}
 use Rattle.ada_sound.proofs.TouchingReturns.{ended_in}
-use Rattle.ada_sound.proofs.TouchingStands.{covers_outermost, finalized_by, frees_not, treating_before}
+use Rattle.ada_sound.proofs.TouchingStands.{covers_outermost, finalized_by, frees_not, frugal_calm, treating_before}
 use Rattle.ada_sound.proofs.TouchingSteps.{touching_step}
-use Rattle.ada_sound.proofs.TouchingWatched.{takes_none}
+use Rattle.ada_sound.proofs.TouchingWatched.{idle_within, takes_none}
+
+-- The outermost operation that touches storage runs behind the end of its body.
+waits_behind : (program : Program) (s : State) (f : Touching program s) (treatment : Treatment)
+    → WaitsFor (program_form program).types f.within.outermost.object f.within.outermost.of treatment f.within.outermost.tasks f.within.outermost.after f.within.outermost.behind
+    → NoOperationRuns f.within.outermost.behind → ⊥
+waits_behind program s f (begins by done) (part, is) none = let first = (subst NoOperationRuns is none).0 in cc first
+waits_behind program s f (ends cause) (is, inside) none = let first = (subst NoOperationRuns is none).0 in cc first
+
+-- So one runs behind the call of the running body.
+touching_not_calm : (program : Program) (s : State) (f : Touching program s) → IsCalm (behind_call s.control) → ⊥
+touching_not_calm program s f calm =
+    let outermost = f.within.outermost in
+    waits_behind program s f outermost.treatment outermost.awaited
+    (frugal_calm (thriftiness_of (program_form program) (may_create_in outermost.treatment)) f.within.objects outermost.behind (operated_among f.within.inner) s.mode s.control f.within.frugal.upper calm f.within.frugal.frugally)
 
 -- A step while the operation runs.
 module _ (program : Program) (s : State) (sound : Sound program s) (w : Within program s) where
@@ -144,16 +158,23 @@ module _ (program : Program) (s : State) (sound : Sound program s) (w : Within p
     abbrev outermost : Pause program (length f.within.inner) v
     outermost = f.within.outermost
 
-    -- It runs behind the end of its body.
-    waits_behind : (treatment : Treatment) → WaitsFor p.types outermost.object outermost.of treatment outermost.tasks outermost.after outermost.behind → NoOperationRuns outermost.behind → ⊥
-    waits_behind (begins by done) (part, is) none = let first = (subst NoOperationRuns is none).0 in cc first
-    waits_behind (ends cause) (is, inside) none = let first = (subst NoOperationRuns is none).0 in cc first
+    -- What bodies go by.
+    abbrev thrifty : Thriftiness
+    thrifty = thriftiness_of p (may_create_in outermost.treatment)
 
     -- The outermost one is the operation of the object.
     back_is : outermost.behind ≡ w.behind
     back_is =
-        same_end p shuns w.apart w.ghosts w.behind waits w.calm (allowance_of (program_form program)) outermost.behind (waits_behind outermost.treatment outermost.awaited) f.within.calm (operated_among f.within.inner) v.mode v.control f.within.frugal.upper
-        (procedure_of v.activations) (older v.activations) f.within.frugal.frugal reaching_too.control
+        same_end p shuns w.apart w.ghosts w.behind waits w.calm thrifty outermost.behind (waits_behind program v f outermost.treatment outermost.awaited) f.within.calm f.within.objects (operated_among f.within.inner) v.mode v.control f.within.frugal.upper
+        (procedure_of v.activations) (older v.activations) f.within.frugal.frugally reaching_too.control
+
+    -- So that is a Finalize, and creates no objects.
+    finalizes_by : (treatment : Treatment) → WaitsFor p.types outermost.object outermost.of treatment outermost.tasks outermost.after outermost.behind → may_create_in treatment ≡ false
+    finalizes_by (begins by done) (part, is) = absurd (let never = sym is ∙ back_is ∙ w.is in cc never)
+    finalizes_by (ends cause) waiting = refl
+
+    finalizes : may_create_in outermost.treatment ≡ false
+    finalizes = finalizes_by outermost.treatment outermost.awaited
 
     -- Its object is finalized behind that.
     ended_behind : (treatment : Treatment) → WaitsFor p.types outermost.object outermost.of treatment outermost.tasks outermost.after outermost.behind
@@ -180,7 +201,7 @@ module _ (program : Program) (s : State) (sound : Sound program s) (w : Within p
         let so = and_parts (is_access p.types w.access) _ (subst (λ (z : State). may_free program z w.access ≡ true) (sym w.seen.alike.rest) may) in
         let waiting = subst (λ (all : List Suspension). AllWait (implicit_of p) (seen_in (running_procedure v) p) (callers_of program all)) f.within.are f.stands.standing.waiting in
         let behind_it = origin program (length f.within.inner) v outermost ∷ outermost.suspensions in
-        let covered = covers_outermost program sound.spares_own v (allowance_of (program_form program)) outermost.behind outermost.lower (running_procedure v) 0 outermost.number behind_it f.within.inner f.within.within waiting w.access so.1 in
+        let covered = covers_outermost program sound.spares_own v thrifty outermost.behind outermost.lower (running_procedure v) f.within.objects 0 outermost.number behind_it f.within.inner f.within.within waiting w.access so.1 in
         frees_not program sound.spares_own v (length f.within.inner) outermost w.object w.member.0 member_found object_is
         (subst (λ (t : ℕ). CoveredIn (implicit_of p) (seen_in (Some outermost.number) p) t) (sym w.member.2) covered)
         (subst (λ (t : ℕ). is_access p.types t ≡ true) (sym w.member.2) w.accessed)
@@ -192,11 +213,11 @@ module _ (program : Program) (s : State) (sound : Sound program s) (w : Within p
 
     -- The home of its type is behind the masters of the bodies.
     own_first :
-        (mode : Mode) (c : Control) (upper : List Master) → Frugal (allowance_of (program_form program)) outermost.behind (operated_among f.within.inner) mode c upper → (ds : List DeclarationForm) (fs : StmtsForm) (hs : HandlersForm) (k : Control)
+        (mode : Mode) (c : Control) (upper : List Master) → Frugal thrifty f.within.objects outermost.behind (operated_among f.within.inner) mode c upper → (ds : List DeclarationForm) (fs : StmtsForm) (hs : HandlersForm) (k : Control)
         → c ≡ frame.Elaborates ds fs hs ∷ k → (m : Master) × (ms : List Master) × (upper ≡ m ∷ ms)
-    own_first mode c upper frugal ds fs hs k is = by upper (subst (λ (j : Control). Frugal (allowance_of (program_form program)) outermost.behind (operated_among f.within.inner) mode j upper) is frugal)
+    own_first mode c upper frugal ds fs hs k is = by upper (subst (λ (j : Control). Frugal thrifty f.within.objects outermost.behind (operated_among f.within.inner) mode j upper) is frugal)
       where
-        by : (ms : List Master) → Frugal (allowance_of (program_form program)) outermost.behind (operated_among f.within.inner) mode (frame.Elaborates ds fs hs ∷ k) ms → (m : Master) × (rest : List Master) × (ms ≡ m ∷ rest)
+        by : (ms : List Master) → Frugal thrifty f.within.objects outermost.behind (operated_among f.within.inner) mode (frame.Elaborates ds fs hs ∷ k) ms → (m : Master) × (rest : List Master) × (ms ≡ m ∷ rest)
         by [] (inl q) = absurd q
         by [] (inr (inl (runs, leaving))) = absurd leaving
         by [] (inr (inr (may, beginning))) = absurd beginning
@@ -207,9 +228,10 @@ module _ (program : Program) (s : State) (sound : Sound program s) (w : Within p
     home_there =
         let upper = f.within.frugal.upper in
         let masters : s.masters ≡ upper ++ outermost.lower = sym (seen_masters w.seen) ∙ f.within.frugal.masters in
-        let outside = home_outside w.item w.access w.pool upper outermost.lower f.within.frugal.own (subst (λ (ms : List Master). HasItem w.item w.access w.pool (items_of ms)) f.within.frugal.masters home_touching) in
+        let own = (frugal_idly thrifty refl finalizes f.within.objects outermost.behind (operated_among f.within.inner) v.mode v.control upper f.within.frugal.frugally).1 in
+        let outside = home_outside w.item w.access w.pool upper outermost.lower own (subst (λ (ms : List Master). HasItem w.item w.access w.pool (items_of ms)) f.within.frugal.masters home_touching) in
         home_around w.access w.item w.pool s upper outermost.lower masters (has_home w.item w.access w.pool (items_of outermost.lower) outside)
-        (λ ds fs hs k is. own_first v.mode v.control upper f.within.frugal.frugal ds fs hs k (seen_control w.seen ∙ is))
+        (λ ds fs hs k is. own_first v.mode v.control upper f.within.frugal.frugally ds fs hs k (seen_control w.seen ∙ is))
 
     -- They hold in the state that stands for it.
     grounds_touching : Untouched none_hidden w.ghosts s → Grounds program v
@@ -239,7 +261,7 @@ module _ (program : Program) (s : State) (sound : Sound program s) (w : Within p
   -- A master that is left takes no object.
   takes_in : Operates program v ⊎ Touching program v → FirstTakesNone v.control v.masters
   takes_in (inl o) = subst (λ (ms : List Master). FirstTakesNone v.control ms) (sym o.masters) (none_taken o v.mode v.control o.upper o.operands o.body.comes o.body.own)
-  takes_in (inr f) = takes_none program f.suspensions v f.within v.control refl
+  takes_in (inr f) = takes_none program f.suspensions v f.within (idle_within program f.suspensions v f.within (finalizes f)) v.control refl
 
   -- So it is in the real state.
   takes : FirstTakesNone s.control s.masters
@@ -402,9 +424,7 @@ module _ (program : Program) (s : State) (sound : Sound program s) (w : Within p
     -- No operation runs then.
     went_behind : Went program v.heap Quiet view → InDeparting program s.heap Quiet after
     went_behind (inl c) =
-        let f = c.body in
-        absurd (none_frugal (allowance_of (program_form program)) f.within.outermost.behind (operated_among f.within.inner) view.mode w.mode w.object w.master w.item w.pool w.tasks w.k f.within.frugal.upper
-        (subst (λ (k : Control). Frugal (allowance_of (program_form program)) f.within.outermost.behind (operated_among f.within.inner) view.mode k f.within.frugal.upper) control_behind f.within.frugal.frugal))
+        absurd (touching_not_calm program view c.body (subst (λ (k : Control). IsCalm (behind_call k)) (sym view_end.control) w.calm))
     went_behind (inr (inl c)) =
         let o = c.operates in
         let sight : Sight = record { program = seen_in (Some o.procedure) p; object = o.object; access = o.access } in

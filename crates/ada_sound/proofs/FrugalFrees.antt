@@ -382,7 +382,7 @@ bare_calm types calm access is = by (slice_get types access) is
     by (Some (object_of record_type)) is' = absurd (cc is')
 
 -- An object that has not been created does not exist.
-past_unborn : (heap : List Object) → NamesExisting heap (Names (next_id heap)) → ⊥
+pub past_unborn : (heap : List Object) → NamesExisting heap (Names (next_id heap)) → ⊥
 past_unborn heap (o, is, x, found, stage) =
     let same : o ≡ next_id heap = cc is in
     let none = at_past heap in

@@ -89,7 +89,8 @@ module _ (p : ProgramForm) (types_fit : list_all (type_fits p.types) p.types ≡
     declarations_spare (declares x right ∷ ds) is =
         let both = apart (allocates_thriftily (simple_allowance p.types) right) (are_thrifty_declarations (simple_allowance p.types) ds) is in
         rw (right_spares right both.0, declarations_spare ds both.1) refl
-    declarations_spare (declares_record x object initial ∷ ds) is = absurd (cc is)
+    declarations_spare (declares_record x object None ∷ ds) is = absurd (cc is)
+    declarations_spare (declares_record x object (Some items) ∷ ds) is = absurd (cc is)
 
     -- Where their master is left, no object with controlled parts ends: they declare variables alone (7.6.1).
     leaving_spares : (ds : List DeclarationForm) → are_thrifty_declarations (simple_allowance p.types) ds ≡ true → leaving_frees (implicit_of p) t ds ≡ false
@@ -97,7 +98,8 @@ module _ (p : ProgramForm) (types_fit : list_all (type_fits p.types) p.types ≡
     leaving_spares (creates_pool pool ∷ ds) is = absurd (cc is)
     leaving_spares (collects access ∷ ds) is = absurd (cc is)
     leaving_spares (declares x right ∷ ds) is = leaving_spares ds (apart (allocates_thriftily (simple_allowance p.types) right) (are_thrifty_declarations (simple_allowance p.types) ds) is).1
-    leaving_spares (declares_record x object initial ∷ ds) is = absurd (cc is)
+    leaving_spares (declares_record x object None ∷ ds) is = absurd (cc is)
+    leaving_spares (declares_record x object (Some items) ∷ ds) is = absurd (cc is)
 
     -- What a Free frees is of the access type of what it is given, which designates what the instance's access type does; and its end calls nothing.
     freed_bare : (access : ℕ) (own : Option ℕ) → is_freed_by p.types access own ≡ true → IsBare access → (is_this t own || ending_frees (implicit_of p) t own) ≡ true → IsBare t

@@ -62,20 +62,21 @@ ending_goes known o cause tasks [] behind heap places ms is none = absurd none
 ending_goes known o cause tasks (Ends w ∷ k) behind heap places ms is (same, ending) = record { cause = cause; tasks = tasks; rest = k; is = rw same at is }
 ending_goes known o cause tasks (f ∷ k) behind heap places ms is none = absurd none
 
--- Where an object is freed or undone, it ends behind that; where it is allocated, what is left of it begins.
+-- Where an object is freed, undone or left, it ends behind that; where it is allocated or declared, what is left of it begins.
 inside_goes :
     (known : Known) (types : List TypeForm) (o : Id) (of : ℕ) (treatment : Treatment) (tasks : List Task) (k behind : Control) (heap : List Object)
     (places operands : List Value) (ms : List Master) → IsInside treatment
     → WaitsFor types o of treatment tasks k behind → TreatsBy known (Names o) treatment tasks k heap places operands ms → GoesOnBehind o behind
-inside_goes known types o of (begins Creation done) tasks k behind heap places operands ms freed (part, is) treats =
+inside_goes known types o of (begins Creation done) tasks k behind heap places operands ms inside (part, is) treats =
     inr (record { done = done; of = of; part = part; tasks = tasks; rest = k; is = is })
-inside_goes known types o of (begins Copy done) tasks k behind heap places operands ms freed waits treats = absurd freed
-inside_goes known types o of (begins (Adjustment number) done) tasks k behind heap places operands ms freed waits treats = absurd freed
-inside_goes known types o of (ends (Leaving m item)) tasks k behind heap places operands ms freed waits treats = absurd freed
-inside_goes known types o of (ends (Freeing number)) tasks k behind heap places operands ms freed (is, inside) treats =
+inside_goes known types o of (begins Copy done) tasks k behind heap places operands ms inside waits treats = absurd inside
+inside_goes known types o of (begins (Adjustment number) done) tasks k behind heap places operands ms inside waits treats = absurd inside
+inside_goes known types o of (ends (Leaving m item)) tasks k behind heap places operands ms inside (is, copied) treats =
+    inl (ending_goes known o (Leaving m item) tasks k behind heap places ms is treats)
+inside_goes known types o of (ends (Freeing number)) tasks k behind heap places operands ms inside (is, copied) treats =
     inl (ending_goes known o (Freeing number) tasks k behind heap places ms is treats)
-inside_goes known types o of (ends (Assigning number)) tasks k behind heap places operands ms freed waits treats = absurd freed
-inside_goes known types o of (ends (Undoing number)) tasks k behind heap places operands ms freed (is, inside) treats =
+inside_goes known types o of (ends (Assigning number)) tasks k behind heap places operands ms inside waits treats = elim inside [ inl none ↦ absurd none | inr none ↦ absurd none ]
+inside_goes known types o of (ends (Undoing number)) tasks k behind heap places operands ms inside (is, copied) treats =
     inl (ending_goes known o (Undoing number) tasks k behind heap places ms is treats)
 
 module _ (program : Program) (o : Id) (treatment : Treatment) (caller : Activation Value) (rest : List (Activation Value)) (behind : Control) (lower : List Master) where
@@ -105,7 +106,7 @@ module _ (program : Program) (o : Id) (treatment : Treatment) (caller : Activati
   pub around_behind :
       (s : State) (w : Suspended program o treatment caller rest behind lower s)
       → Around program w.suspensions (behind_operation (caller ∷ rest) behind lower s)
-  around_behind s w = elim w.around [ inl none ↦ inl none | inr (freed, within) ↦ inr within ]
+  around_behind s w = elim w.around [ inl none ↦ inl none | inr (inside, within) ↦ inr within ]
 
   -- So it is behind an exception: that comes out of the initialization of a part of a new object alone, which is undone then.
   pub around_raising :
@@ -131,9 +132,9 @@ module _ (program : Program) (o : Id) (treatment : Treatment) (caller : Activati
     behind_in t = behind_operation (caller ∷ rest) behind lower t
 
     ends_next : IsInside treatment → GoesOnBehind o behind
-    ends_next freed =
+    ends_next inside =
         inside_goes (known_in program caller.procedure w.suspensions) (program_form program).types o w.of treatment w.tasks w.after behind s.heap
-        caller.places caller.operands lower freed w.waits w.treats
+        caller.places caller.operands lower inside w.waits w.treats
 
     -- One that touches storage is around it then, if one was.
     around_still : AroundTreated program treatment w.suspensions (behind_in after)

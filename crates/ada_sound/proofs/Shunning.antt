@@ -1,10 +1,10 @@
--- Frugal bodies are of the shape of bodies that shun access types (3.10). They call frugal procedures alone; and where they use no value of a type, neither
--- does what they call, nor the end of what they free (4.1, 7.6.1, 13.11.2).
+-- Frugal bodies that create no object with controlled parts, as that of a Finalize, are of the shape of bodies that shun access types (3.10). They call such procedures
+-- alone; and where they use no value of a type, neither does what they call, nor the end of what they free (4.1, 7.6.1, 13.11.2).
 
 use Rattle.std.proofs.Common.{◌≡◌, ℕ, Bool, true, false, not, ◌==◌, ◌&&◌, ◌||◌, List, [], ◌∷◌, length, Option, Some, None, refl}
 use Rattle.std.specs.Prelude.{nat_lt, is_some}
 use Rattle.std.specs.List.{list_all, slice_index_or}
-use Rattle.std.proofs.lemmas.Bool.{and_from, and_parts, or_parts, or_right}
+use Rattle.std.proofs.lemmas.Bool.{and_from, and_parts, or_left, or_parts}
 use Rattle.ada_program.specs.declared.program.ScalarType.TheVariants as scalar
 use Rattle.ada_program.specs.declared.program.VariableKind.{VariableKind}
 use Rattle.ada_program.specs.declared.program.VariableKind.TheVariants as variable
@@ -143,10 +143,10 @@ module _ (p : ProgramForm) (u : ℕ) where
   left_spares hs done spares (deed.Follows t) is = spares (deed.Follows t) is
   left_spares hs done spares deed.Allocates is = absurd (cc is)
 
-  -- Each frugal procedure of which a call is no use may be called,
+  -- Each such procedure of which a call is no use may be called,
   abbrev pub CallsFrugal : Apart → Type 0
   CallsFrugal apart =
-      (n : ℕ) → slice_index_or (frugal_procedures p) n false ≡ true → Spares p u (λ d. procedure_does (does_by p d) n) → apart.calls n ≡ true
+      (n : ℕ) → slice_index_or (frugal_procedures p false) n false ≡ true → Spares p u (λ d. procedure_does (does_by p d) n) → apart.calls n ≡ true
 
   -- and objects of each access type may be freed whose end is no use (7.6.1).
   abbrev pub EndsSpared : Apart → Type 0
@@ -154,34 +154,10 @@ module _ (p : ProgramForm) (u : ℕ) where
       (access : ℕ) → is_access p.types access ≡ true → Spares p u (λ d. parts_do (does_by p d) Finalize (designated_type p.types access))
       → apart.ends access ≡ true
 
-  -- So may those be allocated by default whose beginning is no use, and whose end is none, where an exception comes out of that (4.8, 7.6, 7.6.1).
-  abbrev pub StartsSpared : Apart → Type 0
-  StartsSpared apart =
-      (access : ℕ) → is_access p.types access ≡ true → Spares p u (λ d. creation_does (does_by p d) (designated_type p.types access))
-      → apart.starts access ≡ true
-
   -- So it is with those that a body of a well-formed program goes by.
   module _
-      (apart : Apart) (marked : CallsFrugal apart) (ended : EndsSpared apart) (started : StartsSpared apart)
-      (types_fit : list_all (type_fits p.types) p.types ≡ true)
-      (variables : List VariableForm) (variables_fit : list_all (variable_fits p.types) variables ≡ true)
-      (texts exceptions : List (List ℕ)) (callable : List Profile) where
-    -- Its statements name what is there, and have the types that they want, inside a loop or not.
-    abbrev statement_is_fit : (inside : Bool) → StmtForm → Bool
-    statement_is_fit inside f = statement_fits p.types variables texts exceptions callable inside f
-
-    -- So it is with more than one,
-    abbrev statements_are_fit : (inside : Bool) → StmtsForm → Bool
-    statements_are_fit inside fs = stmts_fit p.types variables texts exceptions callable inside fs
-
-    -- with branches
-    abbrev branches_are_fit : (inside : Bool) → BranchesForm → Bool
-    branches_are_fit inside branches = branches_fit p.types variables texts exceptions callable inside branches
-
-    -- and with handlers.
-    abbrev handlers_are_fit : (inside : Bool) → HandlersForm → Bool
-    handlers_are_fit inside hs = handlers_fit p.types variables texts exceptions callable inside hs
-
+      (apart : Apart) (marked : CallsFrugal apart) (ended : EndsSpared apart) (types_fit : list_all (type_fits p.types) p.types ≡ true)
+      (variables : List VariableForm) (variables_fit : list_all (variable_fits p.types) variables ≡ true) where
     -- What a value names may be freed, where its end is no use.
     kind_ended :
         (kind : Option VariableKind) → KindFits p.types kind → Spares p u (λ d. parts_do (does_by p d) Finalize (designated_by p.types (value_access kind)))
@@ -192,48 +168,32 @@ module _ (p : ProgramForm) (u : ℕ) where
     kind_ended (Some (variable.Access access)) fits spares = ended access.0 fits spares
     kind_ended (Some (variable.Record object)) fits spares = refl
 
-    -- What is assigned has the shape, where the beginning of what is allocated by default is no use, and its end is none (5.2, 4.8, 7.6).
-    right_shaped :
-        (kind : Option VariableKind) → KindFits p.types kind → (right : RightForm) → right_fits p.types variables kind right ≡ true
-        → allocates_frugally p.types right ≡ true
-        → Spares p u (λ d. right_does p.types variables (does_by p d) d right) → right_shuns p.types (λ t. false) apart variables right ≡ true
-    right_shaped kind held nothing fits is spares = refl
-    right_shaped kind held (value_of path) fits is spares = path_shaped p.types apart variables path
-    right_shaped kind held (allocates access items) fits is spares =
+    -- What is assigned has the shape: what is allocated has no controlled parts (5.2, 4.8, 7.6).
+    right_shaped : (right : RightForm) → allocates_frugally (thrift_of p false) right ≡ true → right_shuns p.types (λ t. false) apart variables right ≡ true
+    right_shaped nothing is = refl
+    right_shaped (value_of path) is = path_shaped p.types apart variables path
+    right_shaped (allocates access items) is =
         let test = item_shuns p.types (λ t. false) apart variables in
         and_from (has_bare_objects p.types access) (list_all test items) is (all_so test (item_shaped p.types apart variables) items)
-    right_shaped kind held (allocates_default access) fits is spares =
-        let created = λ (d : Deed). creation_does (does_by p d) (designated_type p.types access) in
-        or_right (has_bare_objects p.types access) (apart.starts access)
-        (started access (default_access p.types types_fit variables variables_fit kind access held fits) (second allocation_does created spares))
-    right_shaped kind held (computes e) fits is spares = expression_shaped p.types apart variables e
+    right_shaped (allocates_default access) is = or_left (has_bare_objects p.types access) (apart.starts access) is
+    right_shaped (computes e) is = expression_shaped p.types apart variables e
 
     -- A declaration of a variable has it (3.3.1),
-    declaration_shaped :
-        (d : DeclarationForm) → initial_fits p.types variables d ≡ true → is_frugal_declaration p.types d ≡ true
-        → Spares p u (λ e. declaration_does p.types variables (does_by p e) e d) → declaration_shuns p.types (λ t. false) apart variables d ≡ true
-    declaration_shaped (creates_pool pool) fits is spares = absurd (cc is)
-    declaration_shaped (collects access) fits is spares = absurd (cc is)
-    declaration_shaped (declares x right) fits is spares =
-        let early = names_before x right in
-        let fitting = right_fits p.types variables (variable_kind variables x) right in
-        let lending = lends_to variables (is_borrower variables x) right in
-        right_shaped (variable_kind variables x) (variable_fits_kind p.types types_fit variables variables_fit x) right
-        (and_parts early fitting (and_parts (early && fitting) lending fits).0).1 is spares
-    declaration_shaped (declares_record x object initial) fits is spares = absurd (cc is)
+    declaration_shaped : (d : DeclarationForm) → is_frugal_declaration (thrift_of p false) d ≡ true → declaration_shuns p.types (λ t. false) apart variables d ≡ true
+    declaration_shaped (creates_pool pool) is = absurd (cc is)
+    declaration_shaped (collects access) is = absurd (cc is)
+    declaration_shaped (declares x right) is = right_shaped right is
+    declaration_shaped (declares_record x object None) is = absurd (cc is)
+    declaration_shaped (declares_record x object (Some items)) is = absurd (cc is)
 
     -- and so have declarations of variables alone.
     declarations_shaped :
-        (ds : List DeclarationForm) → list_all (initial_fits p.types variables) ds ≡ true → are_frugal_declarations p.types ds ≡ true
-        → Spares p u (λ e. declarations_do p.types variables (does_by p e) e ds) → declarations_shun p.types (λ t. false) apart variables ds ≡ true
-    declarations_shaped [] fits is spares = refl
-    declarations_shaped (d ∷ ds) fits is spares =
-        let both = and_parts (is_frugal_declaration p.types d) (are_frugal_declarations p.types ds) is in
-        let fit = and_parts (initial_fits p.types variables d) (list_all (initial_fits p.types variables) ds) fits in
-        let one = λ (e : Deed). declaration_does p.types variables (does_by p e) e d in
-        let more = λ (e : Deed). declarations_do p.types variables (does_by p e) e ds in
+        (ds : List DeclarationForm) → are_frugal_declarations (thrift_of p false) ds ≡ true → declarations_shun p.types (λ t. false) apart variables ds ≡ true
+    declarations_shaped [] is = refl
+    declarations_shaped (d ∷ ds) is =
+        let both = and_parts (is_frugal_declaration (thrift_of p false) d) (are_frugal_declarations (thrift_of p false) ds) is in
         and_from (declaration_shuns p.types (λ t. false) apart variables d) (declarations_shun p.types (λ t. false) apart variables ds)
-        (declaration_shaped d fit.0 both.0 (first one more spares)) (declarations_shaped ds fit.1 both.1 (second one more spares))
+        (declaration_shaped d both.0) (declarations_shaped ds both.1)
 
     -- A block, or a body: what it declares, its statements and its handlers.
     abbrev master_does : List DeclarationForm → StmtsForm → HandlersForm → Deed → Bool
@@ -250,17 +210,16 @@ module _ (p : ProgramForm) (u : ℕ) where
     -- where its statements and its handlers have it.
     master_shaped :
         (ds : List DeclarationForm) (fs : StmtsForm) (hs : HandlersForm)
-        → (are_frugal (thrift_of p) fs ≡ true → Spares p u (λ d. stmts_do p.types variables (does_by p d) d fs)
+        → (are_frugal (thrift_of p false) fs ≡ true → Spares p u (λ d. stmts_do p.types variables (does_by p d) d fs)
         → statements_shun p.types (λ t. false) apart variables fs ≡ true)
-        → (are_frugal_handlers (thrift_of p) hs ≡ true → Spares p u (λ d. handlers_do p.types variables (does_by p d) d hs)
+        → (are_frugal_handlers (thrift_of p false) hs ≡ true → Spares p u (λ d. handlers_do p.types variables (does_by p d) d hs)
         → handlers_shun p.types (λ t. false) apart variables hs ≡ true)
-        → list_all (initial_fits p.types variables) ds ≡ true
-        → (are_frugal_declarations p.types ds && are_frugal (thrift_of p) fs && are_frugal_handlers (thrift_of p) hs) ≡ true
+        → (are_frugal_declarations (thrift_of p false) ds && are_frugal (thrift_of p false) fs && are_frugal_handlers (thrift_of p false) hs) ≡ true
         → Spares p u (master_does ds fs hs) → master_shuns ds fs hs ≡ true
-    master_shaped ds fs hs within behind fits frugal spares =
-        let begun = are_frugal_declarations p.types ds in
-        let parts = and_parts (begun && are_frugal (thrift_of p) fs) (are_frugal_handlers (thrift_of p) hs) frugal in
-        let inner = and_parts begun (are_frugal (thrift_of p) fs) parts.0 in
+    master_shaped ds fs hs within behind frugal spares =
+        let begun = are_frugal_declarations (thrift_of p false) ds in
+        let parts = and_parts (begun && are_frugal (thrift_of p false) fs) (are_frugal_handlers (thrift_of p false) hs) frugal in
+        let inner = and_parts begun (are_frugal (thrift_of p false) fs) parts.0 in
         let declared = λ (d : Deed). declarations_do p.types variables (does_by p d) d ds in
         let inside = λ (d : Deed). stmts_do p.types variables (does_by p d) d fs in
         let left = λ (d : Deed). is_left hs d && inside d in
@@ -271,31 +230,26 @@ module _ (p : ProgramForm) (u : ℕ) where
         and_from (declarations_shun p.types (λ t. false) apart variables ds && statements_shun p.types (λ t. false) apart variables fs)
         (handlers_shun p.types (λ t. false) apart variables hs)
         (and_from (declarations_shun p.types (λ t. false) apart variables ds) (statements_shun p.types (λ t. false) apart variables fs)
-        (declarations_shaped ds fits inner.0 (first declared left two)) (within inner.1 (left_spares hs inside (second declared left two))))
+        (declarations_shaped ds inner.0) (within inner.1 (left_spares hs inside (second declared left two))))
         (behind parts.1 (second (λ d. declared d || left d) handled three))
 
     mutual
       -- A frugal statement has the shape, where what it does is no use,
       statement_shaped :
-          (inside : Bool) (f : StmtForm) → statement_is_fit inside f ≡ true → is_frugal_stmt (thrift_of p) f ≡ true
+          (f : StmtForm) → is_frugal_stmt (thrift_of p false) f ≡ true
           → Spares p u (λ d. stmt_does p.types variables (does_by p d) d f) → statement_shuns p.types (λ t. false) apart variables f ≡ true
-      statement_shaped inside skips fits frugal spares = refl
-      statement_shaped inside (assigns target right) fits frugal spares =
-          let leads = λ (d : Deed). path_does p.types variables d target in
-          let gives = λ (d : Deed). right_does p.types variables (does_by p d) d right in
-          let kind = path_kind p.types variables target in
-          let own = and_parts (right_fits p.types variables kind right) (lends_to variables (names_borrower variables target) right) fits in
+      statement_shaped skips frugal spares = refl
+      statement_shaped (assigns target right) frugal spares =
           and_from (path_shuns p.types (λ t. false) apart variables target) (right_shuns p.types (λ t. false) apart variables right)
-          (path_shaped p.types apart variables target)
-          (right_shaped kind (path_fits_kind p.types types_fit variables variables_fit target) right own.0 frugal (second leads gives spares))
-      statement_shaped inside (assigns_record target items) fits frugal spares =
+          (path_shaped p.types apart variables target) (right_shaped right frugal)
+      statement_shaped (assigns_record target items) frugal spares =
           let leads = record_path_shuns p.types (λ t. false) apart variables target in
           let test = item_shuns p.types (λ t. false) apart variables in
           and_from (leads && list_all test items) (not (is_some (finalization_of p.types target.record_type)))
           (and_from leads (list_all test items) (record_path_shaped p.types apart variables target)
           (all_so test (item_shaped p.types apart variables) items))
           (and_parts (not (is_some (finalization_of p.types target.record_type))) (list_all (is_bare_item p.types) items) frugal).0
-      statement_shaped inside (frees access path) fits frugal spares =
+      statement_shaped (frees access path) frugal spares =
           let leads = path_shuns p.types (λ t. false) apart variables path in
           let kind = path_kind p.types variables path in
           let named = λ (d : Deed). path_does p.types variables d path || freeing_does d (value_access kind) in
@@ -303,66 +257,53 @@ module _ (p : ProgramForm) (u : ℕ) where
           and_from (leads && may_follow (λ t. false) kind) (may_end apart kind)
           (and_from leads (may_follow (λ t. false) kind) (path_shaped p.types apart variables path) (all_may kind))
           (kind_ended kind (path_fits_kind p.types types_fit variables variables_fit path) (second named finalized spares))
-      statement_shaped inside (gets target) fits frugal spares = path_shaped p.types apart variables target
-      statement_shaped inside (writes e) fits frugal spares = expression_shaped p.types apart variables e
-      statement_shaped inside (writes_text text) fits frugal spares = refl
-      statement_shaped inside (chooses branches) fits frugal spares = branches_shaped inside branches fits frugal spares
-      statement_shaped inside (repeats condition fs spot) fits frugal spares =
+      statement_shaped (gets target) frugal spares = path_shaped p.types apart variables target
+      statement_shaped (writes e) frugal spares = expression_shaped p.types apart variables e
+      statement_shaped (writes_text text) frugal spares = refl
+      statement_shaped (chooses branches) frugal spares = branches_shaped branches frugal spares
+      statement_shaped (repeats condition fs spot) frugal spares =
           let tested = λ (d : Deed). condition_does p.types variables d condition in
           let does = λ (d : Deed). stmts_do p.types variables (does_by p d) d fs in
-          let fit = and_parts (condition_fits p.types variables condition && has_statement fs) (statements_are_fit true fs) fits in
           and_from (condition_shuns p.types (λ t. false) apart variables condition) (statements_shun p.types (λ t. false) apart variables fs)
-          (condition_shaped p.types apart variables condition) (statements_shaped true fs fit.1 frugal (second tested does spares))
-      statement_shaped inside (counts x low high fs spot) fits frugal spares =
+          (condition_shaped p.types apart variables condition) (statements_shaped fs frugal (second tested does spares))
+      statement_shaped (counts x low high fs spot) frugal spares =
           let from = expression_shuns p.types (λ t. false) apart variables low in
           let to = expression_shuns p.types (λ t. false) apart variables high in
           let range = λ (d : Deed). expression_does p.types variables d low || expression_does p.types variables d high in
           let does = λ (d : Deed). stmts_do p.types variables (does_by p d) d fs in
-          let counted =
-          is_type scalar.Integer (scalar_of (variable_kind variables x)) && has_type p.types variables scalar.Integer low
-          && has_type p.types variables scalar.Integer high && has_statement fs in
-          let fit = and_parts counted (statements_are_fit true fs) fits in
           and_from (from && to) (statements_shun p.types (λ t. false) apart variables fs)
           (and_from from to (expression_shaped p.types apart variables low) (expression_shaped p.types apart variables high))
-          (statements_shaped true fs fit.1 frugal (second range does spares))
-      statement_shaped inside (exits condition spot) fits frugal spares = condition_shaped p.types apart variables condition
-      statement_shaped inside (calls procedure actuals) fits frugal spares =
+          (statements_shaped fs frugal (second range does spares))
+      statement_shaped (exits condition spot) frugal spares = condition_shaped p.types apart variables condition
+      statement_shaped (calls procedure actuals) frugal spares =
           let given = λ (d : Deed). actuals_do p.types variables d actuals in
           let called = λ (d : Deed). procedure_does (does_by p d) procedure in
           let test = actual_shuns p.types (λ t. false) apart variables in
           and_from (list_all test actuals) (apart.calls procedure) (all_so test (actual_shaped p.types apart variables) actuals)
           (marked procedure frugal (second given called spares))
-      statement_shaped inside (returns spot) fits frugal spares = refl
-      statement_shaped inside (raises e) fits frugal spares = refl
-      statement_shaped inside (encloses ds fs hs) fits frugal spares =
-          let declared = collections_first ds && list_all (collection_fits p.types) ds in
-          let initials = list_all (initial_fits p.types variables) ds in
-          let outer = and_parts (declared && initials && statements_are_fit inside fs) (handlers_are_fit inside hs) fits in
-          let both = and_parts (declared && initials) (statements_are_fit inside fs) outer.0 in
-          master_shaped ds fs hs (statements_shaped inside fs both.1) (handlers_shaped inside hs outer.1) (and_parts declared initials both.0).1 frugal spares
+      statement_shaped (returns spot) frugal spares = refl
+      statement_shaped (raises e) frugal spares = refl
+      statement_shaped (encloses ds fs hs) frugal spares = master_shaped ds fs hs (statements_shaped fs) (handlers_shaped hs) frugal spares
 
       -- and so have statements,
       statements_shaped :
-          (inside : Bool) (fs : StmtsForm) → statements_are_fit inside fs ≡ true → are_frugal (thrift_of p) fs ≡ true
+          (fs : StmtsForm) → are_frugal (thrift_of p false) fs ≡ true
           → Spares p u (λ d. stmts_do p.types variables (does_by p d) d fs) → statements_shun p.types (λ t. false) apart variables fs ≡ true
-      statements_shaped inside no_stmts fits frugal spares = refl
-      statements_shaped inside (a_stmt f fs) fits frugal spares =
-          let fit = and_parts (statement_is_fit inside f) (statements_are_fit inside fs) fits in
-          let both = and_parts (is_frugal_stmt (thrift_of p) f) (are_frugal (thrift_of p) fs) frugal in
+      statements_shaped no_stmts frugal spares = refl
+      statements_shaped (a_stmt f fs) frugal spares =
+          let both = and_parts (is_frugal_stmt (thrift_of p false) f) (are_frugal (thrift_of p false) fs) frugal in
           let one = λ (d : Deed). stmt_does p.types variables (does_by p d) d f in
           let more = λ (d : Deed). stmts_do p.types variables (does_by p d) d fs in
           and_from (statement_shuns p.types (λ t. false) apart variables f) (statements_shun p.types (λ t. false) apart variables fs)
-          (statement_shaped inside f fit.0 both.0 (first one more spares)) (statements_shaped inside fs fit.1 both.1 (second one more spares))
+          (statement_shaped f both.0 (first one more spares)) (statements_shaped fs both.1 (second one more spares))
 
       -- branches (5.3)
       branches_shaped :
-          (inside : Bool) (branches : BranchesForm) → branches_are_fit inside branches ≡ true → are_frugal_branches (thrift_of p) branches ≡ true
+          (branches : BranchesForm) → are_frugal_branches (thrift_of p false) branches ≡ true
           → Spares p u (λ d. branches_do p.types variables (does_by p d) d branches) → branches_shun p.types (λ t. false) apart variables branches ≡ true
-      branches_shaped inside (otherwise fs) fits frugal spares = statements_shaped inside fs fits frugal spares
-      branches_shaped inside (a_branch e fs branches) fits frugal spares =
-          let test = has_type p.types variables scalar.Boolean e in
-          let outer = and_parts (test && statements_are_fit inside fs) (branches_are_fit inside branches) fits in
-          let both = and_parts (are_frugal (thrift_of p) fs) (are_frugal_branches (thrift_of p) branches) frugal in
+      branches_shaped (otherwise fs) frugal spares = statements_shaped fs frugal spares
+      branches_shaped (a_branch e fs branches) frugal spares =
+          let both = and_parts (are_frugal (thrift_of p false) fs) (are_frugal_branches (thrift_of p false) branches) frugal in
           let tested = λ (d : Deed). expression_does p.types variables d e in
           let does = λ (d : Deed). stmts_do p.types variables (does_by p d) d fs in
           let more = λ (d : Deed). branches_do p.types variables (does_by p d) d branches in
@@ -370,35 +311,26 @@ module _ (p : ProgramForm) (u : ℕ) where
           and_from (expression_shuns p.types (λ t. false) apart variables e && statements_shun p.types (λ t. false) apart variables fs)
           (branches_shun p.types (λ t. false) apart variables branches)
           (and_from (expression_shuns p.types (λ t. false) apart variables e) (statements_shun p.types (λ t. false) apart variables fs)
-          (expression_shaped p.types apart variables e)
-          (statements_shaped inside fs (and_parts test (statements_are_fit inside fs) outer.0).1 both.0 (second tested does two)))
-          (branches_shaped inside branches outer.1 both.1 (second (λ d. tested d || does d) more spares))
+          (expression_shaped p.types apart variables e) (statements_shaped fs both.0 (second tested does two)))
+          (branches_shaped branches both.1 (second (λ d. tested d || does d) more spares))
 
       -- and handlers (11.2).
       handlers_shaped :
-          (inside : Bool) (hs : HandlersForm) → handlers_are_fit inside hs ≡ true → are_frugal_handlers (thrift_of p) hs ≡ true
+          (hs : HandlersForm) → are_frugal_handlers (thrift_of p false) hs ≡ true
           → Spares p u (λ d. handlers_do p.types variables (does_by p d) d hs) → handlers_shun p.types (λ t. false) apart variables hs ≡ true
-      handlers_shaped inside no_handlers fits frugal spares = refl
-      handlers_shaped inside (a_handler choices fs hs) fits frugal spares =
-          let chosen = list_all (choice_fits exceptions) choices && has_statement fs in
-          let outer = and_parts (chosen && statements_are_fit inside fs) (handlers_are_fit inside hs) fits in
-          let both = and_parts (are_frugal (thrift_of p) fs) (are_frugal_handlers (thrift_of p) hs) frugal in
+      handlers_shaped no_handlers frugal spares = refl
+      handlers_shaped (a_handler choices fs hs) frugal spares =
+          let both = and_parts (are_frugal (thrift_of p false) fs) (are_frugal_handlers (thrift_of p false) hs) frugal in
           let one = λ (d : Deed). stmts_do p.types variables (does_by p d) d fs in
           let more = λ (d : Deed). handlers_do p.types variables (does_by p d) d hs in
           and_from (statements_shun p.types (λ t. false) apart variables fs) (handlers_shun p.types (λ t. false) apart variables hs)
-          (statements_shaped inside fs (and_parts chosen (statements_are_fit inside fs) outer.0).1 both.0 (first one more spares))
-          (handlers_shaped inside hs outer.1 both.1 (second one more spares))
+          (statements_shaped fs both.0 (first one more spares)) (handlers_shaped hs both.1 (second one more spares))
 
-  -- So has a frugal body, as the program that it sees fits.
+  -- So has such a body, as the program that it sees fits.
   pub body_shaped :
-      (apart : Apart) → CallsFrugal apart → EndsSpared apart → StartsSpared apart → (number : ℕ) (b : BodyForm) → SeenFits (seen_by number b p)
-      → is_frugal_body (thrift_of p) b ≡ true → Spares p u (λ d. body_does p.types (does_by p d) d b) → body_shuns p.types (λ t. false) apart b ≡ true
-  body_shaped apart marked ended started number b fits =
-      let own = seen_by number b p in
-      master_shaped apart marked ended started fits.types_fit b.variables fits.variables_fit own.texts own.exceptions (callable_in own) b.declarations b.statements
-      b.handlers
-      (statements_shaped apart marked ended started fits.types_fit b.variables fits.variables_fit own.texts own.exceptions (callable_in own) false b.statements
-      fits.statements_fit)
-      (handlers_shaped apart marked ended started fits.types_fit b.variables fits.variables_fit own.texts own.exceptions (callable_in own) false b.handlers
-      fits.handlers_fit)
-      fits.initials_fit
+      (apart : Apart) → CallsFrugal apart → EndsSpared apart → (number : ℕ) (b : BodyForm) → SeenFits (seen_by number b p)
+      → is_frugal_body (thrift_of p false) b ≡ true → Spares p u (λ d. body_does p.types (does_by p d) d b) → body_shuns p.types (λ t. false) apart b ≡ true
+  body_shaped apart marked ended number b fits =
+      master_shaped apart marked ended fits.types_fit b.variables fits.variables_fit b.declarations b.statements b.handlers
+      (statements_shaped apart marked ended fits.types_fit b.variables fits.variables_fit b.statements)
+      (handlers_shaped apart marked ended fits.types_fit b.variables fits.variables_fit b.handlers)

@@ -1,5 +1,5 @@
 -- The body of a Finalize shuns an access type (3.10) that the end of an object does not reach, in which such a part lies (7.6, 7.6.1): where the body is
--- frugal, it follows and frees no value of the type (4.1, 13.11.2), and neither do what it calls and the operations of what it frees and allocates.
+-- frugal, it follows and frees no value of the type (4.1, 13.11.2), and neither do what it calls and the operations of what it frees.
 
 use Rattle.std.proofs.Common.{◌≡◌, ℕ, Bool, true, false, not, ◌==◌, ◌&&◌, ◌||◌, List, [], ◌∷◌, length, Option, Some, None, refl, sym, ap, ◌∙◌, subst, arith, inl, inr}
 use Rattle.std.specs.Prelude.{nat_lt}
@@ -44,61 +44,57 @@ use Rattle.ada_typed.proofs.Parts.{known_number, shapes_shown}
 use Rattle.ada_sound.proofs.FrugalUseEnds.{done_lying}
 use Rattle.ada_sound.proofs.Operating.{IsCalled}
 use Rattle.ada_sound.proofs.QuietOperations.{AdjustsCopy, IsUsedAs, used_as}
-use Rattle.ada_sound.proofs.Shunning.{CallsFrugal, EndsSpared, StartsSpared, Spares, body_shaped, calling, first, following, freeing, is_use, second}
+use Rattle.ada_sound.proofs.Shunning.{CallsFrugal, EndsSpared, Spares, body_shaped, calling, following, freeing, is_use}
 
--- A body is frugal, where there is one.
+-- A body is frugal and creates no object with controlled parts, where there is one.
 abbrev is_frugal_one : ProgramForm → Option BodyForm → Bool
 is_frugal_one p None = true
-is_frugal_one p (Some b) = is_frugal_body (thrift_of p) b
+is_frugal_one p (Some b) = is_frugal_body (thrift_of p false) b
 
--- A procedure is frugal, and frees and follows no value of an access type.
+-- Such a procedure frees and follows no value of an access type.
 abbrev is_shunning : ProgramForm → (access procedure : ℕ) → Bool
 is_shunning p u n =
     is_frugal_one p (slice_get p.bodies n) && not (does_by p (freeing u) (calling n)) && not (does_by p (following u) (calling n))
 
--- The beginning of an object of an access type, or its end, where an exception comes out of that, frees or follows a value of another one (7.6, 7.6.1).
-abbrev creation_uses : ProgramForm → (access u : ℕ) → Bool
-creation_uses p t u = creation_does (does_by p (freeing u)) (record_at p.types t) || creation_does (does_by p (following u)) (record_at p.types t)
-
--- These procedures, and the access types of which the end of an object does neither, and those of which neither the beginning nor the end of an object does.
+-- These procedures, and the access types of which the end of an object does neither; they allocate no object with controlled parts.
 abbrev apart_from : Program → (access : ℕ) → Apart
 apart_from program u = record {
   calls = is_shunning (program_form program) u;
   ends = λ t. not ((implicit_of (program_form program)).end_reaches t u);
-  starts = λ t. not (creation_uses (program_form program) t u);
+  starts = λ t. false;
   definitions = program.types.items;
 }
 
--- What is left of the initialization or the finalization of an object speaks of records that lie in it.
-module _ (program : Program) (direction : Direction) (access : ℕ) where
+-- What is left of the finalization of an object speaks of records that lie in it.
+module _ (program : Program) (access : ℕ) where
   -- All of it does,
-  all_lie : Lying (program_form program).types access (all_tasks program.types.items access direction)
+  all_lie : Lying (program_form program).types access (all_tasks program.types.items access WholeFirst)
   all_lie =
       let definitions = program.types.items in
       let forms = (program_form program).types in
       let number = number_reached definitions access in
-      subst (λ (shapes : List Shape). Lying forms access (tasks_for shapes direction number)) (shapes_shown definitions forms refl)
-      (lying_all forms access direction number (known_number definitions forms access refl))
+      subst (λ (shapes : List Shape). Lying forms access (tasks_for shapes WholeFirst number)) (shapes_shown definitions forms refl)
+      (lying_all forms access WholeFirst number (known_number definitions forms access refl))
 
   -- so it does once a component is picked,
   picked_lies :
       (tasks : List Task) (i : ℕ) → Lying (program_form program).types access tasks
-      → Lying (program_form program).types access (picked_task (shapes_of program.types.items) direction tasks i)
+      → Lying (program_form program).types access (picked_task (shapes_of program.types.items) WholeFirst tasks i)
   picked_lies [] i lies = tt
   picked_lies (treats cs ∷ behind) i lies =
       let forms = (program_form program).types in
-      subst (λ (shapes : List Shape). Lying forms access (picked_task shapes direction (treats cs ∷ behind) i)) (shapes_shown program.types.items forms refl)
-      (lying_taken forms access direction cs behind (member_at direction (length cs) i) lies)
+      subst (λ (shapes : List Shape). Lying forms access (picked_task shapes WholeFirst (treats cs ∷ behind) i)) (shapes_shown program.types.items forms refl)
+      (lying_taken forms access WholeFirst cs behind (member_at WholeFirst (length cs) i) lies)
   picked_lies (performs of part ∷ behind) i lies = lies
 
-  -- or an operation has been called.
+  -- or a Finalize has been called.
   performed_lies : (tasks : List Task) → Lying (program_form program).types access tasks → Lying (program_form program).types access (performed tasks)
   performed_lies [] lies = tt
   performed_lies (treats cs ∷ behind) lies = lies
   performed_lies (performs of part ∷ behind) lies = lies.1
 
   -- So whatever is left does.
-  left_lies : {tasks : List Task} → IsLeftOf program.types.items direction access tasks → Lying (program_form program).types access tasks
+  left_lies : {tasks : List Task} → IsLeftOf program.types.items WholeFirst access tasks → Lying (program_form program).types access tasks
   left_lies whole = all_lie
   left_lies (picked {tasks = tasks} i left) = picked_lies tasks i (left_lies left)
   left_lies (called {tasks = tasks} left) = performed_lies tasks (left_lies left)
@@ -125,7 +121,7 @@ module _ (p : ProgramForm) (u : ℕ) where
   parts_spare operation None spares = (refl, refl)
   parts_spare operation (Some t) spares = callee_spares (callee.Parts operation (record { 0 = t })) spares
 
-  -- So where the end of an object of an access type is no use of the type, it does not reach it,
+  -- So where the end of an object of an access type is no use of the type, it does not reach it.
   end_spares :
       (access : ℕ) → is_access p.types access ≡ true → Spares p u (λ d. parts_do (does_by p d) Finalize (designated_type p.types access))
       → (implicit_of p).end_reaches access u ≡ false
@@ -134,26 +130,13 @@ module _ (p : ProgramForm) (u : ℕ) where
       let ended = parts_spare Finalize (designated_type p.types access) spares in
       rw same (rw (ended.0, ended.1) refl)
 
-  -- and where its beginning is no use either, that does not.
-  start_spares :
-      (access : ℕ) → is_access p.types access ≡ true → Spares p u (λ d. creation_does (does_by p d) (designated_type p.types access))
-      → creation_uses p access u ≡ false
-  start_spares access is spares =
-      let same : record_at p.types access ≡ designated_type p.types access = access_at p.types access is in
-      let o = designated_type p.types access in
-      let starts = λ (d : Deed). parts_do (does_by p d) Initialize o in
-      let finishes = λ (d : Deed). parts_do (does_by p d) Finalize o in
-      let begun = parts_spare Initialize o (first p u starts finishes spares) in
-      let ended = parts_spare Finalize o (second p u starts finishes spares) in
-      rw same (rw (begun.0, begun.1, ended.0, ended.1) refl)
-
   -- A procedure that is told to be frugal has a frugal body, if it has one.
-  told_frugal : (n : ℕ) → slice_index_or (frugal_procedures p) n false ≡ true → is_frugal_one p (slice_get p.bodies n) ≡ true
+  told_frugal : (n : ℕ) → slice_index_or (frugal_procedures p false) n false ≡ true → is_frugal_one p (slice_get p.bodies n) ≡ true
   told_frugal n told = by (slice_get p.bodies n) refl
     where
       by : (found : Option BodyForm) → slice_get p.bodies n ≡ found → is_frugal_one p found ≡ true
       by None there = refl
-      by (Some b) there = frugal_at p n b told there
+      by (Some b) there = frugal_at p false n b told there
 
   -- A frugal procedure that does neither is one of these,
   shunning_from :
@@ -193,48 +176,39 @@ module _ (p : ProgramForm) (u : ℕ) where
       (λ done. none d is
       (does (use_of d is) (does_by p d) (λ other known. (counts_are_enough p d other).0 known) (ap (called_does p.types (does_by p d) d) there ∙ done)))
 
--- In a well-formed program in which each Finalize is quiet or frugal that may be called, and each Initialize plain or frugal.
+-- In a well-formed program in which each Finalize is quiet or frugal that may be called.
 module _ (program : Program) (well : IsWellFormed (program_form program)) (uses : operations_may_be_called (program_form program) ≡ true) where
   abbrev p : ProgramForm
   p = program_form program
 
-  -- What is called where an object begins or ends is frugal: what is plain is so, too.
-  called_frugal :
-      (treatment : Treatment) → (AdjustsCopy treatment → ⊥) → (of number : ℕ) → IsCalled (operations_of program.types.items of) treatment number
-      → is_frugal_one p (slice_get p.bodies number) ≡ true
-  called_frugal treatment none of number is_called = by (slice_get p.bodies number) refl
-    where
-      as_used : (b : BodyForm) → IsUsedAs p of number treatment b → is_frugal_body (thrift_of p) b ≡ true
-      as_used b (inl (plain, lets)) = frugal_body (thrift_of p) p.types b plain.plain
-      as_used b (inr (inl (may, enabled, frugal, stores))) = frugal
-      as_used b (inr (inr (copies, tracks, own))) = absurd (none copies)
-
-      by : (found : Option BodyForm) → slice_get p.bodies number ≡ found → is_frugal_one p found ≡ true
-      by None there = refl
-      by (Some b) there = as_used b (used_as program uses well of number b there treatment (λ copies. absurd (none copies)) is_called)
-
-  -- What overrides Initialize is, so,
-  initialize_frugal :
-      (of number : ℕ) → procedure_number (operations_of program.types.items of).initialize ≡ Some number
-      → is_frugal_one p (slice_get p.bodies number) ≡ true
-  initialize_frugal of number overrides = called_frugal (begins Creation []) (λ copies. copies) of number overrides
-
-  -- and what overrides Finalize.
+  -- What overrides Finalize is frugal, and creates no object with controlled parts: what is plain is so, too.
   finalize_frugal :
       (of number : ℕ) → procedure_number (operations_of program.types.items of).finalize ≡ Some number
       → is_frugal_one p (slice_get p.bodies number) ≡ true
-  finalize_frugal of number overrides = called_frugal (ends (Freeing number)) (λ copies. copies) of number overrides
+  finalize_frugal of number overrides = by (slice_get p.bodies number) refl
+    where
+      -- Of whatever an object is freed.
+      finalizing : Treatment
+      finalizing = ends (Freeing number)
 
-  -- What the beginning of an object does not do, or its end, an operation of a record does not do that lies in it.
-  operation_spares :
-      (operation : Operation) (access of part number : ℕ) → IsOperable p.types access of part
-      → procedure_number (overriding operation (operations_of program.types.items of)) ≡ Some number
-      → (d : Deed) → parts_do (does_by p d) operation (record_at p.types access) ≡ false → does_by p d (calling number) ≡ false
-  operation_spares operation access of part number operable overrides d none =
+      as_used : (b : BodyForm) → IsUsedAs p of number finalizing b → is_frugal_body (thrift_of p false) b ≡ true
+      as_used b (inl (plain, lets)) = frugal_body (thrift_of p false) p.types b plain.plain
+      as_used b (inr (inl (may, enabled, frugal, stores))) = frugal
+      as_used b (inr (inr (copies, tracks, own))) = absurd copies
+
+      by : (found : Option BodyForm) → slice_get p.bodies number ≡ found → is_frugal_one p found ≡ true
+      by None there = refl
+      by (Some b) there = as_used b (used_as program uses well of number b there finalizing (λ copies. absurd copies) overrides)
+
+  -- What the end of an object does not do, a Finalize of a record does not do that lies in it.
+  finalize_spares :
+      (access of part number : ℕ) → IsOperable p.types access of part → procedure_number (operations_of program.types.items of).finalize ≡ Some number
+      → (d : Deed) → parts_do (does_by p d) Finalize (record_at p.types access) ≡ false → does_by p d (calling number) ≡ false
+  finalize_spares access of part number operable overrides d none =
       false_from_ne_true (does_by p d (calling number))
       (λ done.
       let own = (counts_are_enough p d (calling number)).0 done in
-      let all = done_lying program well d operation access of part number operable overrides own in
+      let all = done_lying program well d Finalize access of part number operable overrides own in
       cc (none, all))
 
   -- Of some type, or of none.
@@ -243,69 +217,23 @@ module _ (program : Program) (well : IsWellFormed (program_form program)) (uses 
     abbrev apart : Apart
     apart = apart_from program u
 
-    -- A frugal operation of a part of an object is one of these procedures, where that operation uses no value of the type, of whichever part of the object.
-    operation_shuns :
-        (operation : Operation) (access of part number : ℕ) → IsOperable p.types access of part
-        → procedure_number (overriding operation (operations_of program.types.items of)) ≡ Some number
-        → is_frugal_one p (slice_get p.bodies number) ≡ true
-        → parts_do (does_by p (freeing u)) operation (record_at p.types access) ≡ false
-        → parts_do (does_by p (following u)) operation (record_at p.types access) ≡ false → apart.calls number ≡ true
-    operation_shuns operation access of part number operable overrides frugal frees follows =
-        shunning_from p u number frugal
-        (operation_spares operation access of part number operable overrides (freeing u) frees)
-        (operation_spares operation access of part number operable overrides (following u) follows)
-
-    -- So is a Finalize, where the end of the object does not reach the type,
+    -- A Finalize of a part of an object is one of these procedures, where the end of the object does not reach the type.
     end_shuns :
         (access of part number : ℕ) → IsOperable p.types access of part → procedure_number (operations_of program.types.items of).finalize ≡ Some number
         → (implicit_of p).end_reaches access u ≡ false → apart.calls number ≡ true
     end_shuns access of part number operable overrides reaches =
         let ended = λ (d : Deed). parts_do (does_by p d) Finalize (record_at p.types access) in
         let none = or_parts (ended (freeing u)) (ended (following u)) reaches in
-        operation_shuns Finalize access of part number operable overrides (finalize_frugal of number overrides) none.0 none.1
+        shunning_from p u number (finalize_frugal of number overrides) (finalize_spares access of part number operable overrides (freeing u) none.0)
+        (finalize_spares access of part number operable overrides (following u) none.1)
 
-    -- An operation uses no value of the type, of whichever part of an object of an access type.
-    abbrev IsUnusedBy : Operation → (access : ℕ) → Type 0
-    IsUnusedBy operation access =
-        (parts_do (does_by p (freeing u)) operation (record_at p.types access) ≡ false)
-        × (parts_do (does_by p (following u)) operation (record_at p.types access) ≡ false)
-
-    -- So it is with those that begin and end an object that may be allocated.
-    start_parts : (access : ℕ) → apart.starts access ≡ true → IsUnusedBy Initialize access × IsUnusedBy Finalize access
-    start_parts access may =
-        let o = record_at p.types access in
-        let frees = λ (operation : Operation). parts_do (does_by p (freeing u)) operation o in
-        let follows = λ (operation : Operation). parts_do (does_by p (following u)) operation o in
-        let both = or_parts (frees Initialize || frees Finalize) (follows Initialize || follows Finalize) (not-true (creation_uses p access u) may) in
-        let freed = or_parts (frees Initialize) (frees Finalize) both.0 in
-        let followed = or_parts (follows Initialize) (follows Finalize) both.1 in
-        ((freed.0, followed.0), (freed.1, followed.1))
-
-    -- So an Initialize of such a part is one of these procedures,
-    begin_shuns :
-        (access of part number : ℕ) → IsOperable p.types access of part → procedure_number (operations_of program.types.items of).initialize ≡ Some number
-        → apart.starts access ≡ true → apart.calls number ≡ true
-    begin_shuns access of part number operable overrides may =
-        let none = (start_parts access may).0 in
-        operation_shuns Initialize access of part number operable overrides (initialize_frugal of number overrides) none.0 none.1
-
-    -- and so is a Finalize that is called where an exception comes out of the beginning.
-    undone_shuns :
-        (access of part number : ℕ) → IsOperable p.types access of part → procedure_number (operations_of program.types.items of).finalize ≡ Some number
-        → apart.starts access ≡ true → apart.calls number ≡ true
-    undone_shuns access of part number operable overrides may =
-        let none = (start_parts access may).1 in
-        operation_shuns Finalize access of part number operable overrides (finalize_frugal of number overrides) none.0 none.1
-
-    -- So is each Finalize that the end of such an object calls, each Initialize that the start of one calls, and each Finalize of what has begun of that.
+    -- So is each Finalize that the end of an object calls that they may free; they begin none.
     operations_apart : CallsApart program.types.items apart
     operations_apart = record {
       finalizes = λ access of part number tasks may left overrides.
-          end_shuns access of part number (left_lies program WholeFirst access left).0 overrides (not-true ((implicit_of p).end_reaches access u) may);
-      initializes = λ access of part number may begun overrides.
-          begin_shuns access of part number (left_lies program PartsFirst access begun.1).0 overrides may;
-      undoes = λ access of part number may begun overrides.
-          undone_shuns access of part number (left_lies program PartsFirst access begun.1).0 overrides may;
+          end_shuns access of part number (left_lies program access left).0 overrides (not-true ((implicit_of p).end_reaches access u) may);
+      initializes = λ access of part number may begun overrides. absurd (cc may);
+      undoes = λ access of part number may begun overrides. absurd (cc may);
     }
 
     -- They free and follow no value of the type,
@@ -338,10 +266,6 @@ module _ (program : Program) (well : IsWellFormed (program_form program)) (uses 
     ends_spared : EndsSpared p u apart
     ends_spared access is spares = ap not (end_spares p u access is spares)
 
-    -- and so is each access type of which neither the beginning nor the end of an object is.
-    starts_spared : StartsSpared p u apart
-    starts_spared access is spares = ap not (start_spares p u access is spares)
-
     -- So they have the shape.
     shaped : AreShaped p program.types.items apart
     shaped = record {
@@ -349,7 +273,7 @@ module _ (program : Program) (well : IsWellFormed (program_form program)) (uses 
       bodies = λ n b among there.
           let fits : SeenFits (seen_by n b p) = subst (λ (own : ProgramForm). SeenFits own) (seen_as p n b there) (seen_fits p well (Some n)) in
           let frugal = subst (λ (found : Option BodyForm). is_frugal_one p found ≡ true) there (shunning_parts p u n among).0 in
-          body_shaped p u apart calls_frugal ends_spared starts_spared n b fits frugal
+          body_shaped p u apart calls_frugal ends_spared n b fits frugal
           (body_spares p u n b there (uses_none n among));
       operations = operations_apart;
     }
@@ -358,8 +282,8 @@ module _ (program : Program) (well : IsWellFormed (program_form program)) (uses 
     all_apart : AreApart p program.types.items (λ t. u == t) apart
     all_apart = unused_apart p (λ t. u == t) apart unused program.types.items well shaped
 
-  -- A frugal body has the shape of bodies that shun types, whatever it uses, and so have all that it calls, and the operations of what it frees and allocates.
-  module _ (number : ℕ) (b : BodyForm) (there : slice_get p.bodies number ≡ Some b) (frugal : is_frugal_body (thrift_of p) b ≡ true) where
+  -- Such a body has the shape of bodies that shun types, whatever it uses, and so have all that it calls, and the operations of what it frees.
+  module _ (number : ℕ) (b : BodyForm) (there : slice_get p.bodies number ≡ Some b) (frugal : is_frugal_body (thrift_of p false) b ≡ true) where
     -- No type has the number behind the last one: so nothing is a use of it.
     none_used : (d : Deed) → is_deed_of p d ≡ nat_lt (length p.types) (length p.types) → does_by p d (calling number) ≡ false
     none_used d same =
@@ -374,7 +298,7 @@ module _ (program : Program) (well : IsWellFormed (program_form program)) (uses 
         (apart_from program u, shaped u, (shaped u).bodies number b among there)
 
 -- The body of a Finalize of a part of an object, whose end does not reach an access type, shuns that type, and so do all that it calls and the operations of
--- what it frees and allocates.
+-- what it frees.
 pub finalize_shuns :
     (program : Program) → IsWellFormed (program_form program) → operations_may_be_called (program_form program) ≡ true
     → (access of part number u : ℕ) (b : BodyForm) → IsOperable (program_form program).types access of part
@@ -386,10 +310,11 @@ finalize_shuns program well uses access of part number u b operable overrides th
     let all = all_apart program well uses u in
     (apart_from program u, all, all.bodies number b (end_shuns program well uses u access of part number operable overrides reaches) there)
 
--- The frugal body of a procedure has the shape of bodies that shun types, and so have all that it calls and the operations of what it frees and allocates.
+-- The frugal body of a procedure that creates no object with controlled parts has the shape of bodies that shun types, and so have all that it calls and the operations of
+-- what it frees.
 pub body_is_shaped :
     (program : Program) → IsWellFormed (program_form program) → operations_may_be_called (program_form program) ≡ true → (number : ℕ) (b : BodyForm)
-    → slice_get (body_forms program) number ≡ Some b → is_frugal_body (thrift_of (program_form program)) b ≡ true
+    → slice_get (body_forms program) number ≡ Some b → is_frugal_body (thrift_of (program_form program) false) b ≡ true
     → (apart : Apart) × AreApart (program_form program) program.types.items (λ t. false) apart
     × (body_shuns (program_form program).types (λ t. false) apart b ≡ true)
 body_is_shaped = own_shaped

@@ -14,29 +14,29 @@ use Rattle.ada_sound.proofs.FrugalBodies.{calling_none, lone_nests}
 use Rattle.ada_sound.proofs.Allowance.{Allowance, allocates_thriftily, are_thrifty_declarations, is_thrifty_stmt, are_thrifty, are_thrifty_branches, are_thrifty_handlers, is_thrifty_body}
 use Rattle.ada_sound.proofs.OperationStarts.{apart}
 
--- What it allocates with items is bare (4.8).
-frugal_right : (types : List TypeForm) (right : RightForm) → is_simple_right types right ≡ true → allocates_frugally types right ≡ true
-frugal_right types nothing is = refl
-frugal_right types (value_of path) is = refl
-frugal_right types (allocates access items) is = (apart (has_bare_objects types access) (list_all is_plain_item items) is).0
-frugal_right types (allocates_default access) is = refl
-frugal_right types (computes e) is = refl
-
--- So it is with declarations.
-frugal_declarations : (types : List TypeForm) (ds : List DeclarationForm) → are_simple_declarations types ds ≡ true → are_frugal_declarations types ds ≡ true
-frugal_declarations types [] is = refl
-frugal_declarations types (creates_pool p ∷ ds) is = absurd (cc is)
-frugal_declarations types (collects access ∷ ds) is = absurd (cc is)
-frugal_declarations types (declares x right ∷ ds) is =
-    let both = apart (is_simple_right types right) (are_simple_declarations types ds) is in
-    rw (frugal_right types right both.0, frugal_declarations types ds both.1) refl
-frugal_declarations types (declares_record x t initial ∷ ds) is = absurd (cc is)
-
 module _ (frugal : Thrift) where
+  -- What it allocates is bare (4.8).
+  frugal_right : (right : RightForm) → is_simple_right frugal.types right ≡ true → allocates_frugally frugal right ≡ true
+  frugal_right nothing is = refl
+  frugal_right (value_of path) is = refl
+  frugal_right (allocates access items) is = (apart (has_bare_objects frugal.types access) (list_all is_plain_item items) is).0
+  frugal_right (allocates_default access) is = or_right frugal.objects (has_bare_objects frugal.types access) is
+  frugal_right (computes e) is = refl
+
+  -- So it is with declarations.
+  frugal_declarations : (ds : List DeclarationForm) → are_simple_declarations frugal.types ds ≡ true → are_frugal_declarations frugal ds ≡ true
+  frugal_declarations [] is = refl
+  frugal_declarations (creates_pool p ∷ ds) is = absurd (cc is)
+  frugal_declarations (collects access ∷ ds) is = absurd (cc is)
+  frugal_declarations (declares x right ∷ ds) is =
+      let both = apart (is_simple_right frugal.types right) (are_simple_declarations frugal.types ds) is in
+      rw (frugal_right right both.0, frugal_declarations ds both.1) refl
+  frugal_declarations (declares_record x t initial ∷ ds) is = absurd (cc is)
+
   mutual
     frugal_stmt : (f : StmtForm) → is_simple_stmt frugal.types true f ≡ true → is_frugal_stmt frugal f ≡ true
     frugal_stmt skips is = refl
-    frugal_stmt (assigns target right) is = frugal_right frugal.types right is
+    frugal_stmt (assigns target right) is = frugal_right right is
     frugal_stmt (assigns_record target items) is = absurd (cc is)
     frugal_stmt (frees access path) is = refl
     frugal_stmt (gets target) is = refl
@@ -52,7 +52,7 @@ module _ (frugal : Thrift) where
     frugal_stmt (encloses ds fs hs) is =
         let two = apart _ _ is in
         let three = apart _ _ two.0 in
-        rw (frugal_declarations frugal.types ds three.0, frugal_stmts fs three.1, frugal_handlers hs two.1) refl
+        rw (frugal_declarations ds three.0, frugal_stmts fs three.1, frugal_handlers hs two.1) refl
 
     frugal_stmts : (fs : StmtsForm) → are_simple frugal.types true fs ≡ true → are_frugal frugal fs ≡ true
     frugal_stmts no_stmts is = refl
@@ -72,7 +72,7 @@ module _ (allowance : Allowance) where
   thrifty_right nothing is = refl
   thrifty_right (value_of path) is = refl
   thrifty_right (allocates access items) is = (apart (has_bare_objects allowance.types access) (list_all is_plain_item items) is).0
-  thrifty_right (allocates_default access) is = or_right allowance.treats_parts (has_bare_objects allowance.types access) is
+  thrifty_right (allocates_default access) is = or_right allowance.objects (has_bare_objects allowance.types access) is
   thrifty_right (computes e) is = refl
 
   thrifty_declarations : (ds : List DeclarationForm) → are_simple_declarations allowance.types ds ≡ true → are_thrifty_declarations allowance ds ≡ true
@@ -182,7 +182,7 @@ simple_frugal : (frugal : Thrift) (b : BodyForm) → is_simple_body frugal.types
 simple_frugal frugal b is =
     let parts = simple_parts frugal.types b is in
     rw (
-      frugal_declarations frugal.types b.declarations parts.declarations,
+      frugal_declarations frugal b.declarations parts.declarations,
       frugal_stmts frugal b.statements parts.statements,
       frugal_handlers frugal b.handlers parts.handlers,
     ) refl

@@ -1,7 +1,7 @@
 -- The treatment of an object calls an operation that touches storage: its body begins in a sound state (7.6, 7.6.1), where no operation runs, or inside another
--- one, in which the object is freed, allocated or undone (13.11.2, 4.8, 7.6.1).
+-- one, in which the object is freed, allocated, declared or undone, or its master is left (13.11.2, 4.8, 3.3.1, 7.6.1).
 
-use Rattle.std.proofs.Common.{◌≡◌, ◌≢◌, ℕ, Bool, true, false, not, ◌&&◌, List, ◌∷◌, refl, sym, ap, subst, ◌∙◌, []}
+use Rattle.std.proofs.Common.{◌≡◌, ◌≢◌, ℕ, Bool, true, false, not, ◌&&◌, ◌⊎◌, inl, inr, List, ◌∷◌, refl, sym, ap, subst, ◌∙◌, []}
 use Rattle.std.specs.Prelude.{Option, Some, None}
 use Rattle.std.specs.List.{slice_get}
 use Rattle.std.specs.Option.{option_map}
@@ -42,10 +42,10 @@ use Rattle.ada_typed.proofs.Bodies.{seen_as}
 use Rattle.ada_typed.proofs.Control as typed
 use Rattle.ada_typed.proofs.Kept.{behind_call}
 use Rattle.ada_typed.proofs.Overridings.{OperationFor, beginning_for, ending_for}
-use Rattle.ada_sound.proofs.Allowance.{body_thrifty, allowance_of}
+use Rattle.ada_sound.proofs.Allowance.{body_thrifty}
 use Rattle.ada_sound.proofs.Alters.{Alters}
 use Rattle.ada_sound.proofs.Callers.{Suspension, known_in, Stands, callers_of}
-use Rattle.ada_sound.proofs.FrugalControl.{Frugally, IsEnded, frugal_starts}
+use Rattle.ada_sound.proofs.FrugalControl.{Frugally, IsEnded, IsLeft, frugal_starts, thriftiness_of}
 use Rattle.ada_sound.proofs.Touching.{CoversBy, Enters, Touching, origin}
 use Rattle.ada_sound.proofs.Trackers.{touches_apart}
 use Rattle.ada_sound.proofs.TouchingBegins.{Begun, IsAlone, alone, touching_begins}
@@ -61,7 +61,7 @@ use Rattle.ada_sound.proofs.FrugalUseEnds.{ends_free, ends_in_starts, starts_fre
 use Rattle.ada_sound.proofs.OperationsLet.{touches_let}
 use Rattle.ada_sound.proofs.Invariant.{Control, CopiesBehind, CoveredIn, EndsTo, IsCopied, Known, TreatsBy, body_among, under_in, LiesAmong}
 use Rattle.ada_sound.proofs.Operated.{OperatedAs}
-use Rattle.ada_sound.proofs.Operating.{IsCalled, IsCalm, lets_out, WaitsFor}
+use Rattle.ada_sound.proofs.Operating.{IsCalled, IsCalm, lets_out, may_create_in, WaitsFor}
 use Rattle.ada_sound.proofs.OperationBegins.{formal_holds, formal_within}
 use Rattle.ada_sound.proofs.OperationStarts.{calm_behind, is_awaited, live_there}
 use Rattle.ada_sound.proofs.Returns.{same_types}
@@ -106,13 +106,14 @@ IsLoneBehind v (ends (Freeing number)) k = IsLoneEnd v k
 IsLoneBehind v (ends (Assigning number)) k = (first t : ℕ) (behind : Control) → k ≡ Copies first t ∷ behind → AdjustsAlone v behind
 IsLoneBehind v (ends (Undoing number)) k = IsLoneEnd v k
 
--- So it is where an object is freed or undone behind which nothing of it begins.
-pub lone_freed : (v : Value) (treatment : Treatment) (k : Control) → IsEnded treatment → NothingBegins v k → IsLoneBehind v treatment k
-lone_freed v (begins by done) k freed none = absurd freed
-lone_freed v (ends (Leaving m item)) k freed none = absurd freed
-lone_freed v (ends (Freeing number)) k freed none = λ w behind is. subst (NothingBegins v) is none
-lone_freed v (ends (Assigning number)) k freed none = absurd freed
-lone_freed v (ends (Undoing number)) k freed none = λ w behind is. subst (NothingBegins v) is none
+-- So it is where an object ends inside another operation, behind which nothing of it begins.
+pub lone_inside : (v : Value) (treatment : Treatment) (k : Control) → IsEnded treatment ⊎ IsLeft treatment → NothingBegins v k → IsLoneBehind v treatment k
+lone_inside v (begins by done) k ended none = tt
+lone_inside v (ends (Leaving m item)) k ended none = λ w behind is. subst (NothingBegins v) is none
+lone_inside v (ends (Freeing number)) k ended none = λ w behind is. subst (NothingBegins v) is none
+lone_inside v (ends (Assigning number)) k (inl ended) none = absurd ended
+lone_inside v (ends (Assigning number)) k (inr left) none = absurd left
+lone_inside v (ends (Undoing number)) k ended none = λ w behind is. subst (NothingBegins v) is none
 
 -- Where an object is initialized or adjusted, nothing of another one begins.
 treating_others : (u v : Value) (by : Birth) (tasks : List Task) (k : Control) → u ≢ v → NothingBegins u k → NothingBegins u (treating v (begins by []) tasks k)
@@ -228,7 +229,7 @@ module _ (program : Program) (a : Activation Value) (rest : List (Activation Val
     covers_by may made access of part number b (ends cause) operable may' called there t covered = ends_free program grounds.well access of part number b operable called there t covered
 
     -- So the body begins, for this object, in front of what is behind its treatment.
-    begins_so : operations_may_be_called p ≡ true → makes_parts p ≡ true → (e : Event) (after : State) (c : Begins known a rest s program.types.items (body_forms program) k IsOperated e after) → MayTouch c.treatment → may_be_frugal p ≡ true → is_frugal_body (thrift_of p) c.b ≡ true → TouchesStorage p c.treatment c.b
+    begins_so : operations_may_be_called p ≡ true → makes_parts p ≡ true → (e : Event) (after : State) (c : Begins known a rest s program.types.items (body_forms program) k IsOperated e after) → MayTouch c.treatment → may_be_frugal p ≡ true → is_frugal_body (thrift_of p (may_create_in c.treatment)) c.b ≡ true → TouchesStorage p c.treatment c.b
         → typed.Typed p after → (begun : Begun program gs c.treatment c.behind s.masters after) × (begun.pause.object ≡ c.o) × (begun.pause.after ≡ k)
     begins_so uses made e after c touches may frugal stores typing =
         let operated = c.operated.1 in
@@ -257,7 +258,7 @@ module _ (program : Program) (a : Activation Value) (rest : List (Activation Val
         (watched_begins program grounds.well uses a rest gs s c.treatment at.watch c.o c.x.cell.access c.of operated.1 c.number c.b c.place c.behind c.heap operable c.called c.there frugal at.spared))
 
     -- That is known of it, whatever runs behind it.
-    pub touching_starts : operations_may_be_called p ≡ true → makes_parts p ≡ true → (e : Event) (after : State) (c : Begins known a rest s program.types.items (body_forms program) k IsOperated e after) → MayTouch c.treatment → may_be_frugal p ≡ true → is_frugal_body (thrift_of p) c.b ≡ true → TouchesStorage p c.treatment c.b
+    pub touching_starts : operations_may_be_called p ≡ true → makes_parts p ≡ true → (e : Event) (after : State) (c : Begins known a rest s program.types.items (body_forms program) k IsOperated e after) → MayTouch c.treatment → may_be_frugal p ≡ true → is_frugal_body (thrift_of p (may_create_in c.treatment)) c.b ≡ true → TouchesStorage p c.treatment c.b
         → typed.Typed p after → Begun program gs c.treatment c.behind s.masters after
     touching_starts uses made e after c touches may frugal stores typing = (begins_so uses made e after c touches may frugal stores typing).0
 
@@ -324,22 +325,26 @@ module _ (program : Program) (a : Activation Value) (rest : List (Activation Val
           (subst (λ (w : Value). TreatsBy known w c.treatment c.tasks k c.heap a.places a.operands s.masters) (sym c.operated.3) c.treats)
 
       -- Its body runs, as the outermost one.
-      pub touching_outermost : may_be_frugal p ≡ true → is_frugal_body (thrift_of p) c.b ≡ true → TouchesStorage p c.treatment c.b → typed.Typed p after → Touching program after
+      pub touching_outermost : may_be_frugal p ≡ true → is_frugal_body (thrift_of p (may_create_in c.treatment)) c.b ≡ true → TouchesStorage p c.treatment c.b → typed.Typed p after → Touching program after
       touching_outermost may frugal stores typing =
           let started = begins_so whole same grounds lone_outermost stands (treats_in_use program whole grounds (Treats v treatment tasks ∷ k) is tt) (treats_made program whole grounds v treatment tasks k is) e after c touches may frugal stores typing in
           let begun = started.0 in
           let waits : WaitsFor p.types c.o c.of c.treatment c.tasks k c.behind = subst (λ (types : List TypeForm). WaitsFor types c.o c.of c.treatment c.tasks k c.behind) (same_types a.procedure p) c.waits in
-          let runs : Frugally (allowance_of p) s.masters c.behind [] after = rw c.is (frugal_starts (allowance_of p) c.number c.b (body_thrifty p c.b frugal) (Part c.o c.place) c.behind (record s { activations = a ∷ rest; heap = c.heap; mode = Running; control = k })) in
+          let objects = may_create_in c.treatment in
+          let before = record s { activations = a ∷ rest; heap = c.heap; mode = Running; control = k } in
+          let runs : Frugally (thriftiness_of p objects) s.masters objects c.behind [] after =
+          rw c.is (frugal_starts (thriftiness_of p objects) c.number c.b (body_thrifty p objects c.b frugal) (Part c.o c.place) c.behind before) in
           record {
             suspensions = origin program 0 after begun.pause ∷ gs;
             ready = begun.ready;
             stands = begun.stands;
             within = record {
               inner = [];
+              objects = may_create_in c.treatment;
               outermost = begun.pause;
               are = ap (λ (others : List Suspension). origin program 0 after begun.pause ∷ others) (sym begun.suspensions);
-              within = begun.runs;
-              frugal = rw (begun.is_lower, begun.is_behind) runs;
+              within = (begun.runs, ap may_create_in (sym begun.treated));
+              frugal = rw (begun.is_lower, begun.is_behind, begun.treated) runs;
               untreated = λ u other. subst (NothingBegins u) (sym started.2) (untreated_outermost u (λ same. other (same ∙ ap Names (sym started.1))));
               calm = rw begun.is_behind (calm_behind p.types c.o c.of c.treatment c.tasks k c.behind waits calm);
               settled = rw begun.suspensions settled;

@@ -1,7 +1,7 @@
--- An object that is freed or undone is finalized while an operation that touches storage is under way (7.6.1, 13.11.2), and one that is allocated begins (4.8):
--- its operation begins, inside the other one, or what is left goes on.
+-- An object that is freed or undone, or whose master is left, is finalized while an operation that touches storage is under way (7.6.1, 13.11.2), and one that is
+-- allocated or declared begins (4.8, 3.3.1): its operation begins, inside the other one, or what is left goes on.
 
-use Rattle.std.proofs.Common.{◌≡◌, ℕ, true, List, [], ◌∷◌, ◌++◌, refl, sym, ap, subst, ◌∙◌, inl, inr, ◌+◌, arith, drop, length, suc}
+use Rattle.std.proofs.Common.{◌≡◌, ◌⊎◌, ℕ, Bool, true, false, List, [], ◌∷◌, ◌++◌, refl, sym, ap, subst, ◌∙◌, inl, inr, ◌+◌, arith, drop, length, suc}
 use Rattle.std.specs.Prelude.{Option, Some, None}
 use Rattle.ada_parts.specs.Task.{Task}
 use Rattle.ada_program.specs.declared.program.Program.{Program}
@@ -9,13 +9,14 @@ use Rattle.ada_program.specs.ProgramForm.{ProgramForm, TypeForm, program_form, b
 use Rattle.ada_parts.specs.Part as parts
 use Rattle.ada_meaning.specs.declared.event.Birth.{Birth}
 use Rattle.ada_meaning.specs.declared.event.Birth.TheVariants.{Creation, Copy, Adjustment}
+use Rattle.ada_meaning.specs.declared.event.Cause.{Cause}
 use Rattle.ada_meaning.specs.declared.state.Id.{Id}
 use Rattle.ada_meaning.specs.declared.state.Mode.TheVariants.{Running}
 use Rattle.ada_meaning.specs.declared.state.Value.{Value}
 use Rattle.ada_meaning.specs.declared.state.Value.TheVariants.{Names, Part}
 use Rattle.ada_meaning.specs.Event.{Quiet}
 use Rattle.ada_meaning.specs.Frame.{Treatment, begins, ends, Awaits, Confines, Treats}
-use Rattle.ada_meaning.specs.State.{Activation}
+use Rattle.ada_meaning.specs.State.{Activation, Master}
 use Rattle.ada_meaning.specs.Step.{halts, moves, tells, asks, picks, older, operating, procedure_of, operands_of, frame_next, treating}
 use Rattle.ada_meaning.specs.Named.{State, Next, named, next}
 use Rattle.ada_meaning.specs.Run.{Event, settled}
@@ -28,14 +29,14 @@ use Rattle.ada_reaching.specs.Reaching.{IsReaching}
 use Rattle.ada_typed.proofs.Control as typed
 use Rattle.ada_typed.proofs.Kept.{Each}
 use Rattle.ada_typed.proofs.Runs.{step_typed}
-use Rattle.ada_sound.proofs.Allowance.{Allowance, body_thrifty, is_thrifty_body, allowance_of}
+use Rattle.ada_sound.proofs.Allowance.{body_thrifty, is_thrifty_body}
 use Rattle.ada_sound.specs.Agreement.{running_procedure}
 use Rattle.ada_sound.proofs.Alters.{Alters}
 use Rattle.ada_sound.proofs.Callers.{Suspension, known_in, Stands, AreOf}
-use Rattle.ada_sound.proofs.FrugalControl.{BeginsThere, EndsThere, Frugal, Frugally, FrugalLeads, FrugalOperated, IsInside, begun_leads, ends_leads, frugal_starts_inside, operated_in, operated_on}
+use Rattle.ada_sound.proofs.FrugalControl.{BeginsThere, EndsThere, LeavesThere, Frugal, Frugally, FrugalLeads, FrugalLeaves, FrugalOperated, IsInside, Thriftiness, begun_leads, ends_leads, leaves_operated, frugal_starts_inside, operated_in, operated_on}
 use Rattle.ada_sound.proofs.FrugalSteps.{GoesOrBegins, treats_frugally}
 use Rattle.ada_sound.proofs.Invariant.{Control, Known, Stepped}
-use Rattle.ada_sound.proofs.Operating.{PlainBody, WaitsFor, behind_operation}
+use Rattle.ada_sound.proofs.Operating.{PlainBody, WaitsFor, behind_operation, may_create_in}
 use Rattle.ada_sound.proofs.OperationBegins.{begins_operation}
 use Rattle.ada_sound.proofs.Pauses.{AllWatched, inner_on}
 use Rattle.ada_sound.proofs.QuietOperations.{AdjustsCopy, IsUsedAs, LetsNothingOut, MayTouch, TouchesStorage, used_as}
@@ -45,14 +46,14 @@ use Rattle.ada_sound.proofs.Returns.{CrossesTo, same_types}
 use Rattle.ada_sound.proofs.Grounds.{Grounds, treats_made}
 use Rattle.ada_sound.proofs.Touching.{AreInner, Pause, Touching, Watch, Watched, Within, is_unnamed, is_watched, operated_among, origin, watches}
 use Rattle.ada_sound.proofs.TouchingBegins.{Begun}
-use Rattle.ada_sound.proofs.TouchingGoes.{GoesTouching, InTouching, Still, Went, behind_it, inner_stays, outermost, stays_on, still_on, touching_on, with_parts, within_on}
+use Rattle.ada_sound.proofs.TouchingGoes.{GoesTouching, InTouching, Still, Went, behind_it, inner_stays, outermost, stays_on, still_on, thrifty, touching_on, with_parts, within_on}
 use Rattle.ada_sound.proofs.TouchingStands.{touching_stands, treated_begin}
-use Rattle.ada_sound.proofs.TouchingStarts.{IsLoneBehind, lone_freed, touching_starts}
+use Rattle.ada_sound.proofs.TouchingStarts.{IsLoneBehind, lone_inside, touching_starts}
 use Rattle.ada_sound.proofs.Treating.{IsOperated, told_covered, told_says, treated_next, treats_in_use}
 use Rattle.ada_sound.proofs.Treatments.{Begins, StaysHere, TreatedIn}
 use Rattle.ada_sound.proofs.Waiting.{SameBody}
 
--- No copy is adjusted where an object is freed or allocated.
+-- No copy is adjusted where an object is freed, allocated or declared, or its master is left.
 inside_adjusts : (treatment : Treatment) → IsInside treatment → AdjustsCopy treatment → ⊥
 inside_adjusts (begins Creation done) inside copies = copies
 inside_adjusts (begins Copy done) inside copies = inside
@@ -78,11 +79,18 @@ module _ (program : Program) (a : Activation Value) (rest : List (Activation Val
     abbrev p : ProgramForm
     p = program_form program
 
-    abbrev allowance : Allowance
-    allowance = (allowance_of (program_form program))
-
     abbrev operation : Pause program (length f.within.inner) whole
     operation = outermost program whole f
+
+    -- What bodies go by, and whether the one that runs may create objects.
+    abbrev frugal : Thriftiness
+    frugal = thrifty program whole f
+
+    abbrev objects : Bool
+    objects = f.within.objects
+
+    abbrev upper : List Master
+    upper = f.within.frugal.upper
 
     -- The objects whose operations run inside it, the nearest one first.
     abbrev among : List Value
@@ -108,37 +116,40 @@ module _ (program : Program) (a : Activation Value) (rest : List (Activation Val
       standing = record { suspended = f.stands.standing.suspended; waiting = f.stands.standing.waiting; low = f.stands.standing.low };
     }
 
-    -- The object is freed or undone, or begins, and no operation of it runs behind.
+    -- The object is freed or undone, or its master is left, or it begins, and no operation of it runs behind; and then this is left to do.
     abbrev IsTreated : Treatment → Type 0
-    IsTreated (begins by done) = BeginsThere allowance v by k
-    IsTreated (ends cause) = EndsThere allowance v (ends cause) k
+    IsTreated (begins by done) = BeginsThere (frugal.by objects) v by k × FrugalLeads frugal objects operation.behind among k upper
+    IsTreated (ends cause) =
+        (EndsThere (frugal.by objects) v (ends cause) k × FrugalLeads frugal objects operation.behind among k upper)
+        ⊎ (LeavesThere (frugal.by objects) v (ends cause) k × FrugalLeaves frugal objects operation.behind among k upper)
 
-    treated_here : IsTreated treatment × FrugalLeads allowance operation.behind among k f.within.frugal.upper
-    treated_here = by treatment f.within.frugal.frugal
+    treated_here : IsTreated treatment
+    treated_here = by treatment f.within.frugal.frugally
       where
-        by : (way : Treatment) → Frugal allowance operation.behind among Running (Treats v way tasks ∷ k) f.within.frugal.upper
-            → IsTreated way × FrugalLeads allowance operation.behind among k f.within.frugal.upper
+        by : (way : Treatment) → Frugal frugal objects operation.behind among Running (Treats v way tasks ∷ k) upper → IsTreated way
         by (begins how done) (inl leads) = absurd leads.0.0
-        by (begins how done) (inr (inl leaving)) = absurd leaving.1
+        by (begins how done) (inr (inl leaving)) = absurd leaving.1.0.0
         by (begins how done) (inr (inr beginning)) = beginning.1
-        by (ends cause) (inl leads) = leads
-        by (ends cause) (inr (inl leaving)) = absurd leaving.1
+        by (ends cause) (inl leads) = inl leads
+        by (ends cause) (inr (inl leaving)) = inr leaving.1
         by (ends cause) (inr (inr beginning)) = absurd beginning.1
 
     -- So it is one that may be treated inside another operation.
     inside_so : (way : Treatment) → IsTreated way → IsInside way
     inside_so (begins Creation done) beginning = tt
-    inside_so (begins Copy done) beginning = let created = beginning.0 in absurd (cc created)
-    inside_so (begins (Adjustment number) done) beginning = let created = beginning.0 in absurd (cc created)
-    inside_so (ends cause) ending = ending.0
+    inside_so (begins Copy done) beginning = let created = beginning.0.0 in absurd (cc created)
+    inside_so (begins (Adjustment number) done) beginning = let created = beginning.0.0 in absurd (cc created)
+    inside_so (ends cause) (inl ending) = inl ending.0.0
+    inside_so (ends cause) (inr leaving) = inr leaving.0.0
 
-    -- It goes on in the body that frees or allocates it, or out of whose beginning an exception has come.
-    goes_here : (e : Event) (after : State) → Stepped treater s.heap e after × StaysHere treater a rest s program.types.items (body_forms program) k Operated after → GoesOrBegins allowance operation.lower operation.behind among program.types.items (body_forms program) whole after → Still program whole f after → InTouching program s.heap e after
+    -- It goes on in the body that frees, allocates or declares it, or that leaves its master, or out of whose beginning an exception has come.
+    goes_here : (e : Event) (after : State) → Stepped treater s.heap e after × StaysHere treater a rest s program.types.items (body_forms program) k Operated after
+        → GoesOrBegins frugal operation.lower objects operation.behind among program.types.items (body_forms program) whole after → Still program whole f after → InTouching program s.heap e after
     goes_here e after (st, (acts, behind)) goes still =
         stays_on program whole f e after (record { procedure = ap procedure_of acts; suspended = ap older acts }) st (by goes) still
       where
-        by : GoesOrBegins allowance operation.lower operation.behind among program.types.items (body_forms program) whole after → Frugally allowance operation.lower operation.behind among after
-        by (inl frugal) = frugal
+        by : GoesOrBegins frugal operation.lower objects operation.behind among program.types.items (body_forms program) whole after → Frugally frugal operation.lower objects operation.behind among after
+        by (inl stays) = stays
         by (inr more) =
             let same : length after.activations ≡ length (a ∷ rest) = ap length acts in
             absurd (omega (arith, same, more))
@@ -146,7 +157,7 @@ module _ (program : Program) (a : Activation Value) (rest : List (Activation Val
     module _ (e : Event) (after : State) (c : BeginsHere e after) (still : Still program whole f after) where
       -- So it is where the operation begins.
       is_treated : IsTreated c.treatment
-      is_treated = subst IsTreated (sym c.operated.0) treated_here.0
+      is_treated = subst IsTreated (sym c.operated.0) treated_here
 
       inside_it : IsInside c.treatment
       inside_it = inside_so c.treatment is_treated
@@ -157,38 +168,46 @@ module _ (program : Program) (a : Activation Value) (rest : List (Activation Val
       alters_here : Alters s.heap e after.heap
       alters_here = rw c.is c.alters
 
-      -- What is behind its operation is left to do.
-      leads_behind : FrugalOperated allowance operation.behind (Names c.o ∷ among) c.behind f.within.frugal.upper
+      -- What is behind its operation is left to do, which may create objects where the object begins.
+      leads_behind : FrugalOperated frugal (may_create_in c.treatment) objects operation.behind (Names c.o ∷ among) c.behind upper
       leads_behind = by c.treatment is_treated waits_here
         where
           by : (way : Treatment) → IsTreated way → WaitsFor p.types c.o c.of way c.tasks k c.behind
-              → FrugalOperated allowance operation.behind (Names c.o ∷ among) c.behind f.within.frugal.upper
+              → FrugalOperated frugal (may_create_in way) objects operation.behind (Names c.o ∷ among) c.behind upper
           by (begins how done) beginning (part, is) =
-              subst (λ (j : Control). FrugalOperated allowance operation.behind (Names c.o ∷ among) j f.within.frugal.upper) (sym is)
-              (begun_leads allowance operation.behind among (Names c.o) how done c.of part c.tasks k f.within.frugal.upper
-              (subst (λ (u : Value). BeginsThere allowance u how k) c.operated.3 beginning) treated_here.1)
-          by (ends cause) ending (is, inside) =
-              subst (λ (j : Control). FrugalOperated allowance operation.behind (Names c.o ∷ among) j f.within.frugal.upper) (sym is)
-              (ends_leads allowance operation.behind among (Names c.o) (ends cause) c.tasks k f.within.frugal.upper
-              (subst (λ (u : Value). EndsThere allowance u (ends cause) k) c.operated.3 ending) treated_here.1)
+              subst (λ (j : Control). FrugalOperated frugal true objects operation.behind (Names c.o ∷ among) j upper) (sym is)
+              (begun_leads frugal objects operation.behind among (Names c.o) how done c.of part c.tasks k upper beginning.0.1
+              (subst (λ (u : Value). BeginsThere (frugal.by objects) u how k) c.operated.3 beginning.0) beginning.1)
+          by (ends cause) (inl ending) (is, inside) =
+              subst (λ (j : Control). FrugalOperated frugal false objects operation.behind (Names c.o ∷ among) j upper) (sym is)
+              (ends_leads frugal objects operation.behind among (Names c.o) (ends cause) c.tasks k upper
+              (subst (λ (u : Value). EndsThere (frugal.by objects) u (ends cause) k) c.operated.3 ending.0) ending.1)
+          by (ends cause) (inr leaving) (is, inside) =
+              subst (λ (j : Control). FrugalOperated frugal false objects operation.behind (Names c.o ∷ among) j upper) (sym is)
+              (leaves_operated frugal objects operation.behind among (Names c.o) (ends cause) c.tasks k upper
+              (subst (λ (u : Value). LeavesThere (frugal.by objects) u (ends cause) k) c.operated.3 leaving.0) leaving.1)
 
       -- That of the object runs in front of it.
       operated_here : operated_in c.behind ≡ Names c.o ∷ []
       operated_here = by c.treatment is_treated waits_here
         where
+          finalized : (cause : Cause) → IsTreated (ends cause) → finalized_before k ≡ v
+          finalized cause (inl ending) = ending.0.2
+          finalized cause (inr leaving) = leaving.0.2
+
           by : (way : Treatment) → IsTreated way → WaitsFor p.types c.o c.of way c.tasks k c.behind → operated_in c.behind ≡ Names c.o ∷ []
           by (begins how done) beginning (part, is) = ap operated_in is
           by (ends cause) ending (is, inside) =
-              let before = finalized_behind (Names c.o) (ends cause) c.tasks k (ending.2 ∙ c.operated.3) in
+              let before = finalized_behind (Names c.o) (ends cause) c.tasks k (finalized cause ending ∙ c.operated.3) in
               ap operated_in is ∙ ap (λ (u : Value). u ∷ []) before
 
-      leads_operated : FrugalOperated allowance operation.behind (operated_in c.behind ++ among) c.behind f.within.frugal.upper
+      leads_operated : FrugalOperated frugal (may_create_in c.treatment) objects operation.behind (operated_in c.behind ++ among) c.behind upper
       leads_operated =
-          subst (λ (us : List Value). FrugalOperated allowance operation.behind (us ++ among) c.behind f.within.frugal.upper) (sym operated_here) leads_behind
+          subst (λ (us : List Value). FrugalOperated frugal (may_create_in c.treatment) objects operation.behind (us ++ among) c.behind upper) (sym operated_here) leads_behind
 
       -- So it is once that has come to its end.
-      frugal_behind : Frugal allowance operation.behind among Running c.behind f.within.frugal.upper
-      frugal_behind = operated_on allowance operation.behind among Running c.behind f.within.frugal.upper tt leads_operated
+      frugal_behind : Frugal frugal objects operation.behind among Running c.behind upper
+      frugal_behind = operated_on frugal (may_create_in c.treatment) objects operation.behind among Running c.behind upper tt leads_operated
 
       -- What is behind its operation.
       abbrev behind_it_all : State
@@ -258,19 +277,19 @@ module _ (program : Program) (a : Activation Value) (rest : List (Activation Val
           (found', (apart, are', reaches_behind w behind before apart treats begun))
 
       all_behind :
-          (procedure : Option ℕ) (depth : ℕ) (last : Option ℕ) (others inner : List Suspension)
-          (are : AreInner program whole allowance operation.behind operation.lower procedure depth last others inner)
-          → AllWatched program whole allowance operation.behind operation.lower after procedure depth last others inner are
-          → AllWatched program whole allowance operation.behind operation.lower behind_it_all procedure depth last others inner are
-      all_behind procedure depth last others [] are begun = tt
-      all_behind procedure depth last others (g ∷ inner) (inl call, more) begun = all_behind g.procedure (suc depth) last others inner more begun
-      all_behind procedure depth last others (g ∷ inner) (inr outer, more) begun =
-          (watched_behind outer.pause.watch outer.pause.behind outer.pause.still begun.0, all_behind g.procedure (suc depth) last others inner more begun.1)
+          (procedure : Option ℕ) (creates : Bool) (depth : ℕ) (last : Option ℕ) (others inner : List Suspension)
+          (are : AreInner program whole frugal operation.behind operation.lower procedure creates depth last others inner)
+          → AllWatched program whole frugal operation.behind operation.lower after procedure creates depth last others inner are
+          → AllWatched program whole frugal operation.behind operation.lower behind_it_all procedure creates depth last others inner are
+      all_behind procedure creates depth last others [] are begun = tt
+      all_behind procedure creates depth last others (g ∷ inner) (inl (call, more)) begun = all_behind g.procedure creates (suc depth) last others inner more begun
+      all_behind procedure creates depth last others (g ∷ inner) (inr (outer, further, more)) begun =
+          (watched_behind further.pause.watch further.pause.behind further.pause.still begun.0, all_behind g.procedure outer (suc depth) last others inner more begun.1)
 
       still_behind : Still program whole f behind_it_all
       still_behind = (
         watched_behind operation.watch operation.behind operation.still still.0,
-        all_behind a.procedure 0 (Some operation.number) waiting f.within.inner f.within.within still.1,
+        all_behind a.procedure objects 0 (Some operation.number) waiting f.within.inner f.within.within still.1,
       )
 
       same_behind : SameBody whole behind_it_all
@@ -279,14 +298,13 @@ module _ (program : Program) (a : Activation Value) (rest : List (Activation Val
       within_behind : Within program f.suspensions behind_it_all
       within_behind =
           subst (λ (all : List Suspension). Within program all behind_it_all) (sym f.within.are)
-          (within_on program whole f f.within.inner e behind_it_all
+          (within_on program whole f f.within.inner objects e behind_it_all
           (inner_stays program whole f e behind_it_all same_behind alters_here still_behind)
           refl
           (record {
-            upper = f.within.frugal.upper;
+            upper = upper;
             masters = f.within.frugal.masters;
-            own = f.within.frugal.own;
-            frugal = frugal_behind;
+            frugally = frugal_behind;
           })
           still_behind.0
           alters_here)
@@ -307,7 +325,7 @@ module _ (program : Program) (a : Activation Value) (rest : List (Activation Val
         }))
 
         -- One begins that touches storage.
-        module _ (begun : Begun program f.suspensions c.treatment c.behind s.masters after) (frugal : is_frugal_body (thrift_of p) c.b ≡ true) where
+        module _ (begun : Begun program f.suspensions c.treatment c.behind s.masters after) (frugal_body : is_frugal_body (thrift_of p (may_create_in c.treatment)) c.b ≡ true) where
           abbrev waits_for : Suspension
           waits_for = origin program 0 after begun.pause
 
@@ -327,36 +345,37 @@ module _ (program : Program) (a : Activation Value) (rest : List (Activation Val
               let bodies : AreOf program (a ∷ rest) (waits_for ∷ f.suspensions) = subst (λ (all : List (Activation Value)). AreOf program all (waits_for ∷ f.suspensions)) (ap (λ (t : State). older t.activations) c.is) begun.stands.bodies in
               bodies.0
 
-          inner_begun : AreInner program after allowance operation.behind operation.lower (running_procedure after) 0 (Some operation.number) waiting (waits_for ∷ f.within.inner)
-          inner_begun = (
-            inr (record {
+          inner_begun : AreInner program after frugal operation.behind operation.lower (running_procedure after) (may_create_in c.treatment) 0 (Some operation.number) waiting (waits_for ∷ f.within.inner)
+          inner_begun = inr (
+            objects,
+            record {
               pause = begun.pause;
               is = refl;
               behind_it = sym f.within.are ∙ sym begun.suspensions;
               runs = begun.runs;
               inside = subst IsInside (sym begun.treated) inside_it;
-              upper = f.within.frugal.upper;
+              upper = upper;
               masters = begun.is_lower ∙ f.within.frugal.masters;
-              own = f.within.frugal.own;
               leads =
-                  subst (λ (j : Control). FrugalOperated allowance operation.behind (operated_in j ++ among) j f.within.frugal.upper) (sym begun.is_behind)
+                  subst (λ (j : Control). FrugalOperated frugal (may_create_in c.treatment) objects operation.behind (operated_in j ++ among) j upper) (sym begun.is_behind)
                   leads_operated;
-            }),
-            subst (λ (procedure : Option ℕ). AreInner program after allowance operation.behind operation.lower procedure (suc 0) (Some operation.number) waiting f.within.inner) of_body
-                (inner_on program whole allowance operation.behind operation.lower after e a.procedure 0 (suc 0) (Some operation.number) waiting f.within.inner f.within.within alters_here deeper still.1),
+            },
+            subst (λ (procedure : Option ℕ). AreInner program after frugal operation.behind operation.lower procedure objects (suc 0) (Some operation.number) waiting f.within.inner) of_body
+                (inner_on program whole frugal operation.behind operation.lower after e a.procedure objects 0 (suc 0) (Some operation.number) waiting f.within.inner f.within.within alters_here deeper still.1),
           )
 
           -- Its body is frugal as the others are.
-          runs_begun : Frugally allowance operation.lower operation.behind (operated_among (waits_for ∷ f.within.inner)) after
+          runs_begun : Frugally frugal operation.lower (may_create_in c.treatment) operation.behind (operated_among (waits_for ∷ f.within.inner)) after
           runs_begun =
-              let body : is_thrifty_body allowance c.b ≡ true = body_thrifty p c.b frugal in
-              subst (λ (t : State). Frugally allowance operation.lower operation.behind (operated_among (waits_for ∷ f.within.inner)) t) (sym c.is)
-              (frugal_starts_inside allowance operation.behind (operated_in begun.pause.behind ++ among) f.within.frugal.upper operation.lower c.number c.b body (Part c.o c.place) c.behind (record (running k a rest s) { heap = c.heap }) f.within.frugal.masters f.within.frugal.own
-              (subst (λ (j : Control). FrugalOperated allowance operation.behind (operated_in j ++ among) c.behind f.within.frugal.upper) (sym begun.is_behind) leads_operated))
+              let creates = may_create_in c.treatment in
+              let body : is_thrifty_body (frugal.by creates) c.b ≡ true = body_thrifty p creates c.b frugal_body in
+              subst (λ (t : State). Frugally frugal operation.lower creates operation.behind (operated_among (waits_for ∷ f.within.inner)) t) (sym c.is)
+              (frugal_starts_inside frugal creates objects operation.behind (operated_in begun.pause.behind ++ among) upper operation.lower c.number c.b body (Part c.o c.place) c.behind (record (running k a rest s) { heap = c.heap }) f.within.frugal.masters
+              (subst (λ (j : Control). FrugalOperated frugal creates objects operation.behind (operated_in j ++ among) c.behind upper) (sym begun.is_behind) leads_operated))
 
           begins_inside : InTouching program s.heap e after
           begins_inside =
-              touching_on program whole f (waits_for ∷ f.within.inner) e after inner_begun (one_more (length f.within.inner)) runs_begun still.0
+              touching_on program whole f (waits_for ∷ f.within.inner) (may_create_in c.treatment) e after inner_begun (one_more (length f.within.inner)) runs_begun still.0
               (subst (λ (all : List Suspension). CrossesTo program (waits_for ∷ all) s.heap e after) f.within.are (record {
                 stepped = record {
                   ready = begun.ready;
@@ -369,19 +388,19 @@ module _ (program : Program) (a : Activation Value) (rest : List (Activation Val
         -- Nothing of the object begins behind it, where it ends.
         lone_here : (way : Treatment) → IsInside way → IsLoneBehind v way k
         lone_here (begins how done) inside = tt
-        lone_here (ends cause) ended = lone_freed v (ends cause) k ended (treated_begin program whole grounds f.suspensions f.within f.stands v treatment tasks k refl)
+        lone_here (ends cause) ended = lone_inside v (ends cause) k ended (treated_begin program whole grounds f.suspensions f.within f.stands v treatment tasks k refl)
 
         -- So one begins inside that touches storage.
-        begins_frugal : MayTouch c.treatment → may_be_frugal p ≡ true → is_frugal_body (thrift_of p) c.b ≡ true → TouchesStorage p c.treatment c.b
+        begins_frugal : MayTouch c.treatment → may_be_frugal p ≡ true → is_frugal_body (thrift_of p (may_create_in c.treatment)) c.b ≡ true → TouchesStorage p c.treatment c.b
             → Went program s.heap e after
-        begins_frugal touches may frugal stores =
+        begins_frugal touches may frugal_body stores =
             let uses = treats_in_use program whole grounds whole.control refl tt in
-            let lone = lone_here treatment (inside_so treatment treated_here.0) in
-            inl (begins_inside (touching_starts program a rest s k v treatment tasks f.suspensions whole refl grounds lone stands_here uses (treats_made program whole grounds v treatment tasks k refl) e after c touches may frugal stores typed_after) frugal)
+            let lone = lone_here treatment (inside_so treatment treated_here) in
+            inl (begins_inside (touching_starts program a rest s k v treatment tasks f.suspensions whole refl grounds lone stands_here uses (treats_made program whole grounds v treatment tasks k refl) e after c touches may frugal_body stores typed_after) frugal_body)
 
         begins_as : IsUsedAs p c.of c.number c.treatment c.b → Went program s.heap e after
         begins_as (inl plain) = begins_quiet plain
-        begins_as (inr (inl (touches, may, frugal, stores))) = begins_frugal touches may frugal stores
+        begins_as (inr (inl (touches, may, frugal_body, stores))) = begins_frugal touches may frugal_body stores
         begins_as (inr (inr (copies, tracks, own))) = absurd (inside_adjusts c.treatment inside_it copies)
 
         begins_there : Went program s.heap e after
@@ -391,12 +410,12 @@ module _ (program : Program) (a : Activation Value) (rest : List (Activation Val
 
     -- Whatever comes next.
     treated_went : (n : Next) → next program.types.items (body_forms program) whole ≡ n → TreatedIn treater a rest s program.types.items (body_forms program) k Operated v n
-        → Each (GoesOrBegins allowance operation.lower operation.behind among program.types.items (body_forms program) whole) n → Each (Still program whole f) n → GoesTouching program whole n
+        → Each (GoesOrBegins frugal operation.lower objects operation.behind among program.types.items (body_forms program) whole) n → Each (Still program whole f) n → GoesTouching program whole n
     treated_went (halts halt) is t goes still = t
     treated_went (moves e after) is (inl st) goes still = inl (goes_here e after st goes still)
     treated_went (moves e after) is (inr (inl c)) goes still = begins_there e after c still is
     treated_went (moves e after) is (inr (inr c)) goes still =
-        absurd (copies_outside c.by c.done c.copies (subst IsInside (sym c.operated.0) (inside_so treatment treated_here.0)))
+        absurd (copies_outside c.by c.done c.copies (subst IsInside (sym c.operated.0) (inside_so treatment treated_here)))
     treated_went (tells request e after) is t goes still = absurd t
     treated_went (asks request answered) is t goes still = absurd t
     treated_went (picks n taken) is t goes still = λ i lt. inl (goes_here Quiet (taken i) (t i lt) (goes i lt) (still i lt))
@@ -405,5 +424,5 @@ module _ (program : Program) (a : Activation Value) (rest : List (Activation Val
     unfolding next
     treats_step =
         treated_went _ refl (treated_next program a rest k s v treatment tasks grounds f.suspensions (touching_stands program whole grounds f.suspensions f.within f.stands treater.program.types) f.ready.1)
-        (treats_frugally allowance operation.lower operation.behind among program.types.items (body_forms program) whole f.within.frugal refl v treatment tasks k refl)
+        (treats_frugally frugal operation.lower objects operation.behind among program.types.items (body_forms program) whole f.within.frugal refl v treatment tasks k refl)
         (still_on program whole f grounds (λ j awaited last. cc last))

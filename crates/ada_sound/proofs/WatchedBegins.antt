@@ -32,7 +32,7 @@ use Rattle.ada_tracked.proofs.Lists.{apart_is, is_same}
 use Rattle.ada_typed.proofs.Lying.{IsOperable}
 use Rattle.ada_sound.proofs.Callers.{Suspension, known_in}
 use Rattle.ada_sound.proofs.Invariant.{Control, Known}
-use Rattle.ada_sound.proofs.Operating.{IsCalled}
+use Rattle.ada_sound.proofs.Operating.{IsCalled, may_create_in}
 use Rattle.ada_sound.proofs.Returns.{same_types}
 use Rattle.ada_sound.proofs.ShunningEnds.{body_is_shaped, finalize_shuns}
 use Rattle.ada_sound.proofs.Touching.{IsSpared, Watch, Watched, is_unnamed, is_watched, watches}
@@ -50,7 +50,7 @@ module _
   pub watched_begins :
       (by : Treatment) (watch : Option Watch) (o : Id) (access of part number : ℕ) (b : BodyForm) (place : Place) (behind : Control) (heap : List Object)
       → IsOperable p.types access of part → IsCalled (operations_of program.types.items of) by number → slice_get (body_forms program) number ≡ Some b
-      → is_frugal_body (thrift_of p) b ≡ true → IsSpared known by o access heap watch
+      → is_frugal_body (thrift_of p (may_create_in by)) b ≡ true → IsSpared known by o access heap watch
       → Watched program watch behind (operating named number b (Part o place) behind (record s { activations = a ∷ rest; heap = heap; mode = Running }))
   watched_begins by None o access of part number b place behind heap operable called there frugal spared = tt
   watched_begins (begins by done) (Some w) o access of part number b place behind heap operable called there frugal spared = absurd spared
