@@ -46,7 +46,8 @@ known_open there None is = refl
 known_open there (Some kinds) is = scalars_open there kinds is
 
 -- so are their record objects.
-records_open : (frugal : Thrift) (there : List ℕ) (ds : List DeclarationForm) → are_frugal_declarations frugal ds ≡ true → list_all (record_nests frugal.types there) (record_objects ds) ≡ true
+records_open : (frugal : Thrift) (there : List ℕ) (ds : List DeclarationForm) → are_frugal_declarations frugal ds ≡ true
+    → list_all (record_nests frugal.types there) (record_objects ds) ≡ true
 records_open frugal there [] is = refl
 records_open frugal there (creates_pool p ∷ ds) is = absurd (cc is)
 records_open frugal there (collects access ∷ ds) is = absurd (cc is)

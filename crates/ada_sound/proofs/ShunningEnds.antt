@@ -5,17 +5,15 @@ use Rattle.std.proofs.Common.{◌≡◌, ℕ, Bool, true, false, not, ◌==◌, 
 use Rattle.std.specs.Prelude.{nat_lt}
 use Rattle.std.specs.List.{slice_get, slice_index_or}
 use Rattle.std.proofs.lemmas.Bool.{and_from, and_parts, or_parts, cases_Bool, eqb-true, eq-eqb, ltb-true, not-true, false_from_ne_true}
-use Rattle.ada_parts.specs.declared.tasks.Direction.{Direction}
-use Rattle.ada_parts.specs.declared.tasks.Direction.TheVariants.{PartsFirst, WholeFirst}
+use Rattle.ada_parts.specs.declared.tasks.Direction.TheVariants.{WholeFirst}
 use Rattle.ada_parts.specs.Shape.{Shape}
 use Rattle.ada_parts.specs.Task.{Task, performs, performed, treats}
 use Rattle.ada_program.specs.declared.program.Program.{Program}
 use Rattle.ada_program.specs.Controlled.{number_reached, operations_of, procedure_number, shapes_of}
 use Rattle.ada_program.specs.ProgramForm.{BodyForm, ProgramForm, program_form, body_forms, seen_by}
 use Rattle.ada_program.specs.WellFormed.{IsWellFormed, designated_type, is_access}
-use Rattle.ada_meaning.specs.declared.event.Birth.TheVariants.{Creation}
 use Rattle.ada_meaning.specs.declared.event.Cause.TheVariants.{Freeing}
-use Rattle.ada_meaning.specs.Frame.{Treatment, begins, ends}
+use Rattle.ada_meaning.specs.Frame.{Treatment, ends}
 use Rattle.ada_meaning.specs.Step.{all_tasks, member_at, picked_task, tasks_for}
 use Rattle.ada_quiet.specs.Frugal.{thrift_of, frugal_procedures, is_frugal_body}
 use Rattle.ada_quiet.specs.InUse.{operations_may_be_called}
@@ -26,9 +24,9 @@ use Rattle.ada_deeds.specs.declared.deed.Callee.TheVariants as callee
 use Rattle.ada_deeds.specs.declared.deed.Deed.{Deed}
 use Rattle.ada_deeds.specs.declared.deed.Deed.TheVariants as deed
 use Rattle.ada_deeds.specs.declared.deed.Operation.{Operation}
-use Rattle.ada_deeds.specs.declared.deed.Operation.TheVariants.{Initialize, Finalize}
+use Rattle.ada_deeds.specs.declared.deed.Operation.TheVariants.{Finalize}
 use Rattle.ada_deeds.specs.Does.{called_does, is_deed_of, Does, does}
-use Rattle.ada_deeds.specs.Forms.{body_does, creation_does, overriding, parts_do}
+use Rattle.ada_deeds.specs.Forms.{body_does, parts_do}
 use Rattle.ada_deeds.specs.Implicit.{implicit_of, record_at}
 use Rattle.ada_deeds.specs.Within.{does_within, callee_count, does_by}
 use Rattle.ada_deeds.proofs.Naming.{access_at}
@@ -42,8 +40,7 @@ use Rattle.ada_typed.proofs.Bodies.{SeenFits, seen_as, seen_fits}
 use Rattle.ada_typed.proofs.Lying.{IsOperable, Lying, lying_all, lying_taken}
 use Rattle.ada_typed.proofs.Parts.{known_number, shapes_shown}
 use Rattle.ada_sound.proofs.FrugalUseEnds.{done_lying}
-use Rattle.ada_sound.proofs.Operating.{IsCalled}
-use Rattle.ada_sound.proofs.QuietOperations.{AdjustsCopy, IsUsedAs, used_as}
+use Rattle.ada_sound.proofs.QuietOperations.{IsUsedAs, used_as}
 use Rattle.ada_sound.proofs.Shunning.{CallsFrugal, EndsSpared, Spares, body_shaped, calling, following, freeing, is_use}
 
 -- A body is frugal and creates no object with controlled parts, where there is one.
@@ -51,7 +48,7 @@ abbrev is_frugal_one : ProgramForm → Option BodyForm → Bool
 is_frugal_one p None = true
 is_frugal_one p (Some b) = is_frugal_body (thrift_of p false) b
 
--- Such a procedure frees and follows no value of an access type.
+-- A procedure is so, and it frees and follows no value of an access type.
 abbrev is_shunning : ProgramForm → (access procedure : ℕ) → Bool
 is_shunning p u n =
     is_frugal_one p (slice_get p.bodies n) && not (does_by p (freeing u) (calling n)) && not (does_by p (following u) (calling n))
@@ -187,7 +184,7 @@ module _ (program : Program) (well : IsWellFormed (program_form program)) (uses 
       → is_frugal_one p (slice_get p.bodies number) ≡ true
   finalize_frugal of number overrides = by (slice_get p.bodies number) refl
     where
-      -- Of whatever an object is freed.
+      -- An object is finalized that is freed.
       finalizing : Treatment
       finalizing = ends (Freeing number)
 
