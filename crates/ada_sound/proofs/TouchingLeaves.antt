@@ -94,7 +94,8 @@ touching_leaves program s grounds f runs left k leaves =
     let more = RunsOn known (Leaves left ∷ k) in
     let fits : ItemsFit known.program.types (items_of s.masters) =
     subst (λ (types : List TypeForm). ItemsFit types (items_of s.masters)) (sym (same_types (running_procedure s) p)) (items_fit p s grounds.nested) in (
-      held_in_none known s.heap _ s.masters more parting (allowance_by p f.within.objects) (leaves_owned program s f left k leaves) fits,
+      held_in_none known s.heap _ s.masters more parting (allowance_by p f.within.objects) (leaves_owned program s f left k leaves) fits
+          (λ may. subst (λ (types : List TypeForm). list_all (type_fits types) types ≡ true) (sym (same_types (running_procedure s) p)) grounds.well.types_fit),
       named_below known s.heap f.stands.standing.waiting f.stands.standing.low left k s.masters parting,
     )
 
