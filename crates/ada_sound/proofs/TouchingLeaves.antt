@@ -1,7 +1,7 @@
 -- The body of an operation that touches storage leaves a master of its own, which owns variables and record objects alone (7.6.1): no component is of the type of
 -- such an object, and what its callers rely on lies in outer masters.
 
-use Rattle.std.proofs.Common.{◌≡◌, true, false, List, ◌∷◌, ◌++◌, refl, sym, subst, ℕ, Bool, []}
+use Rattle.std.proofs.Common.{◌≡◌, true, false, List, ◌∷◌, ◌++◌, sym, subst, ℕ, Bool, []}
 use Rattle.std.specs.Prelude.{Option}
 use Rattle.std.specs.List.{list_all}
 use Rattle.ada_program.specs.declared.program.Program.{Program}
@@ -25,7 +25,7 @@ use Rattle.ada_sound.proofs.FrugalLeaves.{frugal_stays, held_in_none, leaves_own
 use Rattle.ada_sound.proofs.Grounds.{Grounds}
 use Rattle.ada_sound.proofs.InOrder.{component_is_access, none_of_record}
 use Rattle.ada_sound.proofs.Invariant.{Control, ReadyIn, RunsOn, departs, departs_next, innermost, outers}
-use Rattle.ada_sound.proofs.Leavings.{HeldIn, HoldNone, NamedBelow, AreInOrder, GoesInOrder, NamesNoObject}
+use Rattle.ada_sound.proofs.Leavings.{HeldIn, NamedBelow, AreInOrder}
 use Rattle.ada_sound.proofs.Operating.{IsVariable}
 use Rattle.ada_sound.proofs.Items.{Houses}
 use Rattle.ada_sound.specs.Agreement.{running_procedure}
@@ -95,7 +95,7 @@ touching_leaves program s grounds f runs left k leaves =
     let fits : ItemsFit known.program.types (items_of s.masters) =
     subst (λ (types : List TypeForm). ItemsFit types (items_of s.masters)) (sym (same_types (running_procedure s) p)) (items_fit p s grounds.nested) in (
       held_in_none known s.heap _ s.masters more parting (allowance_by p f.within.objects) (leaves_owned program s f left k leaves) fits
-          (λ objects. subst (λ (types : List TypeForm). list_all (type_fits types) types ≡ true) (sym (same_types (running_procedure s) p)) grounds.well.types_fit),
+          (λ may. subst (λ (types : List TypeForm). list_all (type_fits types) types ≡ true) (sym (same_types (running_procedure s) p)) grounds.well.types_fit),
       named_below known s.heap f.stands.standing.waiting f.stands.standing.low left k s.masters parting,
     )
 

@@ -47,7 +47,7 @@ use Rattle.ada_sound.proofs.Returns.{same_types}
 use Rattle.ada_sound.proofs.SparesOwn.{spares_end}
 use Rattle.ada_sound.proofs.Standing.{AllStand, FinalizesBy, FinalizesIn, FreesAmong}
 use Rattle.ada_sound.proofs.Stored.{IsUnder}
-use Rattle.ada_sound.proofs.Touching.{AreInner, CoversBy, IsCall, IsOperation, Pause, Rests, RestsAsOwned, RestsAtEnd, RestsBy, StoresInto, Watch, Within, operated_among, origin, under_way}
+use Rattle.ada_sound.proofs.Touching.{AreInner, CoversBy, IsOperation, Pause, Rests, RestsAsOwned, RestsAtEnd, RestsBy, StoresInto, Watch, Within, operated_among, origin, under_way}
 use Rattle.ada_sound.proofs.TouchingRests.{IsEnd}
 
 -- A value is one of these.
@@ -483,8 +483,7 @@ module _ (program : Program) (spares : SparesOwn program) (s : State) where
             → (t : ℕ) × IsReferred (g.referenced ++ behind) o t
         by further (inl same) =
             let f = operation.pause in
-            let one : f.object ≡ o = cc same in
-            (
+            let one : f.object ≡ o = cc same in (
               f.access,
               referred_first g.referenced behind o f.access (subst (λ (waiting : Suspension). IsReferred waiting.referenced o f.access) (sym operation.is) (inl (one, refl))),
             )
