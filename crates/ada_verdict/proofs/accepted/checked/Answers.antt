@@ -17,11 +17,11 @@ invariant_of-result c = record {
   in_use = c.in_ok-judge.ensures.in_use;
   nests = c.in_ok-program.ensures.nests;
   frees_own = c.in_ok-program.ensures.frees_own;
-  spares_own = all_spare c.ends_spare_their_own.ensures (program_form c.in_ok-program.program) c.in_ok-judge.ensures.fine.0;
-  propagates_nothing = c.obeying_propagates_nothing.ensures (program_form c.in_ok-program.program) c.in_ok-judge.ensures.fine.0;
+  spares_own = all_spare c.ends_spare_their_own.ensures (program_form c.in_ok-program.program) c.in_ok-judge.ensures.fine.1;
+  propagates_nothing = c.obeying_propagates_nothing.ensures (program_form c.in_ok-program.program) c.in_ok-judge.ensures.fine.1;
   spares_holders = c.in_ok-judge.ensures.holders;
   spares_starts = c.in_ok-judge.ensures.starts;
-  obeys = c.in_ok-judge.ensures.fine.1;
+  obeys = c.in_ok-judge.ensures.fine.2;
 }
 
 pub returns-clause-sound : goal.returns-clause-sound
@@ -30,9 +30,9 @@ returns-clause-sound c = record {
   in_use = c.in_ok-judge.ensures.in_use;
   nests = c.in_ok-program.ensures.nests;
   frees_own = c.in_ok-program.ensures.frees_own;
-  spares_own = all_spare c.ends_spare_their_own.ensures (program_form c.in_ok-program.program) c.in_ok-judge.ensures.fine.0;
-  propagates_nothing = c.obeying_propagates_nothing.ensures (program_form c.in_ok-program.program) c.in_ok-judge.ensures.fine.0;
+  spares_own = all_spare c.ends_spare_their_own.ensures (program_form c.in_ok-program.program) c.in_ok-judge.ensures.fine.1;
+  propagates_nothing = c.obeying_propagates_nothing.ensures (program_form c.in_ok-program.program) c.in_ok-judge.ensures.fine.1;
   spares_holders = c.in_ok-judge.ensures.holders;
   spares_starts = c.in_ok-judge.ensures.starts;
-  obeys = c.in_ok-judge.ensures.fine.1;
+  obeys = c.in_ok-judge.ensures.fine.2;
 }
