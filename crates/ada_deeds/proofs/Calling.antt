@@ -143,6 +143,7 @@ starts_added f node types before after free_size follow_size i fr fo p ts (deed.
 starts_added f node types before after free_size follow_size i fr fo p ts (deed.Follows t) of =
     of_one f.followed.items node t.0 (graph_of before.following.items) (graph_of after.following.items) fo (let lt : t.0 < length p.types = grind (arith, of) in omega (arith, lt, ts, follow_size))
 starts_added f node types before after free_size follow_size i fr fo p ts deed.Allocates of = i
+starts_added f node types before after free_size follow_size i fr fo p ts deed.Calls of = record { kept = λ n h. h; added = λ is. absurd (cc is); only = λ n h. inl h }
 
 -- One node more of a search.
 pub one_more_searched : (p : ProgramForm) (s : Search) (procedures types node : ℕ) (before after : Calls) (c : Callee) (f : Found) → types ≡ length p.types →
@@ -200,6 +201,7 @@ searched_at_first p s procedures types calls size free_size follow_size none no_
     no_starts (deed.Frees t) n = no_frees t.0 n
     no_starts (deed.Follows t) n = no_follows t.0 n
     no_starts deed.Allocates n = λ has. let (k, lt, is) = has in let l = ap length no_itself in absurd (omega (arith, lt, l))
+    no_starts deed.Calls n = λ has. let (k, lt, is) = has in absurd (omega (arith, lt))
 
 -- A callee at a node that is reached does the deed.
 pub reached_does : (p : ProgramForm) (d : Deed) (procedures types done : ℕ) (graph : List (List ℕ)) (starts : List ℕ) → is_deed_of p d ≡ true → IsGraph p d procedures types done graph starts →
@@ -236,6 +238,13 @@ does_reached p d graph starts g c (does of known each h) =
           let (start, has, r) = reached in
           (n, at, (start, has, goes r (is.2 m there) node))
     ]
+
+-- Where nothing does a deed itself, nothing is reached, and no mark is wanted.
+pub none_reached : (graph : List (List ℕ)) → MarksReached graph [] []
+none_reached graph = record {
+  marked = λ n (start, has, r). let (k, lt, is) = has in absurd (omega (arith, lt));
+  only = λ n h. absurd (cc h);
+}
 
 -- So the nodes that are reached are those of the callees that do the deed.
 pub reached_are_doers : (p : ProgramForm) (d : Deed) (procedures types : ℕ) (graph : List (List ℕ)) (starts : List ℕ) (marks : List Bool) →

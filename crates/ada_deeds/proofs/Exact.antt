@@ -105,6 +105,7 @@ pub record AreRows (deeds : Deeds) (p : ProgramForm) : Type 0 where
   pub storage_error : MarksDoers p (deed.Raises StorageError) deeds.nodes.procedures deeds.nodes.types deeds.storage_error.items
   pub end_error : MarksDoers p (deed.Raises EndError) deeds.nodes.procedures deeds.nodes.types deeds.end_error.items
   pub allocates : MarksDoers p deed.Allocates deeds.nodes.procedures deeds.nodes.types deeds.allocates.items
+  pub calls : MarksDoers p deed.Calls deeds.nodes.procedures deeds.nodes.types []
   pub declared : (n : ℕ) (c : Callee) → (is_marked (row_at deeds.declared.items n) (node_of deeds.nodes.procedures deeds.nodes.types c) ≡ true) ↔ Does p (deed.Raises (Declared (record { 0 = n }))) c
   pub frees : (n : ℕ) (c : Callee) → (is_marked (row_at deeds.frees.items n) (node_of deeds.nodes.procedures deeds.nodes.types c) ≡ true) ↔ Does p (deed.Frees (record { 0 = n })) c
   pub follows : (n : ℕ) (c : Callee) → (is_marked (row_at deeds.follows.items n) (node_of deeds.nodes.procedures deeds.nodes.types c) ≡ true) ↔ Does p (deed.Follows (record { 0 = n })) c
@@ -119,6 +120,7 @@ exact deeds p r (deed.Raises (Declared e)) c = r.declared e.0 c
 exact deeds p r (deed.Frees t) c = r.frees t.0 c
 exact deeds p r (deed.Follows t) c = r.follows t.0 c
 exact deeds p r deed.Allocates c = row_exact p deed.Allocates deeds.nodes.procedures deeds.nodes.types deeds.allocates.items r.procedures r.types r.allocates c
+exact deeds p r deed.Calls c = row_exact p deed.Calls deeds.nodes.procedures deeds.nodes.types [] r.procedures r.types r.calls c
 
 -- Where no row is left, nothing is told.
 pub none_beyond : (deeds : Deeds) (n : ℕ) (c : Callee) → length deeds.declared.items ≤ n → does_in deeds (deed.Raises (Declared (record { 0 = n }))) c ≡ false

@@ -8,12 +8,14 @@ pub mod Numbering
 pub mod Edges
 -- the graph of calls, node by node, and what is reached in it
 pub mod Calling
+-- what calls itself is reached from what calls it
+pub mod Circles
 -- nothing does a deed that no body does itself
 pub mod Begun
 -- the marks of all deeds of a program
 pub mod Exact
 -- a set that grows round by round
-pub mod Rounds
+pub mod Growing
 -- what is known within so many calls of calls
 pub mod Within
 -- the table of what implicit calls may do

@@ -46,6 +46,7 @@ nothing_found f mark freed followed callees d known =
     none (deed.Frees t) = refl
     none (deed.Follows t) = refl
     none deed.Allocates = refl
+    none deed.Calls = refl
 
 -- More access types are followed.
 
@@ -61,6 +62,7 @@ followed f v fails among more (deed.Frees t) known = no_more (has_number f.freed
 followed f v fails among more (deed.Follows t) known =
     ap (λ b. b || list_any known f.callees.items) (more t.0) ∙ to_the_end (has_number f.followed.items t.0) (among t.0) (list_any known f.callees.items)
 followed f v fails among more deed.Allocates known = no_more (f.itself || list_any known f.callees.items)
+followed f v fails among more deed.Calls known = no_more (list_any known f.callees.items)
 
 pub finds_followed : {X : Type 0} (r : Result X AllocError) (s : Search) (f : Found) (v : Vec TypeNo) (fails : Bool) (among : ℕ → Bool) → s ≡ search.Others →
     Lists r f.followed.items v.items among → Finds r s f (with_followed f v) (λ d known. evaluation_does d fails among)
@@ -87,6 +89,7 @@ one_freed f v t is (deed.Frees u) known =
         ap (λ b. has_number f.freed.items n || b) (sym (no_more (t == n)))
 one_freed f v t is (deed.Follows u) known = no_more (has_number f.followed.items u.0 || list_any known f.callees.items)
 one_freed f v t is deed.Allocates known = no_more (f.itself || list_any known f.callees.items)
+one_freed f v t is deed.Calls known = no_more (list_any known f.callees.items)
 
 pub finds_freed : (s : Search) (access : Option ℕ) (f : Found) (v : Vec TypeNo) (t : ℕ) → s ≡ search.Others → access ≡ Some t → v.items ≡ f.freed.items ++ record { 0 = t } ∷ [] →
     (d : Deed) (known : Callee → Bool) → does_found (with_freed f v) (sought s d) known ≡ (does_found f (sought s d) known || freeing_does (sought s d) access)
@@ -107,6 +110,7 @@ marked f (deed.Raises e) known = yes_at_last (f.itself || list_any known f.calle
 marked f (deed.Frees t) known = no_more (has_number f.freed.items t.0 || list_any known f.callees.items)
 marked f (deed.Follows t) known = no_more (has_number f.followed.items t.0 || list_any known f.callees.items)
 marked f deed.Allocates known = yes_at_last (f.itself || list_any known f.callees.items)
+marked f deed.Calls known = no_more (list_any known f.callees.items)
 
 pub finds_mark : (s : Search) (f : Found) → s ≡ search.Others → (d : Deed) (known : Callee → Bool) →
     does_found (with_mark f) (sought s d) known ≡ (does_found f (sought s d) known || allocation_does (sought s d))

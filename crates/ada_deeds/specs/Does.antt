@@ -41,6 +41,7 @@ is_deed_of p (deed.Raises e) = is_exception_of p e
 is_deed_of p (deed.Frees t) = nat_lt t.0 (length p.types)
 is_deed_of p (deed.Follows t) = nat_lt t.0 (length p.types)
 is_deed_of p deed.Allocates = true
+is_deed_of p deed.Calls = true
 
 -- A callee does a deed of a program, if it does where this is known of some callees, each of which does it.
 pub data Does (p : ProgramForm) (d : Deed) : (c : Callee) → Type 0 where

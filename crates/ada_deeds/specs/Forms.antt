@@ -30,6 +30,7 @@ is_raising e (deed.Raises f) = is_same e f
 is_raising e (deed.Frees t) = false
 is_raising e (deed.Follows t) = false
 is_raising e deed.Allocates = false
+is_raising e deed.Calls = false
 
 -- An evaluation may raise Constraint_Error (11.5), and follows access values (4.1).
 abbrev pub evaluation_does : Deed → (fails : Bool) → (follows : (access : ℕ) → Bool) → Bool
@@ -37,6 +38,7 @@ evaluation_does (deed.Raises e) fails follows = is_same ConstraintError e && fai
 evaluation_does (deed.Frees t) fails follows = false
 evaluation_does (deed.Follows t) fails follows = follows t.0
 evaluation_does deed.Allocates fails follows = false
+evaluation_does deed.Calls fails follows = false
 
 -- That of a path (4.1).
 abbrev pub path_does : List TypeForm → List VariableForm → Deed → PathForm → Bool
@@ -64,6 +66,7 @@ allocation_does (deed.Raises e) = is_same StorageError e
 allocation_does (deed.Frees t) = false
 allocation_does (deed.Follows t) = false
 allocation_does deed.Allocates = true
+allocation_does deed.Calls = false
 
 -- A Free frees an object of the access type of what it is given (13.11.2).
 abbrev pub freeing_does : Deed → (access : Option ℕ) → Bool
@@ -71,6 +74,7 @@ freeing_does (deed.Raises e) access = false
 freeing_does (deed.Frees t) access = is_this t.0 access
 freeing_does (deed.Follows t) access = false
 freeing_does deed.Allocates access = false
+freeing_does deed.Calls access = false
 
 -- Does what statements do leave them by their handlers (11.4)? An exception that one of these takes does not.
 abbrev pub is_left : HandlersForm → Deed → Bool
@@ -78,6 +82,7 @@ is_left hs (deed.Raises e) = not (is_taken hs e)
 is_left hs (deed.Frees t) = true
 is_left hs (deed.Follows t) = true
 is_left hs deed.Allocates = true
+is_left hs deed.Calls = true
 
 -- What calls do.
 

@@ -71,6 +71,7 @@ starts_of calls (deed.Raises e) = calls.itself.items
 starts_of calls (deed.Frees t) = slice_index_or (graph_of calls.freeing.items) t.0 []
 starts_of calls (deed.Follows t) = slice_index_or (graph_of calls.following.items) t.0 []
 starts_of calls deed.Allocates = calls.itself.items
+starts_of calls deed.Calls = []
 
 -- Each callee of the first nodes has its edges, and is a start, if it does the deed whatever it calls; there are no others.
 pub record IsGraph (p : ProgramForm) (d : Deed) (procedures types done : ℕ) (graph : List (List ℕ)) (starts : List ℕ) : Type 0 where

@@ -6,6 +6,8 @@ pub mod Follows
 pub mod Forms
 -- what does a deed
 pub mod Does
+-- what calls itself
+pub mod Rounds
 -- where a deed begins
 pub mod Begins
 -- what does one within so many calls of calls

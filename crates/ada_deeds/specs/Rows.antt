@@ -37,6 +37,7 @@ row_of deeds (deed.Raises e) = exception_row deeds e
 row_of deeds (deed.Frees t) = row_at deeds.frees.items t.0
 row_of deeds (deed.Follows t) = row_at deeds.follows.items t.0
 row_of deeds deed.Allocates = deeds.allocates.items
+row_of deeds deed.Calls = []
 
 -- Is a node marked, if there is one?
 abbrev pub is_marked : List Bool → Option ℕ → Bool

@@ -1,6 +1,6 @@
 -- What the values of the code stand for.
 
-use Rattle.std.specs.Prelude.{◌≡◌, ℕ, Bool, ◌||◌, List, Result, OnOk}
+use Rattle.std.specs.Prelude.{◌≡◌, ℕ, Bool, false, ◌||◌, List, Result, OnOk}
 use Rattle.std.specs.List.{list_any}
 use Rattle.std.specs.declared.alloc.AllocError.{AllocError}
 use Rattle.ada_deeds.specs.declared.deed.Callee.{Callee}
@@ -19,6 +19,7 @@ sought search.Others (deed.Raises e) = deed.Allocates
 sought search.Others (deed.Frees t) = deed.Frees t
 sought search.Others (deed.Follows t) = deed.Follows t
 sought search.Others deed.Allocates = deed.Allocates
+sought search.Others deed.Calls = deed.Calls
 
 -- Does what is found do a deed that is sought, itself: is the mark set, or are these the access types whose objects it frees, or whose values it follows?
 abbrev pub does_itself : (mark : Bool) → (freed followed : List TypeNo) → Deed → Bool
@@ -26,6 +27,7 @@ does_itself mark freed followed (deed.Raises e) = mark
 does_itself mark freed followed (deed.Frees t) = has_number freed t.0
 does_itself mark freed followed (deed.Follows t) = has_number followed t.0
 does_itself mark freed followed deed.Allocates = mark
+does_itself mark freed followed deed.Calls = false
 
 -- Does what is found do a deed, where this is known of what it calls?
 unfoldable pub does_found : Found → Deed → (known : Callee → Bool) → Bool

@@ -1,14 +1,16 @@
 //! The graph of calls of a program, and what does itself what is sought.
 
-ghost use Rattle.std.specs.Prelude.{◌≡◌, ◌+◌, ◌<◌, [], length, slice_index_or, IfOk, OnOk};
+ghost use Rattle.std.specs.Prelude.{◌≡◌, ◌↔◌, ◌+◌, ◌<◌, [], true, length, slice_index_or, IfOk, OnOk};
 ghost use Rattle.ada_deeds.specs.Graph.{node_count, starts_of, AddsStart, AddsStarts, IsSearched, MarksReached};
 ghost use Rattle.ada_deeds.specs.declared.search.Search.{Search as Seeks};
 ghost use Rattle.ada_program.specs.ProgramForm.{ProgramForm, program_form};
+ghost use Rattle.ada_reach.specs.Graph.{IsReached};
 ghost use Rattle.ada_reach.specs.View.{graph_of};
 
 use crate::callees::{find_in_callee, is_idle};
 use crate::callers::{add_calls, add_edge, no_edges};
 use crate::deed::Deed;
+use crate::deeds::is_marked;
 use crate::nodes::Nodes;
 use crate::search::Search;
 use ada_program::{Program, TypeNo};
@@ -114,6 +116,7 @@ impl Calls {
             Deed::Raises(_) | Deed::Allocates => &self.itself,
             Deed::Frees(access) => list_at(&self.freeing, access.0),
             Deed::Follows(access) => list_at(&self.following, access.0),
+            Deed::Calls => &[],
         }
     }
 
@@ -130,6 +133,18 @@ impl Calls {
             return Ok(Vec::new(alloc));
         }
         reached(alloc, &self.callers, starts)
+    }
+
+    /// Whether a node is reached from those that call it: its callee calls itself. Linear in the graph.
+    ///
+    /// # Errors
+    /// `AllocError` where memory was refused.
+    pub(crate) fn is_on_a_round(&self, alloc: Global, node: usize) -> Result<bool, AllocError>
+        ensures { IfOk result (λ answer. (answer ≡ true) ↔ IsReached (graph_of self.now.callers.items)
+            (slice_index_or (graph_of self.now.callers.items) node []) node) }
+    {
+        let marks = reached(alloc, &self.callers, list_at(&self.callers, node))?;
+        Ok(is_marked(&marks, node))
     }
 }
 

@@ -14,6 +14,8 @@ pub enum Deed {
     Follows(TypeNo),
     /// An object is created by an allocator (4.8).
     Allocates,
+    /// Something is called that is asked for (6.4, 7.6): what the body does itself does not count.
+    Calls,
 }
 
 /// An operation of a controlled type (7.6).

@@ -226,6 +226,7 @@ impl Deeds {
             Deed::Frees(access) => row_at(&self.frees, access.0),
             Deed::Follows(access) => row_at(&self.follows, access.0),
             Deed::Allocates => &self.allocates,
+            Deed::Calls => &[],
         }
     }
 
@@ -254,7 +255,7 @@ fn has_marks(marks: &[bool]) -> bool
 }
 
 /// Whether a node is marked.
-fn is_marked(marks: &[bool], node: usize) -> bool
+pub(crate) fn is_marked(marks: &[bool], node: usize) -> bool
     ensures { result ≡ slice_index_or marks.now node false }
 {
     match marks.get(node) {

@@ -57,6 +57,7 @@ impl Found {
             Deed::Raises(_) | Deed::Allocates => self.itself,
             Deed::Frees(access) => has_number(&self.freed, access),
             Deed::Follows(access) => has_number(&self.followed, access),
+            Deed::Calls => false,
         }
     }
 

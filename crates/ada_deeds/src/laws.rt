@@ -2,6 +2,7 @@
 
 ghost use Rattle.ada_deeds.specs.Example.{BothRaise, TheThirdDoesNot};
 ghost use Rattle.ada_deeds.specs.KnownExamples.{PassingFits, PassesAll, CopyingFits, FinalizeIsUnknown, AdjustIsUnknown};
+ghost use Rattle.ada_deeds.specs.Rounds.{CalleesAreToldApart, ComingGoesOn};
 ghost use Rattle.ada_deeds.specs.Within.{CountsAreEnough};
 ghost use Rattle.ada_deeds.specs.Laws.{MoreDoMore, IsClosedUnderCalls, IsTheLeast, RaisesAreDone, FreesAreDone, RaisesAreKnown, FreesAreKnown};
 
@@ -19,6 +20,12 @@ pub fn does_is_least()
 /// What does a deed is known within as many calls of calls as the program has callees.
 pub fn counts_are_enough()
     ensures { CountsAreEnough }
+{}
+
+/// What comes to something by calls comes to what that comes to, and callees are told apart there.
+pub fn coming_goes_on()
+    ensures apart { CalleesAreToldApart }
+    ensures onward { ComingGoesOn }
 {}
 
 /// What is known of the calls of procedures is done.

@@ -12,7 +12,7 @@ use ada_program::program::Exception;
 pub(crate) enum Search {
     /// That this exception comes out (11.4).
     Exception(Exception),
-    /// What is freed, followed and allocated.
+    /// What is freed, followed, allocated and called.
     Others,
 }
 
@@ -23,7 +23,7 @@ impl Search {
     {
         match deed {
             Deed::Raises(exception) => Search::Exception(exception),
-            Deed::Frees(_) | Deed::Follows(_) | Deed::Allocates => Search::Others,
+            Deed::Frees(_) | Deed::Follows(_) | Deed::Allocates | Deed::Calls => Search::Others,
         }
     }
 }

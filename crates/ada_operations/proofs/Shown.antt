@@ -95,6 +95,7 @@ does_frees (deed.Raises (Declared e)) known none h = absurd (grind (arith, none,
 does_frees (deed.Frees t) known none h = ap (λ (n : ℕ). deed.Frees (record { 0 = n })) (grind (arith, none, h))
 does_frees (deed.Follows t) known none h = absurd (grind (arith, none, h))
 does_frees deed.Allocates known none h = absurd (grind (arith, none, h))
+does_frees deed.Calls known none h = absurd (grind (arith, none, h))
 
 only_frees : (d : Deed) → Does obeying d (callee.Procedure (record { 0 = 0 })) → d ≡ frees_one
 only_frees d (does of known each h) = go (known plain) refl
@@ -111,6 +112,7 @@ freed_type t h = go (deed.Frees t) refl h
     number (deed.Frees u) = u.0
     number (deed.Follows u) = 0
     number deed.Allocates = 0
+    number deed.Calls = 0
 
     go : (d : Deed) → d ≡ deed.Frees t → deed.Frees t ≡ frees_one → t.0 ≡ 1
     go d is same = ap number same

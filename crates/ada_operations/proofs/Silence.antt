@@ -34,12 +34,14 @@ Out (deed.Raises e) among raised = among e ≡ true → raised ≡ true
 Out (deed.Frees t) among raised = ⊥
 Out (deed.Follows t) among raised = ⊥
 Out deed.Allocates among raised = ⊥
+Out deed.Calls among raised = ⊥
 
 out_as : (d : Deed) (among : Exception → Bool) (a b : Bool) → (a ≡ true → b ≡ true) → Out d among a → Out d among b
 out_as (deed.Raises e) among a b f h = λ is. f (h is)
 out_as (deed.Frees t) among a b f h = h
 out_as (deed.Follows t) among a b f h = h
 out_as deed.Allocates among a b f h = h
+out_as deed.Calls among a b f h = h
 
 out_left : (d : Deed) (among : Exception → Bool) (a b : Bool) → Out d among a → Out d among (a || b)
 out_left d among a b = out_as d among a (a || b) (or_left a b)
@@ -62,6 +64,7 @@ out_of (deed.Raises e) among fails follows none h =
 out_of (deed.Frees t) among fails follows none h = absurd (cc h)
 out_of (deed.Follows t) among fails follows none h = absurd (cc (sym (none t.0) ∙ h))
 out_of deed.Allocates among fails follows none h = absurd (cc h)
+out_of deed.Calls among fails follows none h = absurd (cc h)
 
 -- An exception is raised.
 out_raised : (d : Deed) (among : Exception → Bool) (e : Exception) → is_raising e d ≡ true → Out d among (among e)
@@ -69,6 +72,7 @@ out_raised (deed.Raises f) among e h = λ is. ap among (are_equal e f h) ∙ is
 out_raised (deed.Frees t) among e h = absurd (cc h)
 out_raised (deed.Follows t) among e h = absurd (cc h)
 out_raised deed.Allocates among e h = absurd (cc h)
+out_raised deed.Calls among e h = absurd (cc h)
 
 -- What leaves statements by their handlers.
 out_untaken : (d : Deed) (among : Exception → Bool) (hs : HandlersForm) (raised : Bool) → is_left hs d ≡ true → Out d (untaken hs among) raised → Out d among raised
@@ -76,6 +80,7 @@ out_untaken (deed.Raises e) among hs raised left h = λ is. h (and_from (among e
 out_untaken (deed.Frees t) among hs raised left h = h
 out_untaken (deed.Follows t) among hs raised left h = h
 out_untaken deed.Allocates among hs raised left h = h
+out_untaken deed.Calls among hs raised left h = h
 
 -- No quiet path follows an access value.
 abbrev pub NothingFollowed : List TypeForm → List VariableForm → Type 0
@@ -270,6 +275,7 @@ out_none (deed.Raises e) among raised all none h = absurd (cc (sym none ∙ h (a
 out_none (deed.Frees t) among raised all none h = h
 out_none (deed.Follows t) among raised all none h = h
 out_none deed.Allocates among raised all none h = h
+out_none deed.Calls among raised all none h = h
 
 pub does_nothing : (types : List TypeForm) (b : BodyForm) → NothingFollowed types b.variables → is_quiet_body types b ≡ true → (known : Callee → Bool) (d : Deed) →
     ¬ (body_does types known d b ≡ true)

@@ -32,8 +32,8 @@ fn stands_before(one: Spot, other: Spot) -> bool
     one.line < other.line || one.line == other.line && one.column < other.column
 }
 
-/// The first one of two places, where they are there.
-fn first_of(one: Option<Spot>, other: Option<Spot>) -> Option<Spot>
+/// The first one of two places in the text, where they are there.
+pub fn first_of(one: Option<Spot>, other: Option<Spot>) -> Option<Spot>
     ensures { result ≡ rules.first_of one other }
 {
     match (one, other) {
@@ -48,7 +48,7 @@ fn first_of(one: Option<Spot>, other: Option<Spot>) -> Option<Spot>
 }
 
 /// Where the body of an operation begins, if there is one and it does not fit.
-fn start_unless(program: &Program, fits: bool, operation: Option<ProcedureNo>) -> Option<Spot>
+pub fn start_unless(program: &Program, fits: bool, operation: Option<ProcedureNo>) -> Option<Spot>
     ensures { result ≡ rules.start_unless fits (quiet.operation_body (program_form program.now) operation) }
 {
     if fits {

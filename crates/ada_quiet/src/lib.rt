@@ -83,7 +83,7 @@ mod tracking;
 mod uses;
 mod values;
 
-pub use crate::first::first_unused;
+pub use crate::first::{first_of, first_unused, start_unless};
 pub use crate::idle::makes_parts;
 pub use crate::marks::mark;
 pub use crate::operations::operations_are_quiet;

@@ -82,6 +82,7 @@ module _ (types : List TypeForm) (shuns : ℕ → Bool) (apart : Apart) where
   is_use (deed.Frees t) = is_shunned t.0
   is_use (deed.Follows t) = is_shunned t.0
   is_use deed.Allocates = false
+  is_use deed.Calls = false
 
   -- Where nothing is followed by what is done,
   follows_none : (done : Deed → Bool) → NoneOf is_use done → NoneOf is_shunned (λ t. done (deed.Follows (record { 0 = t })))
@@ -97,6 +98,7 @@ module _ (types : List TypeForm) (shuns : ℕ → Bool) (apart : Apart) where
   none_left hs done none (deed.Frees t) is = none (deed.Frees t) is
   none_left hs done none (deed.Follows t) is = none (deed.Follows t) is
   none_left hs done none deed.Allocates is = absurd (cc is)
+  none_left hs done none deed.Calls is = absurd (cc is)
 
   -- What is of no access type that is shunned may be followed.
   may_be_followed :
@@ -434,6 +436,7 @@ module _ (p : ProgramForm) (shuns : ℕ → Bool) (apart : Apart) (unused : UseN
       false_from_ne_true (body_does p.types (does_by p (deed.Follows t)) (deed.Follows t) b)
       (λ done. unused.follow_none procedure t.0 among shunned.0 (body_done (deed.Follows t) procedure b (type_there p.types t.0 shunned.1) is done))
   body_uses_none procedure b among is deed.Allocates asked = absurd (cc asked)
+  body_uses_none procedure b among is deed.Calls asked = absurd (cc asked)
 
   -- So the bodies of these procedures shun the types.
   pub unused_apart : (definitions : List TypeDefinition) → IsWellFormed p → AreShaped p definitions apart → AreApart p definitions shuns apart

@@ -121,6 +121,7 @@ is_use p u (deed.Raises e) = false
 is_use p u (deed.Frees t) = (u == t.0) && nat_lt t.0 (length p.types)
 is_use p u (deed.Follows t) = (u == t.0) && nat_lt t.0 (length p.types)
 is_use p u deed.Allocates = false
+is_use p u deed.Calls = false
 
 -- What is done is no use of it.
 abbrev pub Spares : ProgramForm → (access : ℕ) → (done : Deed → Bool) → Type 0
@@ -141,6 +142,7 @@ module _ (p : ProgramForm) (u : ℕ) where
   left_spares hs done spares (deed.Frees t) is = spares (deed.Frees t) is
   left_spares hs done spares (deed.Follows t) is = spares (deed.Follows t) is
   left_spares hs done spares deed.Allocates is = absurd (cc is)
+  left_spares hs done spares deed.Calls is = absurd (cc is)
 
   -- Each such procedure of which a call is no use may be called,
   abbrev pub CallsFrugal : Apart → Type 0

@@ -163,6 +163,7 @@ module _ (p : ProgramForm) (u : ℕ) where
   use_of (deed.Frees t) is = (and_parts (u == t.0) (nat_lt t.0 (length p.types)) is).1
   use_of (deed.Follows t) is = (and_parts (u == t.0) (nat_lt t.0 (length p.types)) is).1
   use_of deed.Allocates is = absurd (cc is)
+  use_of deed.Calls is = absurd (cc is)
 
   -- What the body of a procedure does, the procedure does: where that is no use, what its body does is none.
   body_spares :
@@ -252,6 +253,7 @@ module _ (program : Program) (well : IsWellFormed (program_form program)) (uses 
     uses_none n among (deed.Frees t) is done = unused.free_none n t.0 among (and_parts (u == t.0) (nat_lt t.0 (length p.types)) is).0 done
     uses_none n among (deed.Follows t) is done = unused.follow_none n t.0 among (and_parts (u == t.0) (nat_lt t.0 (length p.types)) is).0 done
     uses_none n among deed.Allocates is done = absurd (cc is)
+    uses_none n among deed.Calls is done = absurd (cc is)
 
     -- Each frugal procedure of which a call is no use is among them,
     calls_frugal : CallsFrugal p u apart

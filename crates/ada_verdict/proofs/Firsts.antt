@@ -28,11 +28,13 @@ use Rattle.ada_resolve.specs.declared.fault.NameFault.{NameFault}
 use Rattle.ada_resolve.specs.declared.fault.NameFault.TheVariants as names
 use Rattle.ada_resolve.specs.declared.fault.NameRule.{NameRule}
 use Rattle.ada_resolve.specs.Resolution.{Told as NamesTold, broken, gives, resolution}
+use Rattle.ada_rounds.specs.FirstRound.{HasRound}
 use Rattle.ada_flow.specs.declared.fault.FlowFault.{FlowFault}
 use Rattle.ada_flow.specs.declared.fault.FlowFault.TheVariants as flow
 use Rattle.ada_effects.specs.Effects.{Implicit}
 use Rattle.ada_text.specs.Exactly.{Exactly}
 use Rattle.ada_sound.specs.Always.{SparesHolders, SparesStarts, reaches_holder, starts_spare}
+use Rattle.ada_verdict.specs.declared.fault.RoundFault.TheVariants as round
 use Rattle.ada_verdict.specs.declared.fault.UnusedFault.{UnusedFault}
 use Rattle.ada_verdict.specs.declared.fault.UnusedFault.TheVariants as unused
 use Rattle.ada_verdict.specs.declared.fault.Verdict.{Verdict}
@@ -159,6 +161,7 @@ abbrev is_late : Verdict → Bool
 is_late (verdict.Text f) = false
 is_late (verdict.Syntax f) = false
 is_late (verdict.Names f) = false
+is_late (verdict.Rounds f) = true
 is_late (verdict.Operations f) = true
 is_late (verdict.Unused f) = true
 is_late (verdict.Flow f) = true
@@ -169,6 +172,7 @@ no_early tokens text tree syntax source (verdict.Text f) early b p a = no_text f
 no_early tokens text tree syntax source (verdict.Syntax f) early b p a = no_syntax f (no_fault tokens syntax source a.tree f a.text b)
 no_early tokens text tree syntax source (verdict.Names (names.Broken spot rule)) early b p a = no_names tokens tree source spot rule p b a
 no_early tokens text tree syntax source (verdict.Names names.NoMemory) early b p a = refl
+no_early tokens text tree syntax source (verdict.Rounds f) early b p a = absurd (cc early)
 no_early tokens text tree syntax source (verdict.Operations f) early b p a = absurd (cc early)
 no_early tokens text tree syntax source (verdict.Unused f) early b p a = absurd (cc early)
 no_early tokens text tree syntax source (verdict.Flow f) early b p a = absurd (cc early)
@@ -221,6 +225,7 @@ late_program : (source : List ℕ) (v : Verdict) → is_late v ≡ true → IsFi
 late_program source (verdict.Text f) late a = absurd (cc late)
 late_program source (verdict.Syntax f) late a = absurd (cc late)
 late_program source (verdict.Names f) late a = absurd (cc late)
+late_program source (verdict.Rounds f) late a = (a.0, a.1)
 late_program source (verdict.Operations f) late a = (a.0, a.1)
 late_program source (verdict.Unused f) late a = (a.0, a.1)
 late_program source (verdict.Flow f) late a = (a.0, a.1)
@@ -299,18 +304,21 @@ pub no_first : OneTokens → NoTextFault → OneTree → NoSyntaxFault → (sour
 no_first tokens text tree syntax source (verdict.Text f) b p a = no_early tokens text tree syntax source (verdict.Text f) refl b p a.0
 no_first tokens text tree syntax source (verdict.Syntax f) b p a = no_early tokens text tree syntax source (verdict.Syntax f) refl b p a.0
 no_first tokens text tree syntax source (verdict.Names f) b p a = no_early tokens text tree syntax source (verdict.Names f) refl b p a.0
+no_first tokens text tree syntax source (verdict.Rounds (round.CallsItself spot)) b p a =
+    no_place HasRound (program_form b.0) (program_form p) spot (one_program tokens tree source b.0 p b.1 a.0) b.2 a.1.0
+no_first tokens text tree syntax source (verdict.Rounds round.NoMemory) b p a = refl
 no_first tokens text tree syntax source (verdict.Operations (operations.Broken spot rule)) b p a =
-    no_broken (program_form b.0) (program_form p) spot rule (one_program tokens tree source b.0 p b.1 a.0) b.2 a.1.0
+    no_broken (program_form b.0) (program_form p) spot rule (one_program tokens tree source b.0 p b.1 a.0) b.2.1 a.1.1
 no_first tokens text tree syntax source (verdict.Operations operations.NoMemory) b p a = refl
 no_first tokens text tree syntax source (verdict.Unused (unused.Operation spot)) b p a =
-    no_place HasUnused (program_form b.0) (program_form p) spot (one_program tokens tree source b.0 p b.1 a.0) b.2.1.1 a.1.2.0
+    no_place HasUnused (program_form b.0) (program_form p) spot (one_program tokens tree source b.0 p b.1 a.0) b.2.2.1 a.1.3.0
 no_first tokens text tree syntax source (verdict.Unused (unused.Holder spot)) b p a =
-    no_freed b.0 p spot (one_program tokens tree source b.0 p b.1 a.0) b.2.1.2 a.1.2.1
+    no_freed b.0 p spot (one_program tokens tree source b.0 p b.1 a.0) b.2.2.2 a.1.3.1
 no_first tokens text tree syntax source (verdict.Unused (unused.Start spot)) b p a =
-    absurd (b.2.1.2.1 (same_started p b.0 (one_program tokens tree source p b.0 a.0 b.1) a.1.2.2))
+    absurd (b.2.2.2.1 (same_started p b.0 (one_program tokens tree source p b.0 a.0 b.1) a.1.3.2))
 no_first tokens text tree syntax source (verdict.Unused unused.NoMemory) b p a = refl
 no_first tokens text tree syntax source (verdict.Flow (flow.Broken spot rule)) b p a =
-    obeys_none p spot rule (same_judgement p b.0 (one_program tokens tree source p b.0 a.0 b.1) ∙ b.2.1) a.1.1
+    obeys_none p spot rule (same_judgement p b.0 (one_program tokens tree source p b.0 a.0 b.1) ∙ b.2.2) a.1.2
 no_first tokens text tree syntax source (verdict.Flow flow.NoMemory) b p a = refl
 
 -- One first fault: what each phase's fault says of the later phases.
@@ -341,49 +349,67 @@ early_one tokens text no_text_fault tree syntax no_syntax_fault source (verdict.
     broken_one spot other rule another (sym a.2 ∙ one_resolution tokens tree source a.0 b.0 a.1 b.1 ∙ b.2)
 early_one tokens text no_text_fault tree syntax no_syntax_fault source v (verdict.Names names.NoMemory) x y a b n m = absurd (m refl)
 early_one tokens text no_text_fault tree syntax no_syntax_fault source (verdict.Names names.NoMemory) w x y a b n m = absurd (n refl)
+early_one tokens text no_text_fault tree syntax no_syntax_fault source (verdict.Rounds f) w x y a b n m = absurd (cc x)
 early_one tokens text no_text_fault tree syntax no_syntax_fault source (verdict.Operations f) w x y a b n m = absurd (cc x)
 early_one tokens text no_text_fault tree syntax no_syntax_fault source (verdict.Unused f) w x y a b n m = absurd (cc x)
 early_one tokens text no_text_fault tree syntax no_syntax_fault source (verdict.Flow f) w x y a b n m = absurd (cc x)
+early_one tokens text no_text_fault tree syntax no_syntax_fault source v (verdict.Rounds f) x y a b n m = absurd (cc y)
 early_one tokens text no_text_fault tree syntax no_syntax_fault source v (verdict.Operations f) x y a b n m = absurd (cc y)
 early_one tokens text no_text_fault tree syntax no_syntax_fault source v (verdict.Unused f) x y a b n m = absurd (cc y)
 early_one tokens text no_text_fault tree syntax no_syntax_fault source v (verdict.Flow f) x y a b n m = absurd (cc y)
 
 -- Behind it, of two programs with one form.
 late_one : OneTokens → OneTree → (source : List ℕ) (v w : Verdict) → is_late v ≡ true → is_late w ≡ true → IsFirst source v → IsFirst source w → TellOne v w
+late_one tokens tree source (verdict.Rounds (round.CallsItself spot)) (verdict.Rounds (round.CallsItself other)) x y a b n m =
+    one_place HasRound (program_form a.0) (program_form b.0) spot other (one_program tokens tree source a.0 b.0 a.1 b.1) a.2 b.2 rules.NOT_IN_PROFILE.now
+late_one tokens tree source (verdict.Rounds (round.CallsItself spot)) (verdict.Operations g) x y a b n m =
+    no_place HasRound (program_form a.0) (program_form b.0) spot (one_program tokens tree source a.0 b.0 a.1 b.1) a.2 b.2.0
+late_one tokens tree source (verdict.Operations f) (verdict.Rounds (round.CallsItself spot)) x y a b n m =
+    no_place HasRound (program_form b.0) (program_form a.0) spot (one_program tokens tree source b.0 a.0 b.1 a.1) b.2 a.2.0
+late_one tokens tree source (verdict.Rounds (round.CallsItself spot)) (verdict.Unused g) x y a b n m =
+    no_place HasRound (program_form a.0) (program_form b.0) spot (one_program tokens tree source a.0 b.0 a.1 b.1) a.2 b.2.0
+late_one tokens tree source (verdict.Unused f) (verdict.Rounds (round.CallsItself spot)) x y a b n m =
+    no_place HasRound (program_form b.0) (program_form a.0) spot (one_program tokens tree source b.0 a.0 b.1 a.1) b.2 a.2.0
+late_one tokens tree source (verdict.Rounds (round.CallsItself spot)) (verdict.Flow g) x y a b n m =
+    no_place HasRound (program_form a.0) (program_form b.0) spot (one_program tokens tree source a.0 b.0 a.1 b.1) a.2 b.2.0
+late_one tokens tree source (verdict.Flow f) (verdict.Rounds (round.CallsItself spot)) x y a b n m =
+    no_place HasRound (program_form b.0) (program_form a.0) spot (one_program tokens tree source b.0 a.0 b.1 a.1) b.2 a.2.0
 late_one tokens tree source (verdict.Operations (operations.Broken spot rule)) (verdict.Operations (operations.Broken other another)) x y a b n m =
-    one_operation (program_form a.0) (program_form b.0) spot other rule another (one_program tokens tree source a.0 b.0 a.1 b.1) a.2 b.2
+    one_operation (program_form a.0) (program_form b.0) spot other rule another (one_program tokens tree source a.0 b.0 a.1 b.1) a.2.1 b.2.1
 late_one tokens tree source (verdict.Operations (operations.Broken spot rule)) (verdict.Unused g) x y a b n m =
-    no_broken (program_form a.0) (program_form b.0) spot rule (one_program tokens tree source a.0 b.0 a.1 b.1) a.2 b.2.0
+    no_broken (program_form a.0) (program_form b.0) spot rule (one_program tokens tree source a.0 b.0 a.1 b.1) a.2.1 b.2.1
 late_one tokens tree source (verdict.Operations (operations.Broken spot rule)) (verdict.Flow g) x y a b n m =
-    no_broken (program_form a.0) (program_form b.0) spot rule (one_program tokens tree source a.0 b.0 a.1 b.1) a.2 b.2.0
+    no_broken (program_form a.0) (program_form b.0) spot rule (one_program tokens tree source a.0 b.0 a.1 b.1) a.2.1 b.2.1
 late_one tokens tree source (verdict.Unused f) (verdict.Operations (operations.Broken spot rule)) x y a b n m =
-    no_broken (program_form b.0) (program_form a.0) spot rule (one_program tokens tree source b.0 a.0 b.1 a.1) b.2 a.2.0
+    no_broken (program_form b.0) (program_form a.0) spot rule (one_program tokens tree source b.0 a.0 b.1 a.1) b.2.1 a.2.1
 late_one tokens tree source (verdict.Unused (unused.Operation spot)) (verdict.Unused (unused.Operation other)) x y a b n m =
-    one_place HasUnused (program_form a.0) (program_form b.0) spot other (one_program tokens tree source a.0 b.0 a.1 b.1) a.2.1.1 b.2.1.1 rules.NOT_IN_PROFILE.now
+    one_place HasUnused (program_form a.0) (program_form b.0) spot other (one_program tokens tree source a.0 b.0 a.1 b.1) a.2.2.1 b.2.2.1 rules.NOT_IN_PROFILE.now
 late_one tokens tree source (verdict.Unused (unused.Operation spot)) (verdict.Unused (unused.Holder other)) x y a b n m =
-    no_place HasUnused (program_form a.0) (program_form b.0) spot (one_program tokens tree source a.0 b.0 a.1 b.1) a.2.1.1 b.2.1.1
+    no_place HasUnused (program_form a.0) (program_form b.0) spot (one_program tokens tree source a.0 b.0 a.1 b.1) a.2.2.1 b.2.2.1
 late_one tokens tree source (verdict.Unused (unused.Operation spot)) (verdict.Unused (unused.Start other)) x y a b n m =
-    no_place HasUnused (program_form a.0) (program_form b.0) spot (one_program tokens tree source a.0 b.0 a.1 b.1) a.2.1.1 b.2.1.1
+    no_place HasUnused (program_form a.0) (program_form b.0) spot (one_program tokens tree source a.0 b.0 a.1 b.1) a.2.2.1 b.2.2.1
 late_one tokens tree source (verdict.Unused (unused.Holder other)) (verdict.Unused (unused.Operation spot)) x y a b n m =
-    no_place HasUnused (program_form b.0) (program_form a.0) spot (one_program tokens tree source b.0 a.0 b.1 a.1) b.2.1.1 a.2.1.1
+    no_place HasUnused (program_form b.0) (program_form a.0) spot (one_program tokens tree source b.0 a.0 b.1 a.1) b.2.2.1 a.2.2.1
 late_one tokens tree source (verdict.Unused (unused.Start other)) (verdict.Unused (unused.Operation spot)) x y a b n m =
-    no_place HasUnused (program_form b.0) (program_form a.0) spot (one_program tokens tree source b.0 a.0 b.1 a.1) b.2.1.1 a.2.1.1
+    no_place HasUnused (program_form b.0) (program_form a.0) spot (one_program tokens tree source b.0 a.0 b.1 a.1) b.2.2.1 a.2.2.1
 late_one tokens tree source (verdict.Unused (unused.Holder spot)) (verdict.Unused (unused.Holder other)) x y a b n m =
-    one_freed (program_form a.0) (program_form b.0) spot other (one_program tokens tree source a.0 b.0 a.1 b.1) a.2.1.2 b.2.1.2 rules.NOT_IN_PROFILE.now
+    one_freed (program_form a.0) (program_form b.0) spot other (one_program tokens tree source a.0 b.0 a.1 b.1) a.2.2.2 b.2.2.2 rules.NOT_IN_PROFILE.now
 late_one tokens tree source (verdict.Unused (unused.Holder spot)) (verdict.Unused (unused.Start other)) x y a b n m =
-    no_freed a.0 b.0 spot (one_program tokens tree source a.0 b.0 a.1 b.1) a.2.1.2 b.2.1.2.0
+    no_freed a.0 b.0 spot (one_program tokens tree source a.0 b.0 a.1 b.1) a.2.2.2 b.2.2.2.0
 late_one tokens tree source (verdict.Unused (unused.Start other)) (verdict.Unused (unused.Holder spot)) x y a b n m =
-    no_freed b.0 a.0 spot (one_program tokens tree source b.0 a.0 b.1 a.1) b.2.1.2 a.2.1.2.0
+    no_freed b.0 a.0 spot (one_program tokens tree source b.0 a.0 b.1 a.1) b.2.2.2 a.2.2.2.0
 late_one tokens tree source (verdict.Unused (unused.Start spot)) (verdict.Unused (unused.Start other)) x y a b n m =
-    one_started (program_form a.0) (program_form b.0) spot other (one_program tokens tree source a.0 b.0 a.1 b.1) a.2.1.2.2 b.2.1.2.2 rules.NOT_IN_PROFILE.now
+    one_started (program_form a.0) (program_form b.0) spot other (one_program tokens tree source a.0 b.0 a.1 b.1) a.2.2.2.2 b.2.2.2.2 rules.NOT_IN_PROFILE.now
 late_one tokens tree source (verdict.Unused f) (verdict.Flow (flow.Broken other rule)) x y a b n m =
-    obeys_none a.0 other rule (same_judgement a.0 b.0 (one_program tokens tree source a.0 b.0 a.1 b.1) ∙ b.2.1) (unused_obeys a.0 f a.2.1)
+    obeys_none a.0 other rule (same_judgement a.0 b.0 (one_program tokens tree source a.0 b.0 a.1 b.1) ∙ b.2.2) (unused_obeys a.0 f a.2.2)
 late_one tokens tree source (verdict.Flow f) (verdict.Operations (operations.Broken spot rule)) x y a b n m =
-    no_broken (program_form b.0) (program_form a.0) spot rule (one_program tokens tree source b.0 a.0 b.1 a.1) b.2 a.2.0
+    no_broken (program_form b.0) (program_form a.0) spot rule (one_program tokens tree source b.0 a.0 b.1 a.1) b.2.1 a.2.1
 late_one tokens tree source (verdict.Flow (flow.Broken other rule)) (verdict.Unused g) x y a b n m =
-    obeys_none b.0 other rule (same_judgement b.0 a.0 (one_program tokens tree source b.0 a.0 b.1 a.1) ∙ a.2.1) (unused_obeys b.0 g b.2.1)
+    obeys_none b.0 other rule (same_judgement b.0 a.0 (one_program tokens tree source b.0 a.0 b.1 a.1) ∙ a.2.2) (unused_obeys b.0 g b.2.2)
 late_one tokens tree source (verdict.Flow (flow.Broken spot rule)) (verdict.Flow (flow.Broken other another)) x y a b n m =
-    breach_one spot other rule another (sym a.2.1 ∙ same_judgement a.0 b.0 (one_program tokens tree source a.0 b.0 a.1 b.1) ∙ b.2.1)
+    breach_one spot other rule another (sym a.2.2 ∙ same_judgement a.0 b.0 (one_program tokens tree source a.0 b.0 a.1 b.1) ∙ b.2.2)
+late_one tokens tree source v (verdict.Rounds round.NoMemory) x y a b n m = absurd (m refl)
+late_one tokens tree source (verdict.Rounds round.NoMemory) w x y a b n m = absurd (n refl)
 late_one tokens tree source v (verdict.Operations operations.NoMemory) x y a b n m = absurd (m refl)
 late_one tokens tree source (verdict.Operations operations.NoMemory) w x y a b n m = absurd (n refl)
 late_one tokens tree source v (verdict.Unused unused.NoMemory) x y a b n m = absurd (m refl)
@@ -411,6 +437,7 @@ pub program_first : (source : List ℕ) (p : Program) (v : Verdict) → IsProgra
 program_first source p (verdict.Text f) meant first = absurd first
 program_first source p (verdict.Syntax f) meant first = absurd first
 program_first source p (verdict.Names f) meant first = absurd first
+program_first source p (verdict.Rounds f) meant first = (p, meant, first)
 program_first source p (verdict.Operations f) meant first = (p, meant, first)
 program_first source p (verdict.Unused f) meant first = (p, meant, first)
 program_first source p (verdict.Flow f) meant first = (p, meant, first)

@@ -1,5 +1,5 @@
--- The program of a source, and its first fault. The phases are text, syntax, names, the rules on operations of controlled types, flow, and which operations are
--- in use.
+-- The program of a source, and its first fault. The phases are text, syntax, names, which operations of controlled types call themselves, the rules on what
+-- operations do, flow, and which operations are in use.
 
 use Rattle.std.specs.Prelude.{◌≡◌, ◌≢◌, ℕ, true, List, Some, None}
 use Rattle.ada_text.specs.declared.spot.Spot.{Spot}
@@ -19,9 +19,12 @@ use Rattle.ada_quiet.specs.InUse.{may_be_frugal}
 use Rattle.ada_quiet.specs.Releases.{first_spot, text_frees_inside}
 use Rattle.ada_resolve.specs.Resolution.{Resolves}
 use Rattle.ada_resolve.specs.View.{Faults}
+use Rattle.ada_rounds.specs.FirstRound.{IsFirstRound}
 use Rattle.ada_flow.specs.Flow.{ObeysRules}
 use Rattle.ada_flow.specs.Told.{IsFirstFault as IsFirstFlowFault}
 use Rattle.ada_sound.specs.Always.{SparesHolders, SparesStarts, reaches_holder}
+use Rattle.ada_verdict.specs.declared.fault.RoundFault.{RoundFault}
+use Rattle.ada_verdict.specs.declared.fault.RoundFault.TheVariants as round
 use Rattle.ada_verdict.specs.declared.fault.UnusedFault.{UnusedFault}
 use Rattle.ada_verdict.specs.declared.fault.UnusedFault.TheVariants as unused
 use Rattle.ada_verdict.specs.declared.fault.Verdict.{Verdict}
@@ -41,6 +44,10 @@ pub record IsProgramOf (source : List ℕ) (program : Program) : Type 0 where
   pub text : IsSourceOf source tree
   pub resolved : Resolves tree (program_form program)
 
+-- No Initialize and no Adjust of a controlled type calls itself, directly or by way of other procedures and operations (7.6).
+abbrev pub NoneCallsItself : Program → Type 0
+NoneCallsItself program = IsFirstRound (program_form program) None
+
 -- No operation of a controlled type breaks a rule on what it may do (7.6.1).
 abbrev pub OperationsObey : Program → Type 0
 OperationsObey program = IsFirstOf (program_form program) None
@@ -52,14 +59,19 @@ OperationsObey program = IsFirstOf (program_form program) None
 abbrev pub OperationsAreInUse : Program → Type 0
 OperationsAreInUse program = IsFirstNotInUse (program_form program) None × SparesHolders program × SparesStarts program
 
--- Nothing is wrong with a program, by the phases behind names: its operations obey their rules, it obeys the rules of flow, where what operations may
--- do that are called implicitly counts, and its operations are in use.
+-- Nothing is wrong with a program, by the phases behind names: no Initialize and no Adjust calls itself, its operations obey their rules, it obeys the rules of
+-- flow, where what operations may do that are called implicitly counts, and its operations are in use.
 abbrev pub HasNoFault : Program → Type 0
-HasNoFault program = OperationsObey program × ObeysRules program × OperationsAreInUse program
+HasNoFault program = NoneCallsItself program × OperationsObey program × ObeysRules program × OperationsAreInUse program
 
 -- The program is that of the source, and nothing is wrong with it.
 abbrev pub IsAccepted : List ℕ → Program → Type 0
 IsAccepted source program = IsProgramOf source program × HasNoFault program
+
+-- The first Initialize or Adjust of a program that calls itself.
+abbrev pub IsFirstCircling : Program → RoundFault → Type 0
+IsFirstCircling program (round.CallsItself spot) = IsFirstRound (program_form program) (Some spot)
+IsFirstCircling program round.NoMemory = Unit {0}
 
 -- The first fault of the operations of a program.
 abbrev pub IsFirstBroken : Program → OperationFault → Type 0
@@ -95,15 +107,17 @@ abbrev pub IsFirstIn : Program → Verdict → Type 0
 IsFirstIn program (verdict.Text fault) = ⊥
 IsFirstIn program (verdict.Syntax fault) = ⊥
 IsFirstIn program (verdict.Names fault) = ⊥
-IsFirstIn program (verdict.Operations fault) = IsFirstBroken program fault
-IsFirstIn program (verdict.Unused fault) = OperationsObey program × IsFirstUnused program fault
-IsFirstIn program (verdict.Flow fault) = OperationsObey program × IsFirstFlowFault program fault
+IsFirstIn program (verdict.Rounds fault) = IsFirstCircling program fault
+IsFirstIn program (verdict.Operations fault) = NoneCallsItself program × IsFirstBroken program fault
+IsFirstIn program (verdict.Unused fault) = NoneCallsItself program × OperationsObey program × IsFirstUnused program fault
+IsFirstIn program (verdict.Flow fault) = NoneCallsItself program × OperationsObey program × IsFirstFlowFault program fault
 
 -- The first fault of a source: that of the first phase that has one, of what that phase begins with. Want of memory is no fault of a source.
 abbrev pub IsFirst : List ℕ → Verdict → Type 0
 IsFirst source (verdict.Text fault) = IsFirstTextFault source fault
 IsFirst source (verdict.Syntax fault) = (tokens : List Lexeme) × Spells source tokens × IsFirstSyntaxFault tokens fault
 IsFirst source (verdict.Names fault) = (tree : UnitTree) × IsSourceOf source tree × Faults fault tree
+IsFirst source (verdict.Rounds fault) = (program : Program) × IsProgramOf source program × IsFirstIn program (verdict.Rounds fault)
 IsFirst source (verdict.Operations fault) = (program : Program) × IsProgramOf source program × IsFirstIn program (verdict.Operations fault)
 IsFirst source (verdict.Unused fault) = (program : Program) × IsProgramOf source program × IsFirstIn program (verdict.Unused fault)
 IsFirst source (verdict.Flow fault) = (program : Program) × IsProgramOf source program × IsFirstIn program (verdict.Flow fault)

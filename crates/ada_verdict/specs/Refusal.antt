@@ -16,6 +16,8 @@ use Rattle.ada_resolve.specs.declared.fault.NameRule.{NameRule}
 use Rattle.ada_resolve.specs.declared.fault.NameRule.TheVariants as name
 use Rattle.ada_parser.specs.declared.fault.SyntaxFault.{SyntaxFault}
 use Rattle.ada_parser.specs.declared.fault.SyntaxFault.TheVariants as syntax
+use Rattle.ada_verdict.specs.declared.fault.RoundFault.{RoundFault}
+use Rattle.ada_verdict.specs.declared.fault.RoundFault.TheVariants as round
 use Rattle.ada_verdict.specs.declared.fault.UnusedFault.{UnusedFault}
 use Rattle.ada_verdict.specs.declared.fault.UnusedFault.TheVariants as unused
 use Rattle.ada_verdict.specs.declared.fault.Verdict.{Verdict}
@@ -59,6 +61,11 @@ name_text name.NoInitialValue = rules.NO_INITIAL_VALUE.now
 name_text name.BodyMissing = rules.BODY_MISSING.now
 name_text name.Limit = rules.LIMIT.now
 
+-- An Initialize or an Adjust that calls itself.
+abbrev pub round_told : RoundFault → Option Told
+round_told (round.CallsItself spot) = told spot rules.NOT_IN_PROFILE.now
+round_told round.NoMemory = None
+
 -- The rules on operations of controlled types.
 abbrev pub operation_text : OperationRule → List ℕ
 operation_text operation.FinalizeOrder = rules.FINALIZE_ORDER.now
@@ -94,6 +101,7 @@ refusal_of (verdict.Text fault) = text_told fault
 refusal_of (verdict.Syntax fault) = syntax_told fault
 refusal_of (verdict.Names (names.Broken spot broken)) = told spot (name_text broken)
 refusal_of (verdict.Names names.NoMemory) = None
+refusal_of (verdict.Rounds fault) = round_told fault
 refusal_of (verdict.Operations fault) = operation_told fault
 refusal_of (verdict.Unused fault) = unused_told fault
 refusal_of (verdict.Flow (flow.Broken spot broken)) = told spot (rule_text broken)

@@ -13,9 +13,9 @@ ghost use Rattle.ada_program.specs.WellFormed.{IsWellFormed};
 ghost use Rattle.ada_quiet.specs.InUse.{operations_are_in_use};
 ghost use Rattle.ada_sound.specs.Always.{IsChecked, SparesHolders, SparesStarts};
 ghost use Rattle.ada_tree.specs.StatementView.{unit_of};
-ghost use Rattle.ada_verdict.specs.First.{HasNoFault, IsAccepted, IsFirst, IsFirstIn, IsFirstUnspared, IsFirstUnused, IsProgramOf, IsSourceOf, OperationsAreInUse, RefusesRightly};
+ghost use Rattle.ada_verdict.specs.First.{HasNoFault, IsAccepted, IsFirst, IsFirstCircling, IsFirstIn, IsFirstUnspared, IsFirstUnused, IsProgramOf, IsSourceOf, NoneCallsItself, OperationsAreInUse, RefusesRightly};
 
-use crate::fault::{UnusedFault, Verdict};
+use crate::fault::{RoundFault, UnusedFault, Verdict};
 use crate::holders::reaching_holders;
 use crate::laws::accepted_sources_have_no_fault;
 use crate::starts::{first_unspared, freeing_spot};
@@ -27,6 +27,7 @@ use ada_parser::parse;
 use ada_program::Program;
 use ada_quiet::{first_freed_inside, first_unused, makes_parts, may_be_frugal};
 use ada_resolve::resolve;
+use ada_rounds::first_round;
 use ada_sound::laws::rules_imply_safety;
 use ada_tree::unit::Unit;
 use std::alloc::Global;
@@ -70,8 +71,8 @@ impl Accepted {
 }
 
 /// Checks a source: it is accepted exactly where it is a program that obeys the rules, out of memory aside, and then
-/// the program is safe; else this is its first fault. The phases are text, syntax, names, the rules on operations of controlled
-/// types, flow, and which operations are in use; a fault is that of the first phase that has one.
+/// the program is safe; else this is its first fault. The phases are text, syntax, names, which operations of controlled types call
+/// themselves, the rules on what operations do, flow, and which operations are in use; a fault is that of the first phase that has one.
 ///
 /// # Errors
 /// The first fault, or want of memory.
@@ -103,8 +104,8 @@ fn checked(alloc: Global, source: &[u8]) -> Result<Accepted, Verdict>
     Ok(Accepted { program })
 }
 
-/// The phases behind names, one after another: operations obey the rules on what they may do, the flow of values obeys its rules,
-/// where what they may do counts, and each operation is in use.
+/// The phases behind names, one after another: no Initialize and no Adjust calls itself, operations obey the rules on what they may do,
+/// the flow of values obeys its rules, where what they may do counts, and each operation is in use.
 ///
 /// # Errors
 /// The first fault, or want of memory.
@@ -116,10 +117,25 @@ fn judge(alloc: Global, program: &Program) -> Result<(), Verdict>
     ensures starts { IfOk result (λ _. SparesStarts program.now) }
     ensures refused { IfErr result (λ verdict. IsFirstIn program.now verdict) }
 {
+    shun_rounds(alloc, program)?;
     let implicit = operations(alloc, program)?;
     obey(alloc, program, &implicit)?;
     use_all(alloc, program, &implicit)?;
     Ok(())
+}
+
+/// No Initialize and no Adjust calls itself.
+///
+/// # Errors
+/// The first one in the text that does, or want of memory.
+fn shun_rounds(alloc: Global, program: &Program) -> Result<(), RoundFault>
+    ensures none { IfOk result (λ _. NoneCallsItself program.now) }
+    ensures refused { IfErr result (λ fault. IsFirstCircling program.now fault) }
+{
+    match first_round(alloc, program)? {
+        Some(spot) => Err(RoundFault::CallsItself(spot)),
+        None => Ok(()),
+    }
 }
 
 /// The flow of values obeys its rules, where this is known of the operations that are called implicitly.

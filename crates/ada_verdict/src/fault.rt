@@ -16,9 +16,18 @@ pub enum Verdict {
     Text(TextFault),
     Syntax(SyntaxFault),
     Names(NameFault),
+    Rounds(RoundFault),
     Operations(OperationFault),
     Unused(UnusedFault),
     Flow(FlowFault),
+}
+
+/// An Initialize or an Adjust that calls itself, or that memory ran out.
+#[derive(Drop)]
+pub enum RoundFault {
+    /// It does so by implicit calls, directly or by way of other procedures and operations (7.6). Its body begins here.
+    CallsItself(Spot),
+    NoMemory,
 }
 
 /// An operation of a controlled type that is not in use yet, or that memory ran out.
@@ -35,6 +44,16 @@ pub enum UnusedFault {
     /// whose body begins here.
     Start(Spot),
     NoMemory,
+}
+
+impl From<AllocError> for RoundFault {
+    ghost use Rattle.ada_verdict.specs.declared.fault.RoundFault.TheVariants as round;
+
+    ghost from_gives = { λ _ fault. fault ≡ round.NoMemory };
+
+    fn from(_error: AllocError) -> RoundFault {
+        RoundFault::NoMemory
+    }
 }
 
 impl From<AllocError> for UnusedFault {
@@ -74,6 +93,16 @@ impl From<NameFault> for Verdict {
 
     fn from(fault: NameFault) -> Verdict {
         Verdict::Names(fault)
+    }
+}
+
+impl From<RoundFault> for Verdict {
+    ghost use Rattle.ada_verdict.specs.declared.fault.Verdict.TheVariants.{Rounds};
+
+    ghost from_gives = { λ fault verdict. verdict ≡ Rounds fault };
+
+    fn from(fault: RoundFault) -> Verdict {
+        Verdict::Rounds(fault)
     }
 }
 

@@ -4,7 +4,7 @@ ghost use Rattle.std.specs.Prelude.{◌≡◌};
 ghost use Rattle.ada_verdict.specs.Refusal as printed;
 ghost use Rattle.ada_verdict.specs.Shown.{shown_if};
 
-use crate::fault::{UnusedFault, Verdict};
+use crate::fault::{RoundFault, UnusedFault, Verdict};
 use crate::rules;
 use ada_flow::{FlowFault, Rule};
 use ada_operations::{OperationFault, OperationRule};
@@ -32,6 +32,7 @@ impl Verdict {
             Verdict::Text(fault) => text_refusal(fault),
             Verdict::Syntax(fault) => syntax_refusal(fault),
             Verdict::Names(NameFault::Broken { spot, rule }) => refused(*spot, name_text(*rule)),
+            Verdict::Rounds(fault) => round_refusal(fault),
             Verdict::Operations(fault) => operation_refusal(fault),
             Verdict::Unused(fault) => unused_refusal(fault),
             Verdict::Flow(FlowFault::Broken { spot, rule }) => refused(*spot, rule_text(*rule)),
@@ -70,6 +71,16 @@ fn syntax_refusal(fault: &SyntaxFault) -> Option<Refusal>
         SyntaxFault::TooDeep(spot) => refused(*spot, rules::TOO_DEEP),
         SyntaxFault::EndOfSource(spot) => refused(*spot, rules::END_OF_SOURCE),
         SyntaxFault::NoMemory => None,
+    }
+}
+
+/// The refusal for an operation that calls itself.
+fn round_refusal(fault: &RoundFault) -> Option<Refusal>
+    ensures { shown_if result ≡ printed.round_told fault.now }
+{
+    match fault {
+        RoundFault::CallsItself(spot) => refused(*spot, rules::NOT_IN_PROFILE),
+        RoundFault::NoMemory => None,
     }
 }
 

@@ -17,12 +17,12 @@ invariant_of-result c = record {
   in_use = c.in_ok-judge.ensures.in_use;
   nests = c.in_ok-program.ensures.nests;
   frees_own = c.in_ok-program.ensures.frees_own;
-  spares_own = all_spare c.ends_spare_their_own.ensures (program_form c.in_ok-program.program) c.in_ok-judge.ensures.fine.0;
+  spares_own = all_spare c.ends_spare_their_own.ensures (program_form c.in_ok-program.program) c.in_ok-judge.ensures.fine.1;
   lets_nothing_out = none_called (program_form c.in_ok-program.program)
-      (c.obeying_propagates_nothing.ensures (program_form c.in_ok-program.program) c.in_ok-judge.ensures.fine.0);
+      (c.obeying_propagates_nothing.ensures (program_form c.in_ok-program.program) c.in_ok-judge.ensures.fine.1);
   spares_holders = c.in_ok-judge.ensures.holders;
   spares_starts = c.in_ok-judge.ensures.starts;
-  obeys = c.in_ok-judge.ensures.fine.1;
+  obeys = c.in_ok-judge.ensures.fine.2;
 }
 
 pub returns-clause-sound : goal.returns-clause-sound
@@ -31,10 +31,10 @@ returns-clause-sound c = record {
   in_use = c.in_ok-judge.ensures.in_use;
   nests = c.in_ok-program.ensures.nests;
   frees_own = c.in_ok-program.ensures.frees_own;
-  spares_own = all_spare c.ends_spare_their_own.ensures (program_form c.in_ok-program.program) c.in_ok-judge.ensures.fine.0;
+  spares_own = all_spare c.ends_spare_their_own.ensures (program_form c.in_ok-program.program) c.in_ok-judge.ensures.fine.1;
   lets_nothing_out = none_called (program_form c.in_ok-program.program)
-      (c.obeying_propagates_nothing.ensures (program_form c.in_ok-program.program) c.in_ok-judge.ensures.fine.0);
+      (c.obeying_propagates_nothing.ensures (program_form c.in_ok-program.program) c.in_ok-judge.ensures.fine.1);
   spares_holders = c.in_ok-judge.ensures.holders;
   spares_starts = c.in_ok-judge.ensures.starts;
-  obeys = c.in_ok-judge.ensures.fine.1;
+  obeys = c.in_ok-judge.ensures.fine.2;
 }

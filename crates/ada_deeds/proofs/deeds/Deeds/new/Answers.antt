@@ -5,7 +5,7 @@ use Rattle.ada_deeds.specs.Does.{is_deed_of}
 use Rattle.ada_deeds.specs.declared.deed.Deed.{Deed}
 use Rattle.ada_deeds.specs.declared.deed.Deed.TheVariants as deed
 use Rattle.ada_deeds.specs.declared.deeds.Deeds.{Deeds}
-use Rattle.ada_deeds.proofs.Calling.{reached_are_doers}
+use Rattle.ada_deeds.proofs.Calling.{none_reached, reached_are_doers}
 use Rattle.ada_deeds.proofs.Exact.{exact, is_counted, numbered_exact}
 use Rattle.ada_program.specs.declared.program.Exception.TheVariants.{Declared}
 use Rattle.ada_program.specs.ProgramForm.{program_form, body_form, type_form}
@@ -54,6 +54,7 @@ returns c =
       storage_error = c.in_ok-storage_error.ensures;
       end_error = c.in_ok-end_error.ensures;
       allocates = reached_are_doers p deed.Allocates n.procedures n.types graph _ _ ps ts refl (searched.graph deed.Allocates refl) c.in_ok-allocates.ensures;
+      calls = reached_are_doers p deed.Calls n.procedures n.types graph _ _ ps ts refl (searched.graph deed.Calls refl) (none_reached graph);
       declared = numbered_exact p raising n.procedures n.types c.len-exceptions.result deeds.declared.items ps ts (λ m. ap (nat_lt m) (sym es)) c.in_ok-declared.ensures.size c.in_ok-declared.ensures.rows;
       frees = numbered_exact p freeing n.procedures n.types c.len-types.result deeds.frees.items ps ts frees_are c.in_ok-frees.ensures.size
           (λ m lt. let of = is_counted p freeing c.len-types.result m (frees_are m) lt in
