@@ -1,5 +1,5 @@
--- How many procedures there are up to the last one that overrides an operation of a part of a record type's objects, found in one pass over the types: at least so many as up to
--- each of those that override an operation of a record that lies in its objects (7.6).
+-- How many procedures there are up to the last one that overrides an operation of a part of a record type's objects, found in one pass over the types: at
+-- least so many as up to each of those that override an operation of a record that lies in its objects (7.6).
 
 use Rattle.std.proofs.Common.{◌≡◌, ℕ, zero, suc, ◌+◌, ◌<◌, ◌≤◌, true, List, [], ◌∷◌, ◌++◌, length, map, get_or, Option, Some, None, inl, inr, refl, sym, ap, ◌∙◌, subst, arith, add-one, Bor}
 use Rattle.std.specs.List.{list_all, slice_get, slice_index_or}
@@ -49,7 +49,8 @@ module _ (types given : List TypeDefinition) (are : given ≡ types) (table item
       let forms = map type_form types in
       let one = item_numbered types given are table items same known n below item at in
       let here : count_up_to found ≡ type_count forms (map count_up_to last) (type_numbered forms n) =
-      told ∙ ap (λ (c : List (Option ProcedureNo)). type_count forms (map count_up_to c) (option_map type_form (option_copied item))) sees ∙ ap (type_count forms (map count_up_to last)) one in
+      told ∙ ap (λ (c : List (Option ProcedureNo)). type_count forms (map count_up_to c) (option_map type_form (option_copied item))) sees
+      ∙ ap (type_count forms (map count_up_to last)) one in
       ap (map count_up_to) pushed ∙ counted_behind last found ∙ ap (λ (k : ℕ). map count_up_to last ++ k ∷ []) here
       ∙ ap (λ (c : List ℕ). c ++ type_count forms c (type_numbered forms n) ∷ []) before ∙ ap (counts_up_to forms) (sym (add-one n))
 
@@ -72,7 +73,8 @@ module _ (types : List TypeForm) where
       by (Some f) less = kept_up 0 types (type_count types) up refl (λ n. refl) count n f.number.0 within (ltb-true f.number.0 n less)
   part_kept count n within part.Parent earlier = refl
 
-  parts_kept : (count n : ℕ) → n ≤ count → (ps : List PartForm) → list_all (λ q. is_of_earlier types n q.kind) ps ≡ true → parts_count types (up n) ps ≡ parts_count types (up count) ps
+  parts_kept : (count n : ℕ) → n ≤ count → (ps : List PartForm) → list_all (λ q. is_of_earlier types n q.kind) ps ≡ true
+      → parts_count types (up n) ps ≡ parts_count types (up count) ps
   parts_kept count n within [] earlier = refl
   parts_kept count n within (p ∷ ps) earlier =
       let here = part_kept count n within p.kind (first_of_both (is_of_earlier types n p.kind) (list_all (λ q. is_of_earlier types n q.kind) ps) earlier) in
@@ -84,7 +86,8 @@ module _ (types : List TypeForm) where
   one_within counts [] i q there = absurd (cc there)
   one_within counts (p ∷ ps) zero q there =
       let same : p ≡ q = cc there in
-      subst (λ (r : PartForm). part_count types counts r.kind ≤ parts_count types counts (p ∷ ps)) same (first_within (part_count types counts p.kind) (parts_count types counts ps))
+      subst (λ (r : PartForm). part_count types counts r.kind ≤ parts_count types counts (p ∷ ps)) same
+      (first_within (part_count types counts p.kind) (parts_count types counts ps))
   one_within counts (p ∷ ps) (suc i) q there =
       let later = one_within counts ps i q there in
       let whole = second_within (part_count types counts p.kind) (parts_count types counts ps) in
@@ -104,7 +107,8 @@ module _ (types : List TypeForm) where
         known_up 0 types (type_count types) up refl (λ n. refl) (numbered_types types) f.number.0 s.below ∙ ap (type_count types (up f.number.0)) s.found
         ∙ ap (greater (own_count f.operations)) (parts_kept (numbered_types types) f.number.0 (let less = s.below in omega (arith, less)) ps s.earlier)
 
-    own_counted : (u : ℕ) (form : Option TypeForm) (g : Finalization) → slice_get types u ≡ form → finalization_in form ≡ Some g → own_count g.operations ≤ slice_index_or all g.number.0 0
+    own_counted : (u : ℕ) (form : Option TypeForm) (g : Finalization) → slice_get types u ≡ form → finalization_in form ≡ Some g
+        → own_count g.operations ≤ slice_index_or all g.number.0 0
     own_counted u None g at is = absurd (cc is)
     own_counted u (Some (record_of name ps components None)) g at is = absurd (cc is)
     own_counted u (Some (record_of name ps components (Some f))) g at is =

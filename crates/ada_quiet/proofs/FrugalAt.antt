@@ -46,16 +46,19 @@ module _ (one other : Thrift) (same : one.types ≡ other.types) (lets : one.obj
   declaration_more (collects access) h = h
   declaration_more (declares x right) h = right_more right h
   declaration_more (declares_record x t None) h =
-      others one.objects (holds_scalars one.types t) other.objects (holds_scalars other.types t) lets (λ scalars. ap (λ (types : List TypeForm). holds_scalars types t) (sym same) ∙ scalars) h
+      others one.objects (holds_scalars one.types t) other.objects (holds_scalars other.types t) lets
+      (λ scalars. ap (λ (types : List TypeForm). holds_scalars types t) (sym same) ∙ scalars) h
   declaration_more (declares_record x t (Some items)) h = h
 
   declarations_more : (ds : List DeclarationForm) → are_frugal_declarations one ds ≡ true → are_frugal_declarations other ds ≡ true
   declarations_more [] h = refl
   declarations_more (d ∷ ds) h =
-      others (is_frugal_declaration one d) (are_frugal_declarations one ds) (is_frugal_declaration other d) (are_frugal_declarations other ds) (declaration_more d) (declarations_more ds) h
+      others (is_frugal_declaration one d) (are_frugal_declarations one ds) (is_frugal_declaration other d) (are_frugal_declarations other ds)
+      (declaration_more d) (declarations_more ds) h
 
   -- A record that is assigned is so by the types alone.
-  assigned_more : (target : RecordPathForm) (items : List ItemForm) → is_frugal_stmt one (assigns_record target items) ≡ true → is_frugal_stmt other (assigns_record target items) ≡ true
+  assigned_more : (target : RecordPathForm) (items : List ItemForm) → is_frugal_stmt one (assigns_record target items) ≡ true
+      → is_frugal_stmt other (assigns_record target items) ≡ true
   assigned_more target items h =
       ap (λ (types : List TypeForm). not (is_some (finalization_of types target.record_type)) && list_all (is_bare_item types) items) (sym same) ∙ h
 
@@ -147,7 +150,8 @@ from_at types objects known (c ∷ bs) zero i b place at told =
     let frugal : here ≡ true = sym (kept ∙ append_last known here) ∙ ap (λ (j : ℕ). slice_index_or (frugal_from types objects more bs) j false) (sym first) ∙ told in
     let same : c ≡ b = cc at in
     subst (λ (d : BodyForm). is_frugal_body (by types objects (frugal_from types objects more bs)) d ≡ true) same
-    (body_more (by types objects known) (by types objects (frugal_from types objects more bs)) refl (λ same. same) (λ j h. from_more types objects more bs j (append_more known (here ∷ []) j h)) c frugal)
+    (body_more (by types objects known) (by types objects (frugal_from types objects more bs)) refl (λ same. same)
+    (λ j h. from_more types objects more bs j (append_more known (here ∷ []) j h)) c frugal)
 from_at types objects known (c ∷ bs) (suc n) i b place at told =
     let here = is_frugal_body (by types objects known) c in
     from_at types objects (known ++ here ∷ []) bs n i b (omega (arith, place, append_length known here)) at told

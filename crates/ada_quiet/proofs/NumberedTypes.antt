@@ -1,5 +1,5 @@
--- The record types that have controlled parts, by their numbers among these (7.6), as the code finds them, and tables of what is known of each by what is known of those of
--- lesser numbers.
+-- The record types that have controlled parts, by their numbers among these (7.6), as the code finds them, and tables of what is known of each by what is
+-- known of those of lesser numbers.
 
 use Rattle.std.proofs.Common.{◌≡◌, ℕ, zero, suc, ◌<◌, ◌≤◌, Bool, true, false, ◌==◌, List, [], ◌∷◌, ◌++◌, length, map, get_or, Option, Some, None, refl, sym, ap, ◌∙◌, subst, arith, length-append, Bor}
 use Rattle.std.specs.Prelude.{◌&&◌, if◌then◌else◌, nat_lt, count_by, find}
@@ -59,7 +59,8 @@ module _ (types given : List TypeDefinition) (are : given ≡ types) (table item
 
   -- An item of it is the type of that number.
   pub item_numbered :
-      (n : ℕ) → n < length items → (item : Option (Bor TypeDefinition)) → item ≡ get_or items n item → option_map type_form (option_copied item) ≡ type_numbered (map type_form types) n
+      (n : ℕ) → n < length items → (item : Option (Bor TypeDefinition)) → item ≡ get_or items n item
+      → option_map type_form (option_copied item) ≡ type_numbered (map type_form types) n
   item_numbered n below item at =
       let here : option_copied item ≡ slice_index_or (map option_copied table) n None =
       item_seen option_copied items n item None below at ∙ ap (λ (xs : List (Option (Bor TypeDefinition))). slice_index_or (map option_copied xs) n None) same in

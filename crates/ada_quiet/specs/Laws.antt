@@ -37,7 +37,8 @@ ProceduresWithObjects = (p : ProgramForm) (number : ℕ) → slice_index_or (fru
 
 -- So is what overrides an operation.
 abbrev pub OperationsWithObjects : Type 0
-OperationsWithObjects = (p : ProgramForm) (operation : Option ProcedureNo) → is_frugal_operation p false operation ≡ true → is_frugal_operation p true operation ≡ true
+OperationsWithObjects = (p : ProgramForm) (operation : Option ProcedureNo) → is_frugal_operation p false operation ≡ true
+    → is_frugal_operation p true operation ≡ true
 
 -- What is asked of a type's own operations holds of the type of each record that lies in an object of a record type, the whole object included (3.8, 7.6).
 abbrev pub IsToldWithin : (own : TypeForm → Bool) → List TypeForm → (t : ℕ) → Type 0
@@ -49,8 +50,8 @@ abbrev pub CalmIsToldWithin : Type 0
 CalmIsToldWithin = (p : ProgramForm) (own : TypeForm → Bool) → IsWellFormed p → (t : ℕ) (f : Finalization) → finalization_of p.types t ≡ Some f
     → (is_known_calm (calm_by own p.types) (Some f) ≡ true) ↔ IsToldWithin own p.types t
 
--- In a well-formed program there are, for each record type with controlled parts, at least as many procedures up to the last one that overrides an operation of a part of its
--- objects as up to the last one that overrides an own operation of a record that lies in these, itself included (7.6).
+-- In a well-formed program there are, for each record type with controlled parts, at least as many procedures up to the last one that overrides an operation
+-- of a part of its objects as up to the last one that overrides an own operation of a record that lies in these, itself included (7.6).
 abbrev pub OverridesAreCounted : Type 0
 OverridesAreCounted = (p : ProgramForm) → IsWellFormed p → (t : ℕ) (f : Finalization) → finalization_of p.types t ≡ Some f
     → (u first part : ℕ) (g : Finalization) → Walks p.types t first part u → finalization_of p.types u ≡ Some g

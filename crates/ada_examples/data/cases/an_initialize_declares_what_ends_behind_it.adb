@@ -1,0 +1,26 @@
+with Ada.Finalization; with Ada.Text_IO; with Ada.Unchecked_Deallocation;
+procedure Main is
+   type Count is new Ada.Finalization.Limited_Controlled with record Number : Integer := 2; end record;
+   overriding procedure Finalize (Object : in out Count);
+   type Count_Link is access Count;
+   procedure Free is new Ada.Unchecked_Deallocation (Count, Count_Link);
+   type Shop is new Ada.Finalization.Limited_Controlled with record Sold : Count_Link; end record;
+   overriding procedure Initialize (Object : in out Shop);
+   overriding procedure Finalize (Object : in out Shop);
+   overriding procedure Initialize (Object : in out Shop) is
+      Made : Count_Link := new Count;
+   begin
+      Object.Sold := Made;
+   end Initialize;
+   overriding procedure Finalize (Object : in out Count) is
+   begin
+      Ada.Text_IO.Put_Line (Integer'Image (Object.Number));
+   end Finalize;
+   overriding procedure Finalize (Object : in out Shop) is
+   begin
+      Free (Object.Sold);
+   end Finalize;
+   S : Shop;
+begin
+   Ada.Text_IO.Put_Line (Integer'Image (S.Sold.Number));
+end Main;
