@@ -1,5 +1,5 @@
--- The laws: nothing is treated in a run of a program whose text creates no object with controlled parts, and assigns no record with some; and nothing is adjusted in
--- one of a program whose text copies no record with controlled parts.
+-- The laws: nothing is treated in a run of a program whose text creates no object with controlled parts, and assigns no record with some; and nothing is
+-- adjusted in one of a program whose text copies no record with controlled parts.
 
 use Rattle.std.specs.Prelude.{◌≡◌, ℤ, Bool, true, false, List, [], ◌∷◌}
 use Rattle.ada_program.specs.declared.program.Program.{Program}

@@ -1,4 +1,5 @@
--- Where no body breaks a rule on operations, no exception comes out where a record is adjusted or finalized (7.6.1); and a test of a program for each of the two.
+-- Where no body breaks a rule on operations, no exception comes out where a record is adjusted or finalized (7.6.1); and a test of a program for each of the
+-- two.
 
 use Rattle.std.proofs.Common.{◌≡◌, ℕ, ◌<◌, zero, suc, Bool, true, ◌&&◌, List, [], ◌∷◌, length, refl, sym, ap, ◌∙◌, inl, inr, arith}
 use Rattle.std.proofs.lemmas.Bool.{cases_eq, cases_lt, and_parts, or_cases}

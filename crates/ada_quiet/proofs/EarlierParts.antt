@@ -23,7 +23,6 @@ use Rattle.ada_quiet.specs.Known.{IsNumbered}
 use Rattle.ada_quiet.specs.Laws.{OverridesAreCounted}
 use Rattle.ada_quiet.proofs.InUse.{first_of_both, second_of_both}
 use Rattle.ada_quiet.proofs.NumberedTypes.{item_numbered, table_whole, known_up, kept_up, says}
-use Rattle.ada_quiet.proofs.Unused.{IsAmong}
 
 -- The greater one of two numbers.
 
@@ -142,23 +141,3 @@ module _ (types : List TypeForm) where
 
 pub overrides_are_counted : OverridesAreCounted
 overrides_are_counted p well t f is u first within g walks its = walked_counted p.types well.types_fit t first within u f g walks is its
-
--- Each of the procedures that override operations is among those up to the last one.
-among_up_to : (a : Option ProcedureNo) (procedure : ProcedureNo) → a ≡ Some procedure → suc procedure.0 ≤ count_up_to a
-among_up_to a procedure is = subst (λ (o : Option ProcedureNo). suc procedure.0 ≤ count_up_to o) (sym is) (omega arith)
-
-pub among_own : (o : Operations) (procedure : ProcedureNo) → IsAmong o procedure → procedure.0 < own_count o
-among_own o procedure (inl is) =
-    let here = among_up_to o.initialize procedure is in
-    let one = first_within (count_up_to o.initialize) (greater (count_up_to o.adjust) (count_up_to o.finalize)) in
-    omega (arith, here, one)
-among_own o procedure (inr (inl is)) =
-    let here = among_up_to o.adjust procedure is in
-    let one = first_within (count_up_to o.adjust) (count_up_to o.finalize) in
-    let all = second_within (count_up_to o.initialize) (greater (count_up_to o.adjust) (count_up_to o.finalize)) in
-    omega (arith, here, one, all)
-among_own o procedure (inr (inr is)) =
-    let here = among_up_to o.finalize procedure is in
-    let one = second_within (count_up_to o.adjust) (count_up_to o.finalize) in
-    let all = second_within (count_up_to o.initialize) (greater (count_up_to o.adjust) (count_up_to o.finalize)) in
-    omega (arith, here, one, all)

@@ -1,5 +1,5 @@
--- Procedures that are frugal have frugal bodies, by what is known of all procedures: what is known of the first ones stays known. What is frugal stays so where more
--- may be declared.
+-- Procedures that are frugal have frugal bodies, by what is known of all procedures: what is known of the first ones stays known. What is frugal stays so where
+-- more may be declared.
 
 use Rattle.std.proofs.Common.{◌≡◌, ℕ, zero, suc, Bool, true, false, ◌&&◌, ◌||◌, List, [], ◌∷◌, ◌++◌, length, ◌+◌, ◌<◌, Some, None, refl, sym, ap, ◌∙◌, subst, arith}
 use Rattle.std.specs.Prelude.{not, is_some}

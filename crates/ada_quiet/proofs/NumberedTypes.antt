@@ -40,7 +40,7 @@ found_either true d form o same = refl
 found_either false d form o same = same
 
 -- So the form of a number is that of the type which has it.
-numbered_form : (types : List TypeDefinition) (n : ℕ) → type_numbered (map type_form types) n ≡ option_map type_form (controlled.type_numbered types n)
+pub numbered_form : (types : List TypeDefinition) (n : ℕ) → type_numbered (map type_form types) n ≡ option_map type_form (controlled.type_numbered types n)
 numbered_form [] n = refl
 numbered_form (d ∷ types) n =
     ap (λ (b : Bool). if b then Some (type_form d) else type_numbered (map type_form types) n) (numbered_alike n d)

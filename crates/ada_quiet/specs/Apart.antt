@@ -1,6 +1,6 @@
--- Operations of controlled types stand apart: nothing calls a procedure that overrides an Adjust which tracks components, and it overrides no other operation (7.6); and no
--- allocator gives values to the components of an object with controlled parts, or copies a record with some (4.8): so each such object that is allocated is
--- initialized by default.
+-- Operations of controlled types stand apart: nothing calls a procedure that overrides an Adjust which tracks components, and it overrides no other operation
+-- (7.6); and no allocator gives values to the components of an object with controlled parts, or copies a record with some (4.8): so each such object that is
+-- allocated is initialized by default.
 
 use Rattle.std.specs.Prelude.{ℕ, Bool, true, false, ◌&&◌, ◌||◌, not, ◌==◌, List, Option, Some, None, is_some}
 use Rattle.std.specs.List.{list_all, list_any}
@@ -55,7 +55,8 @@ declare_apart types ds = list_all (declares_apart types) ds
 -- Of each procedure, whether it tracks.
 module _ (types : List TypeForm) (tracks : ℕ → Bool) where
   abbrev mutual
-    -- A statement calls no procedure that tracks (6.4), and its allocator with items makes no object with controlled parts and copies no record with some (4.8).
+    -- A statement calls no procedure that tracks (6.4), and its allocator with items makes no object with controlled parts and copies no record with some
+    -- (4.8).
     pub calls_apart : StmtForm → Bool
     calls_apart skips = true
     calls_apart (assigns target right) = is_bare_right types right
@@ -98,7 +99,8 @@ abbrev pub overrides_apart : (tracks : ℕ → Bool) → Option ProcedureNo → 
 overrides_apart tracks None = true
 overrides_apart tracks (Some procedure) = not (tracks procedure.0)
 
--- Of a type, which declares a component of an access type or not, neither Initialize nor Finalize tracks, and Adjust does only where the type declares one (7.6).
+-- Of a type, which declares a component of an access type or not, neither Initialize nor Finalize tracks, and Adjust does only where the type declares one
+-- (7.6).
 abbrev pub operations_apart : (tracks : ℕ → Bool) → (owns : Bool) → Option Finalization → Bool
 operations_apart tracks owns None = true
 operations_apart tracks owns (Some f) =

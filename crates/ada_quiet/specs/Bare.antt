@@ -1,4 +1,5 @@
--- Access types whose objects have no controlled parts, and collections of other access types: behind which ones the collections of components' types are created.
+-- Access types whose objects have no controlled parts, and collections of other access types: behind which ones the collections of components' types are
+-- created.
 
 use Rattle.std.specs.Prelude.{ℕ, Bool, true, false, not, ◌&&◌, ◌==◌, if◌then◌else◌, List, [], ◌∷◌, ◌++◌, Option, Some, None, is_some}
 use Rattle.std.specs.List.{list_all, list_any, slice_get}
@@ -47,8 +48,9 @@ holds_component types t v = record_has_component_of types t (designated_type typ
 abbrev pub hold_none : List TypeForm → (access : ℕ) → List ℕ → Bool
 hold_none types t vs = list_all (λ v. not (holds_component types t v)) vs
 
--- So it is with these, the newest one first, from the newest one on for whose objects an operation may be called that touches storage. So where a collection of that
--- access type goes, created (7.6.1) behind these, no object of which such an operation is called later, or which goes later, has a component that names what has gone.
+-- So it is with these, the newest one first, from the newest one on for whose objects an operation may be called that touches storage. So where a collection of
+-- that access type goes, created (7.6.1) behind these, no object of which such an operation is called later, or which goes later, has a component that names
+-- what has gone.
 abbrev pub hold_none_from : List TypeForm → (calm : List Bool) → (access : ℕ) → (older : List ℕ) → Bool
 hold_none_from types calm t [] = true
 hold_none_from types calm t (v ∷ vs) = if has_calm_objects types calm v then hold_none_from types calm t vs else hold_none types t (v ∷ vs)

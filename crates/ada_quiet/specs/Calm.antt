@@ -1,4 +1,5 @@
--- Record types and access types whose objects are calm: no operation that is asked about is called for them, neither for an object itself nor for a part of it (7.6).
+-- Record types and access types whose objects are calm: no operation that is asked about is called for them, neither for an object itself nor for a part of it
+-- (7.6).
 
 use Rattle.std.specs.Prelude.{ℕ, zero, suc, Bool, true, false, not, ◌&&◌, List, [], ◌∷◌, ◌++◌, find, Option, Some, None}
 use Rattle.std.specs.List.{list_all, slice_get, slice_index_or}
@@ -16,7 +17,8 @@ abbrev pub ends_calmly : ProgramForm → Option Finalization → Bool
 ends_calmly p None = true
 ends_calmly p (Some f) = is_plain_operation p f.operations.initialize && is_quiet_operation p f.operations.finalize
 
--- It is known that a record type is calm, by how its objects are finalized: one without controlled parts is, and of one with some it is told by its number (7.6).
+-- It is known that a record type is calm, by how its objects are finalized: one without controlled parts is, and of one with some it is told by its number
+-- (7.6).
 abbrev pub is_known_calm : (calm : List Bool) → Option Finalization → Bool
 is_known_calm calm None = true
 is_known_calm calm (Some f) = slice_index_or calm f.number.0 false
@@ -38,7 +40,8 @@ abbrev pub is_calm_found : (own : TypeForm → Bool) → List TypeForm → (calm
 is_calm_found own types calm None = false
 is_calm_found own types calm (Some t) = is_calm_type (own t) types calm t
 
--- The record type that has this number among those with controlled parts: types are numbered as they are complete, so each behind those of its components (3.11.1).
+-- The record type that has this number among those with controlled parts: types are numbered as they are complete, so each behind those of its components
+-- (3.11.1).
 abbrev pub type_numbered : List TypeForm → (number : ℕ) → Option TypeForm
 type_numbered types n = find (λ t. has_number n (finalization_in (Some t))) types
 

@@ -1,5 +1,5 @@
--- Operations of controlled types whose bodies create, in their own declarations, parts alone whose operations are overridden by bodies before them, or by none (7.6, 3.3.1):
--- so what these declarations create leads to other operations, and to no end of them.
+-- Operations of controlled types whose bodies create, in their own declarations, parts alone whose operations are overridden by bodies before them, or by none
+-- (7.6, 3.3.1): so what these declarations create leads to operations of earlier bodies alone, and that comes to an end.
 
 use Rattle.std.specs.Prelude.{ℕ, zero, suc, Bool, true, not, nat_lt, if◌then◌else◌, List, [], ◌∷◌, ◌++◌, Option, Some, None}
 use Rattle.std.specs.List.{list_all, slice_index_or}
@@ -22,16 +22,17 @@ abbrev pub count_up_to : Option ProcedureNo → ℕ
 count_up_to None = 0
 count_up_to (Some procedure) = suc procedure.0
 
--- Up to the last one of those that override operations of a type.
+-- How many procedures there are up to the last one that overrides an operation of a type.
 abbrev pub own_count : Operations → ℕ
 own_count o = greater (count_up_to o.initialize) (greater (count_up_to o.adjust) (count_up_to o.finalize))
 
--- Up to the last one that overrides an operation of a part of a record type's objects (7.6), by how they are finalized: of one with some it is told by its number.
+-- How many up to the last one that overrides an operation of a part of a record type's objects (7.6): none, where these have no parts; else the table tells it
+-- at the number of the type.
 abbrev pub known_count : (counts : List ℕ) → Option Finalization → ℕ
 known_count counts None = 0
 known_count counts (Some f) = slice_index_or counts f.number.0 0
 
--- Of a declared component (3.8).
+-- How many of a declared component (3.8).
 abbrev pub part_count : List TypeForm → (counts : List ℕ) → PartKind → ℕ
 part_count types counts (part.Elementary kind) = 0
 part_count types counts (part.Record t) = known_count counts (finalization_of types t.0)
@@ -69,7 +70,8 @@ abbrev pub record_count : List TypeForm → (counts : List ℕ) → Option ℕ �
 record_count types counts None = 0
 record_count types counts (Some r) = known_count counts (finalization_of types r)
 
--- The operations of the parts of an object that an access type designates, or that is known by a type, are overridden by procedures before this one, or by none.
+-- The operations of the parts of an object that an access type designates, or that is known by a type, are overridden by procedures before this one, or by
+-- none.
 abbrev pub is_earlier : List TypeForm → (counts : List ℕ) → (procedure : ℕ) → (number : ℕ) → Bool
 is_earlier types counts procedure t = not (nat_lt procedure (record_count types counts (object_named types (Some t))))
 

@@ -1,6 +1,6 @@
--- The first body in the text that overrides an operation of a controlled type and is not in use, in a program whose operations are not idle: Initialize is neither
--- plain nor frugal, where it may be; Adjust is not quiet, and not frugal where none is called; or, of a type with a component of an access type, it is not simple,
--- or may not track, or frees objects where a record has two controlled parts; or Finalize is neither quiet nor, where it may be, frugal.
+-- The first body in the text that overrides an operation of a controlled type and is not in use, in a program whose operations are not idle: Initialize is
+-- neither plain nor frugal, where it may be; Adjust is not quiet, and not frugal where none is called; or, of a type with a component of an access type, it is
+-- not simple, or may not track, or frees objects where a record has two controlled parts; or Finalize is neither quiet nor, where it may be, frugal.
 
 use Rattle.std.specs.Prelude.{◌≡◌, ◌⊎◌, ℕ, Bool, true, false, ◌&&◌, ◌||◌, ◌==◌, nat_lt, if◌then◌else◌, Option, Some, None, is_some}
 use Rattle.std.specs.List.{slice_get}
@@ -100,8 +100,8 @@ adjusts p nothing tracks alone owns adjust =
 abbrev pub finalizes : ProgramForm → (frugal : Bool) → Option ProcedureNo → Bool
 finalizes p frugal finalize = is_quiet_operation p finalize || (frugal && is_frugal_operation p false finalize)
 
--- The first one of those that override the operations of a type and are not in use, where an Initialize and a Finalize may be frugal or not, no Adjust is called or
--- one may be, an Adjust may track or not, the copy of a record adjusts one part alone or not, and the type declares such a component or does not.
+-- The first one of those that override the operations of a type and are not in use, where an Initialize and a Finalize may be frugal or not, no Adjust is
+-- called or one may be, an Adjust may track or not, the copy of a record adjusts one part alone or not, and the type declares such a component or does not.
 abbrev pub unused_in : ProgramForm → (frugal nothing tracks alone owns : Bool) → Option Finalization → Option Spot
 unused_in p frugal nothing tracks alone owns None = None
 unused_in p frugal nothing tracks alone owns (Some f) = first_of (start_unless (initializes p frugal f.operations.initialize) (operation_body p f.operations.initialize))

@@ -1,6 +1,7 @@
--- Bodies of Initialize and Finalize that touch storage, and of procedures that they call (7.6, 4.8, 5.2, 6.4, 13.11.2): they allocate, move, follow and free objects, assign
--- records without controlled parts, and declare variables, which may be given what they allocate; and where they may, they declare record objects that name nothing, and
--- allocate objects with controlled parts. A Finalize may not: it allocates nothing (7.6.1).
+-- Bodies of Initialize and Finalize that touch storage, and of procedures that they call (7.6, 4.8, 5.2, 6.4, 13.11.2): they allocate, move, follow and free
+-- objects, assign records without controlled parts, and declare variables, which may be given what they allocate; and where they may, they declare record
+-- objects that name nothing, and allocate objects with controlled parts. A Finalize does neither: S10 refuses one that allocates, and no theorem speaks yet of
+-- one that declares records.
 
 use Rattle.std.specs.Prelude.{ℕ, Bool, true, false, not, ◌&&◌, ◌||◌, List, [], ◌∷◌, ◌++◌, Option, Some, None, is_some}
 use Rattle.std.specs.List.{list_all, slice_get, slice_index_or}
@@ -29,8 +30,8 @@ are_scalars (Some components) = list_all is_scalar components
 abbrev pub holds_scalars : List TypeForm → (object_type : ℕ) → Bool
 holds_scalars types t = are_scalars (reached_components types t)
 
--- What frugal bodies go by: the types of the program; whether they may declare record objects, and allocate objects with controlled parts; and of each procedure, by its
--- number, whether its body is frugal.
+-- What frugal bodies go by: the types of the program; whether they may declare record objects, and allocate objects with controlled parts; and of each
+-- procedure, by its number, whether its body is frugal.
 pub record Thrift : Type 0 where
   pub types : List TypeForm
   pub objects : Bool
@@ -44,8 +45,8 @@ allocates_frugally thrift (allocates access items) = has_bare_objects thrift.typ
 allocates_frugally thrift (allocates_default access) = thrift.objects || has_bare_objects thrift.types access
 allocates_frugally thrift (computes e) = true
 
--- A declaration is that of a variable (3.3.1), and so it is with what that is given at first; or, where that may be, of a record object that names nothing and is
--- initialized by default: no collection and no pool is created.
+-- A declaration is that of a variable (3.3.1), and so it is with what that is given at first; or, where that may be, of a record object that names nothing and
+-- is initialized by default: no collection and no pool is created.
 abbrev pub is_frugal_declaration : Thrift → DeclarationForm → Bool
 is_frugal_declaration thrift (creates_pool p) = false
 is_frugal_declaration thrift (collects access) = false
@@ -59,8 +60,8 @@ are_frugal_declarations thrift ds = list_all (is_frugal_declaration thrift) ds
 
 module _ (thrift : Thrift) where
   abbrev mutual
-    -- A statement assigns no record with controlled parts as a whole, and copies none into another one (5.2), gives values to the components of no new object with such
-    -- parts (4.8), and calls procedures with frugal bodies alone (6.4).
+    -- A statement assigns no record with controlled parts as a whole, and copies none into another one (5.2), gives values to the components of no new object
+    -- with such parts (4.8), and calls procedures with frugal bodies alone (6.4).
     pub is_frugal_stmt : StmtForm → Bool
     is_frugal_stmt skips = true
     is_frugal_stmt (assigns target right) = allocates_frugally thrift right

@@ -1,5 +1,5 @@
--- Programs whose text creates no object with controlled parts (3.3.1, 4.8), and assigns no record with some (5.2): no run of these calls an operation of a controlled
--- type (7.6, 7.6.1). And programs whose text copies no record with controlled parts: no run of these calls an Adjust (7.6).
+-- Programs whose text creates no object with controlled parts (3.3.1, 4.8), and assigns no record with some (5.2): no run of these calls an operation of a
+-- controlled type (7.6, 7.6.1). And programs whose text copies no record with controlled parts: no run of these calls an Adjust (7.6).
 
 use Rattle.std.specs.Prelude.{ℕ, Bool, true, false, ◌&&◌, ◌||◌, not, List, Option, Some, None, is_some}
 use Rattle.std.specs.List.{list_any}

@@ -27,9 +27,9 @@ abbrev pub allocates_no_parts : ProgramForm → Bool
 allocates_no_parts p = list_all (designates_no_parts p.types) p.types
 
 -- An Initialize and a Finalize may be frugal in a program that allocates no object with controlled parts, or whose collections are created in order: where a
--- master is left, no object of an older collection that is not calm, and none that goes later, has a component that names what goes before it (7.6.1). And operations
--- stand apart: so an Initialize is called where an object is declared or allocated (7.6), and a Finalize where an object's master is left, an exception comes out of
--- the initialization of one (7.6.1), another record is assigned to it, or a variable or a component is freed that names it (13.11.2).
+-- master is left, no object of an older collection that is not calm, and none that goes later, has a component that names what goes before it (7.6.1). And
+-- operations stand apart: so an Initialize is called where an object is declared or allocated (7.6), and a Finalize where an object's master is left, an
+-- exception comes out of the initialization of one (7.6.1), another record is assigned to it, or a variable or a component is freed that names it (13.11.2).
 abbrev pub may_be_frugal : ProgramForm → Bool
 may_be_frugal p = (allocates_no_parts p || collections_in_order p) && operations_stand_apart p
 
@@ -61,12 +61,13 @@ is_copied_in_order types (record_of name parts components finalization) = stand_
 is_copied_in_order types (access_to name designated pool) = true
 is_copied_in_order types (object_of record_type) = true
 
--- An Adjust may track its components in a program in which a Finalize may be frugal, no component names an object with a part whose Adjust tracks, and each record's
--- components stand in order.
+-- An Adjust may track its components in a program in which a Finalize may be frugal, no component names an object with a part whose Adjust tracks, and each
+-- record's components stand in order.
 abbrev pub may_track : ProgramForm → Bool
 may_track p = may_be_frugal p && names_no_trackers p && list_all (is_copied_in_order p.types) p.types
 
--- A record has at most one controlled part, at any depth and itself included: where it is copied, that is the first one that is adjusted, and the last one (7.6).
+-- A record has at most one controlled part, at any depth and itself included: where it is copied, that is the first one that is adjusted, and the last one
+-- (7.6).
 abbrev pub has_one_part : Option Finalization → Bool
 has_one_part None = true
 has_one_part (Some f) = f.parts == 1
@@ -75,7 +76,7 @@ has_one_part (Some f) = f.parts == 1
 abbrev pub adjusts_alone : ProgramForm → Bool
 adjusts_alone p = list_all (λ t. has_one_part (finalization_in (Some t))) p.types
 
--- Finalize is quiet, or frugal, where it may be, and declares no record object.
+-- Finalize is quiet, or frugal, where it may be; it declares no record object and allocates no object with controlled parts.
 abbrev pub uses_finalize : ProgramForm → Option ProcedureNo → Bool
 uses_finalize p finalize = is_quiet_operation p finalize || (may_be_frugal p && is_frugal_operation p false finalize)
 
@@ -91,8 +92,8 @@ operations_stand_in_order p = operations_stand_apart p && list_all (is_copied_in
 abbrev pub adjusts_nothing : ProgramForm → Bool
 adjusts_nothing p = not (copies_parts p) && operations_stand_in_order p
 
--- Where one may be called, Adjust is simple, where it may track, if a body overrides it of a type that declares a component of an access type directly
--- (3.10, 7.6): behind it that component of a copy holds a value of its own, or null. It frees nothing where a record has two controlled parts: what the one that is
+-- Where one may be called, Adjust is simple, where it may track, if a body overrides it of a type that declares a component of an access type directly (3.10,
+-- 7.6): behind it that component of a copy holds a value of its own, or null. It frees nothing where a record has two controlled parts: what the one that is
 -- adjusted later still shares with the source of the copy stays. Of another type it is quiet.
 abbrev pub uses_called_adjust : ProgramForm → (owns : Bool) → Option ProcedureNo → Bool
 uses_called_adjust p owns adjust =
@@ -110,8 +111,8 @@ uses_operations p owns None = true
 uses_operations p owns (Some f) =
     uses_initialize p f.operations.initialize && uses_adjust p owns f.operations.adjust && uses_finalize p f.operations.finalize
 
--- Operations are idle in a program that creates no object with controlled parts and assigns no record with some: none is called where one is created, assigned to,
--- freed or left, whatever its body does.
+-- Operations are idle in a program that creates no object with controlled parts and assigns no record with some: none is called where one is created, assigned
+-- to, freed or left, whatever its body does.
 abbrev pub operations_are_idle : ProgramForm → Bool
 operations_are_idle p = not (makes_parts p) && operations_stand_in_order p
 

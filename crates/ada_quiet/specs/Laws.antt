@@ -44,8 +44,8 @@ OperationsWithObjects = (p : ProgramForm) (operation : Option ProcedureNo) → i
 abbrev pub IsToldWithin : (own : TypeForm → Bool) → List TypeForm → (t : ℕ) → Type 0
 IsToldWithin own types t = (u first part : ℕ) (form : TypeForm) → Walks types t first part u → slice_get types u ≡ Some form → own form ≡ true
 
--- In a well-formed program a record type with controlled parts is told to be calm exactly where the own operations are so of each record that lies in its objects,
--- whatever is asked about them.
+-- In a well-formed program a record type with controlled parts is told to be calm exactly where the own operations are so of each record that lies in its
+-- objects, whatever is asked about them.
 abbrev pub CalmIsToldWithin : Type 0
 CalmIsToldWithin = (p : ProgramForm) (own : TypeForm → Bool) → IsWellFormed p → (t : ℕ) (f : Finalization) → finalization_of p.types t ≡ Some f
     → (is_known_calm (calm_by own p.types) (Some f) ≡ true) ↔ IsToldWithin own p.types t

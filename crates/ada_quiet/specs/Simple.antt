@@ -1,6 +1,6 @@
 -- Bodies of an Adjust whose components of access types are tracked (7.6): they allocate objects without controlled parts, and free some where they may, move
--- and follow, call nothing, copy no record but into what they allocate, from another object than that of the formal parameter, and declare variables alone. Flow
--- judges such a body as one that has a variable for each of those components.
+-- and follow, call nothing, copy no record but into what they allocate, from another object than that of the formal parameter, and declare variables alone.
+-- Flow judges such a body as one that has a variable for each of those components.
 
 use Rattle.std.specs.Prelude.{ℕ, zero, suc, Bool, true, false, ◌&&◌, List, [], ◌∷◌, drop, Option, Some, None}
 use Rattle.std.specs.List.{list_all, slice_get}

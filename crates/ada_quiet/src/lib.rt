@@ -5,11 +5,11 @@
 //! controlled parts, whichever operation it is (13.11.2): the operations that end these run inside. An Initialize, and an Adjust that is
 //! never called, may also declare record objects all of whose components are Integers and Booleans (3.3.1), and allocate objects with
 //! controlled parts, both initialized by default (4.8, 7.6): the operations that begin these run inside as well, and those that end declared
-//! ones where their master is left. A Finalize may do neither: which procedures are frugal is told twice, with this and without. What the
+//! ones where their master is left. A Finalize may do neither: which procedures are frugal is told twice, with these and without. What the
 //! declarations of an operation's own body create may have parts alone whose operations are overridden by procedures before it, or by none:
 //! so these do not come back to it. An exception may come out of a frugal Initialize; that none comes out of an Adjust or a Finalize,
-//! `ada_operations` asks of a program before. Which procedures are frugal is found once for all, in the order in which they call each other,
-//! and so is which one is the last that overrides an operation of a part of a record type's objects.
+//! `ada_operations` asks of a program before. Which procedures are frugal is found before any operation is asked, in the order in which they
+//! call each other, and so is which one is the last that overrides an operation of a part of a record type's objects.
 //!
 //! Where nothing in the text of a program creates an object with controlled parts (3.3.1, 4.8), or assigns a record with some (5.2), no
 //! operation is called: operations are idle, and each is in use, whatever its body does. Where nothing in it copies such a record, no

@@ -105,7 +105,8 @@ pub(crate) fn uses_adjust(
     Ok(tracks && is_simple_operation(program, alone, operation))
 }
 
-/// Whether what overrides Finalize is quiet, or frugal, where it may be: it may do neither.
+/// Whether what overrides Finalize is quiet, or frugal, where it may be: it may neither declare record objects nor allocate objects with
+/// controlled parts.
 ///
 /// # Errors
 /// `AllocError` where memory for the exceptions that it raises was refused.

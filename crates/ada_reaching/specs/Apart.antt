@@ -1,5 +1,5 @@
--- What bodies may do that shun some access types: which procedures they may call, of which access types they may free objects, whose finalization (7.6.1) calls such
--- procedures alone, and of which they may allocate objects, whose initialization (7.6) does, and their finalization where an exception comes out of that.
+-- What bodies may do that shun some access types: which procedures they may call, of which access types they may free objects, whose finalization (7.6.1) calls
+-- such procedures alone, and of which they may allocate objects, whose initialization (7.6) does, and their finalization where an exception comes out of that.
 
 use Rattle.std.specs.Prelude.{◌≡◌, ℕ, Bool, true, List, [], ◌∷◌, Some}
 use Rattle.ada_parts.specs.declared.tasks.Direction.{Direction}
@@ -10,16 +10,16 @@ use Rattle.ada_program.specs.declared.program.TypeDefinition.{TypeDefinition}
 use Rattle.ada_program.specs.Controlled.{operations_of, procedure_number, shapes_of}
 use Rattle.ada_meaning.specs.Step.{all_tasks, picked_task}
 
--- The procedures that such bodies may call; the access types of which they may free objects (13.11.2), and those of which they may allocate objects by default (4.8); and
--- the types of the program.
+-- The procedures that such bodies may call; the access types of which they may free objects (13.11.2), and those of which they may allocate objects by default
+-- (4.8); and the types of the program.
 pub record Apart : Type 0 where
   pub calls : (procedure : ℕ) → Bool
   pub ends : (access : ℕ) → Bool
   pub starts : (access : ℕ) → Bool
   pub definitions : List TypeDefinition
 
--- What is left of the initialization or the finalization of an object of an access type (7.6, 7.6.1), by the order in which its parts come: all of it, or what is left
--- once a component has been picked, or once an operation has been called.
+-- What is left of the initialization or the finalization of an object of an access type (7.6, 7.6.1), by the order in which its parts come: all of it, or what
+-- is left once a component has been picked, or once an operation has been called.
 pub data IsLeftOf (definitions : List TypeDefinition) (direction : Direction) (access : ℕ) : List Task → Type 0 where
   whole : IsLeftOf definitions direction access (all_tasks definitions access direction)
   picked : {tasks : List Task} → (i : ℕ) → IsLeftOf definitions direction access tasks
@@ -41,8 +41,8 @@ AreUndoneIn definitions access [] = Unit {0}
 AreUndoneIn definitions access (performs of part ∷ tasks) = IsBegunIn definitions access of part × AreUndoneIn definitions access tasks
 AreUndoneIn definitions access (treats components ∷ tasks) = ⊥
 
--- Where the finalization of an object that they may free calls a Finalize, that is one of these procedures; so it is with an Initialize that the initialization of one
--- calls that they may allocate, and with a Finalize of what has begun of that.
+-- Where the finalization of an object that they may free calls a Finalize, that is one of these procedures; so it is with an Initialize that the initialization
+-- of one calls that they may allocate, and with a Finalize of what has begun of that.
 pub record CallsApart (definitions : List TypeDefinition) (apart : Apart) : Type 0 where
   pub finalizes :
       (access of part number : ℕ) (tasks : List Task) → apart.ends access ≡ true → IsLeftOf definitions WholeFirst access (performs of part ∷ tasks)

@@ -19,9 +19,10 @@ use Rattle.ada_reaching.specs.Apart.{Apart}
 use Rattle.ada_reaching.specs.Law.{AreApart, IsWithin, GoesOn, AllGoOn, none_hidden}
 use Rattle.ada_reaching.specs.Reaching.{IsReaching}
 
--- The bodies of these procedures shun no type, but are of the shape of those that do, and call these procedures alone: they declare no record object, assign to no
--- record with controlled parts (7.6) as a whole, create no collection and no pool, and free objects of these access types alone, whose finalization calls these
--- procedures alone. Objects with controlled parts they allocate of some access types alone, by default, whose initialization calls these procedures alone.
+-- The bodies of these procedures shun no type, but are of the shape of those that do, and call these procedures alone: they declare no record object, assign to
+-- no record with controlled parts (7.6) as a whole, create no collection and no pool, and free objects of these access types alone, whose finalization calls
+-- these procedures alone. Objects with controlled parts they allocate of some access types alone, by default, whose initialization calls these procedures
+-- alone.
 abbrev pub AreShaped : ProgramForm → List TypeDefinition → Apart → Type 0
 AreShaped p definitions apart = AreApart p definitions (λ access. false) apart
 

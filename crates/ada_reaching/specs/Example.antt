@@ -34,8 +34,8 @@ pub record RunsOn (program : Program) (b : BodyForm) (s after : State) : Type 0 
   pub body : slice_get (program_form program).bodies procedure ≡ Some b
   pub steps : (e : Event) × (next program.types.items (body_forms program) s ≡ moves e after)
 
--- A body that shuns some access types takes a step, while an object of one of these is there, a ghost. What it may call is of that shape, and follows and frees no
--- value of these types by what procedures do, too.
+-- A body that shuns some access types takes a step, while an object of one of these is there, a ghost. What it may call is of that shape, and follows and frees
+-- no value of these types by what procedures do, too.
 pub record RunsBeside (program : Program) (shuns : ℕ → Bool) (apart : Apart) (ghosts unnamed : Id → Bool) (behind : List (Frame Value)) (b : BodyForm)
     (s after : State) : Type 0 where
   pub are_apart : AreApart (program_form program) program.types.items shuns apart
@@ -94,8 +94,8 @@ pub record FinalizesFreed (program : Program) (shuns : ℕ → Bool) (apart : Ap
   pub begins : procedure_of after.activations ≡ Some finalize
   pub waits : older after.activations ≡ s.activations
 
--- Such a body allocates an object of another access type by default, as it may (4.8). The type of a part of it overrides Initialize (7.6): the body of Initialize
--- begins, and it is one of those that may be called.
+-- Such a body allocates an object of another access type by default, as it may (4.8). The type of a part of it overrides Initialize (7.6): the body of
+-- Initialize begins, and it is one of those that may be called.
 pub record InitializesNew (program : Program) (shuns : ℕ → Bool) (apart : Apart) (ghosts unnamed : Id → Bool) (behind : List (Frame Value)) (b : BodyForm)
     (s after : State) : Type 0 where
   pub runs_beside : RunsBeside program shuns apart ghosts unnamed behind b s after

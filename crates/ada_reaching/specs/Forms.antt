@@ -74,8 +74,8 @@ module _ (types : List TypeForm) (shuns : ℕ → Bool) (apart : Apart) (variabl
   item_shuns (item_of_value e) = expression_shuns e
   item_shuns (item_of_record q) = record_path_shuns q
 
-  -- Those of what is assigned do not; a new object has no controlled parts, or is initialized by default, and is of an access type of which some may be allocated
-  -- (5.2, 4.8).
+  -- Those of what is assigned do not; a new object has no controlled parts, or is initialized by default, and is of an access type of which some may be
+  -- allocated (5.2, 4.8).
   abbrev pub right_shuns : RightForm → Bool
   right_shuns nothing = true
   right_shuns (value_of path) = path_shuns path
@@ -106,8 +106,8 @@ module _ (types : List TypeForm) (shuns : ℕ → Bool) (apart : Apart) (variabl
   declarations_shun ds = list_all declaration_shuns ds
 
   abbrev mutual
-    -- The paths of a statement follow no value that is shunned, and so it is inside it (5.1). No such value is freed, nor one of an access type whose objects may not
-    -- be freed (13.11.2), and no record with controlled parts is assigned to as a whole (5.2, 7.6).
+    -- The paths of a statement follow no value that is shunned, and so it is inside it (5.1). No such value is freed, nor one of an access type whose objects
+    -- may not be freed (13.11.2), and no record with controlled parts is assigned to as a whole (5.2, 7.6).
     pub statement_shuns : StmtForm → Bool
     statement_shuns skips = true
     statement_shuns (assigns target right) = path_shuns target && right_shuns right

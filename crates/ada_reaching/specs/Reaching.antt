@@ -1,6 +1,6 @@
 -- Bodies run that shun some access types, while some objects are there, the ghosts: objects of these types, and unnamed ones, declared record objects that no
--- value of the bodies names. What is left of the bodies, of the finalizations of what they free, and of the initializations of what they allocate, shuns the types, and
--- refers to no ghost.
+-- value of the bodies names. What is left of the bodies, of the finalizations of what they free, and of the initializations of what they allocate, shuns the
+-- types, and refers to no ghost.
 
 use Rattle.std.specs.Prelude.{◌≡◌, ◌⊎◌, ℕ, Bool, true, false, not, ◌&&◌, List, [], ◌∷◌, Option, Some}
 use Rattle.std.specs.List.{list_all, slice_get}
@@ -61,8 +61,8 @@ abbrev pub AreElsewhere : (ghosts unnamed : Id → Bool) → List Value → Type
 AreElsewhere ghosts unnamed [] = Unit {0}
 AreElsewhere ghosts unnamed (v ∷ vs) = IsElsewhere ghosts unnamed v × AreElsewhere ghosts unnamed vs
 
--- A frame looks for the object that the newest operand names: to follow selectors (4.1.3), to assign or read to a component (5.2), to assign to a record or copy
--- one (5.2), to free what a component holds (13.11.2), or to refer to a record or a component (6.2, 6.4.1).
+-- A frame looks for the object that the newest operand names: to follow selectors (4.1.3), to assign or read to a component (5.2), to assign to a record or
+-- copy one (5.2), to free what a component holds (13.11.2), or to refer to a record or a component (6.2, 6.4.1).
 abbrev pub is_seeking : Frame Value → Bool
 is_seeking (frame.Follows cs) = true
 is_seeking (frame.RefersIn place t) = true
@@ -92,7 +92,8 @@ pub record StartsApart (apart : Apart) (by : Birth) (done : List parts.Part) (ta
   pub left : IsLeftOf apart.definitions PartsFirst access tasks
   pub begun : AreBegunIn apart.definitions access done
 
--- What is left of the finalization of an object is that of one that the bodies may free (7.6.1, 13.11.2), or that of what has begun of one that they may allocate.
+-- What is left of the finalization of an object is that of one that the bodies may free (7.6.1, 13.11.2), or that of what has begun of one that they may
+-- allocate.
 abbrev pub EndsApart : Apart → List Task → Type 0
 EndsApart apart tasks =
     (access : ℕ) × (((apart.ends access ≡ true) × IsLeftOf apart.definitions WholeFirst access tasks)
@@ -108,8 +109,8 @@ pub record AwaitsApart (apart : Apart) (by : Birth) (done : List parts.Part) (of
   pub starts : StartsApart apart by done tasks
   pub begins : IsBegunIn apart.definitions starts.access of part
 
--- What a frame holds of a body with these variables shuns the types, and names no ghost where it stores, clears, begins, finalizes, ends or gives back. What is assigned
--- to has no controlled parts, and neither has what is created, unless such objects may be.
+-- What a frame holds of a body with these variables shuns the types, and names no ghost where it stores, clears, begins, finalizes, ends or gives back. What is
+-- assigned to has no controlled parts, and neither has what is created, unless such objects may be.
 module _ (types : List TypeForm) (shuns : ℕ → Bool) (apart : Apart) (bodies : List BodyForm) (ghosts : Id → Bool) (variables : List VariableForm) where
   abbrev pub FrameShuns : Frame Value → Type 0
   FrameShuns (frame.Elaborates ds fs hs) =

@@ -33,7 +33,7 @@ HasRoundOf p operation spot =
     (procedure : ProcedureNo) × (b : BodyForm) × (operation ≡ Some procedure) × (slice_get p.bodies procedure.0 ≡ Some b) × (b.start_spot ≡ spot)
     × CallsItself p procedure
 
--- That of Initialize or of Adjust of a type does.
+-- The body of what overrides Initialize or Adjust of a type begins here and calls itself.
 abbrev pub HasRoundIn : ProgramForm → Option Finalization → (spot : Spot) → Type 0
 HasRoundIn p o spot =
     (f : Finalization) × (o ≡ Some f) × (HasRoundOf p f.operations.initialize spot ⊎ HasRoundOf p f.operations.adjust spot)
@@ -43,10 +43,10 @@ abbrev pub is_asked : Option Finalization → Bool
 is_asked None = false
 is_asked (Some f) = is_some f.operations.initialize || is_some f.operations.adjust
 
--- That of some type is.
+-- Some type has an Initialize or an Adjust that is overridden.
 abbrev pub SomeIsAsked : List TypeForm → Type 0
 SomeIsAsked types = (t : ℕ) × (is_asked (finalization_of types t) ≡ true)
 
--- That of none is.
+-- No type has one.
 abbrev pub NoneIsAsked : List TypeForm → Type 0
 NoneIsAsked types = (t : ℕ) → is_asked (finalization_of types t) ≡ false

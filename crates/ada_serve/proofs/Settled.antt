@@ -30,6 +30,8 @@ use Rattle.ada_program.proofs.Shapes.{same_number, same_types, shapes_length}
 use Rattle.ada_meaning.specs.Pace.{own_cost, record_cost, cost_for, treatment_operations, new_operations, right_operations, declaration_operations, declarations_operations, body_operations, operation_operations, cost_within, DeclarationsSettle}
 use Rattle.ada_typed.proofs.Parts.{known_number, shown_number}
 use Rattle.ada_quiet.specs.Calm.{type_numbered}
+use Rattle.ada_quiet.proofs.EarlierParts.{first_within, second_within}
+use Rattle.ada_quiet.proofs.NumberedTypes.{numbered_form}
 use Rattle.ada_quiet.specs.Earlier.{greater, count_up_to, own_count, known_count, part_count, parts_count, finalization_count, type_count, counts_up_to, override_counts, record_count, is_earlier, right_earlier, declares_earlier, declares_earlier_parts}
 
 -- Both tests are passed where their conjunction is.
@@ -37,13 +39,7 @@ apart : (a b : Bool) → (a && b) ≡ true → (a ≡ true) × (b ≡ true)
 apart true b e = (refl, e)
 apart false b e = absurd (cc e)
 
--- The greater of two numbers is no less than either one, and no greater than a bound of both.
-greater_left : (m n : ℕ) → m ≤ greater m n
-greater_left m n = grind (arith, common_steps)
-
-greater_right : (m n : ℕ) → n ≤ greater m n
-greater_right m n = grind (arith, common_steps)
-
+-- The greater of two numbers is no greater than a bound of both.
 greater_within : (m n bound : ℕ) → m ≤ bound → n ≤ bound → greater m n ≤ bound
 greater_within m n bound left right = grind (arith, common_steps, left, right)
 
@@ -94,27 +90,6 @@ module _ (types : List TypeForm) where
   count_kept : (count n m : ℕ) → n ≤ count → m < n → slice_index_or (counts_up_to types n) m 0 ≡ slice_index_or (counts_up_to types count) m 0
   count_kept count n m within below = count_at n m below ∙ sym (count_at count m (omega (arith, within, below)))
 
--- The form of the type of a number is the form of that number.
-has_it : (n : ℕ) (finalization : Option Finalization) → has_number n finalization ≡ is_number n (number_in finalization)
-has_it n None = refl
-has_it n (Some f) = refl
-
-numbered_alike : (n : ℕ) (d : TypeDefinition) → has_number n (finalization_in (Some (type_form d))) ≡ is_number n (number_by (Some d))
-numbered_alike n (definition.Record name parts components finalization) = has_it n finalization
-numbered_alike n (definition.Access name designated pool) = refl
-numbered_alike n (definition.Object record_type) = refl
-
-found_either : (b : Bool) (d : TypeDefinition) (form : Option TypeForm) (o : Option TypeDefinition) → form ≡ option_map type_form o
-    → (if b then Some (type_form d) else form) ≡ option_map type_form (if b then Some d else o)
-found_either true d form o same = refl
-found_either false d form o same = same
-
-numbered_form : (types : List TypeDefinition) (n : ℕ) → type_numbered (map type_form types) n ≡ option_map type_form (controlled.type_numbered types n)
-numbered_form [] n = refl
-numbered_form (d ∷ types) n =
-    ap (λ (b : Bool). if b then Some (type_form d) else type_numbered (map type_form types) n) (numbered_alike n d)
-    ∙ found_either (is_number n (number_by (Some d))) d (type_numbered (map type_form types) n) (controlled.type_numbered types n) (numbered_form types n)
-
 -- What is counted of a type is no less than what is counted of its own operations, and no less than that of its declared components.
 own_counted : (finalization : Option Finalization) → own_count (operations_in finalization) ≡ finalization_count finalization
 own_counted None = refl
@@ -126,8 +101,8 @@ count_holds : (types : List TypeForm) (counts : List ℕ) (d : Option TypeDefini
 count_holds types counts None = (omega arith, omega arith)
 count_holds types counts (Some (definition.Record name parts components finalization)) =
     let own = own_counted finalization in
-    let left = greater_left (finalization_count finalization) (parts_count types counts (map part_form parts.items)) in
-    (omega (arith, own, left), greater_right (finalization_count finalization) (parts_count types counts (map part_form parts.items)))
+    let left = first_within (finalization_count finalization) (parts_count types counts (map part_form parts.items)) in
+    (omega (arith, own, left), second_within (finalization_count finalization) (parts_count types counts (map part_form parts.items)))
 count_holds types counts (Some (definition.Access name designated pool)) = (omega arith, omega arith)
 count_holds types counts (Some (definition.Object record_type)) = (omega arith, omega arith)
 
@@ -214,8 +189,8 @@ module _ (tds : List TypeDefinition) where
     parts_agree n within again (c ∷ cs) below =
         let older = shapes_up_to tds n in
         let counts = counts_up_to types n in
-        let left = greater_left (part_count types counts c.kind) (parts_count types counts (map part_form cs)) in
-        let right = greater_right (part_count types counts c.kind) (parts_count types counts (map part_form cs)) in
+        let left = first_within (part_count types counts c.kind) (parts_count types counts (map part_form cs)) in
+        let right = second_within (part_count types counts c.kind) (parts_count types counts (map part_form cs)) in
         let here = kind_agrees n within again c.kind (omega (arith, left, below)) in
         let later = parts_agree n within again cs (omega (arith, right, below)) in
         let one = sum_by-append (record_cost tds f older) (with_parts tds older c.kind) (components_with_parts tds older cs) in
@@ -395,10 +370,10 @@ module _ (program : Program) where
   counts_within : (o : Operations) → (count_up_to o.initialize ≤ own_count o) × (count_up_to o.adjust ≤ own_count o) × (count_up_to o.finalize ≤ own_count o)
   counts_within o =
       let rest = greater (count_up_to o.adjust) (count_up_to o.finalize) in
-      let first = greater_left (count_up_to o.initialize) rest in
-      let others = greater_right (count_up_to o.initialize) rest in
-      let second = greater_left (count_up_to o.adjust) (count_up_to o.finalize) in
-      let third = greater_right (count_up_to o.adjust) (count_up_to o.finalize) in
+      let first = first_within (count_up_to o.initialize) rest in
+      let others = second_within (count_up_to o.initialize) rest in
+      let second = first_within (count_up_to o.adjust) (count_up_to o.finalize) in
+      let third = second_within (count_up_to o.adjust) (count_up_to o.finalize) in
       (first, omega (arith, others, second), omega (arith, others, third))
 
   -- Where each operation leads to earlier ones alone, one call more adds nothing once as many are followed through as there are procedures up to the last one

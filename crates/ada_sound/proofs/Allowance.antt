@@ -1,5 +1,5 @@
--- Frugal bodies (7.6, 4.8, 13.11.2) that free no objects with controlled parts, or may do so, and that create none and declare no record objects, or may do so, as what is
--- proved of them tells them apart.
+-- Frugal bodies (7.6, 4.8, 13.11.2) that free no objects with controlled parts, or may do so, and that create none and declare no record objects, or may do so,
+-- as what is proved of them tells them apart.
 
 use Rattle.std.proofs.Common.{◌≡◌, ℕ, Bool, true, false, ◌&&◌, ◌||◌, List, refl, [], ◌∷◌}
 use Rattle.std.specs.Prelude.{not, is_some, Some, None}
@@ -12,7 +12,8 @@ use Rattle.ada_quiet.specs.Apart.{is_bare_item}
 use Rattle.ada_quiet.specs.Bare.{has_bare_objects}
 use Rattle.ada_quiet.specs.Frugal.{holds_scalars, allocates_frugally, is_frugal_declaration, are_frugal_declarations, frugal_procedures, is_frugal_stmt, are_frugal, are_frugal_branches, are_frugal_handlers, is_frugal_body, thrift_of}
 
--- What such bodies go by: as frugal ones do, whether they may free objects with controlled parts, and whether they may allocate some and declare record objects.
+-- What such bodies go by: as frugal ones do, whether they may free objects with controlled parts, and whether they may allocate some and declare record
+-- objects.
 pub record Allowance : Type 0 where
   pub types : List TypeForm
   pub treats_parts : Bool

@@ -168,8 +168,8 @@ none_there : (spots : List Spot) → is_none spots ≡ true → spots ≡ []
 none_there [] none = refl
 none_there (spot ∷ spots) none = absurd (cc none)
 
--- Whether what ends objects spares their own access types, and where a component of a record is freed those in whose objects such a component may lie; and whether
--- what initializes objects spares their own access types.
+-- Whether what ends objects spares their own access types, and where a component of a record is freed those in whose objects such a component may lie; and
+-- whether what initializes objects spares their own access types.
 abbrev pub spares_types : ProgramForm → Bool
 spares_types p =
     spare_own_types (implicit_of p) 0 p.types
@@ -179,8 +179,8 @@ spares_types p =
 abbrev pub lets_none_out : ProgramForm → Bool
 lets_none_out p = (not (makes_parts p) || none_comes_out p Finalize) && (not (copies_parts p) || none_comes_out p Adjust)
 
--- Whether what overrides its operations is in use, too, spares these, and lets no exception out there; whether its collections nest; and whether it frees by the
--- instances for what it frees.
+-- Whether what overrides its operations is in use, too, spares these, and lets no exception out there; whether its collections nest; and whether it frees by
+-- the instances for what it frees.
 abbrev pub is_fine : ProgramForm → Bool
 is_fine p = operations_are_in_use p && (spares_types p && (lets_none_out p && fits p))
 

@@ -1,5 +1,5 @@
--- A frugal body (7.6, 7.6.1, 13.11.2) creates no collection, and the record objects that it declares name nothing (3.8); so it is with those that it calls (6.4): it
--- nests wherever it is called.
+-- A frugal body (7.6, 7.6.1, 13.11.2) creates no collection, and the record objects that it declares name nothing (3.8); so it is with those that it calls
+-- (6.4): it nests wherever it is called.
 
 use Rattle.std.proofs.Common.{◌≡◌, ℕ, zero, suc, Bool, true, false, ◌&&◌, List, [], ◌∷◌, ◌++◌, refl}
 use Rattle.std.specs.List.{list_all, slice_get, slice_index_or}

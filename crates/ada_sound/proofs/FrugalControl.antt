@@ -1,7 +1,7 @@
 -- The body of an operation runs that touches storage, a frugal one (7.6, 7.6.1, 13.11.2), or one that it calls (6.4), or the operation of an object that it
--- frees, allocates or declares: what is left before its end. Nothing in that is adjusted. Where bodies may allocate and free objects with controlled parts, these are
--- initialized first, and finalized, also where an exception comes out of an Initialize; and where they may declare record objects, these are finalized where their master is
--- left.
+-- frees, allocates or declares: what is left before its end. Nothing in that is adjusted. Where bodies may allocate and free objects with controlled parts,
+-- these are initialized first, and finalized, also where an exception comes out of an Initialize; and where they may declare record objects, these are
+-- finalized where their master is left.
 
 use Rattle.std.proofs.Common.{◌≡◌, ℕ, suc, ◌≤◌, Bool, true, false, List, [], ◌∷◌, ◌++◌, length, refl, sym, ap, subst, ◌⊎◌, inl, inr, arith}
 use Rattle.ada_program.specs.Form.{ActualForm}
@@ -59,8 +59,8 @@ abbrev pub AreOwnedBy : Allowance → List Item → Type 0
 AreOwnedBy allowance [] = Unit {0}
 AreOwnedBy allowance (i ∷ is) = IsOwnedBy allowance i.owned × AreOwnedBy allowance is
 
--- What the bodies of operations go by that run inside one another: those that may create objects with controlled parts, and those that may not, which never come to one of
--- the former; and whether the outermost one may.
+-- What the bodies of operations go by that run inside one another: those that may create objects with controlled parts, and those that may not, which never
+-- come to one of the former; and whether the outermost one may.
 pub record Thriftiness : Type 0 where
   pub by : (objects : Bool) → Allowance
   pub last : Bool
@@ -96,8 +96,8 @@ operated_in (frame.Awaits v by done of part tasks ∷ k) = v ∷ []
 operated_in (frame.Confines ∷ k) = finalized_before k ∷ []
 operated_in (f ∷ k) = []
 
--- What a frame of such a body does, or of one that it calls: what it allocates and frees has no controlled parts, unless the body may treat others. While a master
--- is left, or a new object begins, that is the first frame: below.
+-- What a frame of such a body does, or of one that it calls: what it allocates and frees has no controlled parts, unless the body may treat others. While a
+-- master is left, or a new object begins, that is the first frame: below.
 abbrev pub FrugalFrame : Allowance → Frame Value → Type 0
 FrugalFrame frugal (Elaborates ds fs hs) = (are_thrifty_declarations frugal ds ≡ true) × (are_thrifty frugal fs ≡ true) × (are_thrifty_handlers frugal hs ≡ true)
 FrugalFrame frugal (Does fs) = (are_thrifty frugal fs ≡ true)
@@ -163,9 +163,9 @@ BeginsThere frugal v by k = (by ≡ Creation) × (frugal.objects ≡ true) × No
 -- What the frugal bodies of the program go by.
 module _ (frugal : Thriftiness) where
   abbrev mutual
-    -- What is left to do of the body, and of those that it calls, in these masters of their own, before this. A variable is declared in one of them. Where a body
-    -- comes to its end, that is the end of all of it, or of one that is called, or of an operation: so it is of each of these objects, one after the other. The body
-    -- may create objects or not.
+    -- What is left to do of the body, and of those that it calls, in these masters of their own, before this. A variable is declared in one of them. Where a
+    -- body comes to its end, that is the end of all of it, or of one that is called, or of an operation: so it is of each of these objects, one after the
+    -- other. The body may create objects or not.
     pub FrugalLeads : (objects : Bool) → (behind : Control) → (among : List Value) → Control → List Master → Type 0
     FrugalLeads objects behind among [] ms = ⊥
     FrugalLeads objects behind among (Returns actuals references ∷ k) ms =
@@ -193,8 +193,8 @@ module _ (frugal : Thriftiness) where
     FrugalLeaves objects behind among (frame.Confines ∷ k) ms = LeavesOperation (frugal.by objects) k × FrugalLeaves objects behind among k ms
     FrugalLeaves objects behind among (f ∷ k) ms = ⊥
 
-    -- What is left behind an operation of the first of these objects, which may create objects itself or not, in a body that may or not: the object is finalized, and a
-    -- Finalize creates nothing; or it begins.
+    -- What is left behind an operation of the first of these objects, which may create objects itself or not, in a body that may or not: the object is
+    -- finalized, and a Finalize creates nothing; or it begins.
     pub FrugalOperated : (objects outer : Bool) → (behind : Control) → (among : List Value) → Control → List Master → Type 0
     FrugalOperated objects outer behind among [] ms = ⊥
     FrugalOperated objects outer behind among (frame.Confines ∷ k) ms =
@@ -227,7 +227,8 @@ is_return_first [] = false
 is_return_first (f ∷ k) = is_return f
 
 module _ (frugal : Thriftiness) (lower : List Master) (objects : Bool) (behind : Control) (among : List Value) where
-  -- The body runs still, or one that it calls, or an operation of one of these objects, the nearest one first, in masters of their own, which own what these declare.
+  -- The body runs still, or one that it calls, or an operation of one of these objects, the nearest one first, in masters of their own, which own what these
+  -- declare.
   pub record Frugally (after : State) : Type 0 where
     pub upper : List Master
     pub masters : after.masters ≡ upper ++ lower
@@ -325,21 +326,6 @@ pub beginning_frugal :
 beginning_frugal frugal objects back among v by done [] k ms beginning q = inl q
 beginning_frugal frugal objects back among v by done (task ∷ tasks) k ms beginning q = inr (inr (tt, (beginning, q)))
 
--- Each frame in front of its end is one of such a body, but where an object is finalized.
-pub first_frugal :
-    (frugal : Thriftiness) (objects : Bool) (behind : Control) (among : List Value) (f : Frame Value) (k : Control) (ms : List Master) → is_return f ≡ false → is_treatment f ≡ false → is_operation f ≡ false → FrugalLeads frugal objects behind among (f ∷ k) ms
-    → FrugalFrame (frugal.by objects) f
-first_frugal frugal objects behind among (Returns actuals references) k ms inner plain calm q = absurd (cc inner)
-first_frugal frugal objects behind among (Elaborates ds fs hs) k [] inner plain calm q = absurd q
-first_frugal frugal objects behind among (Elaborates ds fs hs) k (m ∷ ms) inner plain calm q = q.0.1
-first_frugal frugal objects behind among Closes k [] inner plain calm q = absurd q
-first_frugal frugal objects behind among Closes k (m ∷ ms) inner plain calm q = tt
-first_frugal frugal objects behind among (Declares x) k [] inner plain calm q = absurd q
-first_frugal frugal objects behind among (Declares x) k (m ∷ ms) inner plain calm q = q.0
-first_frugal frugal objects behind among (frame.Treats v treatment tasks) k ms inner plain calm q = absurd (cc plain)
-first_frugal frugal objects behind among frame.Confines k ms inner plain calm q = absurd (cc calm)
-first_frugal frugal objects behind among f k ms inner plain calm q = q.0
-
 -- Where bodies treat no object with controlled parts, none is finalized, and no operation ends.
 pub none_treated : (frugal : Thriftiness) (objects : Bool) → (frugal.by objects).treats_parts ≡ false → (behind : Control) (among : List Value) (f : Frame Value) (k : Control) (ms : List Master)
     → FrugalLeads frugal objects behind among (f ∷ k) ms → (is_treatment f ≡ false) × (is_operation f ≡ false)
@@ -348,7 +334,8 @@ none_treated frugal objects none behind among frame.Confines k ms q = let treats
 none_treated frugal objects none behind among (frame.Awaits v by done of part tasks) k ms q = absurd q.0
 none_treated frugal objects none behind among f k ms q = (refl, refl)
 
--- Where they declare no record object, none is finalized where a master is left: that is left first, or an object has been finalized, which is not one of these.
+-- Where they declare no record object, none is finalized where a master is left: that is left first, or an object has been finalized, which is not one of
+-- these.
 pub none_left : (frugal : Thriftiness) (objects : Bool) → (frugal.by objects).objects ≡ false → (behind : Control) (among : List Value) (f : Frame Value) (k : Control) (ms : List Master)
     → FrugalLeaves frugal objects behind among (f ∷ k) ms → (is_treatment f ≡ false) × (is_operation f ≡ false)
 none_left frugal objects none behind among (frame.Treats v treatment tasks) k ms q = let may = q.0.1 in absurd (cc (none, may))

@@ -360,8 +360,8 @@ frees_bare frugal objects none behind among mode (FreesIn access c ∷ k) ms (in
 frees_bare frugal objects none behind among mode (FreesIn access c ∷ k) ms (inr (inr beginning)) = absurd beginning.1
 frees_bare frugal objects none behind among mode (f ∷ k) ms q = tt
 
--- For a new object there is nothing to do; or bodies may create those with controlled parts, and none of its operations runs behind this, as none of an object that
--- is still to be created does.
+-- For a new object there is nothing to do; or bodies may create those with controlled parts, and none of its operations runs behind this, as none of an object
+-- that is still to be created does.
 abbrev pub IsNewly : Allowance → List TypeDefinition → (access : ℕ) → List Object → Control → Type 0
 IsNewly frugal tds access heap k =
     (all_tasks tds access PartsFirst ≡ [])

@@ -1,5 +1,5 @@
--- Where the outermost body may create no objects with controlled parts, as that of a Finalize may not (7.6.1), no body that runs inside it may, and the masters of all
--- of them own variables alone.
+-- Where the outermost body may create no objects with controlled parts, as that of a Finalize may not (7.6.1), no body that runs inside it may, and the masters
+-- of all of them own variables alone.
 
 use Rattle.std.proofs.Common.{◌≡◌, Bool, true, false, List, [], ◌∷◌, refl, ◌∙◌, subst, sym, inl, inr}
 use Rattle.ada_meaning.specs.declared.state.Mode.{Mode}

@@ -454,31 +454,6 @@ treats_frugally frugal lower objects back among tds bodies s f runs v treatment 
     coming : (mode : Mode) (c : Control) → mode ≡ Running → c ≡ Treats v treatment tasks ∷ k → GoesTreating frugal lower objects back among tds bodies s (mode_next named tds bodies mode (record s { control = c }))
     coming mode c running is = rw (running, is) (by_frugal treatment (subst (λ (j : Control). Frugal frugal objects back among s.mode j f.upper) first f.frugally))
 
--- No operation waits for the end of a call (6.4): typing says so.
-pub called_back : (p : ProgramForm) (s : State) (number : ℕ) (b : BodyForm) (given : List ActualForm) (k : Control) → typed.TypedIn p s → s.mode ≡ Running → s.control ≡ Calls number b given ∷ k → IsAwaited k → ⊥
-called_back p s number b given k (typed.running kinds ready fits) runs is awaited = behind_it k (by s.control is fits) awaited
-  where
-    by : (control : Control) → control ≡ Calls number b given ∷ k → typed.Fits p (cells_of s.heap) kinds control → typed.Fits p (cells_of s.heap) [] k
-    by control same fitting = (rw same at fitting).3
-
-    behind_it : (j : Control) → typed.Fits p (cells_of s.heap) [] j → IsAwaited j → ⊥
-    behind_it [] fitting waits = waits
-    behind_it (Awaits v by' done of part tasks ∷ j) fitting waits = fitting
-    behind_it (Confines ∷ j) fitting waits = fitting
-    behind_it (f ∷ j) fitting waits = waits
-called_back p s number b given k (typed.operated kinds ready ended) runs is awaited =
-    let there = operation_ends_there p (cells_of s.heap) kinds s.control ended in
-    let none : ends_operation s.control ≡ false = ap ends_operation is in
-    absurd (cc (there, none))
-called_back p s number b given k (typed.out_of_operation e kinds jumps ended) runs is awaited =
-    let there = operation_ends_there p (cells_of s.heap) kinds s.control ended in
-    let none : ends_operation s.control ≡ false = ap ends_operation is in
-    absurd (cc (there, none))
-called_back p s number b given k (typed.on_jump mode jumps goes) runs is awaited =
-    let same : mode ≡ Running = sym jumps.jumps ∙ runs in
-    let nowhere : typed.Goes p (cells_of s.heap) Running s.control = rw same at goes in
-    nowhere
-
 -- Where bodies free no objects with controlled parts, and declare no record objects, no object is treated.
 pub treats_none : (frugal : Thriftiness) (objects : Bool) → (frugal.by objects).treats_parts ≡ false → (frugal.by objects).objects ≡ false → (behind : Control) (among : List Value) (mode : Mode) (k : Control) (ms : List Master)
     → Frugal frugal objects behind among mode k ms → TreatsNothing k

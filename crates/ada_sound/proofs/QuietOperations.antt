@@ -1,5 +1,5 @@
--- What overrides an operation is plain or frugal (7.6): so it creates no collection, no record object that names something, and calls frugal bodies alone. One that is
--- quiet lets no exception out, either.
+-- What overrides an operation is plain or frugal (7.6): so it creates no collection, no record object that names something, and calls frugal bodies alone. One
+-- that is quiet lets no exception out, either.
 
 use Rattle.std.proofs.Common.{◌≡◌, ℕ, zero, suc, ◌+◌, Bool, true, false, ◌&&◌, ◌||◌, if◌then◌else◌, List, [], ◌∷◌, ◌++◌, length, map, refl, sym, ap, ◌∙◌, arith, length-append, ◌⊎◌, inl, inr}
 use Rattle.std.specs.Prelude.{Option, Some, None, find, is_some}

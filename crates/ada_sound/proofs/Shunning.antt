@@ -1,5 +1,5 @@
--- Frugal bodies that create no object with controlled parts, as that of a Finalize, are of the shape of bodies that shun access types (3.10). They call such procedures
--- alone; and where they use no value of a type, neither does what they call, nor the end of what they free (4.1, 7.6.1, 13.11.2).
+-- Frugal bodies that create no object with controlled parts, as that of a Finalize, are of the shape of bodies that shun access types (3.10). They call such
+-- procedures alone; and where they use no value of a type, neither does what they call, nor the end of what they free (4.1, 7.6.1, 13.11.2).
 
 use Rattle.std.proofs.Common.{◌≡◌, ℕ, Bool, true, false, not, ◌==◌, ◌&&◌, ◌||◌, List, [], ◌∷◌, length, Option, Some, None, refl}
 use Rattle.std.specs.Prelude.{nat_lt, is_some}
@@ -187,7 +187,7 @@ module _ (p : ProgramForm) (u : ℕ) where
     declaration_shaped (declares_record x object None) is = absurd (cc is)
     declaration_shaped (declares_record x object (Some items)) is = absurd (cc is)
 
-    -- and so have declarations of variables alone.
+    -- and so have all declarations of such a body.
     declarations_shaped :
         (ds : List DeclarationForm) → are_frugal_declarations (thrift_of p false) ds ≡ true → declarations_shun p.types (λ t. false) apart variables ds ≡ true
     declarations_shaped [] is = refl

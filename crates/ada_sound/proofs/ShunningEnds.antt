@@ -309,8 +309,8 @@ finalize_shuns program well uses access of part number u b operable overrides th
     let all = all_apart program well uses u in
     (apart_from program u, all, all.bodies number b (end_shuns program well uses u access of part number operable overrides reaches) there)
 
--- The frugal body of a procedure that creates no object with controlled parts has the shape of bodies that shun types, and so have all that it calls and the operations of
--- what it frees.
+-- The frugal body of a procedure that creates no object with controlled parts has the shape of bodies that shun types, and so have all that it calls and the
+-- operations of what it frees.
 pub body_is_shaped :
     (program : Program) → IsWellFormed (program_form program) → operations_may_be_called (program_form program) ≡ true → (number : ℕ) (b : BodyForm)
     → slice_get (body_forms program) number ≡ Some b → is_frugal_body (thrift_of (program_form program) false) b ≡ true

@@ -396,9 +396,9 @@ operated_among (g ∷ gs) = operated_in g.control ++ operated_among gs
 
 -- In what the outermost operation has called so far, by what bodies go, what is left to do behind it, and the masters that were entered before it.
 module _ (program : Program) (s : State) (frugal : Thriftiness) (back : Control) (lower : List Master) where
-  -- An activation waits, in front of these, for the operation of an object that it frees, allocates or declares, or that is undone, whose body is this one (7.6, 7.6.1,
-  -- 4.8, 3.3.1, 13.11.2) and may create objects itself or not: behind that its own body goes on, which may or not, in masters of its own, in which operations of these
-  -- objects run.
+  -- An activation waits, in front of these, for the operation of an object that it frees, allocates or declares, or that is undone, whose body is this one
+  -- (7.6, 7.6.1, 4.8, 3.3.1, 13.11.2) and may create objects itself or not: behind that its own body goes on, which may or not, in masters of its own, in which
+  -- operations of these objects run.
   pub record IsOperation (running : Option ℕ) (objects outer : Bool) (depth : ℕ) (others : List Suspension) (among : List Value) (g : Suspension) : Type 0 where
     pub pause : Pause program depth s
     pub is : g ≡ origin program depth s pause
@@ -409,8 +409,8 @@ module _ (program : Program) (s : State) (frugal : Thriftiness) (back : Control)
     pub masters : pause.lower ≡ upper ++ lower
     pub leads : FrugalOperated frugal objects outer back (operated_in pause.behind ++ among) pause.behind upper
 
-  -- These activations wait, in front of others, the nearest one first, for calls or for such operations: the first one for the body that runs, which may create objects or
-  -- not, and the last one is the body of the outermost operation, if none waits, that is the one that runs.
+  -- These activations wait, in front of others, the nearest one first, for calls or for such operations: the first one for the body that runs, which may create
+  -- objects or not, and the last one is the body of the outermost operation, if none waits, that is the one that runs.
   abbrev pub AreInner : (running : Option ℕ) → (objects : Bool) → (depth : ℕ) → (outermost : Option ℕ) → (others : List Suspension) → List Suspension → Type 0
   AreInner running objects depth outermost others [] = (running ≡ outermost) × (objects ≡ frugal.last)
   AreInner running objects depth outermost others (g ∷ inner) =

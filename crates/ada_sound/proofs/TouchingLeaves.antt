@@ -1,5 +1,5 @@
--- The body of an operation that touches storage leaves a master of its own, which owns variables and record objects alone (7.6.1): no component is of the type of
--- such an object, and what its callers rely on lies in outer masters.
+-- The body of an operation that touches storage leaves a master of its own, which owns variables and record objects alone (7.6.1): no component is of the type
+-- of such an object, and what its callers rely on lies in outer masters.
 
 use Rattle.std.proofs.Common.{◌≡◌, true, false, List, ◌∷◌, ◌++◌, sym, subst, ℕ, Bool, []}
 use Rattle.std.specs.Prelude.{Option}
@@ -83,8 +83,8 @@ leaves_in_order program s grounds f left k leaves =
     (owned_in_order (allowance_by p f.within.objects) ahead p.types (are_calm_in p) grounds.well.types_fit (innermost s.masters) (leaves_owned program s f left k leaves)
     (fit_innermost p.types s.masters (items_fit p s grounds.nested)))
 
--- While the body of an operation that touches storage runs, or one since then, the master that is left holds nothing but what lies in it; and what callers rely on lies
--- in outer ones.
+-- While the body of an operation that touches storage runs, or one since then, the master that is left holds nothing but what lies in it; and what callers rely
+-- on lies in outer ones.
 pub touching_leaves : (program : Program) (s : State) → Grounds program s → (f : Touching program s) → s.mode ≡ Running → (left : Mode) (k : Control) → s.control ≡ Leaves left ∷ k
     → HeldIn s.heap s.masters × NamedBelow (outers (known_in program (running_procedure s) f.suspensions)) s.heap s.masters
 touching_leaves program s grounds f runs left k leaves =

@@ -75,7 +75,8 @@ module _
   each_watched (asks request answered) goes = λ granted. goes_watched (answered granted) (goes granted)
   each_watched (picks n taken) goes = λ i lt. goes_watched (taken i) (goes i lt)
 
--- Where what runs may create no objects behind all of these activations, whatever runs in front of them may create none, either: so it is in front of a Finalize.
+-- Where what runs may create no objects behind all of these activations, whatever runs in front of them may create none, either: so it is in front of a
+-- Finalize.
 module _ (program : Program) (s : State) (frugal : Thriftiness) (back : Control) (lower : List Master) where
   pub idle_inside :
       (running : Option ℕ) (objects : Bool) (depth : ℕ) (outermost : Option ℕ) (others inner : List Suspension) → AreInner program s frugal back lower running objects depth outermost others inner

@@ -42,7 +42,8 @@ use Rattle.ada_quiet.specs.Releases.{text_frees_inside}
 abbrev pub InEveryRun : Program → (List Event → State → Type 0) → Type 0
 InEveryRun program P = (input : List ℤ) (events : List Event) (last : State) → Run program (first_state program input) events last → P events last
 
--- The end of an object neither frees objects of its own access type nor follows values of it (7.6.1, 13.11.2, 4.1), and its adjustment frees none, where it is of one.
+-- The end of an object neither frees objects of its own access type nor follows values of it (7.6.1, 13.11.2, 4.1), and its adjustment frees none, where it is
+-- of one.
 abbrev pub spares_own_type : Implicit → (type_number : ℕ) → TypeForm → Bool
 spares_own_type implicit t (record_of name parts components finalization) = true
 spares_own_type implicit t (access_to name designated pool) = not (implicit.end_reaches t t) && not (implicit.adjust_frees t t)
@@ -53,14 +54,14 @@ abbrev pub spare_own_types : Implicit → (from : ℕ) → List TypeForm → Boo
 spare_own_types implicit n [] = true
 spare_own_types implicit n (t ∷ ts) = spares_own_type implicit n t && spare_own_types implicit (suc n) ts
 
--- In a program, the end of an object uses no object of its own access type, and its adjustment frees none: what is used then lies in a collection that was created
--- earlier (7.6.1).
+-- In a program, the end of an object uses no object of its own access type, and its adjustment frees none: what is used then lies in a collection that was
+-- created earlier (7.6.1).
 abbrev pub SparesOwn : Program → Type 0
 SparesOwn program = spare_own_types (implicit_of (program_form program)) 0 (program_form program).types ≡ true
 
--- In a program in which something creates an object with controlled parts, or assigns a record with some, no exception comes out where a record is finalized, out of
--- no Finalize of a part of it; and in one in which something copies a record with some, none comes out where one is adjusted (7.6, 7.6.1). In other programs no
--- Finalize is called, or no Adjust.
+-- In a program in which something creates an object with controlled parts, or assigns a record with some, no exception comes out where a record is finalized:
+-- out of the Finalize of no part of it. In one in which something copies a record with some, none comes out where one is adjusted (7.6, 7.6.1). In other
+-- programs no Finalize, or no Adjust, is called implicitly.
 pub record LetsNothingOut (p : ProgramForm) : Type 0 where
   pub finalizes : makes_parts p ≡ true → (e : Exception) (t : TypeNo) → ¬ (Does p (Raises e) (callee.Parts Finalize t))
   pub adjusts : copies_parts p ≡ true → (e : Exception) (t : TypeNo) → ¬ (Does p (Raises e) (callee.Parts Adjust t))
@@ -70,8 +71,8 @@ abbrev pub hold_one : (access : ℕ) → Option (List ComponentKind) → Bool
 hold_one t None = false
 hold_one t (Some components) = list_any (is_component_of t) components
 
--- The end of an object of an access type reaches one of these types, from a number on, whose objects have a component of the former: one that names the object may lie
--- there (7.6.1). No value of a type is followed by which a record object is known.
+-- The end of an object of an access type reaches one of these types, from a number on, whose objects have a component of the former: one that names the object
+-- may lie there (7.6.1). No value of a type is followed by which a record object is known.
 abbrev pub reaches_one : Implicit → List TypeForm → (access : ℕ) → (from : ℕ) → List TypeForm → Bool
 reaches_one implicit types t n [] = false
 reaches_one implicit types t n (form ∷ rest) =
@@ -81,8 +82,8 @@ reaches_one implicit types t n (form ∷ rest) =
 abbrev pub reaches_holder : Implicit → List TypeForm → (access : ℕ) → Bool
 reaches_holder implicit types t = reaches_one implicit types t 0 types
 
--- In a program in which a Finalize may touch storage, and something creates an object with controlled parts, no component of a record object, and none of a formal
--- parameter, frees an object whose end reaches an access type whose objects have such a component: so the object in which it lies stays as it is.
+-- In a program in which a Finalize may touch storage, and something creates an object with controlled parts, no component of a record object, and none of a
+-- formal parameter, frees an object whose end reaches an access type whose objects have such a component: so the object in which it lies stays as it is.
 abbrev pub SparesHolders : Program → Type 0
 SparesHolders program =
     let p = program_form program in
@@ -116,11 +117,12 @@ SparesStarts program =
 pub record IsChecked (program : Program) : Type 0 where
   -- each number is that of something there, and each form has the types that it wants
   pub well_formed : IsWellFormed (program_form program)
-  -- what overrides an operation of a controlled type touches Integers and Booleans alone, and calls nothing, and its text lets no exception out but of an
-  -- Initialize (7.6); where all that has controlled parts lies in declared objects, or collections are created in order, Initialize and Finalize may also allocate,
-  -- move, follow and free, and call what does so alone, and Adjust of a type that declares components of access types may allocate, move, follow and free, so that
-  -- these own what they name, or are null, where no component names an object with a part that has such an Adjust; an Adjust allocates and frees no object with
-  -- controlled parts; where no Adjust is called, a frugal one is in use; and where none is called, each operation is
+  -- what overrides an operation of a controlled type touches Integers and Booleans alone, and calls nothing, and no exception comes out of such an Adjust or
+  -- Finalize by its text (7.6); where all that has controlled parts lies in declared objects, or collections are created in order, Initialize and Finalize may
+  -- also move, follow and free, and call what does so alone, and Initialize may also allocate, and declare record objects of Integers and Booleans; and Adjust
+  -- of a type that declares components of access types may allocate, move, follow and free, so that these own what they name, or are null, where no component
+  -- names an object with a part that has such an Adjust; an Adjust allocates and frees no object with controlled parts; where no Adjust is called, a frugal one
+  -- is in use; and where none is called, each operation is
   pub in_use : operations_are_in_use (program_form program) ≡ true
   -- no object lies in a collection that lasts longer than one in which its components' objects lie (3.10.2, 7.6.1)
   pub nests : CollectionsNest (program_form program)
@@ -130,8 +132,8 @@ pub record IsChecked (program : Program) : Type 0 where
   pub spares_own : SparesOwn program
   -- no exception comes out where a record is finalized, in a program in which a Finalize may be called, or adjusted, in one in which an Adjust may be (7.6.1)
   pub lets_nothing_out : LetsNothingOut (program_form program)
-  -- where a Finalize may touch storage, and something creates an object with controlled parts, no component of a record frees an object whose end reaches an access
-  -- type whose objects have such a component (7.6.1)
+  -- where a Finalize may touch storage, and something creates an object with controlled parts, no component of a record frees an object whose end reaches an
+  -- access type whose objects have such a component (7.6.1)
   pub spares_holders : SparesHolders program
   -- and the initialization of an object frees none of its own access type (7.6)
   pub spares_starts : SparesStarts program
@@ -287,8 +289,8 @@ pub record NotInUse (program : Program) : Type 0 where
   pub lets_nothing_out : LetsNothingOut (program_form program)
   pub obeys : ObeysRules program
 
--- The program has passed all other checks, but an exception may come out where a record is finalized, and a Finalize may be called, or where one is adjusted, and an
--- Adjust may be.
+-- The program has passed all other checks, but an exception may come out where a record is finalized, and a Finalize may be called, or where one is adjusted,
+-- and an Adjust may be.
 pub record LetsSomeOut (program : Program) : Type 0 where
   pub well_formed : IsWellFormed (program_form program)
   pub in_use : operations_are_in_use (program_form program) ≡ true
@@ -300,8 +302,8 @@ pub record LetsSomeOut (program : Program) : Type 0 where
   pub spares_starts : SparesStarts program
   pub obeys : ObeysRules program
 
--- The program is well formed, whatever overrides an operation of a controlled type is in use, its collections nest, it frees by the instances for what it frees,
--- and it obeys the rules, but where an object ends, or is adjusted, others of its own access type may be used.
+-- The program is well formed, whatever overrides an operation of a controlled type is in use, its collections nest, it frees by the instances for what it
+-- frees, and it obeys the rules, but where an object ends, or is adjusted, others of its own access type may be used.
 pub record UsesOwn (program : Program) : Type 0 where
   pub well_formed : IsWellFormed (program_form program)
   pub in_use : operations_are_in_use (program_form program) ≡ true

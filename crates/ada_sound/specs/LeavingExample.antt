@@ -1,5 +1,5 @@
--- The operation, the statements and the events of the program by which the laws show that a list is left whose nodes have a Finalize that frees what they own: the
--- component that names the next node dangles then.
+-- The operation, the statements and the events of the program by which the laws show that a list is left whose nodes have a Finalize that frees what they own:
+-- the component that names the next node dangles then.
 
 use Rattle.std.specs.Prelude.{List, [], ◌∷◌, ◌++◌, Some, None}
 use Rattle.std.proofs.Math.ListN.{replicate}
@@ -55,10 +55,11 @@ next_node = Names (record { 0 = 1 })
 abbrev pub next_cell : Value
 next_cell = Names (record { 0 = 2 })
 
--- The first node is allocated, and followed where its Next is found as a target; the next one is allocated, and the first one followed where Next is written. Both
--- are followed where Head is found as a target, and the next one where that is written. At the leaving of the main procedure the next node is taken first: its
--- Finalize, a master of its own, follows it to what Head names, the words of that cell go back, the node is followed where Head becomes null, and the body is
--- left; then its words go back. The first node, whose Next names what has gone, is finalized then: its Head is null, so nothing is freed, and its words go back.
+-- The first node is allocated, and followed where its Next is found as a target; the next one is allocated, and the first one followed where Next is written.
+-- Both are followed where Head is found as a target, and the next one where that is written. At the leaving of the main procedure the next node is taken first:
+-- its Finalize, a master of its own, follows it to what Head names, the words of that cell go back, the node is followed where Head becomes null, and the body
+-- is left; then its words go back. The first node, whose Next names what has gone, is finalized then: its Head is null, so nothing is freed, and its words go
+-- back.
 abbrev pub leaving_events : List Event
 leaving_events =
     Born first_node 0 0 0 1 Creation
@@ -85,7 +86,7 @@ three_stmts =
     a_stmt (assigns next_of_first (allocates_default 3))
     (a_stmt (assigns (example_path 0 (1 ∷ 1 ∷ [])) (allocates_default 3)) no_stmts)
 
--- Of a state where a statement begins in the body of an operation that touches storage, while a node is gone that a component of another one names: flow speaks of it,
--- and is not agreed with there.
+-- Of a state where a statement begins in the body of an operation that touches storage, while a node is gone that a component of another one names: flow speaks
+-- of it, and is not agreed with there.
 abbrev pub IsSpokenOfElsewhere : Program → State → Type 0
 IsSpokenOfElsewhere program s = IsSpokenOfInside program s × (AgreesThere program s → ⊥)

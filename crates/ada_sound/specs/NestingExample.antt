@@ -1,5 +1,5 @@
--- The operations, the statements and the events of the program by which the laws show that a Finalize frees an object whose own Finalize frees, too: operations run
--- inside operations.
+-- The operations, the statements and the events of the program by which the laws show that a Finalize frees an object whose own Finalize frees, too: operations
+-- run inside operations.
 
 use Rattle.std.specs.Prelude.{List, [], ◌∷◌, ◌++◌, Some, None}
 use Rattle.std.proofs.Math.ListN.{replicate}
@@ -18,9 +18,9 @@ use Rattle.ada_sound.specs.RecordExamples.{object_path}
 use Rattle.ada_sound.specs.CallExamples.{unnamed}
 use Rattle.ada_sound.specs.OperationExamples.{operation_body, boxed_head}
 
--- type Cell is record Value : Integer; end record; which has number 0; type Link is access Cell; which has number 1; type Holder is new Limited_Controlled
--- with record Head : Link; end record; which has number 2; type Chest is access Holder; which has number 3; type Keeper is new Limited_Controlled with record
--- Held : Chest; end record; which has number 4. K : Keeper has number 0 in the main procedure, and is known by type 5, and the formal parameters by types 6 and 7.
+-- type Cell is record Value : Integer; end record; which has number 0; type Link is access Cell; which has number 1; type Holder is new Limited_Controlled with
+-- record Head : Link; end record; which has number 2; type Chest is access Holder; which has number 3; type Keeper is new Limited_Controlled with record Held :
+-- Chest; end record; which has number 4. K : Keeper has number 0 in the main procedure, and is known by type 5, and the formal parameters by types 6 and 7.
 
 -- Holder overrides Finalize by the first of two procedures (ReleasingExample.antt has such a one), and Keeper by the second one.
 abbrev pub keeping_operations : Operations
@@ -82,8 +82,8 @@ kept_cell = Names (record { 0 = 2 })
 abbrev pub inner_events : List Event
 inner_events = Followed kept_holder ∷ Back kept_cell 1 2 (Some 0) None (Freeing 4) ∷ Followed kept_holder ∷ Left 3 ∷ []
 
--- Finalize of K is called, as the master of number 1: it follows K to read Held, and where that is found as a target and becomes null. Free finalizes the holder that
--- C names, whose own Finalize is called, and then the words of the holder go back. Then the body is left.
+-- Finalize of K is called, as the master of number 1: it follows K to read Held, and where that is found as a target and becomes null. Free finalizes the
+-- holder that C names, whose own Finalize is called, and then the words of the holder go back. Then the body is left.
 abbrev pub outer_events : List Event
 outer_events =
     replicate 3 (Followed object_k)
@@ -93,10 +93,10 @@ outer_events =
     ∷ Left 1
     ∷ []
 
--- K is initialized, for which nothing is called, and followed where its Held is found as a target; the holder is allocated and initialized, for which nothing is called
--- either, and K is followed where Held is written. K and the holder are followed where Head is found as a target, and the holder where that is written. At the leaving
--- of the main procedure K is finalized, and within its Finalize the holder is, within whose Finalize the words of the cell go back. Then the words of K go back. Nothing
--- is left in the two collections.
+-- K is initialized, for which nothing is called, and followed where its Held is found as a target; the holder is allocated and initialized, for which nothing
+-- is called either, and K is followed where Held is written. K and the holder are followed where Head is found as a target, and the holder where that is
+-- written. At the leaving of the main procedure K is finalized, and within its Finalize the holder is, within whose Finalize the words of the cell go back.
+-- Then the words of K go back. Nothing is left in the two collections.
 abbrev pub nesting_events : List Event
 nesting_events =
     Born object_k 0 0 1 1 Creation

@@ -296,10 +296,10 @@ boxed_cell = Names (record { 0 = 1 })
 abbrev pub second_box : Value
 second_box = Names (record { 0 = 2 })
 
--- The first holder is allocated and initialized, for which nothing is called, and is followed where its Head is found as a target, and where that is written. Free
--- finalizes it: its Finalize, a master of its own, follows it to what Head names, the words of that cell go back, it is followed where Head becomes null, and the
--- body is left; then its own words go back. The second one is allocated, and is there when the main procedure is left: then it is finalized, which follows it to a
--- Head that is null, and its words go back. The collections of both access types are empty then.
+-- The first holder is allocated and initialized, for which nothing is called, and is followed where its Head is found as a target, and where that is written.
+-- Free finalizes it: its Finalize, a master of its own, follows it to what Head names, the words of that cell go back, it is followed where Head becomes null,
+-- and the body is left; then its own words go back. The second one is allocated, and is there when the main procedure is left: then it is finalized, which
+-- follows it to a Head that is null, and its words go back. The collections of both access types are empty then.
 abbrev pub boxing_events : List Event
 boxing_events =
     Born first_box 0 0 0 1 Creation
@@ -348,9 +348,9 @@ overwriting_stmts = a_stmt (assigns_record (tally_now 0) (item_of_record (tally_
 abbrev pub copied_y : Value
 copied_y = Names (record { 0 = 1 })
 
--- X and Y are initialized, for which nothing is called. The assignment finds X and then Y, and finalizes the value of X: the body of Finalize, a master of its own, is
--- left; then Y is copied to X, and X has a value again, for which nothing is called. At the leaving of the main procedure Y is finalized, and its words go back, and
--- then X, whose value is the later one.
+-- X and Y are initialized, for which nothing is called. The assignment finds X and then Y, and finalizes the value of X: the body of Finalize, a master of its
+-- own, is left; then Y is copied to X, and X has a value again, for which nothing is called. At the leaving of the main procedure Y is finalized, and its words
+-- go back, and then X, whose value is the later one.
 abbrev pub overwriting_events : List Event
 overwriting_events =
     Born object_x 0 0 0 1 Creation
@@ -393,8 +393,9 @@ abbrev pub emptying_bodies : List BodyForm
 emptying_bodies = emptying_empty ∷ emptying_finalize ∷ []
 
 -- H is initialized, for which nothing is called, and is followed where its Head is found as a target, and where that is written. At the leaving of the main
--- procedure H is finalized: its Finalize, a master of its own, follows H to pass it, and Empty, one more master, follows H to what Head names, the words of that
--- cell go back, and H is followed where Head becomes null. Empty is left, and then Finalize. Then the words of H go back. Nothing is left in the collection.
+-- procedure H is finalized: its Finalize, a master of its own, follows H to pass it, and Empty, one more master, follows H to what Head names, the words of
+-- that cell go back, and H is followed where Head becomes null. Empty is left, and then Finalize. Then the words of H go back. Nothing is left in the
+-- collection.
 abbrev pub emptying_events : List Event
 emptying_events =
     Born object_h 0 0 0 1 Creation
@@ -553,15 +554,15 @@ second_pair = Names (record { 0 = 3 })
 abbrev pub fills : Value → (master : ℕ) → List Event
 fills pair master = replicate 2 (Followed pair) ++ Left master ∷ []
 
--- Finalize of a part of a pair is called: it follows the pair to what Head names, the words of that cell go back, the pair is followed where Head becomes null, and
--- the body is left.
+-- Finalize of a part of a pair is called: it follows the pair to what Head names, the words of that cell go back, the pair is followed where Head becomes null,
+-- and the body is left.
 abbrev pub empties : Value → (cell granted master : ℕ) → List Event
 empties pair cell granted master =
     Followed pair ∷ Back (Names (record { 0 = cell })) 1 granted (Some 0) None (Freeing (1 + master)) ∷ Followed pair ∷ Left master ∷ []
 
--- First and Second of the first pair are initialized, each to a cell of its own. Free finalizes First and then Second, which free their cells, and the words of the pair
--- go back. The second pair is initialized, too, and is there when the main procedure is left: then Second and First of it are finalized with its collection, and its
--- words go back, so that nothing is left in the collections.
+-- First and Second of the first pair are initialized, each to a cell of its own. Free finalizes First and then Second, which free their cells, and the words of
+-- the pair go back. The second pair is initialized, too, and is there when the main procedure is left: then Second and First of it are finalized with its
+-- collection, and its words go back, so that nothing is left in the collections.
 abbrev pub filling_events : List Event
 filling_events =
     fills first_pair 1
@@ -585,8 +586,8 @@ filling_events =
     ∷ Left 0
     ∷ []
 
--- Where the cell of Second is refused, Storage_Error leaves the body of Initialize, so that the first pair is undone: First is finalized, whose Finalize frees its cell,
--- and the words of the pair go back. The handler takes the exception, C is null still, and nothing is left in the collections.
+-- Where the cell of Second is refused, Storage_Error leaves the body of Initialize, so that the first pair is undone: First is finalized, whose Finalize frees
+-- its cell, and the words of the pair go back. The handler takes the exception, C is null still, and nothing is left in the collections.
 abbrev pub unfilled_events : List Event
 unfilled_events =
     fills first_pair 1
@@ -773,8 +774,8 @@ duplicating_events =
     ∷ Left 0
     ∷ []
 
--- Where the cell is refused that Adjust allocates, the handler in its body takes Storage_Error: B is followed where its Head is found as a target, and where that
--- becomes null. So B has a value again all the same. Its Finalize finds null and frees nothing, and the cell of A goes as before.
+-- Where the cell is refused that Adjust allocates, the handler in its body takes Storage_Error: B is followed where its Head is found as a target, and where
+-- that becomes null. So B has a value again all the same. Its Finalize finds null and frees nothing, and the cell of A goes as before.
 abbrev pub duplicating_refused_events : List Event
 duplicating_refused_events =
     Born object_a 0 0 0 1 Creation
@@ -898,9 +899,9 @@ pairing_stmts =
 abbrev pub adjusts_part : (cell : ℕ) → List Event
 adjusts_part cell = replicate 2 (Followed object_b) ++ Followed (Names (record { 0 = cell })) ∷ []
 
--- All parts have their values, for which nothing is called, and A is followed where each Head is found as a target, and where that is written. The assignment finds B
--- and then A, and finalizes the values of B, Right before Left: each body of Finalize, a master of its own, follows B, and frees nothing, since Head is null. Then A
--- is copied to B, where both Heads name the cells of A now.
+-- All parts have their values, for which nothing is called, and A is followed where each Head is found as a target, and where that is written. The assignment
+-- finds B and then A, and finalizes the values of B, Right before Left: each body of Finalize, a master of its own, follows B, and frees nothing, since Head is
+-- null. Then A is copied to B, where both Heads name the cells of A now.
 abbrev pub pairing_begins : List Event
 pairing_begins =
     Born object_a 0 0 0 1 Creation
@@ -920,9 +921,9 @@ pairing_begins =
     ∷ Followed object_b
     ∷ []
 
--- Right is adjusted first: its Head names a cell of its own then, while that of Left still names the cell of A, which is there when Left is adjusted. At the leaving of
--- the main procedure the parts of B are finalized, Right before Left, and free their cells, and the words of B go back. Then the parts of A are, whose cells are there
--- still, and go, and so do the words of A. Nothing is left in the collection.
+-- Right is adjusted first: its Head names a cell of its own then, while that of Left still names the cell of A, which is there when Left is adjusted. At the
+-- leaving of the main procedure the parts of B are finalized, Right before Left, and free their cells, and the words of B go back. Then the parts of A are,
+-- whose cells are there still, and go, and so do the words of A. Nothing is left in the collection.
 abbrev pub pairing_events : List Event
 pairing_events =
     pairing_begins
@@ -947,8 +948,8 @@ pairing_events =
     ∷ Left 0
     ∷ []
 
--- Where the cell is refused that Adjust allocates for Left, the handler in its body takes Storage_Error: B is followed where that Head is found as a target, and where
--- it becomes null. The Finalize of Left finds null and frees nothing, and all other cells go as before.
+-- Where the cell is refused that Adjust allocates for Left, the handler in its body takes Storage_Error: B is followed where that Head is found as a target,
+-- and where it becomes null. The Finalize of Left finds null and frees nothing, and all other cells go as before.
 abbrev pub pairing_refused_events : List Event
 pairing_refused_events =
     pairing_begins
@@ -992,7 +993,8 @@ DeclaresOwner program =
 abbrev pub with_keep : Program → List TypeForm
 with_keep program = types_of program ++ access_to [] 2 None ∷ []
 
--- With these and K : Keep, which has number 2, they let K := new Holder'(A); through (4.8); it is not well formed, but for another reason: Holder is controlled.
+-- With these and K : Keep, which has number 2, they let K := new Holder'(A); through (4.8); it is not well formed, but for another reason: Holder is
+-- controlled.
 abbrev pub AllocatesOwner : Program → Type 0
 AllocatesOwner program =
     IsLetThrough (with_keep program) (variables_of program ++ unnamed (variable.Access (record { 0 = 7 })) ∷ [])
@@ -1061,8 +1063,8 @@ freed_events =
     ∷ Finalized first_node 0 0 0 1 (Leaving 0 0)
     ∷ replicate 3 (Followed first_node)
 
--- The same, but that Next is of another type: type Cell is record Value : Integer; end record; has number 3; type Cell_Link is access Cell; has number 4, and its
--- collection is created behind that of Link. Second : Cell_Link.
+-- The same, but that Next is of another type: type Cell is record Value : Integer; end record; has number 3; type Cell_Link is access Cell; has number 4, and
+-- its collection is created behind that of Link. Second : Cell_Link.
 
 -- Head := new Node; Second := new Cell; Head.Next := Second;
 abbrev pub node_and_cell : StmtsForm

@@ -1,5 +1,5 @@
--- A state that stands for another one, while a collection is left (7.6.1): its members go one after the other, and while an operation runs for one of them, flow speaks
--- of values of its access type as if those that have gone existed still. No operation follows or frees such a value then (S8).
+-- A state that stands for another one, while a collection is left (7.6.1): its members go one after the other, and while an operation runs for one of them,
+-- flow speaks of values of its access type as if those that have gone existed still. No operation follows or frees such a value then (S8).
 
 use Rattle.std.specs.Prelude.{◌≡◌, ◌⊎◌, ℕ, true, false, Option, Some, Contains}
 use Rattle.ada_meaning.specs.declared.event.Cause.TheVariants.{Leaving}
