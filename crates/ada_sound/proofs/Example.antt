@@ -46,8 +46,12 @@ steps n = replicate n settled
 abbrev pub heap : Global
 heap = record { memory = record { seal = tt } }
 
+-- Items as a vector, and a few of them.
+abbrev pub wide_vec : {X : Type 0} (items : List X) → length items ≤ 16 → Vec X
+wide_vec items le = record { ptr = null_ptr; len = length items; cap = length items; alloc = heap; items = items; ok = (refl, omega arith); small = omega (arith, le) }
+
 abbrev pub vec : {X : Type 0} (items : List X) → length items ≤ 8 → Vec X
-vec items le = record { ptr = null_ptr; len = length items; cap = length items; alloc = heap; items = items; ok = (refl, omega arith); small = omega (arith, le) }
+vec items le = wide_vec items (omega (arith, le))
 
 abbrev pub no_name : String Global
 no_name = record { bytes = vec [] (omega arith); ok = ∣ ([], (refl, refl)) ∣₁ }

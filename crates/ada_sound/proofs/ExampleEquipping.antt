@@ -41,7 +41,7 @@ box_type =
     (Some (record { number = record { 0 = 1 }; parts = 1; limited = true; operations = equipping_operations }))
 
 -- Tag; type Label is access Tag; Box; and what B and the formal parameters are known by.
-abbrev equipping_types : List TypeDefinition
+abbrev pub equipping_types : List TypeDefinition
 equipping_types =
     tag_type
     ∷ access_to 0
@@ -53,13 +53,25 @@ equipping_types =
     ∷ definition.Object (record { 0 = 2 })
     ∷ []
 
--- T.Value := 7; and Put_Line (Integer'Image (T.Value)); and B.Held := new Tag; and Free (B.Held);
+-- T.Value := 7;
+abbrev pub initializes_tag : Procedure
+initializes_tag = operation 4 (stmt.Assign (of_object 0 0) (right.Value (Integer (pos 7))) ∷ []) (omega arith) [] (omega arith)
+
+-- Put_Line (Integer'Image (T.Value));
+abbrev pub finalizes_tag : Procedure
+finalizes_tag = operation 5 (stmt.PutImage (Reads (of_object 0 0)) ∷ []) (omega arith) [] (omega arith)
+
+-- Free (B.Held);
+abbrev pub frees_tag : Procedure
+frees_tag = operation 7 (stmt.Free (record { 0 = 1 }) (of_object 0 0) ∷ []) (omega arith) [] (omega arith)
+
+-- Those, and B.Held := new Tag;
 abbrev equipping_procedures : List Procedure
 equipping_procedures =
-    operation 4 (stmt.Assign (of_object 0 0) (right.Value (Integer (pos 7))) ∷ []) (omega arith) [] (omega arith)
-    ∷ operation 5 (stmt.PutImage (Reads (of_object 0 0)) ∷ []) (omega arith) [] (omega arith)
+    initializes_tag
+    ∷ finalizes_tag
     ∷ operation 6 (stmt.Assign (of_object 0 0) (right.Default (record { 0 = 1 })) ∷ []) (omega arith) [] (omega arith)
-    ∷ operation 7 (stmt.Free (record { 0 = 1 }) (of_object 0 0) ∷ []) (omega arith) [] (omega arith)
+    ∷ frees_tag
     ∷ []
 
 -- B : Box; begin null;

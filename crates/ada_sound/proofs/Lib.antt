@@ -436,6 +436,8 @@ pub mod ExampleUndoing
 pub mod ExampleFilling
 -- one whose Initialize allocates an object with operations of its own
 pub mod ExampleEquipping
+-- one whose Initialize declares such an object, and allocates one
+pub mod ExampleTagging
 -- and those whose Adjust allocates
 pub mod ExampleDuplicating
 pub mod ExamplePairing

@@ -30,6 +30,7 @@ pub mod LeavingExample
 pub mod NestingExample
 pub mod HousingExample
 pub mod StockingExample
+pub mod TaggingExample
 -- what the rules let through
 pub mod Owners
 -- what they say of calls

@@ -28,6 +28,7 @@ ghost use Rattle.ada_sound.specs.LeavingExample as leaving_example;
 ghost use Rattle.ada_sound.specs.NestingExample as nesting_example;
 ghost use Rattle.ada_sound.specs.HousingExample as housing_example;
 ghost use Rattle.ada_sound.specs.StockingExample as stocking_example;
+ghost use Rattle.ada_sound.specs.TaggingExample as tagging_example;
 
 /// The laws are not empty: a program is accepted and comes to a statement; it finishes after it has followed an access
 /// value, written a line, freed an object, and left its main procedure, with which another object went. And one is
@@ -223,6 +224,14 @@ pub fn premises_are_met()
 /// writes its 7. Where the tag is refused, `Storage_Error` leaves the Initialize of the box, which has no value then: nothing is
 /// finalized (7.6.1), the words of the box go back, and the exception leaves the main procedure (11.4).
 ///
+/// And one is accepted whose Initialize declares a tag, and gives a variable a new one, both in its own declarations (3.3.1, 4.8,
+/// 7.6). The Initialize of each runs inside that of the box, in the order of the declarations. The declared tag gets an 8, and the
+/// box gets what the variable owns. Where the Initialize of the box is left, the declared tag is finalized (7.6.1), which writes
+/// the 8, and its words go back; only then the box has its value. Where the main procedure is left, the Finalize of the box frees
+/// the other tag, which writes its 7. `flow_invariant` speaks of where the statements of that Initialize begin. Where the new tag
+/// is refused, `Storage_Error` leaves the Initialize of the box from its declarations (11.4): the declared tag has its value, and
+/// is finalized there; the box has none, its words go back, and the exception leaves the main procedure.
+///
 /// And one is accepted whose Adjust allocates (7.6, 4.8): a record that owns a cell is assigned to another one, of the same
 /// type. Right behind the copy the components of both name one cell; Adjust reads it, and gives the copy a cell of its own,
 /// or null, where an exception is raised. Where both cells are granted, each of the two records is finalized at the leaving
@@ -352,6 +361,15 @@ pub fn operations_are_accepted()
         × (stmt_forms program ≡ operation_examples.equipping_stmts)
         × IsChecked program × FinishesAfter operation_examples.equipping_events program
         × always.HaltsAfter operation_examples.unequipped_events (Unhandled StorageError) program }
+    ensures tags { (program : Program)
+        × (operations_of program.types.items 0 ≡ operation_examples.tag_operations)
+        × (operations_of program.types.items 1 ≡ operation_examples.equipping_operations)
+        × (body_forms program ≡ tagging_example.tagging_bodies)
+        × (declaration_forms program ≡ operation_examples.equipping_declarations)
+        × (stmt_forms program ≡ operation_examples.equipping_stmts)
+        × IsChecked program × FinishesAfter tagging_example.tagging_events program
+        × always.HaltsAfter tagging_example.untagged_events (Unhandled StorageError) program
+        × always.InSomeRun program (λ events last. operation_examples.IsSpokenOfInside program last) }
     ensures duplicates { (program : Program)
         × (operations_of program.types.items 0 ≡ operation_examples.duplicating_operations)
         × (body_forms program ≡ operation_examples.duplicating_bodies)

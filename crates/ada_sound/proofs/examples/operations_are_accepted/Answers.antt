@@ -1,4 +1,4 @@
--- By eighteen programs and their runs.
+-- By nineteen programs and their runs.
 use Rattle.ada_sound.proofs.ExampleOperations as operations
 use Rattle.ada_sound.proofs.ExampleTidying as tidying
 use Rattle.ada_sound.proofs.ExampleOverwriting as overwriting
@@ -14,6 +14,7 @@ use Rattle.ada_sound.proofs.ExampleAllocating as allocating
 use Rattle.ada_sound.proofs.ExampleUndoing as undoing
 use Rattle.ada_sound.proofs.ExampleFilling as filling
 use Rattle.ada_sound.proofs.ExampleEquipping as equipping
+use Rattle.ada_sound.proofs.ExampleTagging as tagging
 use Rattle.ada_sound.proofs.ExampleDuplicating as duplicating
 use Rattle.ada_sound.proofs.ExamplePairing as pairing
 use Rattle.ada_sound.proofs.ExampleCopying as copying
@@ -181,6 +182,18 @@ returns c = record {
     equipping.equipping_accepted,
     equipping.equips,
     equipping.is_refused,
+  );
+  tags = (
+    tagging.tagging,
+    tagging.tag_overrides,
+    tagging.box_overrides,
+    tagging.tagging_has,
+    tagging.tagging_declares,
+    tagging.tagging_does,
+    tagging.tagging_accepted,
+    tagging.tags,
+    tagging.is_refused,
+    tagging.is_spoken_of,
   );
   duplicates = (
     duplicating.duplicating,
