@@ -8,8 +8,8 @@ pub fn one_is_first()
     ensures { OneIsFirst }
 {}
 
-/// Where there is none, an Initialize or an Adjust stands at most once in a chain of callees of which each calls the next one: so
-/// operations that begin nest only so deep, whatever begins in them.
+/// Where there is none, an Initialize or an Adjust stands at most once in a chain of callees of which each calls the next one: so a chain
+/// has no more of these than the program has.
 pub fn each_stands_once()
     ensures { EachStandsOnce }
 {}
