@@ -41,7 +41,8 @@ comes_to p c (other ∷ cs) (calling h chain) zero e is = subst (λ (x : Callee)
 comes_to p c (other ∷ cs) (calling h chain) (suc n) e is = first_call p c other e h (comes_to p other cs chain n e is)
 
 -- So does each to those behind it.
-onward : (p : ProgramForm) (cs : List Callee) → IsChain p cs → (i j : ℕ) (c e : Callee) → i < j → slice_get cs i ≡ Some c → slice_get cs j ≡ Some e → ComesTo p c e
+onward : (p : ProgramForm) (cs : List Callee) → IsChain p cs → (i j : ℕ) (c e : Callee) → i < j →
+    slice_get cs i ≡ Some c → slice_get cs j ≡ Some e → ComesTo p c e
 onward p [] chain i j c e lt at there = absurd (cc at)
 onward p (x ∷ cs) chain i zero c e lt at there = absurd (omega (arith, lt))
 onward p (x ∷ cs) chain zero (suc j) c e lt at there = subst (λ (y : Callee). ComesTo p y e) (some_same at) (comes_to p x cs chain j e there)

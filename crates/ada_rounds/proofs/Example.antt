@@ -15,7 +15,7 @@ use Rattle.ada_program.specs.ProgramForm.{BodyForm}
 use Rattle.ada_program.specs.WellFormed.{IsWellFormed}
 use Rattle.ada_quiet.specs.First.{stands_before}
 use Rattle.ada_quiet.proofs.Unused.{some_same}
-use Rattle.ada_rounds.specs.Example.{boxing, body, here, procedure, make_body, initialize_body, initializing, adjust_body, adjusting, finalizing, ExamplesFit, AnInitializeMayNot, AnAdjustMayNot, AFinalizeMay}
+use Rattle.ada_rounds.specs.Example.{boxing, here, procedure, make_body, initialize_body, initializing, adjust_body, adjusting, finalizing, ExamplesFit, AnInitializeMayNot, AnAdjustMayNot, AFinalizeMay}
 use Rattle.ada_rounds.specs.FirstRound.{HasRound, InitializesOrAdjusts}
 
 initializing_fits : IsWellFormed initializing
@@ -73,8 +73,8 @@ pub fit : ExamplesFit
 fit = (initializing_fits, adjusting_fits, finalizing_fits)
 
 -- Whatever these programs have as bodies begins at one place, and that is not before itself.
-starts : (operations : Operations) (bodies : List BodyForm) → ((n : ℕ) (b : BodyForm) → slice_get bodies n ≡ Some b → b.start_spot ≡ here) → (s : Spot) → HasRound (boxing operations bodies) s →
-    stands_before s here ≡ false
+starts : (operations : Operations) (bodies : List BodyForm) → ((n : ℕ) (b : BodyForm) → slice_get bodies n ≡ Some b → b.start_spot ≡ here) →
+    (s : Spot) → HasRound (boxing operations bodies) s → stands_before s here ≡ false
 starts operations bodies all s (q, b, at, begins, overrides, circles) =
     subst (λ (x : Spot). stands_before x here ≡ false) (sym (all q.0 b at) ∙ begins) refl
 
