@@ -30,18 +30,18 @@ Finalizes p procedure = (t : ℕ) × (f : Finalization) × (finalization_of p.ty
 
 -- A body initializes in use: it is plain, or frugal, where it may be.
 abbrev pub initializes_in_use : ProgramForm → (procedure : ProcedureNo) → BodyForm → Bool
-initializes_in_use p procedure b = is_plain_body p.types b || (may_be_frugal p && is_frugal_operation p true (Some procedure))
+initializes_in_use p procedure b = is_plain_body p.types b || (may_be_frugal p && is_frugal_operation p (Some procedure))
 
 -- A body adjusts in use: it is frugal, where no Adjust is called; or it is simple, where it may
 -- track, if the type declares such a component, and frees objects only where each record has one controlled part at most; and else it is quiet.
 abbrev pub adjusts_in_use : ProgramForm → (owns : Bool) → (procedure : ProcedureNo) → BodyForm → Bool
 adjusts_in_use p owns procedure b =
-    (adjusts_nothing p && is_frugal_operation p true (Some procedure))
+    (adjusts_nothing p && is_frugal_operation p (Some procedure))
     || (if owns then may_track p && is_simple_body p.types (adjusts_alone p) b else is_quiet_body p.types b)
 
 -- A body finalizes in use: it is quiet, or frugal, where it may be.
 abbrev pub finalizes_in_use : ProgramForm → (procedure : ProcedureNo) → BodyForm → Bool
-finalizes_in_use p procedure b = is_quiet_body p.types b || (may_be_frugal p && is_frugal_operation p false (Some procedure))
+finalizes_in_use p procedure b = is_quiet_body p.types b || (may_be_frugal p && is_frugal_operation p (Some procedure))
 
 -- The body of a procedure overrides an operation and is not in use: it overrides Initialize and is neither plain nor frugal, where it may be, or Adjust and
 -- is not quiet, or, of a type with such a component, not simple, or may not track, or frees objects where a record has two controlled parts, or Finalize
@@ -85,20 +85,20 @@ start_unless fits o = if fits then None else option_map (λ b. b.start_spot) o
 
 -- What overrides Initialize is plain, or frugal, where it may be or not.
 abbrev pub initializes : ProgramForm → (frugal : Bool) → Option ProcedureNo → Bool
-initializes p frugal initialize = is_plain_operation p initialize || (frugal && is_frugal_operation p true initialize)
+initializes p frugal initialize = is_plain_operation p initialize || (frugal && is_frugal_operation p initialize)
 
 -- What overrides Adjust of a type, which declares such a component or does not, is frugal, where none is called or one may be; or simple, where it may
 -- track or not, and where the copy of a record adjusts one part alone or not, or quiet.
 abbrev pub adjusts : ProgramForm → (nothing tracks alone owns : Bool) → Option ProcedureNo → Bool
 adjusts p nothing tracks alone owns adjust =
-    (nothing && is_frugal_operation p true adjust)
+    (nothing && is_frugal_operation p adjust)
     || (if owns && is_some (operation_body p adjust)
     then tracks && is_simple_operation p alone adjust
     else is_quiet_operation p adjust)
 
 -- What overrides Finalize is quiet, or frugal, where it may be or not.
 abbrev pub finalizes : ProgramForm → (frugal : Bool) → Option ProcedureNo → Bool
-finalizes p frugal finalize = is_quiet_operation p finalize || (frugal && is_frugal_operation p false finalize)
+finalizes p frugal finalize = is_quiet_operation p finalize || (frugal && is_frugal_operation p finalize)
 
 -- The first one of those that override the operations of a type and are not in use, where an Initialize and a Finalize may be frugal or not, no Adjust is
 -- called or one may be, an Adjust may track or not, the copy of a record adjusts one part alone or not, and the type declares such a component or does not.

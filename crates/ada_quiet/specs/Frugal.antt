@@ -1,7 +1,6 @@
 -- Bodies of Initialize and Finalize that touch storage, and of procedures that they call (7.6, 4.8, 5.2, 6.4, 13.11.2): they allocate, move, follow and free
--- objects, assign records without controlled parts, and declare variables, which may be given what they allocate; and where they may, they declare record
--- objects that name nothing, and allocate objects with controlled parts. A Finalize does neither: S10 refuses one that allocates, and no theorem speaks yet of
--- one that declares records.
+-- objects, also some with controlled parts, which are initialized by default, assign records without controlled parts, and declare variables, which may be given
+-- what they allocate, and record objects that name nothing. S10 refuses a Finalize that allocates.
 
 use Rattle.std.specs.Prelude.{ℕ, Bool, true, false, not, ◌&&◌, ◌||◌, List, [], ◌∷◌, ◌++◌, Option, Some, None, is_some}
 use Rattle.std.specs.List.{list_all, slice_get, slice_index_or}
@@ -30,28 +29,26 @@ are_scalars (Some components) = list_all is_scalar components
 abbrev pub holds_scalars : List TypeForm → (object_type : ℕ) → Bool
 holds_scalars types t = are_scalars (reached_components types t)
 
--- What frugal bodies go by: the types of the program; whether they may declare record objects, and allocate objects with controlled parts; and of each
--- procedure, by its number, whether its body is frugal.
+-- What frugal bodies go by: the types of the program; and of each procedure, by its number, whether its body is frugal.
 pub record Thrift : Type 0 where
   pub types : List TypeForm
-  pub objects : Bool
   pub procedures : List Bool
 
--- What is assigned is no new object (4.8), or one without controlled parts, or, where that may be, one that is initialized by default (7.6).
+-- What is assigned is no new object (4.8), or one without controlled parts, or one that is initialized by default (7.6).
 abbrev pub allocates_frugally : Thrift → RightForm → Bool
 allocates_frugally thrift nothing = true
 allocates_frugally thrift (value_of path) = true
 allocates_frugally thrift (allocates access items) = has_bare_objects thrift.types access
-allocates_frugally thrift (allocates_default access) = thrift.objects || has_bare_objects thrift.types access
+allocates_frugally thrift (allocates_default access) = true
 allocates_frugally thrift (computes e) = true
 
--- A declaration is that of a variable (3.3.1), and so it is with what that is given at first; or, where that may be, of a record object that names nothing and
--- is initialized by default: no collection and no pool is created.
+-- A declaration is that of a variable (3.3.1), and so it is with what that is given at first; or of a record object that names nothing and is initialized by
+-- default: no collection and no pool is created.
 abbrev pub is_frugal_declaration : Thrift → DeclarationForm → Bool
 is_frugal_declaration thrift (creates_pool p) = false
 is_frugal_declaration thrift (collects access) = false
 is_frugal_declaration thrift (declares x right) = allocates_frugally thrift right
-is_frugal_declaration thrift (declares_record x t None) = thrift.objects && holds_scalars thrift.types t
+is_frugal_declaration thrift (declares_record x t None) = holds_scalars thrift.types t
 is_frugal_declaration thrift (declares_record x t (Some items)) = false
 
 -- So is each of these.
@@ -99,21 +96,20 @@ abbrev pub is_frugal_body : Thrift → BodyForm → Bool
 is_frugal_body thrift b = are_frugal_declarations thrift b.declarations && are_frugal thrift b.statements && are_frugal_handlers thrift b.handlers
 
 -- Of these procedures, behind others: each calls those before it.
-abbrev pub frugal_from : List TypeForm → (objects : Bool) → (frugal : List Bool) → List BodyForm → List Bool
-frugal_from types objects frugal [] = frugal
-frugal_from types objects frugal (b ∷ bs) =
-    frugal_from types objects (frugal ++ is_frugal_body (record { types = types; objects = objects; procedures = frugal }) b ∷ []) bs
+abbrev pub frugal_from : List TypeForm → (frugal : List Bool) → List BodyForm → List Bool
+frugal_from types frugal [] = frugal
+frugal_from types frugal (b ∷ bs) = frugal_from types (frugal ++ is_frugal_body (record { types = types; procedures = frugal }) b ∷ []) bs
 
--- Of the procedures of a program, where they may create such objects or not.
-abbrev pub frugal_procedures : ProgramForm → (objects : Bool) → List Bool
-frugal_procedures p objects = frugal_from p.types objects [] p.bodies
+-- Of the procedures of a program.
+abbrev pub frugal_procedures : ProgramForm → List Bool
+frugal_procedures p = frugal_from p.types [] p.bodies
 
 -- What the frugal bodies of a program go by.
-abbrev pub thrift_of : ProgramForm → (objects : Bool) → Thrift
-thrift_of p objects = record { types = p.types; objects = objects; procedures = frugal_procedures p objects }
+abbrev pub thrift_of : ProgramForm → Thrift
+thrift_of p = record { types = p.types; procedures = frugal_procedures p }
 
 -- What overrides an operation has a frugal body, whose declarations create parts alone whose operations are overridden earlier, if one is overridden (7.6).
-abbrev pub is_frugal_operation : ProgramForm → (objects : Bool) → Option ProcedureNo → Bool
-is_frugal_operation p objects None = true
-is_frugal_operation p objects (Some procedure) =
-    slice_index_or (frugal_procedures p objects) procedure.0 false && declares_earlier_parts p procedure.0 (slice_get p.bodies procedure.0)
+abbrev pub is_frugal_operation : ProgramForm → Option ProcedureNo → Bool
+is_frugal_operation p None = true
+is_frugal_operation p (Some procedure) =
+    slice_index_or (frugal_procedures p) procedure.0 false && declares_earlier_parts p procedure.0 (slice_get p.bodies procedure.0)

@@ -76,13 +76,13 @@ has_one_part (Some f) = f.parts == 1
 abbrev pub adjusts_alone : ProgramForm → Bool
 adjusts_alone p = list_all (λ t. has_one_part (finalization_in (Some t))) p.types
 
--- Finalize is quiet, or frugal, where it may be; it declares no record object and allocates no object with controlled parts.
+-- Finalize is quiet, or frugal, where it may be.
 abbrev pub uses_finalize : ProgramForm → Option ProcedureNo → Bool
-uses_finalize p finalize = is_quiet_operation p finalize || (may_be_frugal p && is_frugal_operation p false finalize)
+uses_finalize p finalize = is_quiet_operation p finalize || (may_be_frugal p && is_frugal_operation p finalize)
 
 -- Initialize is plain, or frugal, where it may be; an exception may come out of it, behind which what has begun is finalized (7.6.1).
 abbrev pub uses_initialize : ProgramForm → Option ProcedureNo → Bool
-uses_initialize p initialize = is_plain_operation p initialize || (may_be_frugal p && is_frugal_operation p true initialize)
+uses_initialize p initialize = is_plain_operation p initialize || (may_be_frugal p && is_frugal_operation p initialize)
 
 -- Operations stand in order: they stand apart, so that no body calls an Adjust that tracks, and the components of each record stand in order.
 abbrev pub operations_stand_in_order : ProgramForm → Bool
@@ -103,7 +103,7 @@ uses_called_adjust p owns adjust =
 
 -- So Adjust is in use; and where none is called, a frugal one is, too.
 abbrev pub uses_adjust : ProgramForm → (owns : Bool) → Option ProcedureNo → Bool
-uses_adjust p owns adjust = (adjusts_nothing p && is_frugal_operation p true adjust) || uses_called_adjust p owns adjust
+uses_adjust p owns adjust = (adjusts_nothing p && is_frugal_operation p adjust) || uses_called_adjust p owns adjust
 
 -- The operations of a type, which declares such a component or does not, are in use (7.6, 7.6.1).
 abbrev pub uses_operations : ProgramForm → (owns : Bool) → Option Finalization → Bool

@@ -1,16 +1,15 @@
 -- Laws of what is in use, and of calm types.
 
 use Rattle.std.specs.Prelude.{◌≡◌, ◌↔◌, ◌≤◌, ℕ, Bool, true, false, List, Option, Some}
-use Rattle.std.specs.List.{slice_get, slice_index_or}
+use Rattle.std.specs.List.{slice_get}
 use Rattle.ada_program.specs.declared.program.Finalization.{Finalization}
-use Rattle.ada_program.specs.declared.program.ProcedureNo.{ProcedureNo}
 use Rattle.ada_program.specs.ProgramForm.{TypeForm, BodyForm, ProgramForm}
 use Rattle.ada_program.specs.Walks.{Walks}
 use Rattle.ada_program.specs.WellFormed.{IsWellFormed, finalization_of}
 use Rattle.ada_quiet.specs.Calm.{is_known_calm, calm_by}
 use Rattle.ada_quiet.specs.Earlier.{own_count, known_count, override_counts}
 use Rattle.ada_quiet.specs.Quiet.{is_plain_body, is_quiet_body, operations_are_quiet}
-use Rattle.ada_quiet.specs.Frugal.{Thrift, is_frugal_body, frugal_procedures, thrift_of, is_frugal_operation}
+use Rattle.ada_quiet.specs.Frugal.{Thrift, is_frugal_body}
 use Rattle.ada_quiet.specs.Simple.{is_simple_body}
 use Rattle.ada_quiet.specs.InUse.{operations_are_in_use}
 
@@ -25,20 +24,6 @@ QuietIsSimple = (types others : List TypeForm) (may_free : Bool) (b : BodyForm) 
 -- Where all operations are quiet, all are in use.
 abbrev pub QuietIsInUse : Type 0
 QuietIsInUse = (p : ProgramForm) → operations_are_quiet p ≡ true → operations_are_in_use p ≡ true
-
--- A body that is frugal where it may create no objects with controlled parts, and declare no record objects, is so where it may.
-abbrev pub BodiesWithObjects : Type 0
-BodiesWithObjects = (p : ProgramForm) (b : BodyForm) → is_frugal_body (thrift_of p false) b ≡ true → is_frugal_body (thrift_of p true) b ≡ true
-
--- So is a procedure.
-abbrev pub ProceduresWithObjects : Type 0
-ProceduresWithObjects = (p : ProgramForm) (number : ℕ) → slice_index_or (frugal_procedures p false) number false ≡ true
-    → slice_index_or (frugal_procedures p true) number false ≡ true
-
--- So is what overrides an operation.
-abbrev pub OperationsWithObjects : Type 0
-OperationsWithObjects = (p : ProgramForm) (operation : Option ProcedureNo) → is_frugal_operation p false operation ≡ true
-    → is_frugal_operation p true operation ≡ true
 
 -- What is asked of a type's own operations holds of the type of each record that lies in an object of a record type, the whole object included (3.8, 7.6).
 abbrev pub IsToldWithin : (own : TypeForm → Bool) → List TypeForm → (t : ℕ) → Type 0

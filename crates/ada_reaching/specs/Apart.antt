@@ -1,5 +1,6 @@
 -- What bodies may do that shun some access types: which procedures they may call, of which access types they may free objects, whose finalization (7.6.1) calls
 -- such procedures alone, and of which they may allocate objects, whose initialization (7.6) does, and their finalization where an exception comes out of that.
+-- So it is with the record objects that they declare.
 
 use Rattle.std.specs.Prelude.{◌≡◌, ℕ, Bool, true, List, [], ◌∷◌, Some}
 use Rattle.ada_parts.specs.declared.tasks.Direction.{Direction}
@@ -11,11 +12,11 @@ use Rattle.ada_program.specs.Controlled.{operations_of, procedure_number, shapes
 use Rattle.ada_meaning.specs.Step.{all_tasks, picked_task}
 
 -- The procedures that such bodies may call; the access types of which they may free objects (13.11.2), and those of which they may allocate objects by default
--- (4.8); and the types of the program.
+-- (4.8); of the types by which record objects are known (3.3.1), those of which such objects may end, and begin by default; and the types of the program.
 pub record Apart : Type 0 where
   pub calls : (procedure : ℕ) → Bool
-  pub ends : (access : ℕ) → Bool
-  pub starts : (access : ℕ) → Bool
+  pub ends : (type_number : ℕ) → Bool
+  pub starts : (type_number : ℕ) → Bool
   pub definitions : List TypeDefinition
 
 -- What is left of the initialization or the finalization of an object of an access type (7.6, 7.6.1), by the order in which its parts come: all of it, or what

@@ -14,15 +14,16 @@ use Rattle.ada_meaning.specs.declared.state.Value.{Value}
 use Rattle.ada_meaning.specs.Frame.{Frame}
 use Rattle.ada_meaning.specs.Named.{State, next}
 use Rattle.ada_meaning.specs.Run.{Event, Run, first_state}
+use Rattle.ada_meaning.specs.State.{Master}
 use Rattle.ada_untouched.specs.Untouched.{Untouched}
 use Rattle.ada_reaching.specs.Apart.{Apart}
 use Rattle.ada_reaching.specs.Law.{AreApart, IsWithin, GoesOn, AllGoOn, none_hidden}
 use Rattle.ada_reaching.specs.Reaching.{IsReaching}
 
--- The bodies of these procedures shun no type, but are of the shape of those that do, and call these procedures alone: they declare no record object, assign to
--- no record with controlled parts (7.6) as a whole, create no collection and no pool, and free objects of these access types alone, whose finalization calls
--- these procedures alone. Objects with controlled parts they allocate of some access types alone, by default, whose initialization calls these procedures
--- alone.
+-- The bodies of these procedures shun no type, but are of the shape of those that do, and call these procedures alone: they assign to no record with controlled
+-- parts (7.6) as a whole, create no collection and no pool, and free objects of these access types alone, whose finalization calls these procedures alone.
+-- Objects with controlled parts they allocate of some access types alone, and declare of some types alone, by default, whose initialization calls these
+-- procedures alone.
 abbrev pub AreShaped : ProgramForm → List TypeDefinition → Apart → Type 0
 AreShaped p definitions apart = AreApart p definitions (λ access. false) apart
 
@@ -41,7 +42,7 @@ UnusedObjectsAreUntouched =
     (program : Program) → IsWellFormed (program_form program) → (input : List ℤ) (events : List Event) (s : State)
     → Run program (first_state program input) events s → (shuns : ℕ → Bool) (apart : Apart)
     → AreShaped (program_form program) program.types.items apart
-    → UseNone (program_form program) shuns apart → (ghosts unnamed : Id → Bool) (behind : List (Frame Value))
-    → IsReaching (program_form program) shuns apart ghosts unnamed behind s → IsWithin behind s.control s.masters
+    → UseNone (program_form program) shuns apart → (ghosts unnamed : Id → Bool) (behind : List (Frame Value)) (lower : List Master)
+    → IsReaching (program_form program) shuns apart ghosts unnamed behind lower s → IsWithin behind s
     → Untouched none_hidden ghosts s
-    × AllGoOn (GoesOn (program_form program) shuns apart ghosts unnamed behind s.heap) (next program.types.items (body_forms program) s)
+    × AllGoOn (GoesOn (program_form program) shuns apart ghosts unnamed behind lower s.heap) (next program.types.items (body_forms program) s)

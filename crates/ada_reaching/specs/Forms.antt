@@ -1,6 +1,7 @@
 -- Bodies that shun some access types (3.10): they follow no value of one (4.1) and free none (13.11.2), and call procedures alone whose bodies do so. They
--- may move such values, store them, compare them with null, pass them, and copy them with records that have no controlled parts (7.6). They declare no record
--- object, and create no collection and no pool; objects with controlled parts they may free of some access types, and allocate of some by default.
+-- may move such values, store them, compare them with null, pass them, and copy them with records that have no controlled parts (7.6). They create no collection
+-- and no pool; objects with controlled parts they may free of some access types, and allocate of some by default, and record objects they may declare of some
+-- types by default.
 
 use Rattle.std.specs.Prelude.{ℕ, Bool, true, false, not, ◌&&◌, ◌||◌, List, [], ◌∷◌, Option, Some, None, is_some}
 use Rattle.std.specs.List.{list_all}
@@ -31,6 +32,11 @@ may_end apart (Some (variable.Record object)) = true
 -- An object of an access type may be allocated by default (4.8): it has no controlled parts, or those with some may be.
 abbrev pub may_start : List TypeForm → Apart → (access : ℕ) → Bool
 may_start types apart access = has_bare_objects types access || apart.starts access
+
+-- A record object may be declared by default (3.3.1), which is initialized then, and finalized where its master is left, or where an exception comes out of its
+-- initialization (7.6.1).
+abbrev pub may_declare : Apart → (object_type : ℕ) → Bool
+may_declare apart t = apart.starts t && apart.ends t
 
 -- Selectors follow no value that is shunned: each follows the value in front of it, and the last value is not followed (4.1.3).
 abbrev pub selectors_shun : List TypeForm → (shuns : ℕ → Bool) → Option VariableKind → (selectors : List ℕ) → Bool
@@ -94,12 +100,13 @@ module _ (types : List TypeForm) (shuns : ℕ → Bool) (apart : Apart) (variabl
   actual_shuns (in_out_component path) = path_shuns path
   actual_shuns (in_out_record q) = record_path_shuns q
 
-  -- A declaration is that of a variable, of whatever type (3.3.1).
+  -- A declaration is that of a variable, of whatever type (3.3.1), or of a record object by default, of a type of which some may be declared.
   abbrev pub declaration_shuns : DeclarationForm → Bool
   declaration_shuns (creates_pool p) = false
   declaration_shuns (collects access) = false
   declaration_shuns (declares x right) = right_shuns right
-  declaration_shuns (declares_record x t initial) = false
+  declaration_shuns (declares_record x t None) = may_declare apart t
+  declaration_shuns (declares_record x t (Some items)) = false
 
   -- So is each of these.
   abbrev pub declarations_shun : List DeclarationForm → Bool

@@ -10,11 +10,11 @@ use Rattle.ada_meaning.specs.declared.state.Id.{Id}
 use Rattle.ada_meaning.specs.declared.state.Value.{Value}
 use Rattle.ada_meaning.specs.Frame.{Frame}
 use Rattle.ada_meaning.specs.Frame as frame
-use Rattle.ada_meaning.specs.State.{Master}
+use Rattle.ada_meaning.specs.State.{Item, Master, type_housed}
 use Rattle.ada_meaning.specs.Step.{halts, moves, tells, asks, picks}
-use Rattle.ada_meaning.specs.Named.{Object, State, Next, object_at, next}
+use Rattle.ada_meaning.specs.Named.{Object, State, Next, is_member, object_at, next}
 use Rattle.ada_meaning.specs.Run.{Event, Run, first_state}
-use Rattle.ada_untouched.specs.Untouched.{InnermostHousesNone, Untouched}
+use Rattle.ada_untouched.specs.Untouched.{Untouched}
 use Rattle.ada_reaching.specs.Apart.{Apart, CallsApart}
 use Rattle.ada_reaching.specs.Forms.{body_shuns}
 use Rattle.ada_reaching.specs.Reaching.{IsReaching}
@@ -26,20 +26,26 @@ pub record AreApart (p : ProgramForm) (definitions : List TypeDefinition) (shuns
   pub bodies : (procedure : ℕ) (b : BodyForm) → apart.calls procedure ≡ true → slice_get p.bodies procedure ≡ Some b → body_shuns p.types shuns apart b ≡ true
   pub operations : CallsApart definitions apart
 
--- A master that is left has no object to take out (7.6.1).
-abbrev pub TakesNone : Frame Value → List Master → Type 0
-TakesNone (frame.Leaves mode) ms = InnermostHousesNone ms
-TakesNone f ms = Unit {0}
+-- Each object that goes with the newest of these items is of its type (7.6.1).
+abbrev pub NewestHousesIts : List Object → List Item → Type 0
+NewestHousesIts heap [] = Unit {0}
+NewestHousesIts heap (i ∷ is) =
+    (o : Id) (x : Object) → object_at heap o ≡ Some x → is_member i.number x ≡ true → type_housed i.owned ≡ Some x.cell.access
 
--- So it is with the first frame.
-abbrev pub FirstTakesNone : List (Frame Value) → List Master → Type 0
-FirstTakesNone [] ms = Unit {0}
-FirstTakesNone (f ∷ k) ms = TakesNone f ms
+-- So it is with the newest item of the innermost master.
+abbrev pub InnermostHousesIts : List Object → List Master → Type 0
+InnermostHousesIts heap [] = Unit {0}
+InnermostHousesIts heap (m ∷ ms) = NewestHousesIts heap m.items
 
--- The outermost of the bodies does not end next, and a master that is left has no object to take out.
-pub record IsWithin (behind : List (Frame Value)) (k : List (Frame Value)) (ms : List Master) : Type 0 where
-  pub on : k ≡ frame.Returns [] [] ∷ behind → ⊥
-  pub takes : FirstTakesNone k ms
+-- So it is where that master is left first.
+abbrev pub FirstHousesIts : List (Frame Value) → List Object → List Master → Type 0
+FirstHousesIts (frame.Leaves mode ∷ k) heap ms = InnermostHousesIts heap ms
+FirstHousesIts k heap ms = Unit {0}
+
+-- The outermost of the bodies does not end next, and where a master is left, what goes with an item of it is of the item's type.
+pub record IsWithin (behind : List (Frame Value)) (s : State) : Type 0 where
+  pub on : s.control ≡ frame.Returns [] [] ∷ behind → ⊥
+  pub houses : FirstHousesIts s.control s.heap s.masters
 
 -- Each ghost is the object that it was.
 abbrev pub GhostsStay : (ghosts : Id → Bool) → (before after : List Object) → Type 0
@@ -50,10 +56,10 @@ abbrev pub none_hidden : Id → (component : ℕ) → Bool
 none_hidden o c = false
 
 -- The bodies go on so behind the objects that were there, and each ghost stays.
-pub record GoesOn (p : ProgramForm) (shuns : ℕ → Bool) (apart : Apart) (ghosts unnamed : Id → Bool) (behind : List (Frame Value)) (before : List Object) (s : State)
-    : Type 0 where
+pub record GoesOn (p : ProgramForm) (shuns : ℕ → Bool) (apart : Apart) (ghosts unnamed : Id → Bool) (behind : List (Frame Value)) (lower : List Master)
+    (before : List Object) (s : State) : Type 0 where
   pub same : GhostsStay ghosts before s.heap
-  pub reaching : IsReaching p shuns apart ghosts unnamed behind s
+  pub reaching : IsReaching p shuns apart ghosts unnamed behind lower s
 
 -- They do whatever comes next, whatever is answered, and whichever of some members is picked.
 abbrev pub AllGoOn : (P : State → Type 0) → Next → Type 0
@@ -69,6 +75,6 @@ ShunnedObjectsAreUntouched =
     (program : Program) → IsWellFormed (program_form program) → (input : List ℤ) (events : List Event) (s : State)
     → Run program (first_state program input) events s → (shuns : ℕ → Bool) (apart : Apart) → AreApart (program_form program) program.types.items shuns apart
     → (ghosts unnamed : Id → Bool)
-    (behind : List (Frame Value)) → IsReaching (program_form program) shuns apart ghosts unnamed behind s → IsWithin behind s.control s.masters
+    (behind : List (Frame Value)) (lower : List Master) → IsReaching (program_form program) shuns apart ghosts unnamed behind lower s → IsWithin behind s
     → Untouched none_hidden ghosts s
-    × AllGoOn (GoesOn (program_form program) shuns apart ghosts unnamed behind s.heap) (next program.types.items (body_forms program) s)
+    × AllGoOn (GoesOn (program_form program) shuns apart ghosts unnamed behind lower s.heap) (next program.types.items (body_forms program) s)

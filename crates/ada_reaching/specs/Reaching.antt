@@ -1,15 +1,15 @@
 -- Bodies run that shun some access types, while some objects are there, the ghosts: objects of these types, and unnamed ones, declared record objects that no
 -- value of the bodies names. What is left of the bodies, of the finalizations of what they free, and of the initializations of what they allocate, shuns the
--- types, and refers to no ghost.
+-- types, and refers to no ghost. So does what is left of the record objects that they declare, which their own masters own.
 
-use Rattle.std.specs.Prelude.{◌≡◌, ◌⊎◌, ℕ, Bool, true, false, not, ◌&&◌, List, [], ◌∷◌, Option, Some}
+use Rattle.std.specs.Prelude.{◌≡◌, ◌⊎◌, ◌≤◌, ◌<◌, ℕ, Bool, true, false, not, ◌&&◌, List, [], ◌∷◌, ◌++◌, Option, Some}
 use Rattle.std.specs.List.{list_all, slice_get}
 use Rattle.ada_program.specs.declared.program.VariableKind.TheVariants as variable
 use Rattle.ada_program.specs.ProgramForm.{TypeForm, VariableForm, BodyForm, ProgramForm, seen_in}
 use Rattle.ada_program.specs.WellFormed.{is_access, selected_kind, selectors_kind, value_access}
 use Rattle.ada_meaning.specs.declared.state.Id.{Id}
 use Rattle.ada_meaning.specs.declared.state.Mode.{Mode}
-use Rattle.ada_meaning.specs.declared.state.Mode.TheVariants.{Running}
+use Rattle.ada_meaning.specs.declared.state.Mode.TheVariants.{Running, Raising, Exiting, Returning}
 use Rattle.ada_meaning.specs.declared.state.Value.{Value}
 use Rattle.ada_meaning.specs.declared.state.Value.TheVariants.{Null, Names, Scalar, Part}
 use Rattle.ada_parts.specs.declared.tasks.Direction.TheVariants.{PartsFirst, WholeFirst}
@@ -19,12 +19,12 @@ use Rattle.ada_meaning.specs.declared.event.Birth.{Birth}
 use Rattle.ada_meaning.specs.declared.event.Birth.TheVariants.{Creation}
 use Rattle.ada_meaning.specs.Frame.{Frame, Treatment, begins, ends, is_return}
 use Rattle.ada_meaning.specs.Frame as frame
-use Rattle.ada_meaning.specs.State.{Activation}
+use Rattle.ada_meaning.specs.State.{Activation, Owned, declared, collection, record_object, storage_pool, Item, Master, height}
 use Rattle.ada_meaning.specs.Step.{operands_of, older, places_of, procedure_of}
 use Rattle.ada_meaning.specs.Named.{Object, State, object_at}
 use Rattle.ada_untouched.specs.Untouched.{IsInSight}
 use Rattle.ada_reaching.specs.Apart.{Apart, AreBegunIn, AreUndoneIn, IsBegunIn, IsLeftOf}
-use Rattle.ada_reaching.specs.Forms.{may_follow, may_end, may_start, selectors_shun, record_path_shuns, path_shuns, expression_shuns, links_shun, condition_shuns, item_shuns, right_shuns, declarations_shun, statements_shun, branches_shun, handlers_shun, body_shuns}
+use Rattle.ada_reaching.specs.Forms.{may_declare, may_follow, may_end, may_start, selectors_shun, record_path_shuns, path_shuns, expression_shuns, links_shun, condition_shuns, item_shuns, right_shuns, declarations_shun, statements_shun, branches_shun, handlers_shun, body_shuns}
 
 -- An object is there, and is of an access type that is shunned (3.10).
 pub record IsOfShunned (types : List TypeForm) (shuns : ℕ → Bool) (found : Option Object) : Type 0 where
@@ -74,15 +74,39 @@ is_seeking (frame.Receives c) = true
 is_seeking (frame.FreesIn access c) = true
 is_seeking f = false
 
--- What is left to do begins with no such frame.
-abbrev pub begins_anew : List (Frame Value) → Bool
-begins_anew [] = true
-begins_anew (f ∷ k) = not (is_seeking f)
+-- A master is left first, or what is finalized in it ends before (7.6.1).
+abbrev pub is_leaving : List (Frame Value) → Bool
+is_leaving [] = false
+is_leaving (frame.Leaves mode ∷ k) = true
+is_leaving (frame.Treats v treatment tasks ∷ k) = is_leaving k
+is_leaving (frame.Ends v ∷ k) = is_leaving k
+is_leaving (frame.GivesBack v cause pool ∷ k) = is_leaving k
+is_leaving (f ∷ k) = false
 
--- Such a frame waits behind one alone that follows selectors.
+-- What is left to do begins with no frame that looks for an object.
+abbrev pub seeks_nothing : List (Frame Value) → Bool
+seeks_nothing [] = true
+seeks_nothing (f ∷ k) = not (is_seeking f)
+
+-- Nor is a master left.
+abbrev pub begins_anew : List (Frame Value) → Bool
+begins_anew k = seeks_nothing k && not (is_leaving k)
+
+-- A frame that looks for an object waits behind one alone that follows selectors; and a master is left behind the end of what has been finalized in it.
 abbrev pub IsInFront : Frame Value → (behind : List (Frame Value)) → Type 0
-IsInFront (frame.Follows cs) k = Unit {0}
+IsInFront (frame.Follows cs) k = is_leaving k ≡ false
+IsInFront (frame.Treats v (ends cause) tasks) k = seeks_nothing k ≡ true
+IsInFront (frame.Ends v) k = seeks_nothing k ≡ true
+IsInFront (frame.GivesBack v cause pool) k = seeks_nothing k ≡ true
+IsInFront frame.Confines k = seeks_nothing k ≡ true
 IsInFront f k = begins_anew k ≡ true
+
+-- A jump comes to no master that is being left: it leaves one itself (11.4, 5.7, 6.5).
+abbrev pub MayJump : Mode → List (Frame Value) → Type 0
+MayJump Running k = Unit {0}
+MayJump (Raising e) k = is_leaving k ≡ false
+MayJump Exiting k = is_leaving k ≡ false
+MayJump Returning k = is_leaving k ≡ false
 
 -- What is left of the initialization of an object is that of one that the bodies may allocate (7.6, 4.8), of which these parts have begun.
 pub record StartsApart (apart : Apart) (by : Birth) (done : List parts.Part) (tasks : List Task) : Type 0 where
@@ -145,6 +169,32 @@ module _ (types : List TypeForm) (shuns : ℕ → Bool) (apart : Apart) (bodies 
   FrameShuns (frame.ClearsIn v c) = IsInSight ghosts v
   FrameShuns f = Unit {0}
 
+-- An item of a master of the bodies' own is a variable, or a record object that they may declare (3.3.1).
+abbrev pub IsOwnedApart : Apart → Owned → Type 0
+IsOwnedApart apart (declared x) = Unit {0}
+IsOwnedApart apart (collection access pool) = ⊥
+IsOwnedApart apart (record_object t) = may_declare apart t ≡ true
+IsOwnedApart apart (storage_pool declaration number) = ⊥
+
+-- So is each of these, and is numbered behind the items of the masters that were entered before.
+abbrev pub AreOwnedApart : Apart → (lower : List Master) → List Item → Type 0
+AreOwnedApart apart lower [] = Unit {0}
+AreOwnedApart apart lower (i ∷ is) = (IsOwnedApart apart i.owned × (height lower ≤ i.number)) × AreOwnedApart apart lower is
+
+-- What is left behind a frame, by the masters of the bodies' own, the innermost one first: a frame stands for one that is open or being left, and a variable is
+-- declared in one.
+abbrev pub InMasters :
+    Apart → (lower : List Master) → Frame Value → (upper : List Master) → (left : List Master → Type 0) → Type 0
+InMasters apart lower (frame.Elaborates ds fs hs) [] left = ⊥
+InMasters apart lower (frame.Elaborates ds fs hs) (m ∷ ms) left = AreOwnedApart apart lower m.items × left ms
+InMasters apart lower frame.Closes [] left = ⊥
+InMasters apart lower frame.Closes (m ∷ ms) left = AreOwnedApart apart lower m.items × left ms
+InMasters apart lower (frame.Leaves mode) [] left = ⊥
+InMasters apart lower (frame.Leaves mode) (m ∷ ms) left = AreOwnedApart apart lower m.items × left ms
+InMasters apart lower (frame.Declares x) [] left = ⊥
+InMasters apart lower (frame.Declares x) (m ∷ ms) left = left (m ∷ ms)
+InMasters apart lower f ms left = left ms
+
 -- What refers, where the call of a body ends, to the components that are given for its formal parameters of mode `in out` (6.4.1).
 abbrev pub references_at : Frame Value → List Value
 references_at (frame.Returns actuals references) = references
@@ -168,17 +218,19 @@ abbrev pub AtEnd : (ends : Bool) → (end further : Type 0) → Type 0
 AtEnd true end further = end
 AtEnd false end further = further
 
--- What is left of the body of a procedure, which runs, and of those that wait for it: each frame is read with the variables of its body, up to the end of the
--- outermost one.
+-- What is left of the body of a procedure, which runs, and of those that wait for it, in these masters of their own: each frame is read with the variables of
+-- its body, up to the end of the outermost one, where all their masters have been left.
 abbrev pub LeftShuns :
-    ProgramForm → (shuns : ℕ → Bool) → Apart → (ghosts unnamed : Id → Bool) → (behind : List (Frame Value)) → (procedure : Option ℕ) → List (Frame Value)
-    → (suspended : List (Activation Value)) → Type 0
-LeftShuns p shuns apart ghosts unnamed behind procedure [] suspended = ⊥
-LeftShuns p shuns apart ghosts unnamed behind procedure (f ∷ k) suspended =
+    ProgramForm → (shuns : ℕ → Bool) → Apart → (ghosts unnamed : Id → Bool) → (behind : List (Frame Value)) → (lower : List Master) → (procedure : Option ℕ)
+    → List (Frame Value) → (upper : List Master) → (suspended : List (Activation Value)) → Type 0
+LeftShuns p shuns apart ghosts unnamed behind lower procedure [] ms suspended = ⊥
+LeftShuns p shuns apart ghosts unnamed behind lower procedure (f ∷ k) ms suspended =
     AtEnd (is_return f)
-    (IsLast behind f k ⊎ IsInner ghosts unnamed f k suspended (LeftShuns p shuns apart ghosts unnamed behind (procedure_of suspended) k (older suspended)))
+    ((IsLast behind f k × (ms ≡ []))
+    ⊎ IsInner ghosts unnamed f k suspended
+    (LeftShuns p shuns apart ghosts unnamed behind lower (procedure_of suspended) k ms (older suspended)))
     (FrameShuns p.types shuns apart p.bodies ghosts (seen_in procedure p).variables f × IsInFront f k
-    × LeftShuns p shuns apart ghosts unnamed behind procedure k suspended)
+    × InMasters apart lower f ms (λ (ns : List Master). LeftShuns p shuns apart ghosts unnamed behind lower procedure k ns suspended))
 
 -- What is sought next from an object of an access type: it may be followed then, and from what is selected of it on no value is followed or freed that is
 -- shunned, and none freed whose object may not be.
@@ -207,11 +259,20 @@ abbrev pub OperandSeeks : List TypeForm → (shuns : ℕ → Bool) → Apart →
 OperandSeeks types shuns apart ghosts heap Running k (Names o ∷ vs) = (x : Object) → object_at heap o ≡ Some x → Seeks types shuns apart (not (ghosts o)) x.cell.access k
 OperandSeeks types shuns apart ghosts heap mode k vs = Unit {0}
 
--- Such bodies run, while the ghosts are there, some of them unnamed.
-pub record IsReaching (p : ProgramForm) (shuns : ℕ → Bool) (apart : Apart) (ghosts unnamed : Id → Bool) (behind : List (Frame Value)) (s : State) : Type 0 where
+-- The home of each ghost is an item of the masters that were entered before (7.6.1).
+abbrev pub AreLow : (ghosts : Id → Bool) → (lower : List Master) → List Object → Type 0
+AreLow ghosts lower heap = (o : Id) (x : Object) → ghosts o ≡ true → object_at heap o ≡ Some x → x.cell.home.item < height lower
+
+-- Such bodies run, while the ghosts are there, some of them unnamed: in masters of their own, which were entered behind these.
+pub record IsReaching (p : ProgramForm) (shuns : ℕ → Bool) (apart : Apart) (ghosts unnamed : Id → Bool) (behind : List (Frame Value)) (lower : List Master)
+    (s : State) : Type 0 where
   pub ghosts_there : (o : Id) → ghosts o ≡ true → IsGhost p.types shuns (unnamed o) (object_at s.heap o)
   pub are_ghosts : (o : Id) → unnamed o ≡ true → ghosts o ≡ true
+  pub low : AreLow ghosts lower s.heap
   pub places : AreElsewhere ghosts unnamed (places_of s.activations)
   pub operands : AreElsewhere ghosts unnamed (operands_of s.activations)
-  pub control : LeftShuns p shuns apart ghosts unnamed behind (procedure_of s.activations) s.control (older s.activations)
+  pub upper : List Master
+  pub masters : s.masters ≡ upper ++ lower
+  pub control : LeftShuns p shuns apart ghosts unnamed behind lower (procedure_of s.activations) s.control upper (older s.activations)
+  pub jumps : MayJump s.mode s.control
   pub seeks : OperandSeeks p.types shuns apart ghosts s.heap s.mode s.control (operands_of s.activations)

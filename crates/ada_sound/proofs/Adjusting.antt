@@ -38,7 +38,7 @@ use Rattle.ada_typed.proofs.Kept.{behind_call}
 use Rattle.ada_sound.proofs.CallsApart.{CallApart}
 use Rattle.ada_sound.proofs.Callers.{Suspension, AreOf, callers_of, known_in}
 use Rattle.ada_sound.proofs.CopiedOwners.{CopyLeft, NameThere, hiding, owners_left}
-use Rattle.ada_sound.proofs.FrugalControl.{Frugally, Thriftiness}
+use Rattle.ada_sound.proofs.FrugalControl.{Frugally, Allowance}
 use Rattle.ada_sound.proofs.Invariant.{AdjustsAside, Control, Ready, Rooms, RunsOn, Standing, body_among, under_in}
 use Rattle.ada_sound.proofs.Judged.{known_judged}
 use Rattle.ada_sound.proofs.Operating.{IsCalm, WaitsFor}
@@ -53,7 +53,7 @@ pub data IsOfCopy : Birth → Type 0 where
   assigned : (number : ℕ) → IsOfCopy (Adjustment number)
 
 -- What its body goes by: it calls nothing, declares variables alone, and neither allocates nor frees an object with controlled parts.
-abbrev pub simple_thriftiness : List TypeForm → Thriftiness
+abbrev pub simple_thriftiness : List TypeForm → Allowance
 simple_thriftiness types = record { by = λ objects. simple_allowance types; last = false }
 
 -- The body of such an Adjust runs.

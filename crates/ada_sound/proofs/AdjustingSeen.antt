@@ -25,7 +25,7 @@ use Rattle.ada_tracked.specs.Staying.{BodyIsSimple, IsWithinBody, StaysSimple, a
 use Rattle.ada_typed.proofs.Kept.{behind_call, crosses as crosses_by, Behind, Each, is_treatment, Keeps}
 use Rattle.ada_typed.proofs.KeptSteps.{pass_keeps, step_keeps}
 use Rattle.ada_sound.proofs.Adjusting.{simple_thriftiness}
-use Rattle.ada_sound.proofs.FrugalControl.{Frugal, FrugalBegins, FrugalLeads, FrugalLeaves, Thriftiness, is_return_first}
+use Rattle.ada_sound.proofs.FrugalControl.{Frugal, FrugalBegins, FrugalLeads, FrugalLeaves, Allowance, is_return_first}
 use Rattle.ada_sound.proofs.FrugalSteps.{is_call_first, treats_none}
 use Rattle.ada_sound.proofs.Invariant.{Control}
 use Rattle.ada_sound.proofs.Steps as inside
@@ -283,7 +283,7 @@ module _ (types : List TypeDefinition) (bodies : List BodyForm) (w : View) where
   no_treatment (freeing access) c k l v treatment tasks e = absurd (cc e)
 
   -- So none is, where the other one is frugal, frees no objects with controlled parts, and declares no record objects.
-  treated_not : (frugal : Thriftiness) (objects : Bool) → (frugal.by objects).treats_parts ≡ false → (frugal.by objects).objects ≡ false → (back : Control) (among : List Value) (s t : State) (ms : List Master) (v : Value) (treatment : frame.Treatment) (tasks : List Task) (k : Control) → Seen types bodies w s t → Frugal frugal objects back among t.mode t.control ms → s.control ≡ frame.Treats v treatment tasks ∷ k → ⊥
+  treated_not : (frugal : Allowance) → frugal.treats_parts ≡ false → frugal.objects ≡ false → (back : Control) (among : List Value) (s t : State) (ms : List Master) (v : Value) (treatment : frame.Treatment) (tasks : List Task) (k : Control) → Seen types bodies w s t → Frugal frugal back among t.mode t.control ms → s.control ≡ frame.Treats v treatment tasks ∷ k → ⊥
   treated_not frugal objects none_parts none_objects back among s t ms v treatment tasks k (plainly others is) frugally e =
       let control : t.control ≡ frame.Treats v treatment tasks ∷ seen_control w k = rw (is, e) refl in
       treats_none frugal objects none_parts none_objects back among t.mode t.control ms frugally v treatment tasks (seen_control w k) control
@@ -294,7 +294,7 @@ module _ (types : List TypeDefinition) (bodies : List BodyForm) (w : View) where
       no_treatment waiting c (Does fs ∷ j) k v treatment tasks (sym control_is ∙ e)
 
   -- So what is left to do stays simple.
-  pub simple_still : (frugal : Thriftiness) (objects : Bool) → (frugal.by objects).treats_parts ≡ false → (frugal.by objects).objects ≡ false → (back : Control) (among : List Value) (s t : State) (ms : List Master) → Seen types bodies w s t → Frugal frugal objects back among t.mode t.control ms → StaysSimple w.tracks.first s.control → BodyIsSimple w.tracks.first s.control
+  pub simple_still : (frugal : Allowance) → frugal.treats_parts ≡ false → frugal.objects ≡ false → (back : Control) (among : List Value) (s t : State) (ms : List Master) → Seen types bodies w s t → Frugal frugal back among t.mode t.control ms → StaysSimple w.tracks.first s.control → BodyIsSimple w.tracks.first s.control
   simple_still frugal objects none_parts none_objects back among s t ms seen frugally (at_once simple) = simple
   simple_still frugal objects none_parts none_objects back among s t ms seen frugally (behind_treatment v treatment tasks k is simple) = absurd (treated_not frugal objects none_parts none_objects back among s t ms v treatment tasks k seen frugally is)
 

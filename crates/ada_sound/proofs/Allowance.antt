@@ -10,7 +10,7 @@ use Rattle.ada_program.specs.ProgramForm.{TypeForm, BodyForm, ProgramForm}
 use Rattle.ada_program.specs.WellFormed.{finalization_of}
 use Rattle.ada_quiet.specs.Apart.{is_bare_item}
 use Rattle.ada_quiet.specs.Bare.{has_bare_objects}
-use Rattle.ada_quiet.specs.Frugal.{holds_scalars, allocates_frugally, is_frugal_declaration, are_frugal_declarations, frugal_procedures, is_frugal_stmt, are_frugal, are_frugal_branches, are_frugal_handlers, is_frugal_body, thrift_of}
+use Rattle.ada_quiet.specs.Frugal.{allocates_frugally, is_frugal_declaration, are_frugal_declarations, frugal_procedures, is_frugal_stmt, are_frugal, are_frugal_branches, are_frugal_handlers, is_frugal_body, thrift_of}
 
 -- What such bodies go by: as frugal ones do, whether they may free objects with controlled parts, and whether they may allocate some and declare record
 -- objects.
@@ -87,34 +87,34 @@ module _ (allowance : Allowance) where
 abbrev pub is_thrifty_body : Allowance → BodyForm → Bool
 is_thrifty_body allowance b = are_thrifty_declarations allowance b.declarations && are_thrifty allowance b.statements && are_thrifty_handlers allowance b.handlers
 
--- Those of a program, which may free objects with controlled parts; where they may create such objects, as an Initialize, or not, as a Finalize.
-abbrev pub allowance_by : ProgramForm → (objects : Bool) → Allowance
-allowance_by p objects = record { types = p.types; treats_parts = true; objects = objects; procedures = frugal_procedures p objects }
+-- Those of a program, which may free and create such objects.
+abbrev pub allowance_of : ProgramForm → Allowance
+allowance_of p = record { types = p.types; treats_parts = true; objects = true; procedures = frugal_procedures p }
 
 -- What is frugal is so.
-module _ (p : ProgramForm) (objects : Bool) where
-  right_thrifty : (right : RightForm) → allocates_frugally (thrift_of p objects) right ≡ true → allocates_thriftily (allowance_by p objects) right ≡ true
+module _ (p : ProgramForm) where
+  right_thrifty : (right : RightForm) → allocates_frugally (thrift_of p) right ≡ true → allocates_thriftily (allowance_of p) right ≡ true
   right_thrifty nothing is = refl
   right_thrifty (value_of path) is = refl
   right_thrifty (allocates access items) is = is
-  right_thrifty (allocates_default access) is = is
+  right_thrifty (allocates_default access) is = refl
   right_thrifty (computes e) is = refl
 
-  declaration_thrifty : (d : DeclarationForm) → is_frugal_declaration (thrift_of p objects) d ≡ true → is_thrifty_declaration (allowance_by p objects) d ≡ true
+  declaration_thrifty : (d : DeclarationForm) → is_frugal_declaration (thrift_of p) d ≡ true → is_thrifty_declaration (allowance_of p) d ≡ true
   declaration_thrifty (creates_pool pool) is = is
   declaration_thrifty (collects access) is = is
   declaration_thrifty (declares x right) is = right_thrifty right is
-  declaration_thrifty (declares_record x t None) is = (and_parts objects (holds_scalars p.types t) is).0
+  declaration_thrifty (declares_record x t None) is = refl
   declaration_thrifty (declares_record x t (Some items)) is = is
 
-  declarations_thrifty : (ds : List DeclarationForm) → are_frugal_declarations (thrift_of p objects) ds ≡ true → are_thrifty_declarations (allowance_by p objects) ds ≡ true
+  declarations_thrifty : (ds : List DeclarationForm) → are_frugal_declarations (thrift_of p) ds ≡ true → are_thrifty_declarations (allowance_of p) ds ≡ true
   declarations_thrifty [] is = refl
   declarations_thrifty (d ∷ ds) is =
-      let both = and_parts (is_frugal_declaration (thrift_of p objects) d) (are_frugal_declarations (thrift_of p objects) ds) is in
+      let both = and_parts (is_frugal_declaration (thrift_of p) d) (are_frugal_declarations (thrift_of p) ds) is in
       rw (declaration_thrifty d both.0, declarations_thrifty ds both.1) refl
 
   mutual
-    stmt_thrifty : (f : StmtForm) → is_frugal_stmt (thrift_of p objects) f ≡ true → is_thrifty_stmt (allowance_by p objects) f ≡ true
+    stmt_thrifty : (f : StmtForm) → is_frugal_stmt (thrift_of p) f ≡ true → is_thrifty_stmt (allowance_of p) f ≡ true
     stmt_thrifty skips is = refl
     stmt_thrifty (assigns target right) is = right_thrifty right is
     stmt_thrifty (assigns_record target items) is = (and_parts (not (is_some (finalization_of p.types target.record_type))) (list_all (is_bare_item p.types) items) is).0
@@ -130,32 +130,32 @@ module _ (p : ProgramForm) (objects : Bool) where
     stmt_thrifty (returns spot) is = refl
     stmt_thrifty (raises e) is = refl
     stmt_thrifty (encloses ds fs hs) is =
-        let two = and_parts (are_frugal_declarations (thrift_of p objects) ds && are_frugal (thrift_of p objects) fs) (are_frugal_handlers (thrift_of p objects) hs) is in
-        let three = and_parts (are_frugal_declarations (thrift_of p objects) ds) (are_frugal (thrift_of p objects) fs) two.0 in
+        let two = and_parts (are_frugal_declarations (thrift_of p) ds && are_frugal (thrift_of p) fs) (are_frugal_handlers (thrift_of p) hs) is in
+        let three = and_parts (are_frugal_declarations (thrift_of p) ds) (are_frugal (thrift_of p) fs) two.0 in
         rw (declarations_thrifty ds three.0, stmts_thrifty fs three.1, handlers_thrifty hs two.1) refl
 
-    stmts_thrifty : (fs : StmtsForm) → are_frugal (thrift_of p objects) fs ≡ true → are_thrifty (allowance_by p objects) fs ≡ true
+    stmts_thrifty : (fs : StmtsForm) → are_frugal (thrift_of p) fs ≡ true → are_thrifty (allowance_of p) fs ≡ true
     stmts_thrifty no_stmts is = refl
     stmts_thrifty (a_stmt f fs) is =
-        let both = and_parts (is_frugal_stmt (thrift_of p objects) f) (are_frugal (thrift_of p objects) fs) is in rw (stmt_thrifty f both.0, stmts_thrifty fs both.1) refl
+        let both = and_parts (is_frugal_stmt (thrift_of p) f) (are_frugal (thrift_of p) fs) is in rw (stmt_thrifty f both.0, stmts_thrifty fs both.1) refl
 
-    branches_thrifty : (branches : BranchesForm) → are_frugal_branches (thrift_of p objects) branches ≡ true → are_thrifty_branches (allowance_by p objects) branches ≡ true
+    branches_thrifty : (branches : BranchesForm) → are_frugal_branches (thrift_of p) branches ≡ true → are_thrifty_branches (allowance_of p) branches ≡ true
     branches_thrifty (otherwise fs) is = stmts_thrifty fs is
     branches_thrifty (a_branch e fs branches) is =
-        let both = and_parts (are_frugal (thrift_of p objects) fs) (are_frugal_branches (thrift_of p objects) branches) is in
+        let both = and_parts (are_frugal (thrift_of p) fs) (are_frugal_branches (thrift_of p) branches) is in
         rw (stmts_thrifty fs both.0, branches_thrifty branches both.1) refl
 
-    handlers_thrifty : (hs : HandlersForm) → are_frugal_handlers (thrift_of p objects) hs ≡ true → are_thrifty_handlers (allowance_by p objects) hs ≡ true
+    handlers_thrifty : (hs : HandlersForm) → are_frugal_handlers (thrift_of p) hs ≡ true → are_thrifty_handlers (allowance_of p) hs ≡ true
     handlers_thrifty no_handlers is = refl
     handlers_thrifty (a_handler choices fs hs) is =
-        let both = and_parts (are_frugal (thrift_of p objects) fs) (are_frugal_handlers (thrift_of p objects) hs) is in
+        let both = and_parts (are_frugal (thrift_of p) fs) (are_frugal_handlers (thrift_of p) hs) is in
         rw (stmts_thrifty fs both.0, handlers_thrifty hs both.1) refl
 
   -- So is a body.
-  pub body_thrifty : (b : BodyForm) → is_frugal_body (thrift_of p objects) b ≡ true → is_thrifty_body (allowance_by p objects) b ≡ true
+  pub body_thrifty : (b : BodyForm) → is_frugal_body (thrift_of p) b ≡ true → is_thrifty_body (allowance_of p) b ≡ true
   body_thrifty b is =
-      let two = and_parts (are_frugal_declarations (thrift_of p objects) b.declarations && are_frugal (thrift_of p objects) b.statements) (are_frugal_handlers (thrift_of p objects) b.handlers) is in
-      let three = and_parts (are_frugal_declarations (thrift_of p objects) b.declarations) (are_frugal (thrift_of p objects) b.statements) two.0 in
+      let two = and_parts (are_frugal_declarations (thrift_of p) b.declarations && are_frugal (thrift_of p) b.statements) (are_frugal_handlers (thrift_of p) b.handlers) is in
+      let three = and_parts (are_frugal_declarations (thrift_of p) b.declarations) (are_frugal (thrift_of p) b.statements) two.0 in
       rw (declarations_thrifty b.declarations three.0, stmts_thrifty b.statements three.1, handlers_thrifty b.handlers two.1) refl
 
 -- The declarations, the statements and the handlers of such a body are so.

@@ -144,7 +144,8 @@ pub record Within (program : Program) (s : State) : Type 0 where
   pub accessed : is_access (program_form program).types access ≡ true
   pub apart : Apart
   pub are_apart : AreApart (program_form program) program.types.items (λ t. access == t) apart
-  pub reaching : IsReaching (program_form program) (λ t. access == t) apart ghosts none_unnamed behind s
+  pub lower : List Master
+  pub reaching : IsReaching (program_form program) (λ t. access == t) apart ghosts none_unnamed behind lower s
   pub goes : Operates program v ⊎ Touching program v
 
 -- Such a collection goes.

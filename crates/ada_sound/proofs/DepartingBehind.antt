@@ -31,7 +31,7 @@ use Rattle.ada_typed.proofs.Kept.{behind_call}
 use Rattle.ada_untouched.specs.Untouched.{Untouched}
 use Rattle.ada_sound.proofs.Ahead.{ahead_in}
 use Rattle.ada_sound.proofs.Departing.{IsGoing, ending}
-use Rattle.ada_sound.proofs.FrugalControl.{Frugal, FrugalLeads, FrugalLeaves, FrugalOperated, MayLeave, Thriftiness}
+use Rattle.ada_sound.proofs.FrugalControl.{Frugal, FrugalLeads, FrugalLeaves, FrugalOperated, MayLeave, Allowance}
 use Rattle.ada_sound.proofs.Invariant.{ConfinesBy, Control, EndsTo, IsNewest, Known, ReadyIn, TreatsBy, innermost}
 use Rattle.ada_sound.proofs.Items.{Counted, HasItem, Houses, has_after, houses_pool, houses_type, newest_is}
 use Rattle.ada_sound.proofs.Operating.{AreVariables, Comes, IsCalm, OwnVariables, Sight}
@@ -101,9 +101,9 @@ module _ (p : ProgramForm) (shuns : ℕ → Bool) (apart : Apart) (ghosts : Id �
   ends_or_not procedure (f ∷ k) suspended left = inr (λ is. cc is)
 
   -- Frugal bodies go on up to the same end, where no operation runs behind what is behind it, of the one and of the other.
-  module _ (waits : NoOperationRuns behind → ⊥) (calm : IsCalm (behind_call behind)) (frugal : Thriftiness) (back : Control) (back_waits : NoOperationRuns back → ⊥) (back_calm : IsCalm (behind_call back)) where
+  module _ (waits : NoOperationRuns behind → ⊥) (calm : IsCalm (behind_call behind)) (frugal : Allowance) (back : Control) (back_waits : NoOperationRuns back → ⊥) (back_calm : IsCalm (behind_call back)) where
     -- Behind an operation one runs there.
-    operated_calm : (objects outer : Bool) (among : List Value) (k : Control) (ms : List Master) → IsCalm (behind_call k) → FrugalOperated frugal objects outer back among k ms → ⊥
+    operated_calm : (among : List Value) (k : Control) (ms : List Master) → IsCalm (behind_call k) → FrugalOperated frugal back among k ms → ⊥
     operated_calm objects outer among [] ms calm_there q = q
     operated_calm objects outer among (frame.Confines ∷ k) ms calm_there (vs, is, idle, inl (ending, q)) = back_waits (frugal_calm frugal outer back vs Running k ms calm_there (inl q))
     operated_calm objects outer among (frame.Confines ∷ k) ms calm_there (vs, is, idle, inr (ending, q)) =
@@ -115,8 +115,8 @@ module _ (p : ProgramForm) (shuns : ℕ → Bool) (apart : Apart) (ghosts : Id �
     mutual
       -- Where no master is being left.
       leads_same :
-          (objects : Bool) (among : List Value) (k : Control) (ms : List Master) (procedure : Option ℕ) (suspended : List (Activation Value))
-          → FrugalLeads frugal objects back among k ms → Left procedure k suspended → back ≡ behind
+          (among : List Value) (k : Control) (ms : List Master) (procedure : Option ℕ) (suspended : List (Activation Value))
+          → FrugalLeads frugal back among k ms → Left procedure k suspended → back ≡ behind
       leads_same objects among [] ms procedure suspended q left = absurd q
       leads_same objects among (Returns actuals references ∷ k) ms procedure suspended (inl q) (inl last) = let same : k ≡ behind = cc last in sym q.2 ∙ same
       leads_same objects among (Returns actuals references ∷ k) ms procedure suspended (inl q) (inr inner) =
@@ -140,8 +140,8 @@ module _ (p : ProgramForm) (shuns : ℕ → Bool) (apart : Apart) (ghosts : Id �
 
       -- Where one is.
       leaves_same :
-          (objects : Bool) (among : List Value) (k : Control) (ms : List Master) (procedure : Option ℕ) (suspended : List (Activation Value))
-          → FrugalLeaves frugal objects back among k ms → Left procedure k suspended → back ≡ behind
+          (among : List Value) (k : Control) (ms : List Master) (procedure : Option ℕ) (suspended : List (Activation Value))
+          → FrugalLeaves frugal back among k ms → Left procedure k suspended → back ≡ behind
       leaves_same objects among [] ms procedure suspended q left = absurd q
       leaves_same objects among (Leaves exit ∷ k) [] procedure suspended q left = absurd q
       leaves_same objects among (Leaves exit ∷ k) (m ∷ ms) procedure suspended q left = leads_same objects among k ms procedure suspended q.1 left.2
@@ -153,8 +153,8 @@ module _ (p : ProgramForm) (shuns : ℕ → Bool) (apart : Apart) (ghosts : Id �
 
       -- So it is behind an operation.
       operated_same :
-          (objects outer : Bool) (among : List Value) (k : Control) (ms : List Master) (procedure : Option ℕ) (suspended : List (Activation Value))
-          → FrugalOperated frugal objects outer back among k ms → Left procedure k suspended → back ≡ behind
+          (among : List Value) (k : Control) (ms : List Master) (procedure : Option ℕ) (suspended : List (Activation Value))
+          → FrugalOperated frugal back among k ms → Left procedure k suspended → back ≡ behind
       operated_same objects outer among [] ms procedure suspended q left = absurd q
       operated_same objects outer among (frame.Confines ∷ k) ms procedure suspended (vs, is, idle, inl (ending, q)) left = leads_same outer vs k ms procedure suspended q left.2
       operated_same objects outer among (frame.Confines ∷ k) ms procedure suspended (vs, is, idle, inr (ending, q)) left = leaves_same outer vs k ms procedure suspended q left.2
@@ -164,8 +164,8 @@ module _ (p : ProgramForm) (shuns : ℕ → Bool) (apart : Apart) (ghosts : Id �
 
     -- Wherever they are.
     pub same_end :
-        (objects : Bool) (among : List Value) (mode : Mode) (k : Control) (ms : List Master) (procedure : Option ℕ) (suspended : List (Activation Value))
-        → Frugal frugal objects back among mode k ms → Left procedure k suspended → back ≡ behind
+        (among : List Value) (mode : Mode) (k : Control) (ms : List Master) (procedure : Option ℕ) (suspended : List (Activation Value))
+        → Frugal frugal back among mode k ms → Left procedure k suspended → back ≡ behind
     same_end objects among mode k ms procedure suspended (inl q) left = leads_same objects among k ms procedure suspended q left
     same_end objects among mode k ms procedure suspended (inr (inl (may, leaving))) left = leaves_same objects among k ms procedure suspended leaving left
     same_end objects among mode [] ms procedure suspended (inr (inr (may, beginning))) left = absurd beginning

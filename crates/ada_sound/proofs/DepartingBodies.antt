@@ -47,7 +47,7 @@ use Rattle.ada_sound.proofs.Departing.{IsGoing, IsLeft, IsMember, Seen, Within, 
 use Rattle.ada_sound.proofs.DepartingBehind.{BodyEnds, body_ends, confines_running, ending_member, ends_or_not, going_by, has_home, home_inside, home_outside, left_operated, none_quiet, reaching_not_calm, returns_untouched, same_end}
 use Rattle.ada_sound.proofs.DepartingGoes.{GoesDeparting, InDeparting}
 use Rattle.ada_sound.proofs.DepartingTreats.{is_member_still}
-use Rattle.ada_sound.proofs.FrugalControl.{Frugal, Thriftiness, thriftiness_of}
+use Rattle.ada_sound.proofs.FrugalControl.{Frugal, Allowance, allowance_of}
 use Rattle.ada_sound.proofs.FrugalIdle.{frugal_idly}
 use Rattle.ada_sound.proofs.FrugalLeaves.{innermost_houses_none}
 use Rattle.ada_sound.proofs.Grounded.{grounds}
@@ -82,7 +82,7 @@ touching_not_calm : (program : Program) (s : State) (f : Touching program s) →
 touching_not_calm program s f calm =
     let outermost = f.within.outermost in
     waits_behind program s f outermost.treatment outermost.awaited
-    (frugal_calm (thriftiness_of (program_form program) (may_create_in outermost.treatment)) f.within.objects outermost.behind (operated_among f.within.inner) s.mode s.control f.within.frugal.upper calm f.within.frugal.frugally)
+    (frugal_calm (allowance_of (program_form program)) f.within.objects outermost.behind (operated_among f.within.inner) s.mode s.control f.within.frugal.upper calm f.within.frugal.frugally)
 
 -- A step while the operation runs.
 module _ (program : Program) (s : State) (sound : Sound program s) (w : Within program s) where
@@ -159,8 +159,8 @@ module _ (program : Program) (s : State) (sound : Sound program s) (w : Within p
     outermost = f.within.outermost
 
     -- What bodies go by.
-    abbrev thrifty : Thriftiness
-    thrifty = thriftiness_of p (may_create_in outermost.treatment)
+    abbrev thrifty : Allowance
+    thrifty = allowance_of p
 
     -- The outermost one is the operation of the object.
     back_is : outermost.behind ≡ w.behind
@@ -213,11 +213,11 @@ module _ (program : Program) (s : State) (sound : Sound program s) (w : Within p
 
     -- The home of its type is behind the masters of the bodies.
     own_first :
-        (mode : Mode) (c : Control) (upper : List Master) → Frugal thrifty f.within.objects outermost.behind (operated_among f.within.inner) mode c upper → (ds : List DeclarationForm) (fs : StmtsForm) (hs : HandlersForm) (k : Control)
+        (mode : Mode) (c : Control) (upper : List Master) → Frugal thrifty outermost.behind (operated_among f.within.inner) mode c upper → (ds : List DeclarationForm) (fs : StmtsForm) (hs : HandlersForm) (k : Control)
         → c ≡ frame.Elaborates ds fs hs ∷ k → (m : Master) × (ms : List Master) × (upper ≡ m ∷ ms)
-    own_first mode c upper frugal ds fs hs k is = by upper (subst (λ (j : Control). Frugal thrifty f.within.objects outermost.behind (operated_among f.within.inner) mode j upper) is frugal)
+    own_first mode c upper frugal ds fs hs k is = by upper (subst (λ (j : Control). Frugal thrifty outermost.behind (operated_among f.within.inner) mode j upper) is frugal)
       where
-        by : (ms : List Master) → Frugal thrifty f.within.objects outermost.behind (operated_among f.within.inner) mode (frame.Elaborates ds fs hs ∷ k) ms → (m : Master) × (rest : List Master) × (ms ≡ m ∷ rest)
+        by : (ms : List Master) → Frugal thrifty outermost.behind (operated_among f.within.inner) mode (frame.Elaborates ds fs hs ∷ k) ms → (m : Master) × (rest : List Master) × (ms ≡ m ∷ rest)
         by [] (inl q) = absurd q
         by [] (inr (inl (runs, leaving))) = absurd leaving
         by [] (inr (inr (may, beginning))) = absurd beginning

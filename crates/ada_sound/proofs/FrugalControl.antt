@@ -23,7 +23,7 @@ use Rattle.ada_parts.specs.Part.{Part}
 use Rattle.ada_typed.proofs.Control.{is_operation}
 use Rattle.ada_typed.proofs.Kept.{is_treatment}
 use Rattle.ada_sound.proofs.Invariant.{Control, IsAwaited}
-use Rattle.ada_sound.proofs.Allowance.{Allowance, allowance_by, may_treat, may_create, allocates_thriftily, are_thrifty_declarations, are_thrifty, are_thrifty_branches, are_thrifty_handlers, is_thrifty_body, thrifty_parts}
+use Rattle.ada_sound.proofs.Allowance.{Allowance, may_treat, may_create, allocates_thriftily, are_thrifty_declarations, are_thrifty, are_thrifty_branches, are_thrifty_handlers, is_thrifty_body, thrifty_parts}
 
 -- An object ends in a body that frees it (13.11.2), or out of whose initialization an exception comes (7.6.1).
 abbrev pub IsEnded : Treatment → Type 0
@@ -58,16 +58,6 @@ IsOwnedBy allowance (storage_pool declaration number) = ⊥
 abbrev pub AreOwnedBy : Allowance → List Item → Type 0
 AreOwnedBy allowance [] = Unit {0}
 AreOwnedBy allowance (i ∷ is) = IsOwnedBy allowance i.owned × AreOwnedBy allowance is
-
--- What the bodies of operations go by that run inside one another: those that may create objects with controlled parts, and those that may not, which never
--- come to one of the former; and whether the outermost one may.
-pub record Thriftiness : Type 0 where
-  pub by : (objects : Bool) → Allowance
-  pub last : Bool
-
--- Those of a program, where the outermost operation may create such objects, as an Initialize, or not, as a Finalize.
-abbrev pub thriftiness_of : ProgramForm → (last : Bool) → Thriftiness
-thriftiness_of p last = record { by = allowance_by p; last = last }
 
 -- A new object begins first.
 abbrev pub begins_first : Control → Bool
@@ -161,78 +151,77 @@ abbrev pub BeginsThere : Allowance → Value → Birth → Control → Type 0
 BeginsThere frugal v by k = (by ≡ Creation) × (frugal.objects ≡ true) × NoOperationRunsOn v k
 
 -- What the frugal bodies of the program go by.
-module _ (frugal : Thriftiness) where
+module _ (frugal : Allowance) where
   abbrev mutual
     -- What is left to do of the body, and of those that it calls, in these masters of their own, before this. A variable is declared in one of them. Where a
     -- body comes to its end, that is the end of all of it, or of one that is called, or of an operation: so it is of each of these objects, one after the
-    -- other. The body may create objects or not.
-    pub FrugalLeads : (objects : Bool) → (behind : Control) → (among : List Value) → Control → List Master → Type 0
-    FrugalLeads objects behind among [] ms = ⊥
-    FrugalLeads objects behind among (Returns actuals references ∷ k) ms =
-        (((actuals ≡ []) × (references ≡ [])) × (ms ≡ []) × (k ≡ behind) × (among ≡ []) × (objects ≡ frugal.last))
-        ⊎ (FrugalLeads objects behind among k ms ⊎ ((outer : Bool) × FrugalOperated objects outer behind among k ms))
-    FrugalLeads objects behind among (Elaborates ds fs hs ∷ k) [] = ⊥
-    FrugalLeads objects behind among (Elaborates ds fs hs ∷ k) (m ∷ ms) =
-        (AreOwnedBy (frugal.by objects) m.items × FrugalFrame (frugal.by objects) (Elaborates ds fs hs)) × FrugalLeads objects behind among k ms
-    FrugalLeads objects behind among (Closes ∷ k) [] = ⊥
-    FrugalLeads objects behind among (Closes ∷ k) (m ∷ ms) = AreOwnedBy (frugal.by objects) m.items × FrugalLeads objects behind among k ms
-    FrugalLeads objects behind among (Declares x ∷ k) [] = ⊥
-    FrugalLeads objects behind among (Declares x ∷ k) (m ∷ ms) = FrugalFrame (frugal.by objects) (Declares x) × FrugalLeads objects behind among k (m ∷ ms)
-    FrugalLeads objects behind among (frame.Treats v treatment tasks ∷ k) ms = EndsThere (frugal.by objects) v treatment k × FrugalLeads objects behind among k ms
-    FrugalLeads objects behind among (frame.Confines ∷ k) ms = EndsOperation (frugal.by objects) k × FrugalLeads objects behind among k ms
-    FrugalLeads objects behind among (f ∷ k) ms = FrugalFrame (frugal.by objects) f × FrugalLeads objects behind among k ms
+    -- other.
+    pub FrugalLeads : (behind : Control) → (among : List Value) → Control → List Master → Type 0
+    FrugalLeads behind among [] ms = ⊥
+    FrugalLeads behind among (Returns actuals references ∷ k) ms =
+        (((actuals ≡ []) × (references ≡ [])) × (ms ≡ []) × (k ≡ behind) × (among ≡ []))
+        ⊎ (FrugalLeads behind among k ms ⊎ FrugalOperated behind among k ms)
+    FrugalLeads behind among (Elaborates ds fs hs ∷ k) [] = ⊥
+    FrugalLeads behind among (Elaborates ds fs hs ∷ k) (m ∷ ms) =
+        (AreOwnedBy frugal m.items × FrugalFrame frugal (Elaborates ds fs hs)) × FrugalLeads behind among k ms
+    FrugalLeads behind among (Closes ∷ k) [] = ⊥
+    FrugalLeads behind among (Closes ∷ k) (m ∷ ms) = AreOwnedBy frugal m.items × FrugalLeads behind among k ms
+    FrugalLeads behind among (Declares x ∷ k) [] = ⊥
+    FrugalLeads behind among (Declares x ∷ k) (m ∷ ms) = FrugalFrame frugal (Declares x) × FrugalLeads behind among k (m ∷ ms)
+    FrugalLeads behind among (frame.Treats v treatment tasks ∷ k) ms = EndsThere frugal v treatment k × FrugalLeads behind among k ms
+    FrugalLeads behind among (frame.Confines ∷ k) ms = EndsOperation frugal k × FrugalLeads behind among k ms
+    FrugalLeads behind among (f ∷ k) ms = FrugalFrame frugal f × FrugalLeads behind among k ms
 
     -- The innermost master is being left, and an object in it is finalized first, or has been; and then this is left to do.
-    pub FrugalLeaves : (objects : Bool) → (behind : Control) → (among : List Value) → Control → List Master → Type 0
-    FrugalLeaves objects behind among [] ms = ⊥
-    FrugalLeaves objects behind among (Leaves left ∷ k) [] = ⊥
-    FrugalLeaves objects behind among (Leaves left ∷ k) (m ∷ ms) = AreOwnedBy (frugal.by objects) m.items × FrugalLeads objects behind among k ms
-    FrugalLeaves objects behind among (Ends v ∷ k) ms = FrugalLeaves objects behind among k ms
-    FrugalLeaves objects behind among (GivesBack v cause pool ∷ k) ms = FrugalLeaves objects behind among k ms
-    FrugalLeaves objects behind among (frame.Treats v treatment tasks ∷ k) ms = LeavesThere (frugal.by objects) v treatment k × FrugalLeaves objects behind among k ms
-    FrugalLeaves objects behind among (frame.Confines ∷ k) ms = LeavesOperation (frugal.by objects) k × FrugalLeaves objects behind among k ms
-    FrugalLeaves objects behind among (f ∷ k) ms = ⊥
+    pub FrugalLeaves : (behind : Control) → (among : List Value) → Control → List Master → Type 0
+    FrugalLeaves behind among [] ms = ⊥
+    FrugalLeaves behind among (Leaves left ∷ k) [] = ⊥
+    FrugalLeaves behind among (Leaves left ∷ k) (m ∷ ms) = AreOwnedBy frugal m.items × FrugalLeads behind among k ms
+    FrugalLeaves behind among (Ends v ∷ k) ms = FrugalLeaves behind among k ms
+    FrugalLeaves behind among (GivesBack v cause pool ∷ k) ms = FrugalLeaves behind among k ms
+    FrugalLeaves behind among (frame.Treats v treatment tasks ∷ k) ms = LeavesThere frugal v treatment k × FrugalLeaves behind among k ms
+    FrugalLeaves behind among (frame.Confines ∷ k) ms = LeavesOperation frugal k × FrugalLeaves behind among k ms
+    FrugalLeaves behind among (f ∷ k) ms = ⊥
 
-    -- What is left behind an operation of the first of these objects, which may create objects itself or not, in a body that may or not: the object is
-    -- finalized, and a Finalize creates nothing; or it begins.
-    pub FrugalOperated : (objects outer : Bool) → (behind : Control) → (among : List Value) → Control → List Master → Type 0
-    FrugalOperated objects outer behind among [] ms = ⊥
-    FrugalOperated objects outer behind among (frame.Confines ∷ k) ms =
-        (vs : List Value) × (among ≡ finalized_before k ∷ vs) × (objects ≡ false)
-        × ((EndsOperation (frugal.by outer) k × FrugalLeads outer behind vs k ms) ⊎ (LeavesOperation (frugal.by outer) k × FrugalLeaves outer behind vs k ms))
-    FrugalOperated objects outer behind among (frame.Awaits v by done of part tasks ∷ k) ms =
-        (vs : List Value) × (among ≡ v ∷ vs) × (objects ≡ true) × (outer ≡ true) × BeginsThere (frugal.by outer) v by k × FrugalLeads outer behind vs k ms
-    FrugalOperated objects outer behind among (f ∷ k) ms = ⊥
+    -- What is left behind an operation of the first of these objects: the object is finalized, or it begins.
+    pub FrugalOperated : (behind : Control) → (among : List Value) → Control → List Master → Type 0
+    FrugalOperated behind among [] ms = ⊥
+    FrugalOperated behind among (frame.Confines ∷ k) ms =
+        (vs : List Value) × (among ≡ finalized_before k ∷ vs)
+        × ((EndsOperation frugal k × FrugalLeads behind vs k ms) ⊎ (LeavesOperation frugal k × FrugalLeaves behind vs k ms))
+    FrugalOperated behind among (frame.Awaits v by done of part tasks ∷ k) ms =
+        (vs : List Value) × (among ≡ v ∷ vs) × BeginsThere frugal v by k × FrugalLeads behind vs k ms
+    FrugalOperated behind among (f ∷ k) ms = ⊥
 
   -- What is left behind the end of a body.
-  abbrev pub FrugalReturns : (objects : Bool) → (behind : Control) → (among : List Value) → Control → List Master → Type 0
-  FrugalReturns objects behind among k ms = FrugalLeads objects behind among k ms ⊎ ((outer : Bool) × FrugalOperated objects outer behind among k ms)
+  abbrev pub FrugalReturns : (behind : Control) → (among : List Value) → Control → List Master → Type 0
+  FrugalReturns behind among k ms = FrugalLeads behind among k ms ⊎ FrugalOperated behind among k ms
 
   -- A new object begins first (4.8, 3.3.1, 7.6), and then this is left to do.
-  abbrev pub FrugalBegins : (objects : Bool) → (behind : Control) → (among : List Value) → Control → List Master → Type 0
-  FrugalBegins objects behind among [] ms = ⊥
-  FrugalBegins objects behind among (frame.Treats v (begins by done) tasks ∷ k) ms = BeginsThere (frugal.by objects) v by k × FrugalLeads objects behind among k ms
-  FrugalBegins objects behind among (frame.Awaits v by done of part tasks ∷ k) ms = BeginsThere (frugal.by objects) v by k × FrugalLeads objects behind among k ms
-  FrugalBegins objects behind among (f ∷ k) ms = ⊥
+  abbrev pub FrugalBegins : (behind : Control) → (among : List Value) → Control → List Master → Type 0
+  FrugalBegins behind among [] ms = ⊥
+  FrugalBegins behind among (frame.Treats v (begins by done) tasks ∷ k) ms = BeginsThere frugal v by k × FrugalLeads behind among k ms
+  FrugalBegins behind among (frame.Awaits v by done of part tasks ∷ k) ms = BeginsThere frugal v by k × FrugalLeads behind among k ms
+  FrugalBegins behind among (f ∷ k) ms = ⊥
 
   -- What comes next in the body.
-  abbrev pub Frugal : (objects : Bool) → (behind : Control) → (among : List Value) → Mode → Control → List Master → Type 0
-  Frugal objects behind among mode k ms =
-      FrugalLeads objects behind among k ms
-      ⊎ ((MayLeave mode k × FrugalLeaves objects behind among k ms) ⊎ (MayBegin mode × FrugalBegins objects behind among k ms))
+  abbrev pub Frugal : (behind : Control) → (among : List Value) → Mode → Control → List Master → Type 0
+  Frugal behind among mode k ms =
+      FrugalLeads behind among k ms
+      ⊎ ((MayLeave mode k × FrugalLeaves behind among k ms) ⊎ (MayBegin mode × FrugalBegins behind among k ms))
 
 -- Is the end of a body next?
 abbrev pub is_return_first : Control → Bool
 is_return_first [] = false
 is_return_first (f ∷ k) = is_return f
 
-module _ (frugal : Thriftiness) (lower : List Master) (objects : Bool) (behind : Control) (among : List Value) where
+module _ (frugal : Allowance) (lower : List Master) (behind : Control) (among : List Value) where
   -- The body runs still, or one that it calls, or an operation of one of these objects, the nearest one first, in masters of their own, which own what these
   -- declare.
   pub record Frugally (after : State) : Type 0 where
     pub upper : List Master
     pub masters : after.masters ≡ upper ++ lower
-    pub frugally : Frugal frugal objects behind among after.mode after.control upper
+    pub frugally : Frugal frugal behind among after.mode after.control upper
 
   -- So it does whatever comes next, if the run does not end.
   abbrev pub GoesFrugally : Next → Type 0
@@ -243,14 +232,14 @@ module _ (frugal : Thriftiness) (lower : List Master) (objects : Bool) (behind :
   GoesFrugally (picks n taken) = (i : ℕ) → suc i ≤ n → Frugally (taken i)
 
 -- It begins, in a master of its own.
-pub frugal_begins : {mode : Mode} (frugal : Thriftiness) (b : BodyForm) → is_thrifty_body (frugal.by frugal.last) b ≡ true → (behind : Control) (number : ℕ)
-    → Frugal frugal frugal.last behind [] mode (Elaborates b.declarations b.statements b.handlers ∷ Returns [] [] ∷ behind) (record { number = number; items = [] } ∷ [])
+pub frugal_begins : {mode : Mode} (frugal : Allowance) (b : BodyForm) → is_thrifty_body frugal b ≡ true → (behind : Control) (number : ℕ)
+    → Frugal frugal behind [] mode (Elaborates b.declarations b.statements b.handlers ∷ Returns [] [] ∷ behind) (record { number = number; items = [] } ∷ [])
 frugal_begins frugal b is behind number =
-    inl ((tt, thrifty_parts (frugal.by frugal.last) b is), inl ((refl, refl), refl, refl, refl, refl))
+    inl ((tt, thrifty_parts frugal b is), inl ((refl, refl), refl, refl, refl))
 
 -- So it does as the operation of a part of an object.
-pub frugal_starts : (frugal : Thriftiness) (procedure : ℕ) (b : BodyForm) → is_thrifty_body (frugal.by frugal.last) b ≡ true → (reference : Value) (behind : Control) (s : State)
-    → Frugally frugal s.masters frugal.last behind [] (operating named procedure b reference behind s)
+pub frugal_starts : (frugal : Allowance) (procedure : ℕ) (b : BodyForm) → is_thrifty_body frugal b ≡ true → (reference : Value) (behind : Control) (s : State)
+    → Frugally frugal s.masters behind [] (operating named procedure b reference behind s)
 frugal_starts frugal procedure b is reference behind s = record {
   upper = record { number = s.next; items = [] } ∷ [];
   masters = refl;
@@ -259,35 +248,35 @@ frugal_starts frugal procedure b is reference behind s = record {
 
 -- In front of what is left to do already, the body of another operation begins so.
 pub frugal_starts_inside :
-    (frugal : Thriftiness) (objects outer : Bool) (back : Control) (among : List Value) (upper lower : List Master) (procedure : ℕ) (b : BodyForm) → is_thrifty_body (frugal.by objects) b ≡ true
+    (frugal : Allowance) (back : Control) (among : List Value) (upper lower : List Master) (procedure : ℕ) (b : BodyForm) → is_thrifty_body frugal b ≡ true
     → (reference : Value) (behind : Control) (s : State)
-    → s.masters ≡ upper ++ lower → FrugalOperated frugal objects outer back among behind upper → Frugally frugal lower objects back among (operating named procedure b reference behind s)
-frugal_starts_inside frugal objects outer back among upper lower procedure b is reference behind s masters leads = record {
+    → s.masters ≡ upper ++ lower → FrugalOperated frugal back among behind upper → Frugally frugal lower back among (operating named procedure b reference behind s)
+frugal_starts_inside frugal back among upper lower procedure b is reference behind s masters leads = record {
   upper = record { number = s.next; items = [] } ∷ upper;
   masters = ap (λ (ms : List Master). record { number = s.next; items = [] } ∷ ms) masters;
-  frugally = inl ((tt, thrifty_parts (frugal.by objects) b is), inr (inr (outer, leads)));
+  frugally = inl ((tt, thrifty_parts frugal b is), inr (inr leads));
 }
 
 -- An object that is freed or undone is finalized before this.
 pub treating_leads :
-    (frugal : Thriftiness) (objects : Bool) (back : Control) (among : List Value) (v : Value) (treatment : Treatment) (tasks : List Task) (k : Control) (ms : List Master) → EndsThere (frugal.by objects) v treatment k → FrugalLeads frugal objects back among k ms
-    → FrugalLeads frugal objects back among (treating v treatment tasks k) ms
-treating_leads frugal objects back among v treatment [] k ms ending q = q
-treating_leads frugal objects back among v treatment (task ∷ tasks) k ms ending q = (ending, q)
+    (frugal : Allowance) (back : Control) (among : List Value) (v : Value) (treatment : Treatment) (tasks : List Task) (k : Control) (ms : List Master) → EndsThere frugal v treatment k → FrugalLeads frugal back among k ms
+    → FrugalLeads frugal back among (treating v treatment tasks k) ms
+treating_leads frugal back among v treatment [] k ms ending q = q
+treating_leads frugal back among v treatment (task ∷ tasks) k ms ending q = (ending, q)
 
 -- So it is with one whose master is left.
 pub treating_leaves :
-    (frugal : Thriftiness) (objects : Bool) (back : Control) (among : List Value) (v : Value) (treatment : Treatment) (tasks : List Task) (k : Control) (ms : List Master) → LeavesThere (frugal.by objects) v treatment k
-    → FrugalLeaves frugal objects back among k ms → FrugalLeaves frugal objects back among (treating v treatment tasks k) ms
-treating_leaves frugal objects back among v treatment [] k ms ending q = q
-treating_leaves frugal objects back among v treatment (task ∷ tasks) k ms ending q = (ending, q)
+    (frugal : Allowance) (back : Control) (among : List Value) (v : Value) (treatment : Treatment) (tasks : List Task) (k : Control) (ms : List Master) → LeavesThere frugal v treatment k
+    → FrugalLeaves frugal back among k ms → FrugalLeaves frugal back among (treating v treatment tasks k) ms
+treating_leaves frugal back among v treatment [] k ms ending q = q
+treating_leaves frugal back among v treatment (task ∷ tasks) k ms ending q = (ending, q)
 
 -- The operation of one of its parts is called: the others are finalized behind that.
 pub ends_leads :
-    (frugal : Thriftiness) (outer : Bool) (back : Control) (among : List Value) (v : Value) (treatment : Treatment) (tasks : List Task) (k : Control) (ms : List Master) → EndsThere (frugal.by outer) v treatment k → FrugalLeads frugal outer back among k ms
-    → FrugalOperated frugal false outer back (v ∷ among) (frame.Confines ∷ treating v treatment tasks k) ms
-ends_leads frugal outer back among v treatment tasks k ms ending q =
-    (among, ap (λ (w : Value). w ∷ among) (sym (before tasks)), refl, inl ((ending.1, by tasks), treating_leads frugal outer back among v treatment tasks k ms ending q))
+    (frugal : Allowance) (back : Control) (among : List Value) (v : Value) (treatment : Treatment) (tasks : List Task) (k : Control) (ms : List Master) → EndsThere frugal v treatment k → FrugalLeads frugal back among k ms
+    → FrugalOperated frugal back (v ∷ among) (frame.Confines ∷ treating v treatment tasks k) ms
+ends_leads frugal back among v treatment tasks k ms ending q =
+    (among, ap (λ (w : Value). w ∷ among) (sym (before tasks)), inl ((ending.1, by tasks), treating_leads frugal back among v treatment tasks k ms ending q))
   where
     before : (left : List Task) → finalized_before (treating v treatment left k) ≡ v
     before [] = ending.2
@@ -299,10 +288,10 @@ ends_leads frugal outer back among v treatment tasks k ms ending q =
 
 -- So it is where its master is left.
 pub leaves_operated :
-    (frugal : Thriftiness) (outer : Bool) (back : Control) (among : List Value) (v : Value) (treatment : Treatment) (tasks : List Task) (k : Control) (ms : List Master) → LeavesThere (frugal.by outer) v treatment k
-    → FrugalLeaves frugal outer back among k ms → FrugalOperated frugal false outer back (v ∷ among) (frame.Confines ∷ treating v treatment tasks k) ms
-leaves_operated frugal outer back among v treatment tasks k ms ending q =
-    (among, ap (λ (w : Value). w ∷ among) (sym (before tasks)), refl, inr ((ending.1, by tasks), treating_leaves frugal outer back among v treatment tasks k ms ending q))
+    (frugal : Allowance) (back : Control) (among : List Value) (v : Value) (treatment : Treatment) (tasks : List Task) (k : Control) (ms : List Master) → LeavesThere frugal v treatment k
+    → FrugalLeaves frugal back among k ms → FrugalOperated frugal back (v ∷ among) (frame.Confines ∷ treating v treatment tasks k) ms
+leaves_operated frugal back among v treatment tasks k ms ending q =
+    (among, ap (λ (w : Value). w ∷ among) (sym (before tasks)), inr ((ending.1, by tasks), treating_leaves frugal back among v treatment tasks k ms ending q))
   where
     before : (left : List Task) → finalized_before (treating v treatment left k) ≡ v
     before [] = ending.2
@@ -314,102 +303,102 @@ leaves_operated frugal outer back among v treatment tasks k ms ending q =
 
 -- Or an operation begins a part of a new object.
 pub begun_leads :
-    (frugal : Thriftiness) (outer : Bool) (back : Control) (among : List Value) (v : Value) (by : Birth) (done : List Part) (of part : ℕ) (tasks : List Task) (k : Control) (ms : List Master)
-    → outer ≡ true → BeginsThere (frugal.by outer) v by k → FrugalLeads frugal outer back among k ms
-    → FrugalOperated frugal true outer back (v ∷ among) (frame.Awaits v by done of part tasks ∷ k) ms
-begun_leads frugal outer back among v by done of part tasks k ms may beginning q = (among, refl, refl, may, beginning, q)
+    (frugal : Allowance) (back : Control) (among : List Value) (v : Value) (by : Birth) (done : List Part) (of part : ℕ) (tasks : List Task) (k : Control) (ms : List Master)
+    → BeginsThere frugal v by k → FrugalLeads frugal back among k ms
+    → FrugalOperated frugal back (v ∷ among) (frame.Awaits v by done of part tasks ∷ k) ms
+begun_leads frugal back among v by done of part tasks k ms beginning q = (among, refl, beginning, q)
 
 -- A new object begins first, if anything is to be done for it.
 pub beginning_frugal :
-    (frugal : Thriftiness) (objects : Bool) (back : Control) (among : List Value) (v : Value) (by : Birth) (done : List Part) (tasks : List Task) (k : Control) (ms : List Master) → BeginsThere (frugal.by objects) v by k → FrugalLeads frugal objects back among k ms
-    → Frugal frugal objects back among Running (treating v (begins by done) tasks k) ms
-beginning_frugal frugal objects back among v by done [] k ms beginning q = inl q
-beginning_frugal frugal objects back among v by done (task ∷ tasks) k ms beginning q = inr (inr (tt, (beginning, q)))
+    (frugal : Allowance) (back : Control) (among : List Value) (v : Value) (by : Birth) (done : List Part) (tasks : List Task) (k : Control) (ms : List Master) → BeginsThere frugal v by k → FrugalLeads frugal back among k ms
+    → Frugal frugal back among Running (treating v (begins by done) tasks k) ms
+beginning_frugal frugal back among v by done [] k ms beginning q = inl q
+beginning_frugal frugal back among v by done (task ∷ tasks) k ms beginning q = inr (inr (tt, (beginning, q)))
 
 -- Where bodies treat no object with controlled parts, none is finalized, and no operation ends.
-pub none_treated : (frugal : Thriftiness) (objects : Bool) → (frugal.by objects).treats_parts ≡ false → (behind : Control) (among : List Value) (f : Frame Value) (k : Control) (ms : List Master)
-    → FrugalLeads frugal objects behind among (f ∷ k) ms → (is_treatment f ≡ false) × (is_operation f ≡ false)
-none_treated frugal objects none behind among (frame.Treats v treatment tasks) k ms q = let treats_parts = q.0.1 in absurd (cc (none, treats_parts))
-none_treated frugal objects none behind among frame.Confines k ms q = let treats_parts = q.0.0 in absurd (cc (none, treats_parts))
-none_treated frugal objects none behind among (frame.Awaits v by done of part tasks) k ms q = absurd q.0
-none_treated frugal objects none behind among f k ms q = (refl, refl)
+pub none_treated : (frugal : Allowance) → frugal.treats_parts ≡ false → (behind : Control) (among : List Value) (f : Frame Value) (k : Control) (ms : List Master)
+    → FrugalLeads frugal behind among (f ∷ k) ms → (is_treatment f ≡ false) × (is_operation f ≡ false)
+none_treated frugal none behind among (frame.Treats v treatment tasks) k ms q = let treats_parts = q.0.1 in absurd (cc (none, treats_parts))
+none_treated frugal none behind among frame.Confines k ms q = let treats_parts = q.0.0 in absurd (cc (none, treats_parts))
+none_treated frugal none behind among (frame.Awaits v by done of part tasks) k ms q = absurd q.0
+none_treated frugal none behind among f k ms q = (refl, refl)
 
 -- Where they declare no record object, none is finalized where a master is left: that is left first, or an object has been finalized, which is not one of
 -- these.
-pub none_left : (frugal : Thriftiness) (objects : Bool) → (frugal.by objects).objects ≡ false → (behind : Control) (among : List Value) (f : Frame Value) (k : Control) (ms : List Master)
-    → FrugalLeaves frugal objects behind among (f ∷ k) ms → (is_treatment f ≡ false) × (is_operation f ≡ false)
-none_left frugal objects none behind among (frame.Treats v treatment tasks) k ms q = let may = q.0.1 in absurd (cc (none, may))
-none_left frugal objects none behind among frame.Confines k ms q = let may = q.0.0 in absurd (cc (none, may))
-none_left frugal objects none behind among (frame.Awaits v by done of part tasks) k ms q = absurd q
-none_left frugal objects none behind among f k ms q = (refl, refl)
+pub none_left : (frugal : Allowance) → frugal.objects ≡ false → (behind : Control) (among : List Value) (f : Frame Value) (k : Control) (ms : List Master)
+    → FrugalLeaves frugal behind among (f ∷ k) ms → (is_treatment f ≡ false) × (is_operation f ≡ false)
+none_left frugal none behind among (frame.Treats v treatment tasks) k ms q = let may = q.0.1 in absurd (cc (none, may))
+none_left frugal none behind among frame.Confines k ms q = let may = q.0.0 in absurd (cc (none, may))
+none_left frugal none behind among (frame.Awaits v by done of part tasks) k ms q = absurd q
+none_left frugal none behind among f k ms q = (refl, refl)
 
 -- Nor does an object begin first.
-pub none_beginning : (frugal : Thriftiness) (objects : Bool) → (frugal.by objects).objects ≡ false → (behind : Control) (among : List Value) (k : Control) (ms : List Master)
-    → FrugalBegins frugal objects behind among k ms → ⊥
-none_beginning frugal objects none behind among [] ms q = q
-none_beginning frugal objects none behind among (frame.Treats v (begins by done) tasks ∷ k) ms ((creation, may, alone), q) = cc (none, may)
-none_beginning frugal objects none behind among (frame.Treats v (ends cause) tasks ∷ k) ms q = q
-none_beginning frugal objects none behind among (frame.Awaits v by done of part tasks ∷ k) ms ((creation, may, alone), q) = cc (none, may)
-none_beginning frugal objects none behind among (f ∷ k) ms q = q
+pub none_beginning : (frugal : Allowance) → frugal.objects ≡ false → (behind : Control) (among : List Value) (k : Control) (ms : List Master)
+    → FrugalBegins frugal behind among k ms → ⊥
+none_beginning frugal none behind among [] ms q = q
+none_beginning frugal none behind among (frame.Treats v (begins by done) tasks ∷ k) ms ((creation, may, alone), q) = cc (none, may)
+none_beginning frugal none behind among (frame.Treats v (ends cause) tasks ∷ k) ms q = q
+none_beginning frugal none behind among (frame.Awaits v by done of part tasks ∷ k) ms ((creation, may, alone), q) = cc (none, may)
+none_beginning frugal none behind among (f ∷ k) ms q = q
 
 -- Where the body runs on, no object begins first.
-pub leads_first : (frugal : Thriftiness) (objects : Bool) (behind : Control) (among : List Value) (k : Control) (ms : List Master) → FrugalLeads frugal objects behind among k ms → begins_first k ≡ false
-leads_first frugal objects behind among [] ms q = refl
-leads_first frugal objects behind among (frame.Treats v (begins by done) tasks ∷ k) ms q = absurd q.0.0
-leads_first frugal objects behind among (frame.Awaits v by done of part tasks ∷ k) ms q = absurd q.0
-leads_first frugal objects behind among (f ∷ k) ms q = refl
+pub leads_first : (frugal : Allowance) (behind : Control) (among : List Value) (k : Control) (ms : List Master) → FrugalLeads frugal behind among k ms → begins_first k ≡ false
+leads_first frugal behind among [] ms q = refl
+leads_first frugal behind among (frame.Treats v (begins by done) tasks ∷ k) ms q = absurd q.0.0
+leads_first frugal behind among (frame.Awaits v by done of part tasks ∷ k) ms q = absurd q.0
+leads_first frugal behind among (f ∷ k) ms q = refl
 
 mutual
   -- There is more to do than what is behind all of it.
-  leads_longer : (frugal : Thriftiness) (objects : Bool) (behind : Control) (among : List Value) (k : Control) (ms : List Master) → FrugalLeads frugal objects behind among k ms → suc (length behind) ≤ length k
-  leads_longer frugal objects behind among [] ms q = absurd q
-  leads_longer frugal objects behind among (Returns actuals references ∷ k) ms (inl q) = let same = ap length q.2 in omega (arith, same)
-  leads_longer frugal objects behind among (Returns actuals references ∷ k) ms (inr (inl q)) = let longer = leads_longer frugal objects behind among k ms q in omega (arith, longer)
-  leads_longer frugal objects behind among (Returns actuals references ∷ k) ms (inr (inr (outer, q))) = let longer = operated_longer frugal objects outer behind among k ms q in omega (arith, longer)
-  leads_longer frugal objects behind among (Elaborates ds fs hs ∷ k) [] q = absurd q
-  leads_longer frugal objects behind among (Elaborates ds fs hs ∷ k) (m ∷ ms) q = let longer = leads_longer frugal objects behind among k ms q.1 in omega (arith, longer)
-  leads_longer frugal objects behind among (Closes ∷ k) [] q = absurd q
-  leads_longer frugal objects behind among (Closes ∷ k) (m ∷ ms) q = let longer = leads_longer frugal objects behind among k ms q.1 in omega (arith, longer)
-  leads_longer frugal objects behind among (Declares x ∷ k) [] q = absurd q
-  leads_longer frugal objects behind among (Declares x ∷ k) (m ∷ ms) q = let longer = leads_longer frugal objects behind among k (m ∷ ms) q.1 in omega (arith, longer)
-  leads_longer frugal objects behind among (f ∷ k) ms q = let longer = leads_longer frugal objects behind among k ms q.1 in omega (arith, longer)
+  leads_longer : (frugal : Allowance) (behind : Control) (among : List Value) (k : Control) (ms : List Master) → FrugalLeads frugal behind among k ms → suc (length behind) ≤ length k
+  leads_longer frugal behind among [] ms q = absurd q
+  leads_longer frugal behind among (Returns actuals references ∷ k) ms (inl q) = let same = ap length q.2 in omega (arith, same)
+  leads_longer frugal behind among (Returns actuals references ∷ k) ms (inr (inl q)) = let longer = leads_longer frugal behind among k ms q in omega (arith, longer)
+  leads_longer frugal behind among (Returns actuals references ∷ k) ms (inr (inr q)) = let longer = operated_longer frugal behind among k ms q in omega (arith, longer)
+  leads_longer frugal behind among (Elaborates ds fs hs ∷ k) [] q = absurd q
+  leads_longer frugal behind among (Elaborates ds fs hs ∷ k) (m ∷ ms) q = let longer = leads_longer frugal behind among k ms q.1 in omega (arith, longer)
+  leads_longer frugal behind among (Closes ∷ k) [] q = absurd q
+  leads_longer frugal behind among (Closes ∷ k) (m ∷ ms) q = let longer = leads_longer frugal behind among k ms q.1 in omega (arith, longer)
+  leads_longer frugal behind among (Declares x ∷ k) [] q = absurd q
+  leads_longer frugal behind among (Declares x ∷ k) (m ∷ ms) q = let longer = leads_longer frugal behind among k (m ∷ ms) q.1 in omega (arith, longer)
+  leads_longer frugal behind among (f ∷ k) ms q = let longer = leads_longer frugal behind among k ms q.1 in omega (arith, longer)
 
-  leaves_longer : (frugal : Thriftiness) (objects : Bool) (behind : Control) (among : List Value) (k : Control) (ms : List Master) → FrugalLeaves frugal objects behind among k ms → suc (length behind) ≤ length k
-  leaves_longer frugal objects behind among [] ms q = absurd q
-  leaves_longer frugal objects behind among (Leaves left ∷ k) [] q = absurd q
-  leaves_longer frugal objects behind among (Leaves left ∷ k) (m ∷ ms) q = let longer = leads_longer frugal objects behind among k ms q.1 in omega (arith, longer)
-  leaves_longer frugal objects behind among (Ends v ∷ k) ms q = let longer = leaves_longer frugal objects behind among k ms q in omega (arith, longer)
-  leaves_longer frugal objects behind among (GivesBack v cause pool ∷ k) ms q = let longer = leaves_longer frugal objects behind among k ms q in omega (arith, longer)
-  leaves_longer frugal objects behind among (frame.Treats v treatment tasks ∷ k) ms q = let longer = leaves_longer frugal objects behind among k ms q.1 in omega (arith, longer)
-  leaves_longer frugal objects behind among (frame.Confines ∷ k) ms q = let longer = leaves_longer frugal objects behind among k ms q.1 in omega (arith, longer)
-  leaves_longer frugal objects behind among (f ∷ k) ms q = absurd q
+  leaves_longer : (frugal : Allowance) (behind : Control) (among : List Value) (k : Control) (ms : List Master) → FrugalLeaves frugal behind among k ms → suc (length behind) ≤ length k
+  leaves_longer frugal behind among [] ms q = absurd q
+  leaves_longer frugal behind among (Leaves left ∷ k) [] q = absurd q
+  leaves_longer frugal behind among (Leaves left ∷ k) (m ∷ ms) q = let longer = leads_longer frugal behind among k ms q.1 in omega (arith, longer)
+  leaves_longer frugal behind among (Ends v ∷ k) ms q = let longer = leaves_longer frugal behind among k ms q in omega (arith, longer)
+  leaves_longer frugal behind among (GivesBack v cause pool ∷ k) ms q = let longer = leaves_longer frugal behind among k ms q in omega (arith, longer)
+  leaves_longer frugal behind among (frame.Treats v treatment tasks ∷ k) ms q = let longer = leaves_longer frugal behind among k ms q.1 in omega (arith, longer)
+  leaves_longer frugal behind among (frame.Confines ∷ k) ms q = let longer = leaves_longer frugal behind among k ms q.1 in omega (arith, longer)
+  leaves_longer frugal behind among (f ∷ k) ms q = absurd q
 
-  operated_longer : (frugal : Thriftiness) (objects outer : Bool) (behind : Control) (among : List Value) (k : Control) (ms : List Master) → FrugalOperated frugal objects outer behind among k ms → suc (length behind) ≤ length k
-  operated_longer frugal objects outer behind among [] ms q = absurd q
-  operated_longer frugal objects outer behind among (frame.Confines ∷ k) ms (vs, is, idle, inl (ending, q)) = let longer = leads_longer frugal outer behind vs k ms q in omega (arith, longer)
-  operated_longer frugal objects outer behind among (frame.Confines ∷ k) ms (vs, is, idle, inr (ending, q)) = let longer = leaves_longer frugal outer behind vs k ms q in omega (arith, longer)
-  operated_longer frugal objects outer behind among (frame.Awaits v by done of part tasks ∷ k) ms (vs, is, creates, may, beginning, q) = let longer = leads_longer frugal outer behind vs k ms q in omega (arith, longer)
-  operated_longer frugal objects outer behind among (f ∷ k) ms q = absurd q
+  operated_longer : (frugal : Allowance) (behind : Control) (among : List Value) (k : Control) (ms : List Master) → FrugalOperated frugal behind among k ms → suc (length behind) ≤ length k
+  operated_longer frugal behind among [] ms q = absurd q
+  operated_longer frugal behind among (frame.Confines ∷ k) ms (vs, is, inl (ending, q)) = let longer = leads_longer frugal behind vs k ms q in omega (arith, longer)
+  operated_longer frugal behind among (frame.Confines ∷ k) ms (vs, is, inr (ending, q)) = let longer = leaves_longer frugal behind vs k ms q in omega (arith, longer)
+  operated_longer frugal behind among (frame.Awaits v by done of part tasks ∷ k) ms (vs, is, beginning, q) = let longer = leads_longer frugal behind vs k ms q in omega (arith, longer)
+  operated_longer frugal behind among (f ∷ k) ms q = absurd q
 
-shorter : (frugal : Thriftiness) (objects : Bool) (back : Control) (among : List Value) (k : Control) (ms : List Master) → FrugalLeads frugal objects back among k ms → k ≡ back → ⊥
-shorter frugal objects back among k ms q is =
-    let longer = leads_longer frugal objects back among k ms q in
+shorter : (frugal : Allowance) (back : Control) (among : List Value) (k : Control) (ms : List Master) → FrugalLeads frugal back among k ms → k ≡ back → ⊥
+shorter frugal back among k ms q is =
+    let longer = leads_longer frugal back among k ms q in
     let same = ap length is in
     omega (arith, longer, same)
 
 -- So it is behind an operation.
-pub operated_shorter : (frugal : Thriftiness) (objects outer : Bool) (back : Control) (among : List Value) (k : Control) (ms : List Master) → FrugalOperated frugal objects outer back among k ms → k ≡ back → ⊥
-operated_shorter frugal objects outer back among k ms q is =
-    let longer = operated_longer frugal objects outer back among k ms q in
+pub operated_shorter : (frugal : Allowance) (back : Control) (among : List Value) (k : Control) (ms : List Master) → FrugalOperated frugal back among k ms → k ≡ back → ⊥
+operated_shorter frugal back among k ms q is =
+    let longer = operated_longer frugal back among k ms q in
     let same = ap length is in
     omega (arith, longer, same)
 
 -- What is left behind an operation waits for one.
-pub operated_awaited : (frugal : Thriftiness) (objects outer : Bool) (back : Control) (among : List Value) (k : Control) (ms : List Master) → FrugalOperated frugal objects outer back among k ms → IsAwaited k
-operated_awaited frugal objects outer back among [] ms q = absurd q
-operated_awaited frugal objects outer back among (frame.Confines ∷ k) ms q = tt
-operated_awaited frugal objects outer back among (frame.Awaits v by done of part tasks ∷ k) ms q = tt
-operated_awaited frugal objects outer back among (f ∷ k) ms q = absurd q
+pub operated_awaited : (frugal : Allowance) (back : Control) (among : List Value) (k : Control) (ms : List Master) → FrugalOperated frugal back among k ms → IsAwaited k
+operated_awaited frugal back among [] ms q = absurd q
+operated_awaited frugal back among (frame.Confines ∷ k) ms q = tt
+operated_awaited frugal back among (frame.Awaits v by done of part tasks ∷ k) ms q = tt
+operated_awaited frugal back among (f ∷ k) ms q = absurd q
 
 -- Where it waits for none, none of an object does.
 pub none_operated : (k : Control) → (IsAwaited k → ⊥) → operated_in k ≡ []
@@ -420,89 +409,80 @@ none_operated (f ∷ k) none = refl
 
 -- Once the operation has come to its end, what is left of the treatment of its object is next, which goes on, or an exception comes out of what begins a part.
 pub operated_on :
-    (frugal : Thriftiness) (objects outer : Bool) (back : Control) (vs : List Value) (mode : Mode) (k : Control) (ms : List Master) → MayBegin mode
-    → FrugalOperated frugal objects outer back (operated_in k ++ vs) k ms → Frugal frugal outer back vs mode k ms
-operated_on frugal objects outer back vs mode [] ms may q = absurd q
-operated_on frugal objects outer back vs mode (frame.Confines ∷ k) ms may (ws, is, idle, inl (ending, q)) =
+    (frugal : Allowance) (back : Control) (vs : List Value) (mode : Mode) (k : Control) (ms : List Master) → MayBegin mode
+    → FrugalOperated frugal back (operated_in k ++ vs) k ms → Frugal frugal back vs mode k ms
+operated_on frugal back vs mode [] ms may q = absurd q
+operated_on frugal back vs mode (frame.Confines ∷ k) ms may (ws, is, inl (ending, q)) =
     let same : vs ≡ ws = cc is in
-    inl (ending, subst (λ (us : List Value). FrugalLeads frugal outer back us k ms) (sym same) q)
-operated_on frugal objects outer back vs mode (frame.Confines ∷ k) ms may (ws, is, idle, inr (ending, q)) =
+    inl (ending, subst (λ (us : List Value). FrugalLeads frugal back us k ms) (sym same) q)
+operated_on frugal back vs mode (frame.Confines ∷ k) ms may (ws, is, inr (ending, q)) =
     let same : vs ≡ ws = cc is in
-    inr (inl (may, (ending, subst (λ (us : List Value). FrugalLeaves frugal outer back us k ms) (sym same) q)))
-operated_on frugal objects outer back vs mode (frame.Awaits v by done of part tasks ∷ k) ms may (ws, is, creates, may', beginning, q) =
+    inr (inl (may, (ending, subst (λ (us : List Value). FrugalLeaves frugal back us k ms) (sym same) q)))
+operated_on frugal back vs mode (frame.Awaits v by done of part tasks ∷ k) ms may (ws, is, beginning, q) =
     let same : vs ≡ ws = cc is in
-    inr (inr (may, (beginning, subst (λ (us : List Value). FrugalLeads frugal outer back us k ms) (sym same) q)))
-operated_on frugal objects outer back vs mode (f ∷ k) ms may q = absurd q
+    inr (inr (may, (beginning, subst (λ (us : List Value). FrugalLeads frugal back us k ms) (sym same) q)))
+operated_on frugal back vs mode (f ∷ k) ms may q = absurd q
 
 -- Where the end of the operation's own body is next, the masters have been left, and no operation inside it runs.
 pub frugal_ends :
-    (frugal : Thriftiness) (objects : Bool) (back : Control) (among : List Value) (mode : Mode) (actuals : List ActualForm) (references : List Value) (k : Control) (ms : List Master) → k ≡ back → Frugal frugal objects back among mode (Returns actuals references ∷ k) ms
-    → (actuals ≡ []) × (references ≡ []) × (ms ≡ []) × (among ≡ []) × (objects ≡ frugal.last)
-frugal_ends frugal objects back among mode actuals references k ms last (inl (inl q)) = (q.0.0, q.0.1, q.1, q.3, q.4)
-frugal_ends frugal objects back among mode actuals references k ms last (inl (inr (inl q))) = absurd (shorter frugal objects back among k ms q last)
-frugal_ends frugal objects back among mode actuals references k ms last (inl (inr (inr (outer, q)))) = absurd (operated_shorter frugal objects outer back among k ms q last)
-frugal_ends frugal objects back among mode actuals references k ms last (inr (inl leaving)) = absurd leaving.1
-frugal_ends frugal objects back among mode actuals references k ms last (inr (inr beginning)) = absurd beginning.1
+    (frugal : Allowance) (back : Control) (among : List Value) (mode : Mode) (actuals : List ActualForm) (references : List Value) (k : Control) (ms : List Master) → k ≡ back → Frugal frugal back among mode (Returns actuals references ∷ k) ms
+    → (actuals ≡ []) × (references ≡ []) × (ms ≡ []) × (among ≡ [])
+frugal_ends frugal back among mode actuals references k ms last (inl (inl q)) = (q.0.0, q.0.1, q.1, q.3)
+frugal_ends frugal back among mode actuals references k ms last (inl (inr (inl q))) = absurd (shorter frugal back among k ms q last)
+frugal_ends frugal back among mode actuals references k ms last (inl (inr (inr q))) = absurd (operated_shorter frugal back among k ms q last)
+frugal_ends frugal back among mode actuals references k ms last (inr (inl leaving)) = absurd leaving.1
+frugal_ends frugal back among mode actuals references k ms last (inr (inr beginning)) = absurd beginning.1
 
 -- Where that of another one is next, what is behind that goes on: the body that called it, or the treatment of the object of which it is an operation.
 pub frugal_returns_inside :
-    (frugal : Thriftiness) (objects : Bool) (back : Control) (among : List Value) (mode : Mode) (actuals : List ActualForm) (references : List Value) (k : Control) (ms : List Master) → (k ≡ back → ⊥) → Frugal frugal objects back among mode (Returns actuals references ∷ k) ms
-    → FrugalReturns frugal objects back among k ms
-frugal_returns_inside frugal objects back among mode actuals references k ms inside (inl (inl q)) = absurd (inside q.2)
-frugal_returns_inside frugal objects back among mode actuals references k ms inside (inl (inr q)) = q
-frugal_returns_inside frugal objects back among mode actuals references k ms inside (inr (inl leaving)) = absurd leaving.1
-frugal_returns_inside frugal objects back among mode actuals references k ms inside (inr (inr beginning)) = absurd beginning.1
+    (frugal : Allowance) (back : Control) (among : List Value) (mode : Mode) (actuals : List ActualForm) (references : List Value) (k : Control) (ms : List Master) → (k ≡ back → ⊥) → Frugal frugal back among mode (Returns actuals references ∷ k) ms
+    → FrugalReturns frugal back among k ms
+frugal_returns_inside frugal back among mode actuals references k ms inside (inl (inl q)) = absurd (inside q.2)
+frugal_returns_inside frugal back among mode actuals references k ms inside (inl (inr q)) = q
+frugal_returns_inside frugal back among mode actuals references k ms inside (inr (inl leaving)) = absurd leaving.1
+frugal_returns_inside frugal back among mode actuals references k ms inside (inr (inr beginning)) = absurd beginning.1
 
 -- So it is with one that was called.
-pub frugal_returns : (frugal : Thriftiness) (objects : Bool) (behind : Control) (among : List Value) (mode : Mode) (actuals : List ActualForm) (references : List Value) (k : Control) (ms : List Master) → IsAwaited behind → (IsAwaited k → ⊥) → Frugal frugal objects behind among mode (Returns actuals references ∷ k) ms → FrugalLeads frugal objects behind among k ms
-frugal_returns frugal objects behind among mode actuals references k ms awaited calls frugally =
-    by (frugal_returns_inside frugal objects behind among mode actuals references k ms (λ last. calls (subst IsAwaited (sym last) awaited)) frugally)
+pub frugal_returns : (frugal : Allowance) (behind : Control) (among : List Value) (mode : Mode) (actuals : List ActualForm) (references : List Value) (k : Control) (ms : List Master) → IsAwaited behind → (IsAwaited k → ⊥) → Frugal frugal behind among mode (Returns actuals references ∷ k) ms → FrugalLeads frugal behind among k ms
+frugal_returns frugal behind among mode actuals references k ms awaited calls frugally =
+    by (frugal_returns_inside frugal behind among mode actuals references k ms (λ last. calls (subst IsAwaited (sym last) awaited)) frugally)
   where
-    by : FrugalReturns frugal objects behind among k ms → FrugalLeads frugal objects behind among k ms
+    by : FrugalReturns frugal behind among k ms → FrugalLeads frugal behind among k ms
     by (inl q) = q
-    by (inr (outer, q)) = absurd (calls (operated_awaited frugal objects outer behind among k ms q))
+    by (inr q) = absurd (calls (operated_awaited frugal behind among k ms q))
 
 -- The innermost master may own one more variable.
 abbrev pub with_variable : Item → Master → Master
 with_variable i m = record m { items = i ∷ m.items }
 
-module _ (frugal : Thriftiness) (i : Item) (variable : (objects : Bool) → IsOwnedBy (frugal.by objects) i.owned) where
+module _ (frugal : Allowance) (i : Item) (variable : IsOwnedBy frugal i.owned) where
   mutual
-    pub more_leads : (objects : Bool) (behind : Control) (among : List Value) (j : Control) (m : Master) (ms : List Master)
-        → FrugalLeads frugal objects behind among j (m ∷ ms) → FrugalLeads frugal objects behind among j (with_variable i m ∷ ms)
-    more_leads objects behind among [] m ms q = q
-    more_leads objects behind among (Returns actuals references ∷ k) m ms (inl q) = let none = q.1 in absurd (cc none)
-    more_leads objects behind among (Returns actuals references ∷ k) m ms (inr (inl q)) = inr (inl (more_leads objects behind among k m ms q))
-    more_leads objects behind among (Returns actuals references ∷ k) m ms (inr (inr (outer, q))) = inr (inr (outer, more_operated objects outer behind among k m ms q))
-    more_leads objects behind among (Elaborates ds fs hs ∷ k) m ms ((own, frame), q) = (((variable objects, own), frame), q)
-    more_leads objects behind among (Closes ∷ k) m ms (own, q) = ((variable objects, own), q)
-    more_leads objects behind among (Declares x ∷ k) m ms q = (q.0, more_leads objects behind among k m ms q.1)
-    more_leads objects behind among (f ∷ k) m ms q = (q.0, more_leads objects behind among k m ms q.1)
+    pub more_leads : (behind : Control) (among : List Value) (j : Control) (m : Master) (ms : List Master)
+        → FrugalLeads frugal behind among j (m ∷ ms) → FrugalLeads frugal behind among j (with_variable i m ∷ ms)
+    more_leads behind among [] m ms q = q
+    more_leads behind among (Returns actuals references ∷ k) m ms (inl q) = let none = q.1 in absurd (cc none)
+    more_leads behind among (Returns actuals references ∷ k) m ms (inr (inl q)) = inr (inl (more_leads behind among k m ms q))
+    more_leads behind among (Returns actuals references ∷ k) m ms (inr (inr q)) = inr (inr (more_operated behind among k m ms q))
+    more_leads behind among (Elaborates ds fs hs ∷ k) m ms ((own, frame), q) = (((variable, own), frame), q)
+    more_leads behind among (Closes ∷ k) m ms (own, q) = ((variable, own), q)
+    more_leads behind among (Declares x ∷ k) m ms q = (q.0, more_leads behind among k m ms q.1)
+    more_leads behind among (f ∷ k) m ms q = (q.0, more_leads behind among k m ms q.1)
 
-    more_leaves : (objects : Bool) (behind : Control) (among : List Value) (j : Control) (m : Master) (ms : List Master)
-        → FrugalLeaves frugal objects behind among j (m ∷ ms) → FrugalLeaves frugal objects behind among j (with_variable i m ∷ ms)
-    more_leaves objects behind among [] m ms q = q
-    more_leaves objects behind among (Leaves left ∷ k) m ms (own, q) = ((variable objects, own), q)
-    more_leaves objects behind among (Ends v ∷ k) m ms q = more_leaves objects behind among k m ms q
-    more_leaves objects behind among (GivesBack v cause pool ∷ k) m ms q = more_leaves objects behind among k m ms q
-    more_leaves objects behind among (frame.Treats v treatment tasks ∷ k) m ms q = (q.0, more_leaves objects behind among k m ms q.1)
-    more_leaves objects behind among (frame.Confines ∷ k) m ms q = (q.0, more_leaves objects behind among k m ms q.1)
-    more_leaves objects behind among (f ∷ k) m ms q = q
+    more_leaves : (behind : Control) (among : List Value) (j : Control) (m : Master) (ms : List Master)
+        → FrugalLeaves frugal behind among j (m ∷ ms) → FrugalLeaves frugal behind among j (with_variable i m ∷ ms)
+    more_leaves behind among [] m ms q = q
+    more_leaves behind among (Leaves left ∷ k) m ms (own, q) = ((variable, own), q)
+    more_leaves behind among (Ends v ∷ k) m ms q = more_leaves behind among k m ms q
+    more_leaves behind among (GivesBack v cause pool ∷ k) m ms q = more_leaves behind among k m ms q
+    more_leaves behind among (frame.Treats v treatment tasks ∷ k) m ms q = (q.0, more_leaves behind among k m ms q.1)
+    more_leaves behind among (frame.Confines ∷ k) m ms q = (q.0, more_leaves behind among k m ms q.1)
+    more_leaves behind among (f ∷ k) m ms q = q
 
-    more_operated : (objects outer : Bool) (behind : Control) (among : List Value) (j : Control) (m : Master) (ms : List Master)
-        → FrugalOperated frugal objects outer behind among j (m ∷ ms) → FrugalOperated frugal objects outer behind among j (with_variable i m ∷ ms)
-    more_operated objects outer behind among [] m ms q = q
-    more_operated objects outer behind among (frame.Confines ∷ k) m ms (vs, is, idle, inl (ending, q)) = (vs, is, idle, inl (ending, more_leads outer behind vs k m ms q))
-    more_operated objects outer behind among (frame.Confines ∷ k) m ms (vs, is, idle, inr (ending, q)) = (vs, is, idle, inr (ending, more_leaves outer behind vs k m ms q))
-    more_operated objects outer behind among (frame.Awaits v by done of part tasks ∷ k) m ms (vs, is, creates, may, beginning, q) =
-        (vs, is, creates, may, beginning, more_leads outer behind vs k m ms q)
-    more_operated objects outer behind among (f ∷ k) m ms q = q
-
--- In front of a Finalize, whatever runs may create no objects.
-pub ends_none :
-    (frugal : Thriftiness) (objects outer : Bool) (back : Control) (among : List Value) (k : Control) (ms : List Master)
-    → FrugalOperated frugal objects outer back among k ms → outer ≡ false → objects ≡ false
-ends_none frugal objects outer back among [] ms q none = absurd q
-ends_none frugal objects outer back among (frame.Confines ∷ k) ms (vs, is, idle, q) none = idle
-ends_none frugal objects outer back among (frame.Awaits v by done of part tasks ∷ k) ms (vs, is, creates, may, beginning, q) none = absurd (cc (none, may))
-ends_none frugal objects outer back among (f ∷ k) ms q none = absurd q
+    more_operated : (behind : Control) (among : List Value) (j : Control) (m : Master) (ms : List Master)
+        → FrugalOperated frugal behind among j (m ∷ ms) → FrugalOperated frugal behind among j (with_variable i m ∷ ms)
+    more_operated behind among [] m ms q = q
+    more_operated behind among (frame.Confines ∷ k) m ms (vs, is, inl (ending, q)) = (vs, is, inl (ending, more_leads behind vs k m ms q))
+    more_operated behind among (frame.Confines ∷ k) m ms (vs, is, inr (ending, q)) = (vs, is, inr (ending, more_leaves behind vs k m ms q))
+    more_operated behind among (frame.Awaits v by done of part tasks ∷ k) m ms (vs, is, beginning, q) =
+        (vs, is, beginning, more_leads behind vs k m ms q)
+    more_operated behind among (f ∷ k) m ms q = q

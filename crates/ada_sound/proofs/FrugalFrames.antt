@@ -44,7 +44,7 @@ use Rattle.ada_sound.proofs.Allowance.{Allowance, may_treat, allocates_thriftily
 use Rattle.ada_sound.proofs.Fits.{place_at}
 use Rattle.ada_sound.proofs.Invariant.{Control}
 use Rattle.ada_sound.proofs.OperationStarts.{apart}
-use Rattle.ada_sound.proofs.FrugalControl.{AreOwnedBy, BeginsThere, FrugalLeads, FrugalLeaves, Frugally, GoesFrugally, IsLeft, IsOwnedBy, MayLeave, Thriftiness, beginning_frugal, more_leads, treating_leads, treating_leaves, with_variable}
+use Rattle.ada_sound.proofs.FrugalControl.{AreOwnedBy, BeginsThere, FrugalLeads, FrugalLeaves, Frugally, GoesFrugally, IsLeft, IsOwnedBy, MayLeave, Allowance, beginning_frugal, more_leads, treating_leads, treating_leaves, with_variable}
 use Rattle.ada_sound.proofs.FrugalFrees.{RecordIsBare, IsFreely, StmtIsFreely, IsNewly, LeftAlone, Unborn, past_unborn}
 use Rattle.ada_sound.proofs.Stored.{IsTaken, taken_is}
 
@@ -62,12 +62,12 @@ may_leave (f ∷ k) = refl
 first_number : (n : ℕ) (others : Bool) → ((n == n) || others) ≡ true
 first_number n others = rw (eq-eqb n n refl) refl
 
-module _ (frugal : Thriftiness) (lower : List Master) (objects : Bool) (behind : Control) (among : List Value) (tds : List TypeDefinition) (bodies : List BodyForm) (s : State) where
+module _ (frugal : Allowance) (lower : List Master) (behind : Control) (among : List Value) (tds : List TypeDefinition) (bodies : List BodyForm) (s : State) where
   abbrev pub Fine : Next → Type 0
   Fine n = GoesFrugally frugal lower objects behind among n
 
   abbrev pub Goes : State → Type 0
-  Goes after = Frugally frugal lower objects behind among after
+  Goes after = Frugally frugal lower behind among after
 
   -- The state in which a frame has been taken off, with these activations, before this, in these masters of the body.
   abbrev pub now : List (Activation Value) → Control → List Master → State
@@ -83,7 +83,7 @@ module _ (frugal : Thriftiness) (lower : List Master) (objects : Bool) (behind :
 
   module _ (ms : List Master) where
     abbrev pub Left : Control → Type 0
-    Left k = FrugalLeads frugal objects behind among k ms
+    Left k = FrugalLeads frugal behind among k ms
 
     -- It runs on.
     pub on : (after : State) → after.masters ≡ ms ++ lower → Left (after.control) → Goes after
@@ -156,10 +156,10 @@ module _ (frugal : Thriftiness) (lower : List Master) (objects : Bool) (behind :
     outcome_on (Err WrongType) all k q = tt
 
     -- What is assigned.
-    pub right_on : (right : RightForm) → allocates_thriftily (frugal.by objects) right ≡ true → (all : List (Activation Value)) → (k : Control) → Left k → Fine (right_next named tds right (now all k ms))
+    pub right_on : (right : RightForm) → allocates_thriftily frugal right ≡ true → (all : List (Activation Value)) → (k : Control) → Left k → Fine (right_next named tds right (now all k ms))
     right_on nothing bare all k q = computes_on _ all k q
     right_on (value_of path) bare all k q = named_on path.selectors path.root all k q
-    right_on (allocates access items) bare all k q = on _ refl (tt, (or_right (frugal.by objects).objects (has_bare_objects (frugal.by objects).types access) bare, q))
+    right_on (allocates access items) bare all k q = on _ refl (tt, (or_right frugal.objects (has_bare_objects frugal.types access) bare, q))
     right_on (allocates_default access) bare all k q = on _ refl (bare, q)
     right_on (computes e) bare all k q = on _ refl (tt, q)
 
@@ -187,7 +187,7 @@ module _ (frugal : Thriftiness) (lower : List Master) (objects : Bool) (behind :
     copies_on o first count (finds cell) all k q = copied_on o (record_in cell.values first count) all k q
 
     -- A pool is asked for a new object, for which nothing is to be done, or that begins.
-    granted_on : (access count words : ℕ) (home : Destination) (all : List (Activation Value)) → (k : Control) → IsNewly (frugal.by objects) tds access s.heap k → Left k → Goes (granted named tds access count words home (now all k ms))
+    granted_on : (access count words : ℕ) (home : Destination) (all : List (Activation Value)) → (k : Control) → IsNewly frugal tds access s.heap k → Left k → Goes (granted named tds access count words home (now all k ms))
     granted_on access count words home all k (inl none) q = rw none (on _ refl q)
     granted_on access count words home all k (inr (may, alone)) q = record {
       upper = ms;
@@ -198,16 +198,16 @@ module _ (frugal : Thriftiness) (lower : List Master) (objects : Bool) (behind :
         cell : Cell Value
         cell = new_cell named tds access count home (now all k ms)
 
-    answered_on : (access count words : ℕ) (home : Destination) (all : List (Activation Value)) → (k : Control) → IsNewly (frugal.by objects) tds access s.heap k → Left k → (granting : Bool) → Goes (answered named tds access count words home (now all k ms) granting)
+    answered_on : (access count words : ℕ) (home : Destination) (all : List (Activation Value)) → (k : Control) → IsNewly frugal tds access s.heap k → Left k → (granting : Bool) → Goes (answered named tds access count words home (now all k ms) granting)
     answered_on access count words home all k new q true = granted_on access count words home all k new q
     answered_on access count words home all k new q false = raises_on StorageError all k q
 
-    pub new_on : (access count words : ℕ) (home : Option Destination) (all : List (Activation Value)) → (k : Control) → IsNewly (frugal.by objects) tds access s.heap k → Left k → Fine (new_next named tds access count words home (now all k ms))
+    pub new_on : (access count words : ℕ) (home : Option Destination) (all : List (Activation Value)) → (k : Control) → IsNewly frugal tds access s.heap k → Left k → Fine (new_next named tds access count words home (now all k ms))
     new_on access count words None all k new q = raises_on StorageError all k q
     new_on access count words (Some home) all k new q = answered_on access count words home all k new q
 
     -- The Initialize of a part has come to its end: the object goes on beginning.
-    born_on : (v : Value) (by : Birth) (done : List Part) (of part : ℕ) (tasks : List Task) (found : Option PartState) (all : List (Activation Value)) → (k : Control) → BeginsThere (frugal.by objects) v by k → Left k → Fine (born_next named v by done of part tasks found (now all k ms))
+    born_on : (v : Value) (by : Birth) (done : List Part) (of part : ℕ) (tasks : List Task) (found : Option PartState) (all : List (Activation Value)) → (k : Control) → BeginsThere frugal v by k → Left k → Fine (born_next named v by done of part tasks found (now all k ms))
     born_on v by done of part tasks None all k beginning q = tt
     born_on v by done of part tasks (Some p) all k beginning q = record {
       upper = ms;
@@ -215,35 +215,35 @@ module _ (frugal : Thriftiness) (lower : List Master) (objects : Bool) (behind :
       frugally = beginning_frugal frugal objects behind among v by (record { of = of; number = part } ∷ done) tasks k ms beginning q;
     }
 
-    pub awaited_on : (v : Value) (by : Birth) (done : List Part) (of part : ℕ) (tasks : List Task) (found : Found (Cell Value)) (all : List (Activation Value)) → (k : Control) → BeginsThere (frugal.by objects) v by k → Left k → Fine (awaited_next named v by done of part tasks found (now all k ms))
+    pub awaited_on : (v : Value) (by : Birth) (done : List Part) (of part : ℕ) (tasks : List Task) (found : Found (Cell Value)) (all : List (Activation Value)) → (k : Control) → BeginsThere frugal v by k → Left k → Fine (awaited_next named v by done of part tasks found (now all k ms))
     awaited_on v by done of part tasks on_null all k beginning q = tt
     awaited_on v by done of part tasks on_gone all k beginning q = tt
     awaited_on v by done of part tasks on_other all k beginning q = tt
     awaited_on v by done of part tasks (finds cell) all k beginning q = born_on v by done of part tasks (slice_get cell.parts part) all k beginning q
 
     -- An exception has come out of it: what has begun is finalized, the object ends, and the exception goes on (7.6.1).
-    undone_on : EndsCreated (frugal.by objects) → (e : Exception) (v : Value) (by : Birth) (done : List Part) (cell : Cell Value) (all : List (Activation Value)) → (k : Control) → BeginsThere (frugal.by objects) v by k → Left k → Goes (undone named e v done cell (jumping_in e all k ms))
+    undone_on : EndsCreated frugal → (e : Exception) (v : Value) (by : Birth) (done : List Part) (cell : Cell Value) (all : List (Activation Value)) → (k : Control) → BeginsThere frugal v by k → Left k → Goes (undone named e v done cell (jumping_in e all k ms))
     undone_on ends_created e v by done cell all k beginning q =
         on _ refl
         (treating_leads frugal objects behind among v (ends (Undoing s.next)) (map (λ p. performs p.of p.number) done)
         (Ends v ∷ GivesBack v (Undoing s.next) cell.home.pool ∷ Resumes (Raising e) ∷ k) ms (tt, ends_created beginning.1, refl, beginning.2) (tt, (tt, (tt, q))))
 
-    undo_on : EndsCreated (frugal.by objects) → (e : Exception) (v : Value) (by : Birth) (done : List Part) (found : Found (Cell Value)) (all : List (Activation Value)) → (k : Control) → BeginsThere (frugal.by objects) v by k → Left k → Fine (undo_next named e v done found (jumping_in e all k ms))
+    undo_on : EndsCreated frugal → (e : Exception) (v : Value) (by : Birth) (done : List Part) (found : Found (Cell Value)) (all : List (Activation Value)) → (k : Control) → BeginsThere frugal v by k → Left k → Fine (undo_next named e v done found (jumping_in e all k ms))
     undo_on ends_created e v by done on_null all k beginning q = tt
     undo_on ends_created e v by done on_gone all k beginning q = tt
     undo_on ends_created e v by done on_other all k beginning q = tt
     undo_on ends_created e v by done (finds cell) all k beginning q = undone_on ends_created e v by done cell all k beginning q
 
-    pub broken_on : EndsCreated (frugal.by objects) → (e : Exception) (v : Value) (by : Birth) (done : List Part) (all : List (Activation Value)) → (k : Control) → BeginsThere (frugal.by objects) v by k → Left k → Fine (broken_next named e v by done (jumping_in e all k ms))
+    pub broken_on : EndsCreated frugal → (e : Exception) (v : Value) (by : Birth) (done : List Part) (all : List (Activation Value)) → (k : Control) → BeginsThere frugal v by k → Left k → Fine (broken_next named e v by done (jumping_in e all k ms))
     broken_on ends_created e v Creation done all k beginning q = undo_on ends_created e v Creation done (look s.heap v) all k beginning q
     broken_on ends_created e v Copy done all k beginning q = let created = beginning.0 in absurd (cc created)
     broken_on ends_created e v (Adjustment number) done all k beginning q = let created = beginning.0 in absurd (cc created)
 
-    assigns_on : (cs : List ℕ) (x : ℕ) (right : RightForm) → allocates_thriftily (frugal.by objects) right ≡ true → (all : List (Activation Value)) → (k : Control) → Left k → Fine (assign_next named cs x right (now all k ms))
+    assigns_on : (cs : List ℕ) (x : ℕ) (right : RightForm) → allocates_thriftily frugal right ≡ true → (all : List (Activation Value)) → (k : Control) → Left k → Fine (assign_next named cs x right (now all k ms))
     assigns_on [] x right bare all k q = on _ refl (bare, (tt, q))
     assigns_on (c ∷ cs) x right bare all k q = holder_on c cs x (λ last. Targets last right) all k (λ last. (bare, q))
 
-    pub target_on : (o : Value) (c : ℕ) (right : RightForm) (found : Found (Cell Value)) → allocates_thriftily (frugal.by objects) right ≡ true → (all : List (Activation Value)) → (k : Control) → Left k → Fine (target_next named o c right found (now all k ms))
+    pub target_on : (o : Value) (c : ℕ) (right : RightForm) (found : Found (Cell Value)) → allocates_thriftily frugal right ≡ true → (all : List (Activation Value)) → (k : Control) → Left k → Fine (target_next named o c right found (now all k ms))
     target_on o c right on_null bare all k q = raises_on ConstraintError all k q
     target_on o c right on_gone bare all k q = tt
     target_on o c right on_other bare all k q = tt
@@ -289,41 +289,41 @@ module _ (frugal : Thriftiness) (lower : List Master) (objects : Bool) (behind :
     puts_on x v all k q = on _ refl q
 
     -- A Free: nothing is to be done for its object, which is to cease to exist, or that is finalized first.
-    freeing_on : (access : ℕ) (v : Value) (cell : Cell Value) (clears : Frame Value) → (all : List (Activation Value)) → (k : Control) → IsFreely (frugal.by objects) tds (clears ∷ k) v (finds cell) → Left (clears ∷ k) → Goes (freeing named tds access v cell clears (now all k ms))
+    freeing_on : (access : ℕ) (v : Value) (cell : Cell Value) (clears : Frame Value) → (all : List (Activation Value)) → (k : Control) → IsFreely frugal tds (clears ∷ k) v (finds cell) → Left (clears ∷ k) → Goes (freeing named tds access v cell clears (now all k ms))
     freeing_on access v cell clears all k (inl none) q = rw none (on _ refl (tt, (tt, q)))
     freeing_on access v cell clears all k (inr (treats_parts, alone)) q =
         on (freeing named tds access v cell clears (now all k ms)) refl
         (treating_leads frugal objects behind among v (ends (Freeing s.next)) (all_tasks tds cell.access WholeFirst)
         (Ends v ∷ GivesBack v (Freeing s.next) (Some (pool_freed_to (home_of access (ms ++ lower)))) ∷ clears ∷ k) ms (tt, treats_parts, refl, alone) (tt, (tt, q)))
 
-    freeing_next_on : (access : ℕ) (v : Value) (cell : Cell Value) (clears : Frame Value) (event : Event Value) → (all : List (Activation Value)) → (k : Control) → IsFreely (frugal.by objects) tds (clears ∷ k) v (finds cell) → Left (clears ∷ k) → Fine (freeing_next named tds access v cell clears event (now all k ms))
+    freeing_next_on : (access : ℕ) (v : Value) (cell : Cell Value) (clears : Frame Value) (event : Event Value) → (all : List (Activation Value)) → (k : Control) → IsFreely frugal tds (clears ∷ k) v (finds cell) → Left (clears ∷ k) → Fine (freeing_next named tds access v cell clears event (now all k ms))
     freeing_next_on access v cell clears event all k freely q = by (same_pool (Some (pool_freed_to (home_of access (ms ++ lower)))) cell.home.pool)
       where
         by : (one : Bool) → Fine (if one then moves event (freeing named tds access v cell clears (now all k ms)) else halts (Erroneous GivesElsewhere))
         by true = freeing_on access v cell clears all k freely q
         by false = tt
 
-    free_on : (access x : ℕ) (v : Value) (found : Found (Cell Value)) (all : List (Activation Value)) → (k : Control) → IsFreely (frugal.by objects) tds k v found → Left k → Fine (free_next named tds access x v found (now all k ms))
+    free_on : (access x : ℕ) (v : Value) (found : Found (Cell Value)) (all : List (Activation Value)) → (k : Control) → IsFreely frugal tds k v found → Left k → Fine (free_next named tds access x v found (now all k ms))
     free_on access x v on_null all k freely q = on _ refl q
     free_on access x v on_gone all k freely q = tt
     free_on access x v on_other all k freely q = tt
     free_on access x v (finds cell) all k freely q = freeing_next_on access v cell (Clears x) Quiet all k freely (tt, q)
 
-    frees_on : (cs : List ℕ) (access x : ℕ) (all : List (Activation Value)) → may_treat (frugal.by objects) access ≡ true → (k : Control) → (cs ≡ [] → IsFreely (frugal.by objects) tds k (place_at (places_of all) x) (standing s.heap (place_at (places_of all) x))) → Left k → Fine (frees_next named tds cs access x (now all k ms))
+    frees_on : (cs : List ℕ) (access x : ℕ) (all : List (Activation Value)) → may_treat frugal access ≡ true → (k : Control) → (cs ≡ [] → IsFreely frugal tds k (place_at (places_of all) x) (standing s.heap (place_at (places_of all) x))) → Left k → Fine (frees_next named tds cs access x (now all k ms))
     frees_on [] access x all is k freely q = free_on access x (place_at (places_of all) x) (standing s.heap (place_at (places_of all) x)) all k (freely refl) q
     frees_on (c ∷ cs) access x all is k freely q = holder_on c cs x (λ last. FreesIn access last) all k (λ last. (is, q))
 
-    freed_on : (access : ℕ) (o : Value) (c : ℕ) (v : Value) (found : Found (Cell Value)) (all : List (Activation Value)) → (k : Control) → IsFreely (frugal.by objects) tds k v found → Left k → Fine (freed_next named tds access o c v found (now all k ms))
+    freed_on : (access : ℕ) (o : Value) (c : ℕ) (v : Value) (found : Found (Cell Value)) (all : List (Activation Value)) → (k : Control) → IsFreely frugal tds k v found → Left k → Fine (freed_next named tds access o c v found (now all k ms))
     freed_on access o c v on_null all k freely q = on _ refl q
     freed_on access o c v on_gone all k freely q = tt
     freed_on access o c v on_other all k freely q = tt
     freed_on access o c v (finds cell) all k freely q = freeing_next_on access v cell (ClearsIn o c) (Followed o) all k freely (tt, q)
 
-    free_component_on : (access : ℕ) (o : Value) (c : ℕ) (found : Option Value) (all : List (Activation Value)) → (k : Control) → ((w : Value) → found ≡ Some w → IsFreely (frugal.by objects) tds k w (standing s.heap w)) → Left k → Fine (free_component_next named tds access o c found (now all k ms))
+    free_component_on : (access : ℕ) (o : Value) (c : ℕ) (found : Option Value) (all : List (Activation Value)) → (k : Control) → ((w : Value) → found ≡ Some w → IsFreely frugal tds k w (standing s.heap w)) → Left k → Fine (free_component_next named tds access o c found (now all k ms))
     free_component_on access o c None all k freely q = tt
     free_component_on access o c (Some v) all k freely q = freed_on access o c v (standing s.heap v) all k (freely v refl) q
 
-    pub free_in_on : (access : ℕ) (o : Value) (c : ℕ) (found : Found (Cell Value)) (all : List (Activation Value)) → (k : Control) → ((cell : Cell Value) (w : Value) → found ≡ finds cell → slice_get cell.values c ≡ Some w → IsFreely (frugal.by objects) tds k w (standing s.heap w)) → Left k → Fine (free_in_next named tds access o c found (now all k ms))
+    pub free_in_on : (access : ℕ) (o : Value) (c : ℕ) (found : Found (Cell Value)) (all : List (Activation Value)) → (k : Control) → ((cell : Cell Value) (w : Value) → found ≡ finds cell → slice_get cell.values c ≡ Some w → IsFreely frugal tds k w (standing s.heap w)) → Left k → Fine (free_in_next named tds access o c found (now all k ms))
     free_in_on access o c on_null all k freely q = raises_on ConstraintError all k q
     free_in_on access o c on_gone all k freely q = tt
     free_in_on access o c on_other all k freely q = tt
@@ -350,43 +350,43 @@ module _ (frugal : Thriftiness) (lower : List Master) (objects : Bool) (behind :
         by false = tt
 
     -- Branches.
-    pub branches_on : (branches : BranchesForm) → are_thrifty_branches (frugal.by objects) branches ≡ true → (all : List (Activation Value)) → (k : Control) → Left k → Fine (branches_next named branches (now all k ms))
+    pub branches_on : (branches : BranchesForm) → are_thrifty_branches frugal branches ≡ true → (all : List (Activation Value)) → (k : Control) → Left k → Fine (branches_next named branches (now all k ms))
     branches_on (otherwise fs) thrifty all k q = on _ refl (thrifty, q)
     branches_on (a_branch e fs branches) thrifty all k q =
-        let both = apart (are_thrifty (frugal.by objects) fs) (are_thrifty_branches (frugal.by objects) branches) thrifty in
+        let both = apart (are_thrifty frugal fs) (are_thrifty_branches frugal branches) thrifty in
         on _ refl (tt, (both, q))
 
-    pub decided_on : (fs : StmtsForm) (branches : BranchesForm) (truth : Option Bool) → (are_thrifty (frugal.by objects) fs ≡ true) × (are_thrifty_branches (frugal.by objects) branches ≡ true) → (all : List (Activation Value)) → (k : Control) → Left k → Fine (decided_next named fs branches truth (now all k ms))
+    pub decided_on : (fs : StmtsForm) (branches : BranchesForm) (truth : Option Bool) → (are_thrifty frugal fs ≡ true) × (are_thrifty_branches frugal branches ≡ true) → (all : List (Activation Value)) → (k : Control) → Left k → Fine (decided_next named fs branches truth (now all k ms))
     decided_on fs branches None thrifty all k q = tt
     decided_on fs branches (Some true) thrifty all k q = on _ refl (thrifty.0, q)
     decided_on fs branches (Some false) thrifty all k q = branches_on branches thrifty.1 all k q
 
     -- Loops.
-    turn_on : (condition : Option ExpressionForm) (fs : StmtsForm) → are_thrifty (frugal.by objects) fs ≡ true → (all : List (Activation Value)) → (k : Control) → Left k → Fine (turn_next named condition fs (now all k ms))
+    turn_on : (condition : Option ExpressionForm) (fs : StmtsForm) → are_thrifty frugal fs ≡ true → (all : List (Activation Value)) → (k : Control) → Left k → Fine (turn_next named condition fs (now all k ms))
     turn_on condition no_stmts thrifty all k q = tt
     turn_on condition (a_stmt f fs) thrifty all k q = on _ refl (thrifty, (thrifty, q))
 
-    pub repeats_on : (condition : Option ExpressionForm) (fs : StmtsForm) → are_thrifty (frugal.by objects) fs ≡ true → (all : List (Activation Value)) → (k : Control) → Left k → Fine (repeats_next named condition fs (now all k ms))
+    pub repeats_on : (condition : Option ExpressionForm) (fs : StmtsForm) → are_thrifty frugal fs ≡ true → (all : List (Activation Value)) → (k : Control) → Left k → Fine (repeats_next named condition fs (now all k ms))
     repeats_on None fs thrifty all k q = turn_on None fs thrifty all k q
     repeats_on (Some e) fs thrifty all k q = on _ refl (tt, (thrifty, q))
 
-    pub turned_on : (e : ExpressionForm) (fs : StmtsForm) (truth : Option Bool) → are_thrifty (frugal.by objects) fs ≡ true → (all : List (Activation Value)) → (k : Control) → Left k → Fine (turned_next named e fs truth (now all k ms))
+    pub turned_on : (e : ExpressionForm) (fs : StmtsForm) (truth : Option Bool) → are_thrifty frugal fs ≡ true → (all : List (Activation Value)) → (k : Control) → Left k → Fine (turned_next named e fs truth (now all k ms))
     turned_on e fs None thrifty all k q = tt
     turned_on e fs (Some true) thrifty all k q = turn_on (Some e) fs thrifty all k q
     turned_on e fs (Some false) thrifty all k q = on _ refl q
 
-    count_turn_on : (x : ℕ) (value last : ℤ) (fs : StmtsForm) → are_thrifty (frugal.by objects) fs ≡ true → (all : List (Activation Value)) → (k : Control) → Left k → Fine (count_turn_next named x value last fs (now all k ms))
+    count_turn_on : (x : ℕ) (value last : ℤ) (fs : StmtsForm) → are_thrifty frugal fs ≡ true → (all : List (Activation Value)) → (k : Control) → Left k → Fine (count_turn_next named x value last fs (now all k ms))
     count_turn_on x value last no_stmts thrifty all k q = tt
     count_turn_on x value last (a_stmt f fs) thrifty all k q = on _ refl (thrifty, (thrifty, q))
 
-    pub counts_on : (x : ℕ) (value last : ℤ) (fs : StmtsForm) → are_thrifty (frugal.by objects) fs ≡ true → (all : List (Activation Value)) → (k : Control) → Left k → Fine (counts_next named x value last fs (now all k ms))
+    pub counts_on : (x : ℕ) (value last : ℤ) (fs : StmtsForm) → are_thrifty frugal fs ≡ true → (all : List (Activation Value)) → (k : Control) → Left k → Fine (counts_next named x value last fs (now all k ms))
     counts_on x value last fs thrifty all k q = by (int_le value last)
       where
         by : (b : Bool) → Fine (if b then count_turn_next named x value last fs (now all k ms) else moves Quiet (now all k ms))
         by true = count_turn_on x value last fs thrifty all k q
         by false = on _ refl q
 
-    pub ranges_on : (x : ℕ) (fs : StmtsForm) (low high : Option ℤ) → are_thrifty (frugal.by objects) fs ≡ true → (all : List (Activation Value)) → (k : Control) → Left k → Fine (ranges_next named x fs low high (now all k ms))
+    pub ranges_on : (x : ℕ) (fs : StmtsForm) (low high : Option ℤ) → are_thrifty frugal fs ≡ true → (all : List (Activation Value)) → (k : Control) → Left k → Fine (ranges_next named x fs low high (now all k ms))
     ranges_on x fs None high thrifty all k q = tt
     ranges_on x fs (Some low) None thrifty all k q = tt
     ranges_on x fs (Some low) (Some high) thrifty all k q = counts_on x low high fs thrifty all k q
@@ -423,10 +423,10 @@ module _ (frugal : Thriftiness) (lower : List Master) (objects : Bool) (behind :
     line_on (Some i) all k q = on _ refl q
 
     -- A block is a master of its own.
-    encloses_on : (ds : List DeclarationForm) (fs : StmtsForm) (hs : HandlersForm) → (are_thrifty_declarations (frugal.by objects) ds && are_thrifty (frugal.by objects) fs && are_thrifty_handlers (frugal.by objects) hs) ≡ true → (all : List (Activation Value)) → (k : Control) → Left k → Goes (entered (at (Elaborates ds fs hs ∷ k) (now all k ms)))
+    encloses_on : (ds : List DeclarationForm) (fs : StmtsForm) (hs : HandlersForm) → (are_thrifty_declarations frugal ds && are_thrifty frugal fs && are_thrifty_handlers frugal hs) ≡ true → (all : List (Activation Value)) → (k : Control) → Left k → Goes (entered (at (Elaborates ds fs hs ∷ k) (now all k ms)))
     encloses_on ds fs hs thrifty all k q =
-        let one = apart (are_thrifty_declarations (frugal.by objects) ds && are_thrifty (frugal.by objects) fs) (are_thrifty_handlers (frugal.by objects) hs) thrifty in
-        let two = apart (are_thrifty_declarations (frugal.by objects) ds) (are_thrifty (frugal.by objects) fs) one.0 in
+        let one = apart (are_thrifty_declarations frugal ds && are_thrifty frugal fs) (are_thrifty_handlers frugal hs) thrifty in
+        let two = apart (are_thrifty_declarations frugal ds) (are_thrifty frugal fs) one.0 in
         record {
           upper = record { number = s.next; items = [] } ∷ ms;
           masters = refl;
@@ -475,16 +475,16 @@ module _ (frugal : Thriftiness) (lower : List Master) (objects : Bool) (behind :
     computing_left (in_out_component path ∷ rest) k q = (tt, computing_left rest k q)
     computing_left (in_out_record p ∷ rest) k q = (tt, computing_left rest k q)
 
-    call_on : (number : ℕ) (actuals : List ActualForm) (found : Option BodyForm) → ((b : BodyForm) → found ≡ Some b → is_thrifty_body (frugal.by objects) b ≡ true) → (all : List (Activation Value)) → (k : Control) → Left k → Fine (call_next named number actuals found (now all k ms))
+    call_on : (number : ℕ) (actuals : List ActualForm) (found : Option BodyForm) → ((b : BodyForm) → found ≡ Some b → is_thrifty_body frugal b ≡ true) → (all : List (Activation Value)) → (k : Control) → Left k → Fine (call_next named number actuals found (now all k ms))
     call_on number actuals None thrifty all k q = tt
     call_on number actuals (Some b) thrifty all k q = on _ refl (computing_left actuals (Calls number b actuals ∷ k) (thrifty b refl, q))
 
     -- The body that is called begins, in a master of its own.
-    pub begun_on : (number : ℕ) (b : BodyForm) (actuals : List ActualForm) (vs : List Value) → is_thrifty_body (frugal.by objects) b ≡ true → (all : List (Activation Value)) → (k : Control) → Left k → Goes (begun named number b actuals vs (now all k ms))
+    pub begun_on : (number : ℕ) (b : BodyForm) (actuals : List ActualForm) (vs : List Value) → is_thrifty_body frugal b ≡ true → (all : List (Activation Value)) → (k : Control) → Left k → Goes (begun named number b actuals vs (now all k ms))
     begun_on number b actuals vs thrifty all k q = record {
       upper = record { number = s.next; items = [] } ∷ ms;
       masters = refl;
-      frugally = inl ((tt, thrifty_parts (frugal.by objects) b thrifty), inr (inl q));
+      frugally = inl ((tt, thrifty_parts frugal b thrifty), inr (inl q));
     }
 
     -- It has ended: what its caller gets back in components is stored next.
@@ -496,7 +496,7 @@ module _ (frugal : Thriftiness) (lower : List Master) (objects : Bool) (behind :
     returned_on actuals references all k q = on _ refl (storing_left references k q)
 
     -- Statements.
-    pub stmt_on : (f : StmtForm) → ((number : ℕ) (b : BodyForm) → slice_get bodies number ≡ Some b → slice_index_or (frugal.by objects).procedures number false ≡ true → is_thrifty_body (frugal.by objects) b ≡ true) → RecordIsBare (frugal.by objects).types tds → is_thrifty_stmt (frugal.by objects) f ≡ true → (all : List (Activation Value)) → (k : Control) → StmtIsFreely (frugal.by objects) tds f k s.heap (places_of all) → Left k → Fine (stmt_next named tds bodies f (now all k ms))
+    pub stmt_on : (f : StmtForm) → ((number : ℕ) (b : BodyForm) → slice_get bodies number ≡ Some b → slice_index_or frugal.procedures number false ≡ true → is_thrifty_body frugal b ≡ true) → RecordIsBare frugal.types tds → is_thrifty_stmt frugal f ≡ true → (all : List (Activation Value)) → (k : Control) → StmtIsFreely frugal tds f k s.heap (places_of all) → Left k → Fine (stmt_next named tds bodies f (now all k ms))
     stmt_on skips finds_frugal records_bare thrifty all k freely q = on _ refl q
     stmt_on (assigns target right) finds_frugal records_bare thrifty all k freely q = assigns_on target.selectors target.root right thrifty all k q
     stmt_on (assigns_record target items) finds_frugal records_bare thrifty all k freely q =
@@ -515,10 +515,10 @@ module _ (frugal : Thriftiness) (lower : List Master) (objects : Bool) (behind :
     stmt_on (encloses ds fs hs) finds_frugal records_bare thrifty all k freely q = encloses_on ds fs hs thrifty all k q
 
   -- The declarations of a block, or of the body.
-  declaration_on : (m : Master) (ms : List Master) → AreOwnedBy (frugal.by objects) m.items → (d : DeclarationForm) (ds : List DeclarationForm) (fs : StmtsForm) (hs : HandlersForm)
-      → is_thrifty_declaration (frugal.by objects) d ≡ true
-      → (are_thrifty_declarations (frugal.by objects) ds ≡ true) × (are_thrifty (frugal.by objects) fs ≡ true) × (are_thrifty_handlers (frugal.by objects) hs ≡ true)
-      → (all : List (Activation Value)) → (k : Control) → ((frugal.by objects).objects ≡ true → Unborn s.heap k) → FrugalLeads frugal objects behind among k ms
+  declaration_on : (m : Master) (ms : List Master) → AreOwnedBy frugal m.items → (d : DeclarationForm) (ds : List DeclarationForm) (fs : StmtsForm) (hs : HandlersForm)
+      → is_thrifty_declaration frugal d ≡ true
+      → (are_thrifty_declarations frugal ds ≡ true) × (are_thrifty frugal fs ≡ true) × (are_thrifty_handlers frugal hs ≡ true)
+      → (all : List (Activation Value)) → (k : Control) → (frugal.objects ≡ true → Unborn s.heap k) → FrugalLeads frugal behind among k ms
       → Fine (declarations_next named tds (d ∷ ds) fs hs (now all k (m ∷ ms)))
   declaration_on m ms own (creates_pool p) ds fs hs thrifty more all k unborn q = absurd (cc thrifty)
   declaration_on m ms own (collects access) ds fs hs thrifty more all k unborn q = absurd (cc thrifty)
@@ -533,15 +533,15 @@ module _ (frugal : Thriftiness) (lower : List Master) (objects : Bool) (behind :
   declaration_on m ms own (declares x right) ds fs hs thrifty more all k unborn q = on (m ∷ ms) _ refl (thrifty, (tt, ((own, more), q)))
 
   pub declarations_on : (ms : List Master) (ds : List DeclarationForm) (fs : StmtsForm) (hs : HandlersForm) (all : List (Activation Value)) → (k : Control)
-      → ((frugal.by objects).objects ≡ true → Unborn s.heap k) → FrugalLeads frugal objects behind among (Elaborates ds fs hs ∷ k) ms
+      → (frugal.objects ≡ true → Unborn s.heap k) → FrugalLeads frugal behind among (Elaborates ds fs hs ∷ k) ms
       → Fine (declarations_next named tds ds fs hs (now all k ms))
   declarations_on [] ds fs hs all k unborn q = absurd q
   declarations_on (m ∷ ms) [] fs hs all k unborn ((own, (ds_thrifty, thrifty, hs_thrifty)), q) = on (m ∷ ms) _ refl (thrifty, (hs_thrifty, (own, q)))
   declarations_on (m ∷ ms) (d ∷ ds) fs hs all k unborn ((own, (ds_thrifty, thrifty, hs_thrifty)), q) =
-      let both = apart (is_thrifty_declaration (frugal.by objects) d) (are_thrifty_declarations (frugal.by objects) ds) ds_thrifty in
+      let both = apart (is_thrifty_declaration frugal d) (are_thrifty_declarations frugal ds) ds_thrifty in
       declaration_on m ms own d ds fs hs both.0 (both.1, thrifty, hs_thrifty) all k unborn q
 
-  pub declares_on : (ms : List Master) (x : ℕ) (v : Value) (all : List (Activation Value)) → (k : Control) → FrugalLeads frugal objects behind among (Declares x ∷ k) ms → Goes (owned (declared x) (put x v (now all k ms)))
+  pub declares_on : (ms : List Master) (x : ℕ) (v : Value) (all : List (Activation Value)) → (k : Control) → FrugalLeads frugal behind among (Declares x ∷ k) ms → Goes (owned (declared x) (put x v (now all k ms)))
   declares_on [] x v all k q = absurd q
   declares_on (m ∷ ms) x v all k q = record {
     upper = with_variable (record { number = height ((m ∷ ms) ++ lower); owned = declared x }) m ∷ ms;
@@ -550,21 +550,21 @@ module _ (frugal : Thriftiness) (lower : List Master) (objects : Bool) (behind :
   }
 
   -- A master is left.
-  leaves_so : (ms : List Master) (after : State) → after.masters ≡ ms ++ lower → MayLeave after.mode after.control → FrugalLeaves frugal objects behind among after.control ms → Goes after
+  leaves_so : (ms : List Master) (after : State) → after.masters ≡ ms ++ lower → MayLeave after.mode after.control → FrugalLeaves frugal behind among after.control ms → Goes after
   leaves_so ms after masters may q = record { upper = ms; masters = masters; frugally = inr (inl (may, q)) }
 
   -- So it goes on.
-  pub leaving_on : (ms : List Master) (heap : List Object) (all : List (Activation Value)) (k : Control) → FrugalLeaves frugal objects behind among k ms → Goes (record (now all k ms) { heap = heap })
+  pub leaving_on : (ms : List Master) (heap : List Object) (all : List (Activation Value)) (k : Control) → FrugalLeaves frugal behind among k ms → Goes (record (now all k ms) { heap = heap })
   leaving_on ms heap all k q = leaves_so ms (record (now all k ms) { heap = heap }) refl (may_leave k) q
 
   -- An object of the master ceases to exist, and its storage goes back.
-  pub end_left_on : (v : Value) (found : Found (Cell Value)) (ms : List Master) (all : List (Activation Value)) (k : Control) → FrugalLeaves frugal objects behind among k ms → Fine (end_next named v found (now all k ms))
+  pub end_left_on : (v : Value) (found : Found (Cell Value)) (ms : List Master) (all : List (Activation Value)) (k : Control) → FrugalLeaves frugal behind among k ms → Fine (end_next named v found (now all k ms))
   end_left_on v on_null ms all k q = tt
   end_left_on v on_gone ms all k q = tt
   end_left_on v on_other ms all k q = tt
   end_left_on v (finds cell) ms all k q = leaving_on ms (named.finish s.heap v) all k q
 
-  pub back_left_on : (v : Value) (cause : Cause) (pool : Option ℕ) (found : Found (Cell Value)) (ms : List Master) (all : List (Activation Value)) (k : Control) → FrugalLeaves frugal objects behind among k ms
+  pub back_left_on : (v : Value) (cause : Cause) (pool : Option ℕ) (found : Found (Cell Value)) (ms : List Master) (all : List (Activation Value)) (k : Control) → FrugalLeaves frugal behind among k ms
       → Fine (back_next named v cause pool found (now all k ms))
   back_left_on v cause pool on_null ms all k q = tt
   back_left_on v cause pool on_gone ms all k q = tt
@@ -575,7 +575,7 @@ module _ (frugal : Thriftiness) (lower : List Master) (objects : Bool) (behind :
       by true = told_on ms cell.home.pool v _ _ (leaving_on ms (named.back s.heap v) all k q)
       by false = tt
 
-  pub leaves_first : (ms : List Master) (left : Mode) (k : Control) (after : State) → after.masters ≡ ms ++ lower → after.mode ≡ Running → after.control ≡ Leaves left ∷ k → FrugalLeaves frugal objects behind among (Leaves left ∷ k) ms → Goes after
+  pub leaves_first : (ms : List Master) (left : Mode) (k : Control) (after : State) → after.masters ≡ ms ++ lower → after.mode ≡ Running → after.control ≡ Leaves left ∷ k → FrugalLeaves frugal behind among (Leaves left ∷ k) ms → Goes after
   leaves_first ms left k after masters in_mode is q = record {
     upper = ms;
     masters = masters;
@@ -584,7 +584,7 @@ module _ (frugal : Thriftiness) (lower : List Master) (objects : Bool) (behind :
 
   -- A record object in it ceases to exist, and is finalized before, if anything is to be done for it.
   member_on : (m : Master) (ms : List Master) (left : Mode) (cause : Cause) (v : Value) (found : Found (Cell Value)) (all : List (Activation Value)) (k : Control)
-      → IsLeft (ends cause) → (frugal.by objects).objects ≡ true → NoOperationRunsOn v k → FrugalLeaves frugal objects behind among (Leaves left ∷ k) (m ∷ ms)
+      → IsLeft (ends cause) → frugal.objects ≡ true → NoOperationRunsOn v k → FrugalLeaves frugal behind among (Leaves left ∷ k) (m ∷ ms)
       → Goes (taken_out named tds cause None v found (at (Leaves left ∷ k) (now all k (m ∷ ms))))
   member_on m ms left cause v on_null all k leaving may alone q = leaving_on (m ∷ ms) (named.part s.heap v) all (Ends v ∷ GivesBack v cause None ∷ Leaves left ∷ k) q
   member_on m ms left cause v on_gone all k leaving may alone q = leaving_on (m ∷ ms) (named.part s.heap v) all (Ends v ∷ GivesBack v cause None ∷ Leaves left ∷ k) q
@@ -593,8 +593,8 @@ module _ (frugal : Thriftiness) (lower : List Master) (objects : Bool) (behind :
       leaving_on (m ∷ ms) (named.part s.heap v) all (treating v (ends cause) (all_tasks tds cell.access WholeFirst) (Ends v ∷ GivesBack v cause None ∷ Leaves left ∷ k))
       (treating_leaves frugal objects behind among v (ends cause) (all_tasks tds cell.access WholeFirst) (Ends v ∷ GivesBack v cause None ∷ Leaves left ∷ k) (m ∷ ms) (leaving, may, refl, alone) q)
 
-  pub leaves_on : (ms : List Master) (left : Mode) (all : List (Activation Value)) → (k : Control) → ((frugal.by objects).objects ≡ true → LeftAlone s.heap (ms ++ lower) (Leaves left ∷ k))
-      → FrugalLeaves frugal objects behind among (Leaves left ∷ k) ms → Fine (leave_next named tds left (ms ++ lower) (now all k ms))
+  pub leaves_on : (ms : List Master) (left : Mode) (all : List (Activation Value)) → (k : Control) → (frugal.objects ≡ true → LeftAlone s.heap (ms ++ lower) (Leaves left ∷ k))
+      → FrugalLeaves frugal behind among (Leaves left ∷ k) ms → Fine (leave_next named tds left (ms ++ lower) (now all k ms))
   leaves_on [] left all k alone q = absurd q
   leaves_on (m ∷ ms) left all k alone q = by m.items refl
     where
@@ -602,7 +602,7 @@ module _ (frugal : Thriftiness) (lower : List Master) (objects : Bool) (behind :
       by [] is = on ms _ refl q.1
       by (item ∷ items) is = one item.owned owns.0
         where
-          owns : AreOwnedBy (frugal.by objects) (item ∷ items)
+          owns : AreOwnedBy frugal (item ∷ items)
           owns = rw is at q.0
 
           older_left : Goes (record (now all (Leaves left ∷ k) (record m { items = items } ∷ ms)) { heap = s.heap })
@@ -611,18 +611,18 @@ module _ (frugal : Thriftiness) (lower : List Master) (objects : Bool) (behind :
           inner : (n : ℕ) → n ≡ item.number → is_innermost ((m ∷ ms) ++ lower) n ≡ true
           inner n same = rw (is, same) (first_number item.number (is_number_of items item.number))
 
-          taken_on : (may : (frugal.by objects).objects ≡ true) (v : Value) → IsTaken item.number s.heap v
+          taken_on : (may : frugal.objects ≡ true) (v : Value) → IsTaken item.number s.heap v
               → Goes (taken_out named tds (Leaving m.number item.number) None v (look s.heap v) (at (Leaves left ∷ k) (now all k (m ∷ ms))))
           taken_on may v (o, named_so, member) =
               member_on m ms left (Leaving m.number item.number) v (look s.heap v) all k tt may
               (subst (λ (w : Value). NoOperationRunsOn w k) (sym named_so) (alone may o member.object member.found member.listed (inner member.object.cell.home.item member.home))) q
 
-          members_on : (may : (frugal.by objects).objects ≡ true) (vs : List Value) → members s.heap item.number ≡ vs
+          members_on : (may : frugal.objects ≡ true) (vs : List Value) → members s.heap item.number ≡ vs
               → Fine (members_next named tds (Leaving m.number item.number) None vs (at (Leaves left ∷ k) (now all k (m ∷ ms))))
           members_on may [] are = rw is older_left
           members_on may (v ∷ vs) are = λ i lt. taken_on may (slice_index_or (v ∷ vs) i Null) (rw are at (taken_is item.number s.heap i (rw are lt)))
 
-          one : (what : Owned) → IsOwnedBy (frugal.by objects) what → Fine (item_leave_next named tds m.number item what (at (Leaves left ∷ k) (now all k (m ∷ ms))))
+          one : (what : Owned) → IsOwnedBy frugal what → Fine (item_leave_next named tds m.number item what (at (Leaves left ∷ k) (now all k (m ∷ ms))))
           one (declared x) v = rw is older_left
           one (collection access pool) v = absurd v
           one (record_object t) may = members_on may (members s.heap item.number) refl

@@ -26,7 +26,7 @@ use Rattle.ada_scopes.proofs.Homes.{ItemsFit, OwnedFits}
 use Rattle.ada_tracked.specs.Law.{InnermostHousesNone, NewestHousesNone}
 use Rattle.ada_sound.proofs.Allowance.{Allowance}
 use Rattle.ada_sound.proofs.Fits.{access_is, component_access, component_is, in_front, lies_among, sparing}
-use Rattle.ada_sound.proofs.FrugalControl.{AreOwnedBy, Frugal, FrugalLeads, FrugalLeaves, IsOwnedBy, Thriftiness}
+use Rattle.ada_sound.proofs.FrugalControl.{AreOwnedBy, Frugal, FrugalLeads, FrugalLeaves, IsOwnedBy, Allowance}
 use Rattle.ada_sound.proofs.FrugalFrees.{accepted_access}
 use Rattle.ada_sound.proofs.Invariant.{Control, EndingBy, Known, LeavesTo, Parting, ReadyIn, Rooms, ThenBack, departs, departs_next, innermost, is_collection}
 use Rattle.ada_sound.proofs.Items.{Counted, HasItem, Houses, item_below}
@@ -139,8 +139,8 @@ owned_variables allowance none (i ∷ is) own = (by i.owned own.0, owned_variabl
     by (storage_pool declaration number) of = absurd of
 
 -- The master that a frugal body leaves is one of its own, also where an object in it is finalized first.
-leaving_own : (frugal : Thriftiness) (objects : Bool) (back : Control) (among : List Value) (k : Control) (upper lower : List Master) → FrugalLeaves frugal objects back among k upper
-    → AreOwnedBy (frugal.by objects) (innermost (upper ++ lower))
+leaving_own : (frugal : Allowance) (back : Control) (among : List Value) (k : Control) (upper lower : List Master) → FrugalLeaves frugal back among k upper
+    → AreOwnedBy frugal (innermost (upper ++ lower))
 leaving_own frugal objects back among [] upper lower leaving = absurd leaving
 leaving_own frugal objects back among (Leaves left ∷ k) [] lower leaving = absurd leaving
 leaving_own frugal objects back among (Leaves left ∷ k) (m ∷ upper) lower leaving = leaving.0
@@ -150,8 +150,8 @@ leaving_own frugal objects back among (Treats v treatment tasks ∷ k) upper low
 leaving_own frugal objects back among (Confines ∷ k) upper lower leaving = leaving_own frugal objects back among k upper lower leaving.1
 leaving_own frugal objects back among (f ∷ k) upper lower leaving = absurd leaving
 
-pub leaves_own : (frugal : Thriftiness) (objects : Bool) (back : Control) (among : List Value) (mode left : Mode) (k : Control) (upper lower : List Master) → Frugal frugal objects back among mode (Leaves left ∷ k) upper
-    → AreOwnedBy (frugal.by objects) (innermost (upper ++ lower))
+pub leaves_own : (frugal : Allowance) (back : Control) (among : List Value) (mode left : Mode) (k : Control) (upper lower : List Master) → Frugal frugal back among mode (Leaves left ∷ k) upper
+    → AreOwnedBy frugal (innermost (upper ++ lower))
 leaves_own frugal objects back among mode left k upper lower (inl leads) = absurd leads.0
 leaves_own frugal objects back among mode left k upper lower (inr (inl (may, leaving))) = leaving_own frugal objects back among (Leaves left ∷ k) upper lower leaving
 leaves_own frugal objects back among mode left k upper lower (inr (inr (may, beginning))) = absurd beginning
@@ -168,34 +168,34 @@ owned_stay allowance ahead (i ∷ is) own = by i.owned own.0
     by (storage_pool declaration number) of = refl
 
 -- What is freed ends in front of no master that is left.
-module _ (known : Known) (frugal : Thriftiness) (objects : Bool) (back : Control) (among : List Value) (heap : List Object) (places : List Value) (masters : List Master) (upper : List Master) where
-  none_left : (under : Option Id) (k : Control) → LeavesTo known under heap places masters k → FrugalLeads frugal objects back among k upper → ⊥
+module _ (known : Known) (frugal : Allowance) (back : Control) (among : List Value) (heap : List Object) (places : List Value) (masters : List Master) (upper : List Master) where
+  none_left : (under : Option Id) (k : Control) → LeavesTo known under heap places masters k → FrugalLeads frugal back among k upper → ⊥
   none_left under [] left leads = left
   none_left under (Leaves mode ∷ k) left leads = leads.0
   none_left under (f ∷ k) left leads = left
 
-  none_leaving : (o : Id) (home : Home) (w : Value) (m item : ℕ) (pool : Option ℕ) (k : Control) → ThenBack known o home heap places masters (GivesBack w (Leaving m item) pool ∷ k) → FrugalLeads frugal objects back among k upper → ⊥
+  none_leaving : (o : Id) (home : Home) (w : Value) (m item : ℕ) (pool : Option ℕ) (k : Control) → ThenBack known o home heap places masters (GivesBack w (Leaving m item) pool ∷ k) → FrugalLeads frugal back among k upper → ⊥
   none_leaving o home Null m item pool k behind leads = behind
   none_leaving o home (Names p) m item pool k (same, from, behind) leads = none_left (Some o) k behind.2 leads
   none_leaving o home (Scalar n) m item pool k behind leads = behind
   none_leaving o home (Part p place) m item pool k behind leads = behind
 
-  none_ending : (v w : Value) (m item : ℕ) (pool : Option ℕ) (k : Control) → EndingBy known v (GivesBack w (Leaving m item) pool ∷ k) heap places masters → FrugalLeads frugal objects back among k upper → ⊥
+  none_ending : (v w : Value) (m item : ℕ) (pool : Option ℕ) (k : Control) → EndingBy known v (GivesBack w (Leaving m item) pool ∷ k) heap places masters → FrugalLeads frugal back among k upper → ⊥
   none_ending Null w m item pool k ending leads = ending
   none_ending (Names o) w m item pool k ending leads = none_leaving o ending.object.cell.home w m item pool k ending.rest leads
   none_ending (Scalar n) w m item pool k ending leads = ending
   none_ending (Part o place) w m item pool k ending leads = ending
 
 -- So no collection is left while a frugal body runs for whose objects operations may be called that touch storage.
-pub frugal_stays : (known : Known) (frugal : Thriftiness) (objects : Bool) (back : Control) (among : List Value) (mode : Mode) (k : Control) (heap : List Object) (places operands : List Value) (upper lower : List Master)
-    → Frugal frugal objects back among mode k upper
+pub frugal_stays : (known : Known) (frugal : Allowance) (back : Control) (among : List Value) (mode : Mode) (k : Control) (heap : List Object) (places operands : List Value) (upper lower : List Master)
+    → Frugal frugal back among mode k upper
     → ReadyIn known Running k heap places operands (upper ++ lower) → departs_next (departs known.ahead (innermost (upper ++ lower))) k ≡ false
 frugal_stays known frugal objects back among mode [] heap places operands upper lower frugally ready = refl
 frugal_stays known frugal objects back among mode (Leaves left ∷ k) heap places operands upper lower frugally ready =
-    owned_stay (frugal.by objects) known.ahead (innermost (upper ++ lower)) (leaves_own frugal objects back among mode left k upper lower frugally)
+    owned_stay frugal known.ahead (innermost (upper ++ lower)) (leaves_own frugal objects back among mode left k upper lower frugally)
 frugal_stays known frugal objects back among mode (Ends v ∷ GivesBack w (Leaving m item) pool ∷ k) heap places operands upper lower (inl leads) ready =
     absurd (none_ending known frugal objects back among heap places (upper ++ lower) upper v w m item pool k ready leads.1.1)
 frugal_stays known frugal objects back among mode (Ends v ∷ GivesBack w (Leaving m item) pool ∷ k) heap places operands upper lower (inr (inl leaving)) ready =
-    owned_stay (frugal.by objects) known.ahead (innermost (upper ++ lower)) (leaving_own frugal objects back among k upper lower leaving.1)
+    owned_stay frugal known.ahead (innermost (upper ++ lower)) (leaving_own frugal objects back among k upper lower leaving.1)
 frugal_stays known frugal objects back among mode (Ends v ∷ GivesBack w (Leaving m item) pool ∷ k) heap places operands upper lower (inr (inr beginning)) ready = absurd beginning.1
 frugal_stays known frugal objects back among mode k heap places operands upper lower frugally ready = refl

@@ -42,7 +42,7 @@ use Rattle.ada_sound.specs.Agreement.{running_procedure}
 use Rattle.ada_sound.proofs.Calm.{ends_operation, operation_ends_there}
 use Rattle.ada_sound.proofs.Invariant.{Control, IsAwaited}
 use Rattle.ada_sound.proofs.OperationStarts.{apart}
-use Rattle.ada_sound.proofs.FrugalControl.{Thriftiness, thriftiness_of, FrugalLeads, FrugalLeaves, MayLeave, Frugal, is_return_first, none_treated, none_left, treating_leads, treating_leaves, Frugally, GoesFrugally, BeginsThere, FrugalBegins, beginning_frugal, begins_first, leads_first, none_beginning}
+use Rattle.ada_sound.proofs.FrugalControl.{Allowance, allowance_of, FrugalLeads, FrugalLeaves, MayLeave, Frugal, is_return_first, none_treated, none_left, treating_leads, treating_leaves, Frugally, GoesFrugally, BeginsThere, FrugalBegins, beginning_frugal, begins_first, leads_first, none_beginning}
 use Rattle.ada_sound.proofs.Standing.{FreesAmong}
 use Rattle.ada_sound.proofs.Steps.{crosses}
 use Rattle.ada_sound.proofs.FrugalFrees.{AccessIsBare, bare_by, RecordIsBare, records_bare_by, NextFreesOwn, next_own, ListedAlone, FrameIsFreely, NextIsFreely, next_freely, LeftAlone, Unborn, is_newly}
@@ -69,7 +69,7 @@ FindsFrugal allowance bodies = (number : ℕ) (b : BodyForm) → slice_get bodie
 abbrev pub TreatsNothing : Control → Type 0
 TreatsNothing k = (v : Value) (treatment : Treatment) (tasks : List Task) (j : Control) → k ≡ Treats v treatment tasks ∷ j → ⊥
 
-module _ (frugal : Thriftiness) (lower : List Master) (objects : Bool) (behind : Control) (among : List Value) (tds : List TypeDefinition) (bodies : List BodyForm) (access_bare : AccessIsBare (frugal.by objects).types tds) (records_bare : RecordIsBare (frugal.by objects).types tds) (finds_frugal : FindsFrugal (frugal.by objects) bodies) (ends_created : EndsCreated (frugal.by objects)) (s : State) where
+module _ (frugal : Allowance) (lower : List Master) (behind : Control) (among : List Value) (tds : List TypeDefinition) (bodies : List BodyForm) (access_bare : AccessIsBare frugal.types tds) (records_bare : RecordIsBare frugal.types tds) (finds_frugal : FindsFrugal frugal bodies) (ends_created : EndsCreated frugal) (s : State) where
   abbrev Fine : Next → Type 0
   Fine n = GoesFrugally frugal lower objects behind among n
 
@@ -78,7 +78,7 @@ module _ (frugal : Thriftiness) (lower : List Master) (objects : Bool) (behind :
 
   -- Where the end of a body is next, it is one that was called: what called it goes on.
   abbrev IsInner : Frame Value → Control → List Master → Type 0
-  IsInner (Returns actuals references) k ms = FrugalLeads frugal objects behind among k ms
+  IsInner (Returns actuals references) k ms = FrugalLeads frugal behind among k ms
   IsInner f k ms = Unit {0}
 
   -- Without the newest operand, or the two newest ones.
@@ -89,7 +89,7 @@ module _ (frugal : Thriftiness) (lower : List Master) (objects : Bool) (behind :
   twice_without all = without (without all)
 
   -- What is left of the body goes on.
-  frame_on : (f : Frame Value) (k : Control) (ms : List Master) → (all : List (Activation Value)) → IsInner f k ms → is_treatment f ≡ false → FrameIsFreely (frugal.by objects) tds f k s.heap (places_of all) (operands_of all) → ((frugal.by objects).objects ≡ true → Unborn s.heap (f ∷ k)) → FrugalLeads frugal objects behind among (f ∷ k) ms → Fine (frame_next named tds bodies f (now all k ms))
+  frame_on : (f : Frame Value) (k : Control) (ms : List Master) → (all : List (Activation Value)) → IsInner f k ms → is_treatment f ≡ false → FrameIsFreely frugal tds f k s.heap (places_of all) (operands_of all) → (frugal.objects ≡ true → Unborn s.heap (f ∷ k)) → FrugalLeads frugal behind among (f ∷ k) ms → Fine (frame_next named tds bodies f (now all k ms))
   frame_on (Elaborates ds fs hs) k ms all inner plain freely unborn q = frames.declarations_on frugal lower objects behind among tds bodies s ms ds fs hs all k unborn q
   frame_on (Does no_stmts) k ms all inner plain freely unborn (thrifty, q) = frames.on frugal lower objects behind among tds bodies s ms _ refl q
   frame_on (Does (a_stmt f fs)) k ms all inner plain freely unborn (thrifty, q) =
@@ -134,7 +134,7 @@ module _ (frugal : Thriftiness) (lower : List Master) (objects : Bool) (behind :
       frames.copies_on frugal lower objects behind among tds bodies s ms (first_or Null (operands_of all)) first (width_of tds t) (look s.heap (first_or Null (operands_of all))) (without all) k q
   frame_on (Creates access count) k ms all inner plain freely unborn (thrifty, q) =
       frames.new_on frugal lower objects behind among tds bodies s ms access count (words_of tds access) (home_of access (ms ++ lower)) all k
-      (is_newly (frugal.by objects) tds access_bare access s.heap k unborn thrifty) q
+      (is_newly frugal tds access_bare access s.heap k unborn thrifty) q
   frame_on (Stores x) k ms all inner plain freely unborn (thrifty, q) =
       frames.puts_on frugal lower objects behind among tds bodies s ms x (first_or Null (operands_of all)) (without all) k q
   frame_on (Targets c right) k ms all inner plain freely unborn (thrifty, q) =
@@ -162,8 +162,8 @@ module _ (frugal : Thriftiness) (lower : List Master) (objects : Bool) (behind :
   frame_on f k ms all inner plain freely unborn q = absurd q.0
 
   -- The innermost master is being left, and no object is treated next.
-  leaving_on : (k : Control) (ms : List Master) → (all : List (Activation Value)) → TreatsNothing k → ((frugal.by objects).objects ≡ true → LeftAlone s.heap (ms ++ lower) k)
-      → FrugalLeaves frugal objects behind among k ms → Fine (mode_next named tds bodies Running (now all k ms))
+  leaving_on : (k : Control) (ms : List Master) → (all : List (Activation Value)) → TreatsNothing k → (frugal.objects ≡ true → LeftAlone s.heap (ms ++ lower) k)
+      → FrugalLeaves frugal behind among k ms → Fine (mode_next named tds bodies Running (now all k ms))
   leaving_on [] ms all none alone q = absurd q
   leaving_on (Leaves left ∷ k) ms all none alone q = frames.leaves_on frugal lower objects behind among tds bodies s ms left all k alone q
   leaving_on (Ends v ∷ k) ms all none alone q = frames.end_left_on frugal lower objects behind among tds bodies s v (look s.heap v) ms all k q
@@ -173,14 +173,14 @@ module _ (frugal : Thriftiness) (lower : List Master) (objects : Bool) (behind :
   leaving_on (f ∷ k) ms all none alone q = absurd q
 
   -- An object that begins first goes on doing so, where it is not treated next: the body of an operation has ended.
-  beginning_on : (k : Control) (ms : List Master) → (all : List (Activation Value)) → TreatsNothing k → FrugalBegins frugal objects behind among k ms → Fine (mode_next named tds bodies Running (now all k ms))
+  beginning_on : (k : Control) (ms : List Master) → (all : List (Activation Value)) → TreatsNothing k → FrugalBegins frugal behind among k ms → Fine (mode_next named tds bodies Running (now all k ms))
   beginning_on [] ms all none q = absurd q
   beginning_on (Treats v treatment tasks ∷ k) ms all none q = absurd (none v treatment tasks k refl)
   beginning_on (Awaits v by done of part tasks ∷ k) ms all none q = frames.awaited_on frugal lower objects behind among tds bodies s ms v by done of part tasks (look s.heap v) all k q.0 q.1
   beginning_on (f ∷ k) ms all none q = absurd q
 
   -- An exception has come out of the beginning of an object, or goes on where one is to begin.
-  breaking_on : (e : Exception) (k : Control) (ms : List Master) → (all : List (Activation Value)) → FrugalBegins frugal objects behind among k ms → Fine (mode_next named tds bodies (Raising e) (frames.jumping_in frugal lower objects behind among tds bodies s e all k ms))
+  breaking_on : (e : Exception) (k : Control) (ms : List Master) → (all : List (Activation Value)) → FrugalBegins frugal behind among k ms → Fine (mode_next named tds bodies (Raising e) (frames.jumping_in frugal lower objects behind among tds bodies s e all k ms))
   breaking_on e [] ms all q = absurd q
   breaking_on e (Treats v (begins by done) tasks ∷ k) ms all q = frames.on frugal lower objects behind among tds bodies s ms _ refl q.1
   breaking_on e (Treats v (ends cause) tasks ∷ k) ms all q = absurd q
@@ -191,12 +191,12 @@ module _ (frugal : Thriftiness) (lower : List Master) (objects : Bool) (behind :
   abbrev passing : Mode → List (Activation Value) → Control → List Master → State
   passing m all k ms = record s { mode = m; control = k; activations = all; masters = ms ++ lower }
 
-  handled_on : (e : Exception) (hs : HandlersForm) (found : Option StmtsForm) → handler_of e hs ≡ found → are_thrifty_handlers (frugal.by objects) hs ≡ true → (k : Control) (ms : List Master) → (all : List (Activation Value)) → FrugalLeads frugal objects behind among k ms → Fine (landed named (handler_landing found) (Raising e) (passing (Raising e) all k ms))
+  handled_on : (e : Exception) (hs : HandlersForm) (found : Option StmtsForm) → handler_of e hs ≡ found → are_thrifty_handlers frugal hs ≡ true → (k : Control) (ms : List Master) → (all : List (Activation Value)) → FrugalLeads frugal behind among k ms → Fine (landed named (handler_landing found) (Raising e) (passing (Raising e) all k ms))
   handled_on e hs None is thrifty k ms all q = frames.on frugal lower objects behind among tds bodies s ms _ refl q
   handled_on e hs (Some no_stmts) is thrifty k ms all q = tt
-  handled_on e hs (Some (a_stmt f fs)) is thrifty k ms all q = frames.on frugal lower objects behind among tds bodies s ms _ refl (handler_frugal (frugal.by objects) hs e (a_stmt f fs) is thrifty, q)
+  handled_on e hs (Some (a_stmt f fs)) is thrifty k ms all q = frames.on frugal lower objects behind among tds bodies s ms _ refl (handler_frugal frugal hs e (a_stmt f fs) is thrifty, q)
 
-  raising_on : (e : Exception) (f : Frame Value) (k : Control) (ms : List Master) → (all : List (Activation Value)) → IsInner f k ms → FrugalLeads frugal objects behind among (f ∷ k) ms → Fine (jump_next named (Raising e) (f ∷ k) (passing (Raising e) all (f ∷ k) ms))
+  raising_on : (e : Exception) (f : Frame Value) (k : Control) (ms : List Master) → (all : List (Activation Value)) → IsInner f k ms → FrugalLeads frugal behind among (f ∷ k) ms → Fine (jump_next named (Raising e) (f ∷ k) (passing (Raising e) all (f ∷ k) ms))
   raising_on e (Elaborates ds fs hs) k [] all inner q = absurd q
   raising_on e (Elaborates ds fs hs) k (m ∷ ms) all inner q = frames.leaves_first frugal lower objects behind among tds bodies s (m ∷ ms) (Raising e) k _ refl refl refl (q.0.0, q.1)
   raising_on e Closes k [] all inner q = absurd q
@@ -209,7 +209,7 @@ module _ (frugal : Thriftiness) (lower : List Master) (objects : Bool) (behind :
   raising_on e (Declares x) k (m ∷ ms) all inner q = frames.on frugal lower objects behind among tds bodies s (m ∷ ms) _ refl q.1
   raising_on e f k ms all inner q = frames.on frugal lower objects behind among tds bodies s ms _ refl q.1
 
-  exiting_on : (f : Frame Value) (k : Control) (ms : List Master) → (all : List (Activation Value)) → IsInner f k ms → FrugalLeads frugal objects behind among (f ∷ k) ms → Fine (jump_next named Exiting (f ∷ k) (passing Exiting all (f ∷ k) ms))
+  exiting_on : (f : Frame Value) (k : Control) (ms : List Master) → (all : List (Activation Value)) → IsInner f k ms → FrugalLeads frugal behind among (f ∷ k) ms → Fine (jump_next named Exiting (f ∷ k) (passing Exiting all (f ∷ k) ms))
   exiting_on (Elaborates ds fs hs) k [] all inner q = absurd q
   exiting_on (Elaborates ds fs hs) k (m ∷ ms) all inner q = frames.leaves_first frugal lower objects behind among tds bodies s (m ∷ ms) Exiting k _ refl refl refl (q.0.0, q.1)
   exiting_on Closes k [] all inner q = absurd q
@@ -221,7 +221,7 @@ module _ (frugal : Thriftiness) (lower : List Master) (objects : Bool) (behind :
   exiting_on (Declares x) k (m ∷ ms) all inner q = frames.on frugal lower objects behind among tds bodies s (m ∷ ms) _ refl q.1
   exiting_on f k ms all inner q = frames.on frugal lower objects behind among tds bodies s ms _ refl q.1
 
-  returning_on : (f : Frame Value) (k : Control) (ms : List Master) → (all : List (Activation Value)) → IsInner f k ms → FrugalLeads frugal objects behind among (f ∷ k) ms → Fine (jump_next named Returning (f ∷ k) (passing Returning all (f ∷ k) ms))
+  returning_on : (f : Frame Value) (k : Control) (ms : List Master) → (all : List (Activation Value)) → IsInner f k ms → FrugalLeads frugal behind among (f ∷ k) ms → Fine (jump_next named Returning (f ∷ k) (passing Returning all (f ∷ k) ms))
   returning_on (Elaborates ds fs hs) k [] all inner q = absurd q
   returning_on (Elaborates ds fs hs) k (m ∷ ms) all inner q = frames.leaves_first frugal lower objects behind among tds bodies s (m ∷ ms) Returning k _ refl refl refl (q.0.0, q.1)
   returning_on Closes k [] all inner q = absurd q
@@ -234,7 +234,7 @@ module _ (frugal : Thriftiness) (lower : List Master) (objects : Bool) (behind :
   returning_on f k ms all inner q = frames.on frugal lower objects behind among tds bodies s ms _ refl q.1
 
   -- Whatever the mode is.
-  is_inner : (f : Frame Value) (k : Control) (ms : List Master) → ((actuals : List ActualForm) (references : List Value) (j : Control) → f ∷ k ≡ Returns actuals references ∷ j → FrugalLeads frugal objects behind among j ms) → IsInner f k ms
+  is_inner : (f : Frame Value) (k : Control) (ms : List Master) → ((actuals : List ActualForm) (references : List Value) (j : Control) → f ∷ k ≡ Returns actuals references ∷ j → FrugalLeads frugal behind among j ms) → IsInner f k ms
   is_inner (Returns actuals references) k ms inner = inner actuals references k refl
   is_inner f k ms inner = tt
 
@@ -244,7 +244,7 @@ module _ (frugal : Thriftiness) (lower : List Master) (objects : Bool) (behind :
 
   -- While a master is left, nothing jumps but what comes out of a Finalize: the run ends there.
   leaving_in : (mode : Mode) (k : Control) (ms : List Master) (all : List (Activation Value)) → (mode ≡ Running → TreatsNothing k)
-      → ((frugal.by objects).objects ≡ true → mode ≡ Running → LeftAlone s.heap (ms ++ lower) k) → MayLeave mode k → FrugalLeaves frugal objects behind among k ms
+      → (frugal.objects ≡ true → mode ≡ Running → LeftAlone s.heap (ms ++ lower) k) → MayLeave mode k → FrugalLeaves frugal behind among k ms
       → Fine (mode_next named tds bodies mode (passing mode all k ms))
   leaving_in Running k ms all none alone may q = leaving_on k ms all (none refl) (λ created. alone created refl) q
   leaving_in mode [] ms all none alone may q = absurd q
@@ -256,9 +256,9 @@ module _ (frugal : Thriftiness) (lower : List Master) (objects : Bool) (behind :
   leaving_in Returning (f ∷ k) ms all none alone may q = absurd (cc may)
 
   mode_on : (mode : Mode) (k : Control) (ms : List Master) (all : List (Activation Value))
-      → ((actuals : List ActualForm) (references : List Value) (j : Control) → k ≡ Returns actuals references ∷ j → FrugalLeads frugal objects behind among j ms) → (mode ≡ Running → TreatsNothing k)
-      → (mode ≡ Running → NextIsFreely (frugal.by objects) tds k s.heap (places_of all) (operands_of all)) → ((frugal.by objects).objects ≡ true → Unborn s.heap k)
-      → ((frugal.by objects).objects ≡ true → mode ≡ Running → LeftAlone s.heap (ms ++ lower) k) → Frugal frugal objects behind among mode k ms
+      → ((actuals : List ActualForm) (references : List Value) (j : Control) → k ≡ Returns actuals references ∷ j → FrugalLeads frugal behind among j ms) → (mode ≡ Running → TreatsNothing k)
+      → (mode ≡ Running → NextIsFreely frugal tds k s.heap (places_of all) (operands_of all)) → (frugal.objects ≡ true → Unborn s.heap k)
+      → (frugal.objects ≡ true → mode ≡ Running → LeftAlone s.heap (ms ++ lower) k) → Frugal frugal behind among mode k ms
       → Fine (mode_next named tds bodies mode (passing mode all k ms))
   mode_on mode k ms all inner none freely unborn alone (inr (inl (may, leaving))) = leaving_in mode k ms all none alone may leaving
   mode_on Running k ms all inner none freely unborn alone (inr (inr (may, beginning))) = beginning_on k ms all (none refl) beginning
@@ -272,22 +272,22 @@ module _ (frugal : Thriftiness) (lower : List Master) (objects : Bool) (behind :
   mode_on Returning (f ∷ k) ms all inner none freely unborn alone (inl q) = returning_on f k ms all (is_inner f k ms inner) q
 
 -- Where a body comes to its end next, it is one that was called: what called it goes on in these masters.
-abbrev pub EndsInner : (frugal : Thriftiness) (objects : Bool) (behind : Control) (among : List Value) → Control → List Master → Type 0
-EndsInner frugal objects behind among k ms = (actuals : List ActualForm) (references : List Value) (j : Control) → k ≡ Returns actuals references ∷ j → FrugalLeads frugal objects behind among j ms
+abbrev pub EndsInner : (frugal : Allowance) (behind : Control) (among : List Value) → Control → List Master → Type 0
+EndsInner frugal objects behind among k ms = (actuals : List ActualForm) (references : List Value) (j : Control) → k ≡ Returns actuals references ∷ j → FrugalLeads frugal behind among j ms
 
 -- While a frugal body runs, or one that it calls, and its own end is not next, whatever comes next is in such a body, too, where no object is treated next.
 -- Each Free of what runs is by the instance for the access type of what it frees (13.11.2), among some types; and where bodies may free objects with controlled
 -- parts, no object of these types that is in its collection has an operation that runs, unless one begins first. Where they may create such objects, they may
 -- free some, no operation runs of an object that does not exist, and none of one in a master that is left next.
 pub frugal_steps :
-    (p : ProgramForm) → OwnBody p → (tds : List TypeDefinition) (bodies : List BodyForm) (frugal : Thriftiness) (objects : Bool) → AccessIsBare (frugal.by objects).types tds → RecordIsBare (frugal.by objects).types tds
-    → FindsFrugal (frugal.by objects) bodies → EndsCreated (frugal.by objects)
-    → (behind : Control) (among : List Value) (lower : List Master) (s : State) (f : Frugally frugal lower objects behind among s)
+    (p : ProgramForm) → OwnBody p → (tds : List TypeDefinition) (bodies : List BodyForm) (frugal : Allowance) → AccessIsBare frugal.types tds → RecordIsBare frugal.types tds
+    → FindsFrugal frugal bodies → EndsCreated frugal
+    → (behind : Control) (among : List Value) (lower : List Master) (s : State) (f : Frugally frugal lower behind among s)
     → EndsInner frugal objects behind among s.control f.upper → (s.mode ≡ Running → TreatsNothing s.control) → typed.TypedIn p s
     → (may : ℕ → Bool) → (s.mode ≡ Running → FreesAmong may s.control)
-    → ((frugal.by objects).treats_parts ≡ true → begins_first s.control ≡ false → ListedAlone may s.heap s.control)
-    → ((frugal.by objects).objects ≡ true → Unborn s.heap s.control)
-    → ((frugal.by objects).objects ≡ true → s.mode ≡ Running → LeftAlone s.heap s.masters s.control)
+    → (frugal.treats_parts ≡ true → begins_first s.control ≡ false → ListedAlone may s.heap s.control)
+    → (frugal.objects ≡ true → Unborn s.heap s.control)
+    → (frugal.objects ≡ true → s.mode ≡ Running → LeftAlone s.heap s.masters s.control)
     → GoesFrugally frugal lower objects behind among (next tds bodies s)
 unfolding next
 frugal_steps p whole tds bodies frugal objects bare records_bare finds_frugal ends_created behind among lower s f inner none typing may frees alone unborn left =
@@ -295,14 +295,14 @@ frugal_steps p whole tds bodies frugal objects bare records_bare finds_frugal en
     (mode_on frugal lower objects behind among tds bodies bare records_bare finds_frugal ends_created s s.mode s.control f.upper s.activations inner none
     (λ runs. by f.frugally (frees runs) (next_own p whole s typing runs)) unborn (λ created runs. subst (λ (ms : List Master). LeftAlone s.heap ms s.control) f.masters (left created runs)) f.frugally)
   where
-    by : Frugal frugal objects behind among s.mode s.control f.upper → FreesAmong may s.control → NextFreesOwn s.control s.heap (places_of s.activations) (operands_of s.activations)
-        → NextIsFreely (frugal.by objects) tds s.control s.heap (places_of s.activations) (operands_of s.activations)
+    by : Frugal frugal behind among s.mode s.control f.upper → FreesAmong may s.control → NextFreesOwn s.control s.heap (places_of s.activations) (operands_of s.activations)
+        → NextIsFreely frugal tds s.control s.heap (places_of s.activations) (operands_of s.activations)
     by (inl q) freely own =
-        next_freely (frugal.by objects) tds bare may frugal objects refl behind among s.heap (places_of s.activations) (operands_of s.activations) s.control f.upper
+        next_freely frugal tds bare may frugal objects refl behind among s.heap (places_of s.activations) (operands_of s.activations) s.control f.upper
         (λ treats_parts. alone treats_parts (leads_first frugal objects behind among s.control f.upper q)) q freely own
     by (inr (inl (may', leaving))) freely own = leaving_freely s.control f.upper leaving
       where
-        leaving_freely : (k : Control) (ms : List Master) → FrugalLeaves frugal objects behind among k ms → NextIsFreely (frugal.by objects) tds k s.heap (places_of s.activations) (operands_of s.activations)
+        leaving_freely : (k : Control) (ms : List Master) → FrugalLeaves frugal behind among k ms → NextIsFreely frugal tds k s.heap (places_of s.activations) (operands_of s.activations)
         leaving_freely [] ms leaves = tt
         leaving_freely (Leaves mode ∷ k) ms leaves = tt
         leaving_freely (Ends v ∷ k) ms leaves = tt
@@ -312,7 +312,7 @@ frugal_steps p whole tds bodies frugal objects bare records_bare finds_frugal en
         leaving_freely (g ∷ k) ms leaves = absurd leaves
     by (inr (inr (may', beginning))) freely own = beginning_freely s.control f.upper beginning
       where
-        beginning_freely : (k : Control) (ms : List Master) → FrugalBegins frugal objects behind among k ms → NextIsFreely (frugal.by objects) tds k s.heap (places_of s.activations) (operands_of s.activations)
+        beginning_freely : (k : Control) (ms : List Master) → FrugalBegins frugal behind among k ms → NextIsFreely frugal tds k s.heap (places_of s.activations) (operands_of s.activations)
         beginning_freely [] ms q = tt
         beginning_freely (Treats v treatment tasks ∷ k) ms q = tt
         beginning_freely (Awaits v how done of part tasks ∷ k) ms q = tt
@@ -325,24 +325,24 @@ frugal_steps p whole tds bodies frugal objects bare records_bare finds_frugal en
 -- The body, or what it calls, runs on, unless its own end is next, or an object is treated, in a run of a well-formed program.
 pub frugal_goes :
     (program : Program) → FreesItsOwn (program_form program)
-    → (last : Bool) (lower : List Master) (objects : Bool) (behind : Control) (among : List Value) (s : State) (f : Frugally (thriftiness_of (program_form program) last) lower objects behind among s)
-    → EndsInner (thriftiness_of (program_form program) last) objects behind among s.control f.upper → (s.mode ≡ Running → TreatsNothing s.control)
+    → (last : Bool) (lower : List Master) (behind : Control) (among : List Value) (s : State) (f : Frugally (allowance_of (program_form program) last) lower objects behind among s)
+    → EndsInner (allowance_of (program_form program) last) objects behind among s.control f.upper → (s.mode ≡ Running → TreatsNothing s.control)
     → typed.TypedIn (seen_in (running_procedure s) (program_form program)) s
     → (may : ℕ → Bool) → (s.mode ≡ Running → FreesAmong may s.control) → (begins_first s.control ≡ false → ListedAlone may s.heap s.control)
     → Unborn s.heap s.control → (s.mode ≡ Running → LeftAlone s.heap s.masters s.control)
-    → GoesFrugally (thriftiness_of (program_form program) last) lower objects behind among (next program.types.items (body_forms program) s)
+    → GoesFrugally (allowance_of (program_form program) last) lower objects behind among (next program.types.items (body_forms program) s)
 frugal_goes program whole last lower objects behind among s f inner none typing may frees alone unborn left =
     let p = program_form program in
     let procedure = running_procedure s in
-    frugal_steps (seen_in procedure p) (own_bodies p whole procedure) program.types.items (body_forms program) (thriftiness_of p last) objects (bare_by program) (records_bare_by program)
+    frugal_steps (seen_in procedure p) (own_bodies p whole procedure) program.types.items (body_forms program) (allowance_of p last) objects (bare_by program) (records_bare_by program)
     (λ number b there told. body_thrifty p objects b (frugal_at p objects number b told there)) (λ created. refl) behind among lower s f inner none typing may frees
     (λ treats_parts. alone) (λ created. unborn) (λ created. left)
 
 -- An object is treated next that such a body frees, or whose master it leaves (7.6.1), or that it allocates or declares (4.8, 3.3.1): the body of an operation
 -- begins, or what is left to do is so behind that.
-module _ (frugal : Thriftiness) (lower : List Master) (objects : Bool) (back : Control) (among : List Value) (tds : List TypeDefinition) (bodies : List BodyForm) (s : State) where
+module _ (frugal : Allowance) (lower : List Master) (back : Control) (among : List Value) (tds : List TypeDefinition) (bodies : List BodyForm) (s : State) where
   abbrev pub GoesOrBegins : State → Type 0
-  GoesOrBegins after = Frugally frugal lower objects back among after ⊎ (length after.activations ≡ suc (length s.activations))
+  GoesOrBegins after = Frugally frugal lower back among after ⊎ (length after.activations ≡ suc (length s.activations))
 
   abbrev pub GoesTreating : Next → Type 0
   GoesTreating n = Each GoesOrBegins n
@@ -385,7 +385,7 @@ module _ (frugal : Thriftiness) (lower : List Master) (objects : Bool) (back : C
       treats_on tasks (Perform of part) = performed_on of part (performed tasks) (look s.heap v)
 
     -- It is new.
-    module _ (by : Birth) (f : Frugally frugal lower objects back among s) (leads : FrugalLeads frugal objects back among k f.upper) (runs : s.mode ≡ Running) (fresh : BeginsThere (frugal.by objects) v by k) where
+    module _ (by : Birth) (f : Frugally frugal lower back among s) (leads : FrugalLeads frugal back among k f.upper) (runs : s.mode ≡ Running) (fresh : BeginsThere frugal v by k) where
       goes_begun : (done : List Part) (tasks : List Task) → GoesOrBegins (left_with s.heap (treating v (begins by done) tasks k))
       goes_begun done tasks = inl (record {
         upper = f.upper;
@@ -422,13 +422,13 @@ module _ (frugal : Thriftiness) (lower : List Master) (objects : Bool) (back : C
       begins_on done tasks (Perform of part) = starts_on done of part (performed tasks) (look s.heap v)
 
 pub treats_frugally :
-    (frugal : Thriftiness) (lower : List Master) (objects : Bool) (back : Control) (among : List Value) (tds : List TypeDefinition) (bodies : List BodyForm) (s : State) → Frugally frugal lower objects back among s → s.mode ≡ Running
+    (frugal : Allowance) (lower : List Master) (back : Control) (among : List Value) (tds : List TypeDefinition) (bodies : List BodyForm) (s : State) → Frugally frugal lower back among s → s.mode ≡ Running
     → (v : Value) (treatment : Treatment) (tasks : List Task) (k : Control) → s.control ≡ Treats v treatment tasks ∷ k → GoesTreating frugal lower objects back among tds bodies s (next tds bodies s)
 unfolding next
 treats_frugally frugal lower objects back among tds bodies s f runs v treatment tasks k first =
     coming s.mode s.control runs first
   where
-    by_frugal : (treatment' : Treatment) → Frugal frugal objects back among s.mode (Treats v treatment' tasks ∷ k) f.upper
+    by_frugal : (treatment' : Treatment) → Frugal frugal back among s.mode (Treats v treatment' tasks ∷ k) f.upper
         → GoesTreating frugal lower objects back among tds bodies s (treats_next named tds bodies v treatment' tasks (task_next tasks) (record s { control = k }))
     by_frugal (begins how done) (inl q) = absurd q.0.0
     by_frugal (ends cause) (inl q) = treats_on frugal lower objects back among tds bodies s v k cause so tasks (task_next tasks)
@@ -452,11 +452,11 @@ treats_frugally frugal lower objects back among tds bodies s f runs v treatment 
     by_frugal (ends cause) (inr (inr (may, q))) = absurd q
 
     coming : (mode : Mode) (c : Control) → mode ≡ Running → c ≡ Treats v treatment tasks ∷ k → GoesTreating frugal lower objects back among tds bodies s (mode_next named tds bodies mode (record s { control = c }))
-    coming mode c running is = rw (running, is) (by_frugal treatment (subst (λ (j : Control). Frugal frugal objects back among s.mode j f.upper) first f.frugally))
+    coming mode c running is = rw (running, is) (by_frugal treatment (subst (λ (j : Control). Frugal frugal back among s.mode j f.upper) first f.frugally))
 
 -- Where bodies free no objects with controlled parts, and declare no record objects, no object is treated.
-pub treats_none : (frugal : Thriftiness) (objects : Bool) → (frugal.by objects).treats_parts ≡ false → (frugal.by objects).objects ≡ false → (behind : Control) (among : List Value) (mode : Mode) (k : Control) (ms : List Master)
-    → Frugal frugal objects behind among mode k ms → TreatsNothing k
+pub treats_none : (frugal : Allowance) → frugal.treats_parts ≡ false → frugal.objects ≡ false → (behind : Control) (among : List Value) (mode : Mode) (k : Control) (ms : List Master)
+    → Frugal frugal behind among mode k ms → TreatsNothing k
 treats_none frugal objects none idle behind among mode k ms (inl q) v treatment tasks j is =
     let first = none_treated frugal objects none behind among (Treats v treatment tasks) j ms (rw is at q) in
     let never : true ≡ false = first.0 in
@@ -468,8 +468,8 @@ treats_none frugal objects none idle behind among mode k ms (inr (inl (may, leav
 treats_none frugal objects none idle behind among mode k ms (inr (inr (may, beginning))) v treatment tasks j is = none_beginning frugal objects idle behind among k ms beginning
 
 -- No operation of a controlled type ends in such a body, either.
-pub none_ends : (frugal : Thriftiness) (objects : Bool) → (frugal.by objects).treats_parts ≡ false → (frugal.by objects).objects ≡ false → (behind : Control) (among : List Value) (mode : Mode) (k : Control) (ms : List Master)
-    → Frugal frugal objects behind among mode k ms → ends_operation k ≡ false
+pub none_ends : (frugal : Allowance) → frugal.treats_parts ≡ false → frugal.objects ≡ false → (behind : Control) (among : List Value) (mode : Mode) (k : Control) (ms : List Master)
+    → Frugal frugal behind among mode k ms → ends_operation k ≡ false
 none_ends frugal objects none idle behind among mode [] ms frugally = refl
 none_ends frugal objects none idle behind among mode (f ∷ k) ms (inl q) = (none_treated frugal objects none behind among f k ms q).1
 none_ends frugal objects none idle behind among mode (f ∷ k) ms (inr (inl q)) = (none_left frugal objects idle behind among f k ms q.1).1
@@ -488,8 +488,8 @@ calls_nothing (Returns actuals references) k inner none plain = absurd (cc inner
 calls_nothing (Treats v treatment tasks) k inner none plain = absurd (cc plain)
 calls_nothing f k inner none plain = refl
 
-leaving_crosses : (frugal : Thriftiness) (objects : Bool) → (frugal.by objects).objects ≡ false → (behind : Control) (among : List Value) (mode : Mode) (k : Control) (ms : List Master) → MayLeave mode k
-    → FrugalLeaves frugal objects behind among k ms → crosses mode k ≡ false
+leaving_crosses : (frugal : Allowance) → frugal.objects ≡ false → (behind : Control) (among : List Value) (mode : Mode) (k : Control) (ms : List Master) → MayLeave mode k
+    → FrugalLeaves frugal behind among k ms → crosses mode k ≡ false
 leaving_crosses frugal objects idle behind among mode [] ms may leaving = absurd leaving
 leaving_crosses frugal objects idle behind among mode (Leaves left ∷ k) ms may leaving = rw may refl
 leaving_crosses frugal objects idle behind among mode (Ends v ∷ k) ms may leaving = rw may refl
@@ -500,8 +500,8 @@ leaving_crosses frugal objects idle behind among mode (f ∷ k) ms may leaving =
 
 -- Where bodies free no objects with controlled parts, and declare no record objects, and neither the end of a body is next, nor the beginning of one, no body
 -- begins, none ends, and no operation is called.
-pub frugal_crosses : (frugal : Thriftiness) (objects : Bool) → (frugal.by objects).treats_parts ≡ false → (frugal.by objects).objects ≡ false → (behind : Control) (among : List Value) (mode : Mode) (k : Control) (ms : List Master)
-    → Frugal frugal objects behind among mode k ms → is_return_first k ≡ false → (mode ≡ Running → is_call_first k ≡ false) → crosses mode k ≡ false
+pub frugal_crosses : (frugal : Allowance) → frugal.treats_parts ≡ false → frugal.objects ≡ false → (behind : Control) (among : List Value) (mode : Mode) (k : Control) (ms : List Master)
+    → Frugal frugal behind among mode k ms → is_return_first k ≡ false → (mode ≡ Running → is_call_first k ≡ false) → crosses mode k ≡ false
 frugal_crosses frugal objects ends_none idle behind among mode k ms (inr (inl (may, leaving))) inner none = leaving_crosses frugal objects idle behind among mode k ms may leaving
 frugal_crosses frugal objects ends_none idle behind among mode k ms (inr (inr (may, beginning))) inner none = absurd (none_beginning frugal objects idle behind among k ms beginning)
 frugal_crosses frugal objects ends_none idle behind among mode [] ms (inl q) inner none = absurd q

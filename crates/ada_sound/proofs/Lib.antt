@@ -178,7 +178,6 @@ pub mod FrugalFrames
 pub mod FrugalSteps
 -- the masters that it leaves
 pub mod FrugalLeaves
-pub mod FrugalIdle
 -- where a Finalize may be frugal
 pub mod FrugalUseParts
 pub mod FrugalUseEnds

@@ -244,11 +244,6 @@ abbrev pub IsCalm : Option Behind → Type 0
 IsCalm None = Unit {0}
 IsCalm (Some behind) = NoOperationRuns behind.left
 
--- The body of an operation may create objects with controlled parts that begins a part of one, and that of a Finalize may not (7.6.1).
-abbrev pub may_create_in : Treatment → Bool
-may_create_in (begins by done) = true
-may_create_in (ends cause) = false
-
 -- Which exceptions may come out of the body of an operation, by what is treated: those that the initialization of an object may raise, and no others (7.6).
 abbrev pub lets_out : Implicit → (access : ℕ) → Treatment → Exception → Bool
 lets_out implicit access (begins Creation done) e = list_any (is_same e) (implicit.start_raises access)

@@ -30,7 +30,7 @@ use Rattle.ada_reaching.specs.Law.{GhostsStay}
 use Rattle.ada_reaching.specs.Reaching.{IsReaching, LeftShuns}
 use Rattle.ada_reaching.proofs.Behind.{ends_other, reaching_kept, waiting_kept}
 use Rattle.ada_tracked.proofs.Lists.{is_apart, is_same}
-use Rattle.ada_sound.proofs.FrugalControl.{Frugal, Thriftiness, thriftiness_of}
+use Rattle.ada_sound.proofs.FrugalControl.{Frugal, Allowance, allowance_of}
 use Rattle.ada_sound.specs.Agreement.{running_procedure}
 use Rattle.ada_sound.proofs.Alters.{Alters, alters_same}
 use Rattle.ada_sound.proofs.Callers.{Suspension}
@@ -86,9 +86,9 @@ spared_at_end known (begins by done) o access heap None spared w is = absurd (cc
 spared_at_end known (begins by done) o access heap (Some x) spared w is = absurd spared
 spared_at_end known (ends cause) o access heap watch spared w is = refl
 
-module _ (program : Program) (s : State) (frugal : Thriftiness) (back : Control) (lower : List Master) where
+module _ (program : Program) (s : State) (frugal : Allowance) (back : Control) (lower : List Master) where
   -- What is watched in each of these activations that waits for an operation is so still in a state.
-  abbrev pub AllWatched : (after : State) (running : Option ℕ) (objects : Bool) (depth : ℕ) (outermost : Option ℕ) (others inner : List Suspension) → AreInner program s frugal back lower running objects depth outermost others inner → Type 0
+  abbrev pub AllWatched : (after : State) (running : Option ℕ) (depth : ℕ) (outermost : Option ℕ) (others inner : List Suspension) → AreInner program s frugal back lower running objects depth outermost others inner → Type 0
   AllWatched after running objects depth outermost others [] w = Unit {0}
   AllWatched after running objects depth outermost others (g ∷ inner) (inl (call, more)) = AllWatched after g.procedure objects (suc depth) outermost others inner more
   AllWatched after running objects depth outermost others (g ∷ inner) (inr (outer, operation, more)) =
@@ -113,7 +113,7 @@ module _ (program : Program) (s : State) (frugal : Thriftiness) (back : Control)
 
   -- What they wait for is known behind a step, too.
   pub inner_on :
-      (after : State) (e : Event) (running : Option ℕ) (objects : Bool) (depth later : ℕ) (outermost : Option ℕ) (others inner : List Suspension)
+      (after : State) (e : Event) (running : Option ℕ) (depth later : ℕ) (outermost : Option ℕ) (others inner : List Suspension)
       (w : AreInner program s frugal back lower running objects depth outermost others inner)
       → Alters s.heap e after.heap → SameBehind after depth later
       → AllWatched after running objects depth outermost others inner w → AreInner program after frugal back lower running objects later outermost others inner
@@ -164,7 +164,7 @@ module _ (program : Program) (s after : State) (active : after.activations ≡ s
     (still : (watch : Option Watch) (behind : Control) → Watched program watch behind s → Watched program watch behind after) where
   -- What is watched in each of these activations is so still.
   all_on :
-      (frugal : Thriftiness) (back : Control) (lower : List Master) (running : Option ℕ) (objects : Bool) (depth : ℕ) (outermost : Option ℕ) (waiting inner : List Suspension)
+      (frugal : Allowance) (back : Control) (lower : List Master) (running : Option ℕ) (depth : ℕ) (outermost : Option ℕ) (waiting inner : List Suspension)
       (w : AreInner program s frugal back lower running objects depth outermost waiting inner)
       → AllWatched program s frugal back lower after running objects depth outermost waiting inner w
   all_on frugal back lower running objects depth outermost waiting [] w = tt
@@ -177,13 +177,13 @@ module _ (program : Program) (s after : State) (active : after.activations ≡ s
 
   within_by :
       (gs : List Suspension) (e : Event) (w : Within program gs s) → after.masters ≡ s.masters → Alters s.heap e after.heap
-      → Frugal (thriftiness_of (program_form program) (may_create_in w.outermost.treatment)) w.objects w.outermost.behind (operated_among w.inner) after.mode after.control
+      → Frugal (allowance_of (program_form program)) w.objects w.outermost.behind (operated_among w.inner) after.mode after.control
       w.frugal.upper
       → Within program gs after
   within_by gs e w masters alters goes =
       let same : (n : ℕ) → operands_of (drop (suc n) after.activations) ≡ operands_of (drop (suc n) s.activations) =
       λ n. ap (λ (all : List (Activation Value)). operands_of (drop (suc n) all)) active in
-      let frugal = thriftiness_of (program_form program) (may_create_in w.outermost.treatment) in
+      let frugal = allowance_of (program_form program) in
       let last = Some w.outermost.number in
       let waiting = origin program (length w.inner) s w.outermost ∷ w.outermost.suspensions in
       record {
@@ -259,9 +259,9 @@ module _ (program : Program) (s after : State) (o : Id) (going : GoesOnBehind o 
 
 -- Where the operation has come to its end that begins a part of a new object, frugal bodies go on, too, if an exception has come out of it (7.6).
 raised_frugal :
-    (frugal : Thriftiness) (objects : Bool) (back : Control) (among : List Value) (mode : Mode) (e : Exception) (v : Value) (done : List parts.Part) (of part : ℕ)
-    (tasks : List Task) (k : Control) (ms : List Master) → Frugal frugal objects back among mode (frame.Awaits v Creation done of part tasks ∷ k) ms
-    → Frugal frugal objects back among (Raising e) (frame.Awaits v Creation done of part tasks ∷ k) ms
+    (frugal : Allowance) (back : Control) (among : List Value) (mode : Mode) (e : Exception) (v : Value) (done : List parts.Part) (of part : ℕ)
+    (tasks : List Task) (k : Control) (ms : List Master) → Frugal frugal back among mode (frame.Awaits v Creation done of part tasks ∷ k) ms
+    → Frugal frugal back among (Raising e) (frame.Awaits v Creation done of part tasks ∷ k) ms
 raised_frugal frugal objects back among mode e v done of part tasks k ms (inl leads) = absurd leads.0
 raised_frugal frugal objects back among mode e v done of part tasks k ms (inr (inl leaving)) = absurd leaving.1
 raised_frugal frugal objects back among mode e v done of part tasks k ms (inr (inr beginning)) = inr (inr (tt, beginning.1))
@@ -287,8 +287,8 @@ module _ (program : Program) (gs : List Suspension) (s : State) (e : Exception) 
 
   pub raised_within : {o : Id} → BeginsBehind o s.control → Within program gs s → Within program gs raised
   raised_within {o} begun w =
-      let frugal = thriftiness_of (program_form program) (may_create_in w.outermost.treatment) in
+      let frugal = allowance_of (program_form program) in
       within_by program s raised refl (raised_watched o begun) gs Quiet w refl (alters_same s.heap Quiet)
-      (subst (λ (k : Control). Frugal frugal w.objects w.outermost.behind (operated_among w.inner) (Raising e) k w.frugal.upper) (sym begun.is)
+      (subst (λ (k : Control). Frugal frugal w.outermost.behind (operated_among w.inner) (Raising e) k w.frugal.upper) (sym begun.is)
       (raised_frugal frugal w.objects w.outermost.behind (operated_among w.inner) s.mode e (Names o) begun.done begun.of begun.part begun.tasks begun.rest w.frugal.upper
-      (subst (λ (k : Control). Frugal frugal w.objects w.outermost.behind (operated_among w.inner) s.mode k w.frugal.upper) begun.is w.frugal.frugally)))
+      (subst (λ (k : Control). Frugal frugal w.outermost.behind (operated_among w.inner) s.mode k w.frugal.upper) begun.is w.frugal.frugally)))

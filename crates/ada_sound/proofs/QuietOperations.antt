@@ -137,8 +137,8 @@ module _ (p : ProgramForm) where
   IsNotQuiet number = is_quiet_procedure p.types (slice_get p.bodies number) ≡ false
 
   -- A procedure is frugal, where that may be, and creates objects with controlled parts or none.
-  abbrev pub IsFrugal : (objects : Bool) → ℕ → Type 0
-  IsFrugal objects number = (may_be_frugal p ≡ true) × (slice_index_or (frugal_procedures p objects) number false ≡ true)
+  abbrev pub IsFrugal : → ℕ → Type 0
+  IsFrugal objects number = (may_be_frugal p ≡ true) × (slice_index_or (frugal_procedures p) number false ≡ true)
 
   abbrev pub IsSimple : ℕ → Type 0
   IsSimple number = (may_track p ≡ true) × (is_simple_procedure p.types (adjusts_alone p) (slice_get p.bodies number) ≡ true)
@@ -166,12 +166,12 @@ module _ (p : ProgramForm) where
   not_quiet None number other is = absurd (cc is)
   not_quiet (Some procedure) number other is = let same : procedure.0 ≡ number = cc is in rw same at other
 
-  frugal_one : (objects : Bool) (o : Option ProcedureNo) (number : ℕ) → is_frugal_operation p objects o ≡ true → procedure_number o ≡ Some number
-      → slice_index_or (frugal_procedures p objects) number false ≡ true
+  frugal_one : (o : Option ProcedureNo) (number : ℕ) → is_frugal_operation p objects o ≡ true → procedure_number o ≡ Some number
+      → slice_index_or (frugal_procedures p) number false ≡ true
   frugal_one objects None number frugal is = absurd (cc is)
   frugal_one objects (Some procedure) number frugal is =
       let same : procedure.0 ≡ number = cc is in
-      rw same at (apart (slice_index_or (frugal_procedures p objects) procedure.0 false) (declares_earlier_parts p procedure.0 (slice_get p.bodies procedure.0)) frugal).0
+      rw same at (apart (slice_index_or (frugal_procedures p) procedure.0 false) (declares_earlier_parts p procedure.0 (slice_get p.bodies procedure.0)) frugal).0
 
   finalize_one : (o : Option ProcedureNo) (number : ℕ) → uses_finalize p o ≡ true → procedure_number o ≡ Some number → IsQuiet number ⊎ (IsFrugal false number × IsNotQuiet number)
   finalize_one o number uses is = by (is_quiet_operation p o) refl uses
@@ -328,7 +328,7 @@ module _ (p : ProgramForm) where
       either : ((adjusts_nothing p && is_frugal_operation p true (Some procedure)) ≡ true) ⊎ (uses_called_adjust p owns (Some procedure) ≡ true) → NestsAnywhere (callees_of p) (Some procedure)
       either (inl nothing) =
           let frugal = (apart (adjusts_nothing p) (is_frugal_operation p true (Some procedure)) nothing).1 in
-          frugal_nests p true procedure.0 (apart (slice_index_or (frugal_procedures p true) procedure.0 false) (declares_earlier_parts p procedure.0 (slice_get p.bodies procedure.0)) frugal).0
+          frugal_nests p true procedure.0 (apart (slice_index_or (frugal_procedures p) procedure.0 false) (declares_earlier_parts p procedure.0 (slice_get p.bodies procedure.0)) frugal).0
       either (inr called) = by (adjust_one owns (Some procedure) procedure.0 called refl)
 
   nests_three : (t : ℕ) (owns : Bool) (f : Option Finalization) → has_operations p.types (callable_in p) t f ≡ true → uses_operations p owns f ≡ true → AllNestAnywhere (callees_of p) (operations_in f)
@@ -391,7 +391,7 @@ TouchesStorage p (ends cause) b = is_quiet_body p.types b ≡ false
 abbrev pub IsUsedAs : ProgramForm → (of number : ℕ) → Treatment → BodyForm → Type 0
 IsUsedAs p of number treatment b =
     (PlainBody p.types b × LetsNothingOut treatment b)
-    ⊎ ((MayTouch treatment × (may_be_frugal p ≡ true) × (is_frugal_body (thrift_of p (may_create_in treatment)) b ≡ true) × TouchesStorage p treatment b)
+    ⊎ ((MayTouch treatment × (may_be_frugal p ≡ true) × (is_frugal_body (thrift_of p) b ≡ true) × TouchesStorage p treatment b)
     ⊎ (AdjustsCopy treatment × MayTrack p b × AdjustsOwn p.types of number))
 
 -- A type that passes the test of a number has that number among the controlled ones, as what is shown of it says.

@@ -147,7 +147,7 @@ module _ (p : ProgramForm) (u : ℕ) where
   -- Each such procedure of which a call is no use may be called,
   abbrev pub CallsFrugal : Apart → Type 0
   CallsFrugal apart =
-      (n : ℕ) → slice_index_or (frugal_procedures p false) n false ≡ true → Spares p u (λ d. procedure_does (does_by p d) n) → apart.calls n ≡ true
+      (n : ℕ) → slice_index_or (frugal_procedures p) n false ≡ true → Spares p u (λ d. procedure_does (does_by p d) n) → apart.calls n ≡ true
 
   -- and objects of each access type may be freed whose end is no use (7.6.1).
   abbrev pub EndsSpared : Apart → Type 0
@@ -170,7 +170,7 @@ module _ (p : ProgramForm) (u : ℕ) where
     kind_ended (Some (variable.Record object)) fits spares = refl
 
     -- What is assigned has the shape: what is allocated has no controlled parts (5.2, 4.8, 7.6).
-    right_shaped : (right : RightForm) → allocates_frugally (thrift_of p false) right ≡ true → right_shuns p.types (λ t. false) apart variables right ≡ true
+    right_shaped : (right : RightForm) → allocates_frugally (thrift_of p) right ≡ true → right_shuns p.types (λ t. false) apart variables right ≡ true
     right_shaped nothing is = refl
     right_shaped (value_of path) is = path_shaped p.types apart variables path
     right_shaped (allocates access items) is =
@@ -180,7 +180,7 @@ module _ (p : ProgramForm) (u : ℕ) where
     right_shaped (computes e) is = expression_shaped p.types apart variables e
 
     -- A declaration of a variable has it (3.3.1),
-    declaration_shaped : (d : DeclarationForm) → is_frugal_declaration (thrift_of p false) d ≡ true → declaration_shuns p.types (λ t. false) apart variables d ≡ true
+    declaration_shaped : (d : DeclarationForm) → is_frugal_declaration (thrift_of p) d ≡ true → declaration_shuns p.types (λ t. false) apart variables d ≡ true
     declaration_shaped (creates_pool pool) is = absurd (cc is)
     declaration_shaped (collects access) is = absurd (cc is)
     declaration_shaped (declares x right) is = right_shaped right is
@@ -189,10 +189,10 @@ module _ (p : ProgramForm) (u : ℕ) where
 
     -- and so have all declarations of such a body.
     declarations_shaped :
-        (ds : List DeclarationForm) → are_frugal_declarations (thrift_of p false) ds ≡ true → declarations_shun p.types (λ t. false) apart variables ds ≡ true
+        (ds : List DeclarationForm) → are_frugal_declarations (thrift_of p) ds ≡ true → declarations_shun p.types (λ t. false) apart variables ds ≡ true
     declarations_shaped [] is = refl
     declarations_shaped (d ∷ ds) is =
-        let both = and_parts (is_frugal_declaration (thrift_of p false) d) (are_frugal_declarations (thrift_of p false) ds) is in
+        let both = and_parts (is_frugal_declaration (thrift_of p) d) (are_frugal_declarations (thrift_of p) ds) is in
         and_from (declaration_shuns p.types (λ t. false) apart variables d) (declarations_shun p.types (λ t. false) apart variables ds)
         (declaration_shaped d both.0) (declarations_shaped ds both.1)
 
@@ -211,16 +211,16 @@ module _ (p : ProgramForm) (u : ℕ) where
     -- where its statements and its handlers have it.
     master_shaped :
         (ds : List DeclarationForm) (fs : StmtsForm) (hs : HandlersForm)
-        → (are_frugal (thrift_of p false) fs ≡ true → Spares p u (λ d. stmts_do p.types variables (does_by p d) d fs)
+        → (are_frugal (thrift_of p) fs ≡ true → Spares p u (λ d. stmts_do p.types variables (does_by p d) d fs)
         → statements_shun p.types (λ t. false) apart variables fs ≡ true)
-        → (are_frugal_handlers (thrift_of p false) hs ≡ true → Spares p u (λ d. handlers_do p.types variables (does_by p d) d hs)
+        → (are_frugal_handlers (thrift_of p) hs ≡ true → Spares p u (λ d. handlers_do p.types variables (does_by p d) d hs)
         → handlers_shun p.types (λ t. false) apart variables hs ≡ true)
-        → (are_frugal_declarations (thrift_of p false) ds && are_frugal (thrift_of p false) fs && are_frugal_handlers (thrift_of p false) hs) ≡ true
+        → (are_frugal_declarations (thrift_of p) ds && are_frugal (thrift_of p) fs && are_frugal_handlers (thrift_of p) hs) ≡ true
         → Spares p u (master_does ds fs hs) → master_shuns ds fs hs ≡ true
     master_shaped ds fs hs within behind frugal spares =
-        let begun = are_frugal_declarations (thrift_of p false) ds in
-        let parts = and_parts (begun && are_frugal (thrift_of p false) fs) (are_frugal_handlers (thrift_of p false) hs) frugal in
-        let inner = and_parts begun (are_frugal (thrift_of p false) fs) parts.0 in
+        let begun = are_frugal_declarations (thrift_of p) ds in
+        let parts = and_parts (begun && are_frugal (thrift_of p) fs) (are_frugal_handlers (thrift_of p) hs) frugal in
+        let inner = and_parts begun (are_frugal (thrift_of p) fs) parts.0 in
         let declared = λ (d : Deed). declarations_do p.types variables (does_by p d) d ds in
         let inside = λ (d : Deed). stmts_do p.types variables (does_by p d) d fs in
         let left = λ (d : Deed). is_left hs d && inside d in
@@ -237,7 +237,7 @@ module _ (p : ProgramForm) (u : ℕ) where
     mutual
       -- A frugal statement has the shape, where what it does is no use,
       statement_shaped :
-          (f : StmtForm) → is_frugal_stmt (thrift_of p false) f ≡ true
+          (f : StmtForm) → is_frugal_stmt (thrift_of p) f ≡ true
           → Spares p u (λ d. stmt_does p.types variables (does_by p d) d f) → statement_shuns p.types (λ t. false) apart variables f ≡ true
       statement_shaped skips frugal spares = refl
       statement_shaped (assigns target right) frugal spares =
@@ -288,11 +288,11 @@ module _ (p : ProgramForm) (u : ℕ) where
 
       -- and so have statements,
       statements_shaped :
-          (fs : StmtsForm) → are_frugal (thrift_of p false) fs ≡ true
+          (fs : StmtsForm) → are_frugal (thrift_of p) fs ≡ true
           → Spares p u (λ d. stmts_do p.types variables (does_by p d) d fs) → statements_shun p.types (λ t. false) apart variables fs ≡ true
       statements_shaped no_stmts frugal spares = refl
       statements_shaped (a_stmt f fs) frugal spares =
-          let both = and_parts (is_frugal_stmt (thrift_of p false) f) (are_frugal (thrift_of p false) fs) frugal in
+          let both = and_parts (is_frugal_stmt (thrift_of p) f) (are_frugal (thrift_of p) fs) frugal in
           let one = λ (d : Deed). stmt_does p.types variables (does_by p d) d f in
           let more = λ (d : Deed). stmts_do p.types variables (does_by p d) d fs in
           and_from (statement_shuns p.types (λ t. false) apart variables f) (statements_shun p.types (λ t. false) apart variables fs)
@@ -300,11 +300,11 @@ module _ (p : ProgramForm) (u : ℕ) where
 
       -- branches (5.3)
       branches_shaped :
-          (branches : BranchesForm) → are_frugal_branches (thrift_of p false) branches ≡ true
+          (branches : BranchesForm) → are_frugal_branches (thrift_of p) branches ≡ true
           → Spares p u (λ d. branches_do p.types variables (does_by p d) d branches) → branches_shun p.types (λ t. false) apart variables branches ≡ true
       branches_shaped (otherwise fs) frugal spares = statements_shaped fs frugal spares
       branches_shaped (a_branch e fs branches) frugal spares =
-          let both = and_parts (are_frugal (thrift_of p false) fs) (are_frugal_branches (thrift_of p false) branches) frugal in
+          let both = and_parts (are_frugal (thrift_of p) fs) (are_frugal_branches (thrift_of p) branches) frugal in
           let tested = λ (d : Deed). expression_does p.types variables d e in
           let does = λ (d : Deed). stmts_do p.types variables (does_by p d) d fs in
           let more = λ (d : Deed). branches_do p.types variables (does_by p d) d branches in
@@ -317,11 +317,11 @@ module _ (p : ProgramForm) (u : ℕ) where
 
       -- and handlers (11.2).
       handlers_shaped :
-          (hs : HandlersForm) → are_frugal_handlers (thrift_of p false) hs ≡ true
+          (hs : HandlersForm) → are_frugal_handlers (thrift_of p) hs ≡ true
           → Spares p u (λ d. handlers_do p.types variables (does_by p d) d hs) → handlers_shun p.types (λ t. false) apart variables hs ≡ true
       handlers_shaped no_handlers frugal spares = refl
       handlers_shaped (a_handler choices fs hs) frugal spares =
-          let both = and_parts (are_frugal (thrift_of p false) fs) (are_frugal_handlers (thrift_of p false) hs) frugal in
+          let both = and_parts (are_frugal (thrift_of p) fs) (are_frugal_handlers (thrift_of p) hs) frugal in
           let one = λ (d : Deed). stmts_do p.types variables (does_by p d) d fs in
           let more = λ (d : Deed). handlers_do p.types variables (does_by p d) d hs in
           and_from (statements_shun p.types (λ t. false) apart variables fs) (handlers_shun p.types (λ t. false) apart variables hs)
@@ -330,7 +330,7 @@ module _ (p : ProgramForm) (u : ℕ) where
   -- So has such a body, as the program that it sees fits.
   pub body_shaped :
       (apart : Apart) → CallsFrugal apart → EndsSpared apart → (number : ℕ) (b : BodyForm) → SeenFits (seen_by number b p)
-      → is_frugal_body (thrift_of p false) b ≡ true → Spares p u (λ d. body_does p.types (does_by p d) d b) → body_shuns p.types (λ t. false) apart b ≡ true
+      → is_frugal_body (thrift_of p) b ≡ true → Spares p u (λ d. body_does p.types (does_by p d) d b) → body_shuns p.types (λ t. false) apart b ≡ true
   body_shaped apart marked ended number b fits =
       master_shaped apart marked ended fits.types_fit b.variables fits.variables_fit b.declarations b.statements b.handlers
       (statements_shaped apart marked ended fits.types_fit b.variables fits.variables_fit b.statements)

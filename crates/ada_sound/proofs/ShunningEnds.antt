@@ -46,7 +46,7 @@ use Rattle.ada_sound.proofs.Shunning.{CallsFrugal, EndsSpared, Spares, body_shap
 -- A body is frugal and creates no object with controlled parts, where there is one.
 abbrev is_frugal_one : ProgramForm → Option BodyForm → Bool
 is_frugal_one p None = true
-is_frugal_one p (Some b) = is_frugal_body (thrift_of p false) b
+is_frugal_one p (Some b) = is_frugal_body (thrift_of p) b
 
 -- A procedure is so, and it frees and follows no value of an access type.
 abbrev is_shunning : ProgramForm → (access procedure : ℕ) → Bool
@@ -128,7 +128,7 @@ module _ (p : ProgramForm) (u : ℕ) where
       rw same (rw (ended.0, ended.1) refl)
 
   -- A procedure that is told to be frugal has a frugal body, if it has one.
-  told_frugal : (n : ℕ) → slice_index_or (frugal_procedures p false) n false ≡ true → is_frugal_one p (slice_get p.bodies n) ≡ true
+  told_frugal : (n : ℕ) → slice_index_or (frugal_procedures p) n false ≡ true → is_frugal_one p (slice_get p.bodies n) ≡ true
   told_frugal n told = by (slice_get p.bodies n) refl
     where
       by : (found : Option BodyForm) → slice_get p.bodies n ≡ found → is_frugal_one p found ≡ true
@@ -189,8 +189,8 @@ module _ (program : Program) (well : IsWellFormed (program_form program)) (uses 
       finalizing : Treatment
       finalizing = ends (Freeing number)
 
-      as_used : (b : BodyForm) → IsUsedAs p of number finalizing b → is_frugal_body (thrift_of p false) b ≡ true
-      as_used b (inl (plain, lets)) = frugal_body (thrift_of p false) p.types b plain.plain
+      as_used : (b : BodyForm) → IsUsedAs p of number finalizing b → is_frugal_body (thrift_of p) b ≡ true
+      as_used b (inl (plain, lets)) = frugal_body (thrift_of p) p.types b plain.plain
       as_used b (inr (inl (may, enabled, frugal, stores))) = frugal
       as_used b (inr (inr (copies, tracks, own))) = absurd copies
 
@@ -282,7 +282,7 @@ module _ (program : Program) (well : IsWellFormed (program_form program)) (uses 
     all_apart = unused_apart p (λ t. u == t) apart unused program.types.items well shaped
 
   -- Such a body has the shape of bodies that shun types, whatever it uses, and so have all that it calls, and the operations of what it frees.
-  module _ (number : ℕ) (b : BodyForm) (there : slice_get p.bodies number ≡ Some b) (frugal : is_frugal_body (thrift_of p false) b ≡ true) where
+  module _ (number : ℕ) (b : BodyForm) (there : slice_get p.bodies number ≡ Some b) (frugal : is_frugal_body (thrift_of p) b ≡ true) where
     -- No type has the number behind the last one: so nothing is a use of it.
     none_used : (d : Deed) → is_deed_of p d ≡ nat_lt (length p.types) (length p.types) → does_by p d (calling number) ≡ false
     none_used d same =
@@ -313,7 +313,7 @@ finalize_shuns program well uses access of part number u b operable overrides th
 -- operations of what it frees.
 pub body_is_shaped :
     (program : Program) → IsWellFormed (program_form program) → operations_may_be_called (program_form program) ≡ true → (number : ℕ) (b : BodyForm)
-    → slice_get (body_forms program) number ≡ Some b → is_frugal_body (thrift_of (program_form program) false) b ≡ true
+    → slice_get (body_forms program) number ≡ Some b → is_frugal_body (thrift_of (program_form program)) b ≡ true
     → (apart : Apart) × AreApart (program_form program) program.types.items (λ t. false) apart
     × (body_shuns (program_form program).types (λ t. false) apart b ≡ true)
 body_is_shaped = own_shaped

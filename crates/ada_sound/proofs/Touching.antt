@@ -31,10 +31,11 @@ use Rattle.ada_typed.proofs.Kept.{behind_call}
 use Rattle.ada_sound.proofs.Bodies.{IsBody}
 use Rattle.ada_sound.proofs.Callers.{Suspension, known_in, Stands, callers_of}
 use Rattle.ada_sound.proofs.Fits.{Fit, Outsiders, IsPlace, IsRelied, IsSaid, IsUnreferred, component_access, none_spared, outer_hold, outer_value, place_at, Reference, IsReferred}
-use Rattle.ada_sound.proofs.FrugalControl.{FrugalOperated, Frugally, IsInside, Thriftiness, operated_in, thriftiness_of}
+use Rattle.ada_sound.proofs.Allowance.{Allowance, allowance_of}
+use Rattle.ada_sound.proofs.FrugalControl.{FrugalOperated, Frugally, IsInside, operated_in}
 use Rattle.ada_sound.proofs.Held.{FreeIf, holder_if}
 use Rattle.ada_sound.proofs.Invariant.{SparesHolder, body_among, CoveredIn, Control, Rooms, Roomed, GoesTo, MayAwait, RoomFor, RunsOn, Known, IsNewest, Ready, Spares, StartsTo, Unaliased, departs, below, innermost, outers, BeginsWell, CameOut, To, By, ways, IsAwaited, under_in, AssignsWell, IsCopied, LiesAmong, AdjustedBehind, IsCovered, EndsWellBy}
-use Rattle.ada_sound.proofs.Operating.{WaitsFor, IsCalm, lets_out, may_create_in}
+use Rattle.ada_sound.proofs.Operating.{WaitsFor, IsCalm, lets_out}
 use Rattle.ada_sound.proofs.Stored.{Stored}
 use Rattle.ada_sound.specs.Agreement.{running_procedure}
 use Rattle.ada_finalized.specs.Law.{NothingBegins}
@@ -284,14 +285,15 @@ IsSpared known (ends cause) o access heap (Some w) =
     × (is_access known.program.types w.is.cell.access ≡ true → known.implicit.end_reaches access w.is.cell.access ≡ false)
 
 -- What is watched, if something is, is there as it was; and the bodies that run in front of this, of procedures among some that neither follow nor free values
--- of its type, if that is an access type, refer to nothing in it, and the operations of what they free are such procedures.
-abbrev pub Watched : Program → (watch : Option Watch) → (behind : Control) → State → Type 0
-Watched program None behind s = Unit {0}
-Watched program (Some w) behind s =
+-- of its type, if that is an access type, refer to nothing in it, and the operations of what they free, allocate and declare are such procedures. They run in
+-- masters of their own, behind these.
+abbrev pub Watched : Program → (watch : Option Watch) → (behind : Control) → (lower : List Master) → State → Type 0
+Watched program None behind lower s = Unit {0}
+Watched program (Some w) behind lower s =
     let p = program_form program in
     (object_at s.heap w.holder ≡ Some w.is)
     × ((apart : Apart) × AreApart p program.types.items (watches p.types (Some w)) apart
-    × IsReaching p (watches p.types (Some w)) apart (is_watched (Some w)) (is_unnamed p.types (Some w)) behind s)
+    × IsReaching p (watches p.types (Some w)) apart (is_watched (Some w)) (is_unnamed p.types (Some w)) behind lower s)
 
 -- What is known where such a body is called: what waits for it, whether the object is held, which is in hand then, and what it may free, of which there is no
 -- alias. That is no other object to which the activation that waits refers.
@@ -376,8 +378,7 @@ pub record Pause (program : Program) (depth : ℕ) (s : State) : Type 0 where
   pub computed : operands_of (drop (suc depth) s.activations) ≡ operands
   pub held : Bool
   pub watch : Option Watch
-  pub still : Watched program watch behind s
-  pub at_end : (w : Watch) → watch ≡ Some w → may_create_in treatment ≡ false
+  pub still : Watched program watch behind lower s
   pub rests : Rests (known_in program procedure suspensions) treatment held watch object access home places operands also after lower rooms holds
   pub lets : (e : Exception) → body_among (implicit_of (program_form program)) (seen_in (Some number) (program_form program)) e ≡ true → lets_out (implicit_of (program_form program)) access treatment e ≡ true
 
@@ -395,11 +396,10 @@ operated_among [] = []
 operated_among (g ∷ gs) = operated_in g.control ++ operated_among gs
 
 -- In what the outermost operation has called so far, by what bodies go, what is left to do behind it, and the masters that were entered before it.
-module _ (program : Program) (s : State) (frugal : Thriftiness) (back : Control) (lower : List Master) where
+module _ (program : Program) (s : State) (frugal : Allowance) (back : Control) (lower : List Master) where
   -- An activation waits, in front of these, for the operation of an object that it frees, allocates or declares, or that is undone, whose body is this one
-  -- (7.6, 7.6.1, 4.8, 3.3.1, 13.11.2) and may create objects itself or not: behind that its own body goes on, which may or not, in masters of its own, in which
-  -- operations of these objects run.
-  pub record IsOperation (running : Option ℕ) (objects outer : Bool) (depth : ℕ) (others : List Suspension) (among : List Value) (g : Suspension) : Type 0 where
+  -- (7.6, 7.6.1, 4.8, 3.3.1, 13.11.2): behind that its own body goes on, in masters of its own, in which operations of these objects run.
+  pub record IsOperation (running : Option ℕ) (depth : ℕ) (others : List Suspension) (among : List Value) (g : Suspension) : Type 0 where
     pub pause : Pause program depth s
     pub is : g ≡ origin program depth s pause
     pub behind_it : others ≡ pause.suspensions
@@ -407,26 +407,25 @@ module _ (program : Program) (s : State) (frugal : Thriftiness) (back : Control)
     pub inside : IsInside pause.treatment
     pub upper : List Master
     pub masters : pause.lower ≡ upper ++ lower
-    pub leads : FrugalOperated frugal objects outer back (operated_in pause.behind ++ among) pause.behind upper
+    pub leads : FrugalOperated frugal back (operated_in pause.behind ++ among) pause.behind upper
 
-  -- These activations wait, in front of others, the nearest one first, for calls or for such operations: the first one for the body that runs, which may create
-  -- objects or not, and the last one is the body of the outermost operation, if none waits, that is the one that runs.
-  abbrev pub AreInner : (running : Option ℕ) → (objects : Bool) → (depth : ℕ) → (outermost : Option ℕ) → (others : List Suspension) → List Suspension → Type 0
-  AreInner running objects depth outermost others [] = (running ≡ outermost) × (objects ≡ frugal.last)
-  AreInner running objects depth outermost others (g ∷ inner) =
-      (IsCall g × AreInner g.procedure objects (suc depth) outermost others inner)
-      ⊎ ((outer : Bool) × IsOperation running objects outer depth (inner ++ others) (operated_among inner) g × AreInner g.procedure outer (suc depth) outermost others inner)
+  -- These activations wait, in front of others, the nearest one first, for calls or for such operations: the first one for the body that runs, and the last one
+  -- is the body of the outermost operation; if none waits, that is the one that runs.
+  abbrev pub AreInner : (running : Option ℕ) → (depth : ℕ) → (outermost : Option ℕ) → (others : List Suspension) → List Suspension → Type 0
+  AreInner running depth outermost others [] = (running ≡ outermost)
+  AreInner running depth outermost others (g ∷ inner) =
+      (IsCall g × AreInner g.procedure (suc depth) outermost others inner)
+      ⊎ (IsOperation running depth (inner ++ others) (operated_among inner) g × AreInner g.procedure (suc depth) outermost others inner)
 
 -- An operation that touches storage is under way: `inner` are the activations that wait since then, the nearest one first; and behind the outermost operation
 -- none runs.
 pub record Within (program : Program) (gs : List Suspension) (s : State) : Type 0 where
   pub inner : List Suspension
-  pub objects : Bool
   pub outermost : Pause program (length inner) s
   pub are : gs ≡ inner ++ origin program (length inner) s outermost ∷ outermost.suspensions
-  pub within : AreInner program s (thriftiness_of (program_form program) (may_create_in outermost.treatment)) outermost.behind outermost.lower (running_procedure s) objects 0
+  pub within : AreInner program s (allowance_of (program_form program)) outermost.behind outermost.lower (running_procedure s) 0
       (Some outermost.number) (origin program (length inner) s outermost ∷ outermost.suspensions) inner
-  pub frugal : Frugally (thriftiness_of (program_form program) (may_create_in outermost.treatment)) outermost.lower objects outermost.behind (operated_among inner) s
+  pub frugal : Frugally (allowance_of (program_form program)) outermost.lower outermost.behind (operated_among inner) s
   pub untreated : (v : Value) → v ≢ Names outermost.object → NothingBegins v outermost.after
   pub calm : IsCalm (behind_call outermost.behind)
   pub settled : under_in (callers_of program outermost.suspensions) ≡ []

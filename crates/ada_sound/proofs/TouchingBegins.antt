@@ -69,7 +69,7 @@ pub record Begun (program : Program) (gs : List Suspension) (treatment : Treatme
   pub ready : Ready (known_in program (running_procedure after) (origin program 0 after pause ∷ gs)) after
   pub stands : Stands program (origin program 0 after pause ∷ gs) after
   pub runs : running_procedure after ≡ Some pause.number
-  pub frugal : is_frugal_body (thrift_of (program_form program) (may_create_in treatment)) pause.is_body.0 ≡ true
+  pub frugal : is_frugal_body (thrift_of (program_form program)) pause.is_body.0 ≡ true
   pub before : State
   pub is : after ≡ operating named pause.number pause.is_body.0 (Part pause.object pause.place) behind before
   pub masters : before.masters ≡ lower
@@ -112,7 +112,7 @@ referred_split (r ∷ first) others o t (inl same) = inl (inl same)
 referred_split (r ∷ first) others o t (inr is) = elim (referred_split first others o t is) [ inl one ↦ inl (inr one) | inr other ↦ inr other ]
 
 module _ (program : Program) (well : IsWellFormed (program_form program)) (obeys : Obeys program) (number : ℕ) (apart : is_tracker (program_form program) number ≡ false) (b : BodyForm) (there : slice_get (body_forms program) number ≡ Some b) (lone : IsAlone b) (a : Activation Value) (rest : List (Activation Value)) (gs : List Suspension) (s : State) (k : Control) (o : Id) (x : Object) (heap : List Object) (found : object_at heap o ≡ Some x) (exists : is_there x.stage ≡ true) (place : Place)
-    (within : IsWithin (program_form program).types (variable_kind b.variables 0) x.cell.access place.component) (treatment : Treatment) (frugal : is_frugal_body (thrift_of (program_form program) (may_create_in treatment)) b ≡ true) (spares_own : SparesOwn program) (at : Enters (known_in program a.procedure gs) treatment o x k heap a.places a.operands s.masters) (behind : Control) where
+    (within : IsWithin (program_form program).types (variable_kind b.variables 0) x.cell.access place.component) (treatment : Treatment) (frugal : is_frugal_body (thrift_of (program_form program)) b ≡ true) (spares_own : SparesOwn program) (at : Enters (known_in program a.procedure gs) treatment o x k heap a.places a.operands s.masters) (behind : Control) where
   abbrev p : ProgramForm
   p = program_form program
 

@@ -16,7 +16,7 @@ use Rattle.ada_typed.proofs.Kept.{behind_call, Each}
 use Rattle.ada_sound.specs.Agreement.{running_procedure}
 use Rattle.ada_sound.proofs.Alters.{Alters}
 use Rattle.ada_sound.proofs.Callers.{Suspension, callers_of, known_in}
-use Rattle.ada_sound.proofs.FrugalControl.{Frugally, GoesFrugally, Thriftiness, thriftiness_of}
+use Rattle.ada_sound.proofs.FrugalControl.{Frugally, GoesFrugally, Allowance, allowance_of}
 use Rattle.ada_sound.proofs.Invariant.{Control, EndsWell, Fine, IsAwaited, Stepped, under_in}
 use Rattle.ada_sound.proofs.Operates.{InOperation}
 use Rattle.ada_sound.proofs.Operating.{InBody, IsCalm, may_create_in}
@@ -82,11 +82,11 @@ module _ (program : Program) (s : State) (f : Touching program s) where
   behind_it = origin program (length w.inner) s outermost ∷ outermost.suspensions
 
   -- What the bodies of these operations go by.
-  abbrev pub thrifty : Thriftiness
-  thrifty = thriftiness_of (program_form program) (may_create_in outermost.treatment)
+  abbrev pub thrifty : Allowance
+  thrifty = allowance_of (program_form program)
 
   -- What waits for operations since then, in a state.
-  abbrev pub InnerIn : State → (running : Option ℕ) → (objects : Bool) → List Suspension → Type 0
+  abbrev pub InnerIn : State → (running : Option ℕ) → → List Suspension → Type 0
   InnerIn after running objects inner = AreInner program after thrifty outermost.behind outermost.lower running objects 0 (Some outermost.number) behind_it inner
 
   -- What is watched is so still.
@@ -97,8 +97,8 @@ module _ (program : Program) (s : State) (f : Touching program s) where
 
   -- Whatever is called from now on, and whoever goes on: the outermost operation is the same.
   pub within_on :
-      (inner : List Suspension) (objects : Bool) (e : Event) (after : State) → InnerIn after (running_procedure after) objects inner
-      → operands_of (drop (suc (length inner)) after.activations) ≡ operands_of (drop (suc (length w.inner)) s.activations) → Frugally thrifty outermost.lower objects outermost.behind (operated_among inner) after
+      (inner : List Suspension) (e : Event) (after : State) → InnerIn after (running_procedure after) objects inner
+      → operands_of (drop (suc (length inner)) after.activations) ≡ operands_of (drop (suc (length w.inner)) s.activations) → Frugally thrifty outermost.lower outermost.behind (operated_among inner) after
       → Watched program outermost.watch outermost.behind after → Alters s.heap e after.heap → Within program (inner ++ behind_it) after
   within_on inner objects e after are same goes still alters = record {
     inner = inner;
@@ -114,8 +114,8 @@ module _ (program : Program) (s : State) (f : Touching program s) where
   }
 
   pub touching_on :
-      (inner : List Suspension) (objects : Bool) (e : Event) (after : State) → InnerIn after (running_procedure after) objects inner
-      → operands_of (drop (suc (length inner)) after.activations) ≡ operands_of (drop (suc (length w.inner)) s.activations) → Frugally thrifty outermost.lower objects outermost.behind (operated_among inner) after
+      (inner : List Suspension) (e : Event) (after : State) → InnerIn after (running_procedure after) objects inner
+      → operands_of (drop (suc (length inner)) after.activations) ≡ operands_of (drop (suc (length w.inner)) s.activations) → Frugally thrifty outermost.lower outermost.behind (operated_among inner) after
       → Watched program outermost.watch outermost.behind after → CrossesTo program (inner ++ behind_it) s.heap e after → InTouching program s.heap e after
   touching_on inner objects e after are same goes still c = record {
     body = record {
@@ -135,7 +135,7 @@ module _ (program : Program) (s : State) (f : Touching program s) where
       (inner_on program s thrifty outermost.behind outermost.lower after e (running_procedure s) w.objects 0 0 (Some outermost.number) behind_it w.inner w.within alters
       (λ n. operands_behind (0 + n) after.activations s.activations same.suspended) still.1)
 
-  pub stays_on : (e : Event) (after : State) → SameBody s after → Stepped (known_in program (running_procedure s) f.suspensions) s.heap e after → Frugally thrifty outermost.lower w.objects outermost.behind (operated_among w.inner) after → Still after → InTouching program s.heap e after
+  pub stays_on : (e : Event) (after : State) → SameBody s after → Stepped (known_in program (running_procedure s) f.suspensions) s.heap e after → Frugally thrifty outermost.lower outermost.behind (operated_among w.inner) after → Still after → InTouching program s.heap e after
   stays_on e after same st goes still =
       touching_on w.inner w.objects e after (inner_stays e after same st.alters still) (operands_behind (length w.inner) after.activations s.activations same.suspended) goes still.0
       (subst (λ (all : List Suspension). CrossesTo program all s.heap e after) w.are (record {
@@ -152,7 +152,7 @@ module _ (program : Program) (s : State) (f : Touching program s) where
 
   -- The body of no operation ends next.
   module _ (grounds : Grounds program s) (on : (k : Control) → IsAwaited k → s.control ≡ Returns [] [] ∷ k → ⊥) where
-    pub none_end : (running : Option ℕ) (objects : Bool) (depth : ℕ) (last : Option ℕ) (others inner : List Suspension) (are : AreInner program s thrifty outermost.behind outermost.lower running objects depth last others inner)
+    pub none_end : (running : Option ℕ) (depth : ℕ) (last : Option ℕ) (others inner : List Suspension) (are : AreInner program s thrifty outermost.behind outermost.lower running objects depth last others inner)
         → AllGoOnInside program f.suspensions s w grounds thrifty outermost.behind outermost.lower running objects depth last others inner are
     none_end running objects depth last others [] are = tt
     none_end running objects depth last others (g ∷ inner) (inl (call, more)) = none_end g.procedure objects (suc depth) last others inner more

@@ -25,7 +25,7 @@ use Rattle.ada_typed.proofs.Kept.{behind_call, Each}
 use Rattle.ada_sound.proofs.Alters.{alters_same}
 use Rattle.ada_sound.proofs.CallBegins.{placed_in}
 use Rattle.ada_sound.proofs.Callers.{Suspension, known_in, Stands, AreOf}
-use Rattle.ada_sound.proofs.FrugalControl.{Frugal, FrugalLeads, MayBegin, Thriftiness, ends_none, frugal_ends, frugal_returns, none_operated, operated_in, operated_on, operated_shorter}
+use Rattle.ada_sound.proofs.FrugalControl.{Frugal, FrugalLeads, MayBegin, Allowance, ends_none, frugal_ends, frugal_returns, none_operated, operated_in, operated_on, operated_shorter}
 use Rattle.ada_sound.proofs.Invariant.{Control, GoesOn, IsAwaited, Ready, Roomed, Rooms, Working, below}
 use Rattle.ada_sound.proofs.Operating.{IsCalm, behind_operation}
 use Rattle.ada_sound.proofs.OperationStarts.{is_awaited}
@@ -40,15 +40,15 @@ use Rattle.ada_sound.proofs.TouchingWatched.{AllGoOnInside, all_watched, idle_wi
 
 -- Where components get something back, that goes on in front.
 storing_leads :
-    (frugal : Thriftiness) (objects : Bool) (behind : Control) (among references : List Value) (k : Control) (ms : List Master) → FrugalLeads frugal objects behind among k ms
-    → FrugalLeads frugal objects behind among (storing named references k) ms
+    (frugal : Allowance) (behind : Control) (among references : List Value) (k : Control) (ms : List Master) → FrugalLeads frugal behind among k ms
+    → FrugalLeads frugal behind among (storing named references k) ms
 storing_leads frugal objects behind among [] k ms q = q
 storing_leads frugal objects behind among (v ∷ vs) k ms q = (tt, storing_leads frugal objects behind among vs k ms q)
 
 -- Behind the end of a body that was called, the body goes on that called it.
 back_frugal :
-    (frugal : Thriftiness) (objects : Bool) (behind : Control) (among : List Value) (mode : Mode) (references : List Value) (k : Control) (ms : List Master)
-    → FrugalLeads frugal objects behind among k ms → Frugal frugal objects behind among (behind_mode mode) (behind_frames mode references k) ms
+    (frugal : Allowance) (behind : Control) (among : List Value) (mode : Mode) (references : List Value) (k : Control) (ms : List Master)
+    → FrugalLeads frugal behind among k ms → Frugal frugal behind among (behind_mode mode) (behind_frames mode references k) ms
 back_frugal frugal objects behind among Running references k ms q = inl (storing_leads frugal objects behind among references k ms q)
 back_frugal frugal objects behind among (Raising e) references k ms q = inl q
 back_frugal frugal objects behind among Exiting references k ms q = inl q
@@ -133,10 +133,10 @@ module _ (program : Program) (a : Activation Value) (k : Control) (s : State) (m
       abbrev operation : Pause program (length f.within.inner) ending
       operation = outermost program ending f
 
-      abbrev frugal : Thriftiness
+      abbrev frugal : Allowance
       frugal = thrifty program ending f
 
-      abbrev Inner : (running : Option ℕ) (objects : Bool) (depth : ℕ) → List Suspension → Type 0
+      abbrev Inner : (running : Option ℕ) (depth : ℕ) → List Suspension → Type 0
       Inner running objects depth inner = AreInner program ending frugal operation.behind operation.lower running objects depth (Some operation.number) waiting inner
 
       -- What is watched behind the end.
@@ -145,7 +145,7 @@ module _ (program : Program) (a : Activation Value) (k : Control) (s : State) (m
           subst (Each (Watched program operation.watch operation.behind)) is (watched_stays program f.suspensions ending f.within grounds operation.watch operation.behind
           (λ x known. idle_within program f.suspensions ending f.within (operation.at_end x known)) operation.still on)
 
-      inner_watched : (running : Option ℕ) (objects : Bool) (depth : ℕ) (inner : List Suspension) → (objects ≡ false → f.within.objects ≡ false)
+      inner_watched : (running : Option ℕ) (depth : ℕ) (inner : List Suspension) → (objects ≡ false → f.within.objects ≡ false)
           → (are : Inner running objects depth inner)
           → AllGoOnInside program f.suspensions ending f.within grounds frugal operation.behind operation.lower running objects depth (Some operation.number) waiting inner are
           → AllWatched program ending frugal operation.behind operation.lower back running objects depth (Some operation.number) waiting inner are
@@ -165,9 +165,9 @@ module _ (program : Program) (a : Activation Value) (k : Control) (s : State) (m
           by Returning never = never
 
       -- That of the operation of an object that is freed, undone, allocated or declared, or whose master is left: what is left of its treatment goes on.
-      module _ (g : Suspension) (gs : List Suspension) (outer : Bool) (o : IsOperation program ending frugal operation.behind operation.lower a.procedure f.within.objects outer 0 (gs ++ waiting) (operated_among gs) g) where
+      module _ (g : Suspension) (gs : List Suspension) (o : IsOperation program ending frugal operation.behind operation.lower a.procedure f.within.objects outer 0 (gs ++ waiting) (operated_among gs) g) where
         -- The operations further out are those of other objects, so that their ends are not next.
-        ends_other : (running : Option ℕ) (objects : Bool) (depth : ℕ) (inner : List Suspension) (are : Inner running objects depth inner) → k ≡ o.pause.behind
+        ends_other : (running : Option ℕ) (depth : ℕ) (inner : List Suspension) (are : Inner running objects depth inner) → k ≡ o.pause.behind
             → (IsAmong (Names o.pause.object) (operated_among inner) → ⊥)
             → AllGoOnInside program f.suspensions ending f.within grounds frugal operation.behind operation.lower running objects depth (Some operation.number) waiting inner are
         ends_other running objects depth [] are at other = tt
@@ -240,7 +240,7 @@ module _ (program : Program) (a : Activation Value) (k : Control) (s : State) (m
           let watched = inner_watched g.procedure objects (suc 0) gs (λ idle. idle) more (none_end program ending f grounds on g.procedure objects (suc 0) (Some operation.number) waiting gs more) in
           let among : operated_among f.within.inner ≡ operated_among gs =
           ap operated_among inner_is ∙ ap (λ (vs : List Value). vs ++ operated_among gs) (none_operated g.control call.0) in
-          let leads = subst (λ (vs : List Value). FrugalLeads frugal objects operation.behind vs k f.within.frugal.upper) among
+          let leads = subst (λ (vs : List Value). FrugalLeads frugal operation.behind vs k f.within.frugal.upper) among
           (frugal_returns frugal objects operation.behind (operated_among f.within.inner) mode actuals references k f.within.frugal.upper awaits none f.within.frugal.frugally) in
           let c = left_to program a actuals references k s mode b rest g (gs ++ waiting) (restand (b ∷ rest) (g ∷ gs ++ waiting) stands) none placed w in
           let are = inner_on program ending frugal operation.behind operation.lower back Quiet g.procedure objects (suc 0) 0 (Some operation.number) waiting gs more c.stepped.alters

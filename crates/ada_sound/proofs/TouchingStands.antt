@@ -36,7 +36,7 @@ use Rattle.ada_sound.proofs.Callers.{Suspension, callers_of, known_in, Stands}
 use Rattle.ada_scopes.specs.Scopes.{is_innermost}
 use Rattle.ada_sound.proofs.Fits.{IsReferred, Reference, referred_behind, referred_first}
 use Rattle.ada_sound.proofs.FreesCovered.{frees_among}
-use Rattle.ada_sound.proofs.FrugalControl.{Frugal, FrugalLeads, FrugalLeaves, FrugalOperated, Thriftiness, begins_first, none_operated, operated_in, thriftiness_of}
+use Rattle.ada_sound.proofs.FrugalControl.{Frugal, FrugalLeads, FrugalLeaves, FrugalOperated, Allowance, begins_first, none_operated, operated_in, allowance_of}
 use Rattle.ada_sound.proofs.FrugalFrees.{LeftAlone}
 use Rattle.ada_sound.proofs.Leavings.{NamedBelow}
 use Rattle.ada_sound.proofs.Grounds.{Grounds, may_free}
@@ -60,12 +60,12 @@ pub later_among : (v : Value) (vs ws : List Value) → IsAmong v ws → IsAmong 
 later_among v [] ws later = later
 later_among v (w ∷ vs) ws later = inr (later_among v vs ws later)
 
-module _ (frugal : Thriftiness) where
+module _ (frugal : Allowance) where
   mutual
     -- In front of the end of a frugal body, nothing begins but the objects whose operations run inside: what is treated there is finalized.
     leads_begin :
-        (objects : Bool) (v : Value) (behind : Control) (among : List Value) (k : Control) (ms : List Master) → (IsAmong v among → ⊥) → NothingBegins v behind
-        → FrugalLeads frugal objects behind among k ms → NothingBegins v k
+        (v : Value) (behind : Control) (among : List Value) (k : Control) (ms : List Master) → (IsAmong v among → ⊥) → NothingBegins v behind
+        → FrugalLeads frugal behind among k ms → NothingBegins v k
     leads_begin objects v behind among [] ms apart none q = absurd q
     leads_begin objects v behind among (frame.Returns actuals references ∷ k) ms apart none (inl q) = subst (NothingBegins v) (sym q.2) none
     leads_begin objects v behind among (frame.Returns actuals references ∷ k) ms apart none (inr (inl q)) = leads_begin objects v behind among k ms apart none q
@@ -83,8 +83,8 @@ module _ (frugal : Thriftiness) where
 
     -- So it is while a master is left.
     leaves_begin :
-        (objects : Bool) (v : Value) (behind : Control) (among : List Value) (k : Control) (ms : List Master) → (IsAmong v among → ⊥) → NothingBegins v behind
-        → FrugalLeaves frugal objects behind among k ms → NothingBegins v k
+        (v : Value) (behind : Control) (among : List Value) (k : Control) (ms : List Master) → (IsAmong v among → ⊥) → NothingBegins v behind
+        → FrugalLeaves frugal behind among k ms → NothingBegins v k
     leaves_begin objects v behind among [] ms apart none q = absurd q
     leaves_begin objects v behind among (frame.Leaves left ∷ k) [] apart none q = absurd q
     leaves_begin objects v behind among (frame.Leaves left ∷ k) (m ∷ ms) apart none q = leads_begin objects v behind among k ms apart none q.1
@@ -96,8 +96,8 @@ module _ (frugal : Thriftiness) where
     leaves_begin objects v behind among (f ∷ k) ms apart none q = absurd q
 
     operated_begin :
-        (objects outer : Bool) (v : Value) (behind : Control) (among : List Value) (k : Control) (ms : List Master) → (IsAmong v among → ⊥) → NothingBegins v behind
-        → FrugalOperated frugal objects outer behind among k ms → NothingBegins v k
+        (v : Value) (behind : Control) (among : List Value) (k : Control) (ms : List Master) → (IsAmong v among → ⊥) → NothingBegins v behind
+        → FrugalOperated frugal behind among k ms → NothingBegins v k
     operated_begin objects outer v behind among [] ms apart none q = absurd q
     operated_begin objects outer v behind among (frame.Confines ∷ k) ms apart none (vs, is, idle, inl (ending, q)) =
         leads_begin outer v behind vs k ms (λ later. apart (subst (IsAmong v) (sym is) (inr later))) none q
@@ -110,8 +110,8 @@ module _ (frugal : Thriftiness) where
     operated_begin objects outer v behind among (f ∷ k) ms apart none q = absurd q
 
   frugal_begin :
-      (objects : Bool) (v : Value) (behind : Control) (among : List Value) (mode : Mode) (k : Control) (ms : List Master) → begins_first k ≡ false → (IsAmong v among → ⊥)
-      → NothingBegins v behind → Frugal frugal objects behind among mode k ms → NothingBegins v k
+      (v : Value) (behind : Control) (among : List Value) (mode : Mode) (k : Control) (ms : List Master) → begins_first k ≡ false → (IsAmong v among → ⊥)
+      → NothingBegins v behind → Frugal frugal behind among mode k ms → NothingBegins v k
   frugal_begin objects v behind among mode k ms other apart none (inl q) = leads_begin objects v behind among k ms apart none q
   frugal_begin objects v behind among mode k ms other apart none (inr (inl leaving)) = leaves_begin objects v behind among k ms apart none leaving.1
   frugal_begin objects v behind among mode [] ms other apart none (inr (inr beginning)) = absurd beginning.1
@@ -122,7 +122,7 @@ module _ (frugal : Thriftiness) where
   mutual
     -- Where no operation of an object runs, none does behind that end.
     leads_alone :
-        (objects : Bool) (v : Value) (behind : Control) (among : List Value) (k : Control) (ms : List Master) → NoOperationRunsOn v k → FrugalLeads frugal objects behind among k ms
+        (v : Value) (behind : Control) (among : List Value) (k : Control) (ms : List Master) → NoOperationRunsOn v k → FrugalLeads frugal behind among k ms
         → NoOperationRunsOn v behind
     leads_alone objects v behind among [] ms none q = absurd q
     leads_alone objects v behind among (frame.Returns actuals references ∷ k) ms none (inl q) = subst (NoOperationRunsOn v) q.2 none
@@ -139,7 +139,7 @@ module _ (frugal : Thriftiness) where
     leads_alone objects v behind among (f ∷ k) ms none q = leads_alone objects v behind among k ms none q.1
 
     leaves_alone :
-        (objects : Bool) (v : Value) (behind : Control) (among : List Value) (k : Control) (ms : List Master) → NoOperationRunsOn v k → FrugalLeaves frugal objects behind among k ms
+        (v : Value) (behind : Control) (among : List Value) (k : Control) (ms : List Master) → NoOperationRunsOn v k → FrugalLeaves frugal behind among k ms
         → NoOperationRunsOn v behind
     leaves_alone objects v behind among [] ms none q = absurd q
     leaves_alone objects v behind among (frame.Leaves left ∷ k) [] none q = absurd q
@@ -151,8 +151,8 @@ module _ (frugal : Thriftiness) where
     leaves_alone objects v behind among (f ∷ k) ms none q = absurd q
 
     operated_alone :
-        (objects outer : Bool) (v : Value) (behind : Control) (among : List Value) (k : Control) (ms : List Master) → NoOperationRunsOn v k
-        → FrugalOperated frugal objects outer behind among k ms → NoOperationRunsOn v behind
+        (v : Value) (behind : Control) (among : List Value) (k : Control) (ms : List Master) → NoOperationRunsOn v k
+        → FrugalOperated frugal behind among k ms → NoOperationRunsOn v behind
     operated_alone objects outer v behind among [] ms none q = absurd q
     operated_alone objects outer v behind among (frame.Confines ∷ k) ms none (vs, is, idle, inl (ending, q)) = leads_alone outer v behind vs k ms none.1 q
     operated_alone objects outer v behind among (frame.Confines ∷ k) ms none (vs, is, idle, inr (ending, q)) = leaves_alone outer v behind vs k ms none.1 q
@@ -162,7 +162,7 @@ module _ (frugal : Thriftiness) where
   mutual
     -- An operation runs of each of the objects whose operations run inside.
     pub operated_runs :
-        (objects : Bool) (v : Value) (behind : Control) (among : List Value) (k : Control) (ms : List Master) → IsAmong v among → FrugalLeads frugal objects behind among k ms
+        (v : Value) (behind : Control) (among : List Value) (k : Control) (ms : List Master) → IsAmong v among → FrugalLeads frugal behind among k ms
         → NoOperationRunsOn v k → ⊥
     operated_runs objects v behind among [] ms is q none = q
     operated_runs objects v behind among (frame.Returns actuals references ∷ k) ms is (inl q) none = subst (IsAmong v) q.3 is
@@ -179,7 +179,7 @@ module _ (frugal : Thriftiness) where
     operated_runs objects v behind among (f ∷ k) ms is q none = operated_runs objects v behind among k ms is q.1 none
 
     pub leaving_runs :
-        (objects : Bool) (v : Value) (behind : Control) (among : List Value) (k : Control) (ms : List Master) → IsAmong v among → FrugalLeaves frugal objects behind among k ms
+        (v : Value) (behind : Control) (among : List Value) (k : Control) (ms : List Master) → IsAmong v among → FrugalLeaves frugal behind among k ms
         → NoOperationRunsOn v k → ⊥
     leaving_runs objects v behind among [] ms is q none = q
     leaving_runs objects v behind among (frame.Leaves left ∷ k) [] is q none = q
@@ -191,8 +191,8 @@ module _ (frugal : Thriftiness) where
     leaving_runs objects v behind among (f ∷ k) ms is q none = q
 
     operation_runs :
-        (objects outer : Bool) (v : Value) (behind : Control) (among : List Value) (k : Control) (ms : List Master) → IsAmong v among
-        → FrugalOperated frugal objects outer behind among k ms → NoOperationRunsOn v k → ⊥
+        (v : Value) (behind : Control) (among : List Value) (k : Control) (ms : List Master) → IsAmong v among
+        → FrugalOperated frugal behind among k ms → NoOperationRunsOn v k → ⊥
     operation_runs objects outer v behind among [] ms is q none = q
     operation_runs objects outer v behind among (frame.Confines ∷ k) ms is (vs, same, idle, inl (ending, q)) none =
         elim (subst (IsAmong v) same is) [ inl first ↦ none.0 (sym first) | inr later ↦ operated_runs outer v behind vs k ms later q none.1 ]
@@ -204,29 +204,29 @@ module _ (frugal : Thriftiness) where
 
   -- The object whose operation comes to its end in front of this is none of those whose operations run behind that.
   pub operated_once :
-      (objects outer : Bool) (v : Value) (behind : Control) (vs : List Value) (k : Control) (ms : List Master) → operated_in k ≡ v ∷ []
-      → FrugalOperated frugal objects outer behind (operated_in k ++ vs) k ms → IsAmong v vs → ⊥
+      (v : Value) (behind : Control) (vs : List Value) (k : Control) (ms : List Master) → operated_in k ≡ v ∷ []
+      → FrugalOperated frugal behind (operated_in k ++ vs) k ms → IsAmong v vs → ⊥
   operated_once objects outer v behind vs [] ms first q among = q
   operated_once objects outer v behind vs (frame.Confines ∷ k) ms first (ws, is, idle, inl (ending, q)) among =
       let one : finalized_before k ≡ v = cc first in
       let same : vs ≡ ws = cc is in
-      operated_runs outer v behind vs k ms among (subst (λ (us : List Value). FrugalLeads frugal outer behind us k ms) (sym same) q)
+      operated_runs outer v behind vs k ms among (subst (λ (us : List Value). FrugalLeads frugal behind us k ms) (sym same) q)
       (subst (λ (w : Value). NoOperationRunsOn w k) one ending.1)
   operated_once objects outer v behind vs (frame.Confines ∷ k) ms first (ws, is, idle, inr (ending, q)) among =
       let one : finalized_before k ≡ v = cc first in
       let same : vs ≡ ws = cc is in
-      leaving_runs outer v behind vs k ms among (subst (λ (us : List Value). FrugalLeaves frugal outer behind us k ms) (sym same) q)
+      leaving_runs outer v behind vs k ms among (subst (λ (us : List Value). FrugalLeaves frugal behind us k ms) (sym same) q)
       (subst (λ (w : Value). NoOperationRunsOn w k) one ending.1)
   operated_once objects outer v behind vs (frame.Awaits w by done of part tasks ∷ k) ms first (ws, is, creates, may, beginning, q) among =
       let one : w ≡ v = cc first in
       let same : vs ≡ ws = cc is in
-      operated_runs outer v behind vs k ms among (subst (λ (us : List Value). FrugalLeads frugal outer behind us k ms) (sym same) q)
+      operated_runs outer v behind vs k ms among (subst (λ (us : List Value). FrugalLeads frugal behind us k ms) (sym same) q)
       (subst (λ (u : Value). NoOperationRunsOn u k) one beginning.2)
   operated_once objects outer v behind vs (f ∷ k) ms first q among = q
 
   mutual
     -- Where no operation runs behind the call of the running body, none does behind that end.
-    leads_calm : (objects : Bool) (behind : Control) (among : List Value) (k : Control) (ms : List Master) → NoOperationRuns k → FrugalLeads frugal objects behind among k ms → NoOperationRuns behind
+    leads_calm : (behind : Control) (among : List Value) (k : Control) (ms : List Master) → NoOperationRuns k → FrugalLeads frugal behind among k ms → NoOperationRuns behind
     leads_calm objects behind among [] ms none q = absurd q
     leads_calm objects behind among (frame.Returns actuals references ∷ k) ms none (inl q) = subst NoOperationRuns q.2 none.1
     leads_calm objects behind among (frame.Returns actuals references ∷ k) ms none (inr (inl q)) = leads_calm objects behind among k ms none.1 q
@@ -239,7 +239,7 @@ module _ (frugal : Thriftiness) where
     leads_calm objects behind among (frame.Declares x ∷ k) (m ∷ ms) none q = leads_calm objects behind among k (m ∷ ms) none.1 q.1
     leads_calm objects behind among (f ∷ k) ms none q = leads_calm objects behind among k ms none.1 q.1
 
-    leaves_calm : (objects : Bool) (behind : Control) (among : List Value) (k : Control) (ms : List Master) → NoOperationRuns k → FrugalLeaves frugal objects behind among k ms → NoOperationRuns behind
+    leaves_calm : (behind : Control) (among : List Value) (k : Control) (ms : List Master) → NoOperationRuns k → FrugalLeaves frugal behind among k ms → NoOperationRuns behind
     leaves_calm objects behind among [] ms none q = absurd q
     leaves_calm objects behind among (frame.Leaves left ∷ k) [] none q = absurd q
     leaves_calm objects behind among (frame.Leaves left ∷ k) (m ∷ ms) none q = leads_calm objects behind among k ms none.1 q.1
@@ -250,7 +250,7 @@ module _ (frugal : Thriftiness) where
     leaves_calm objects behind among (f ∷ k) ms none q = absurd q
 
     operated_calm :
-        (objects outer : Bool) (behind : Control) (among : List Value) (k : Control) (ms : List Master) → NoOperationRuns k → FrugalOperated frugal objects outer behind among k ms
+        (behind : Control) (among : List Value) (k : Control) (ms : List Master) → NoOperationRuns k → FrugalOperated frugal behind among k ms
         → NoOperationRuns behind
     operated_calm objects outer behind among [] ms none q = absurd q
     operated_calm objects outer behind among (frame.Confines ∷ k) ms none (vs, is, idle, inl (ending, q)) = leads_calm outer behind vs k ms none.1 q
@@ -259,7 +259,7 @@ module _ (frugal : Thriftiness) where
     operated_calm objects outer behind among (f ∷ k) ms none q = absurd q
 
   pub leads_calm_behind :
-      (objects : Bool) (behind : Control) (among : List Value) (k : Control) (ms : List Master) → IsCalm (behind_call k) → FrugalLeads frugal objects behind among k ms → NoOperationRuns behind
+      (behind : Control) (among : List Value) (k : Control) (ms : List Master) → IsCalm (behind_call k) → FrugalLeads frugal behind among k ms → NoOperationRuns behind
   leads_calm_behind objects behind among [] ms calm q = absurd q
   leads_calm_behind objects behind among (frame.Returns actuals references ∷ k) ms calm (inl q) = subst NoOperationRuns q.2 calm
   leads_calm_behind objects behind among (frame.Returns actuals references ∷ k) ms calm (inr (inl q)) = leads_calm objects behind among k ms calm q
@@ -273,7 +273,7 @@ module _ (frugal : Thriftiness) where
   leads_calm_behind objects behind among (f ∷ k) ms calm q = leads_calm_behind objects behind among k ms calm q.1
 
   pub leaves_calm_behind :
-      (objects : Bool) (behind : Control) (among : List Value) (k : Control) (ms : List Master) → IsCalm (behind_call k) → FrugalLeaves frugal objects behind among k ms → NoOperationRuns behind
+      (behind : Control) (among : List Value) (k : Control) (ms : List Master) → IsCalm (behind_call k) → FrugalLeaves frugal behind among k ms → NoOperationRuns behind
   leaves_calm_behind objects behind among [] ms calm q = absurd q
   leaves_calm_behind objects behind among (frame.Leaves left ∷ k) [] calm q = absurd q
   leaves_calm_behind objects behind among (frame.Leaves left ∷ k) (m ∷ ms) calm q = leads_calm_behind objects behind among k ms calm q.1
@@ -284,7 +284,7 @@ module _ (frugal : Thriftiness) where
   leaves_calm_behind objects behind among (f ∷ k) ms calm q = absurd q
 
   pub frugal_calm :
-      (objects : Bool) (behind : Control) (among : List Value) (mode : Mode) (k : Control) (ms : List Master) → IsCalm (behind_call k) → Frugal frugal objects behind among mode k ms
+      (behind : Control) (among : List Value) (mode : Mode) (k : Control) (ms : List Master) → IsCalm (behind_call k) → Frugal frugal behind among mode k ms
       → NoOperationRuns behind
   frugal_calm objects behind among mode k ms calm (inl q) = leads_calm_behind objects behind among k ms calm q
   frugal_calm objects behind among mode k ms calm (inr (inl leaving)) = leaves_calm_behind objects behind among k ms calm leaving.1
@@ -404,10 +404,10 @@ module _ (program : Program) (spares : SparesOwn program) (s : State) where
   treated_is (ends (Undoing number)) object o (inl same) = same
   treated_is (ends (Undoing number)) object o (inr none) = absurd none
 
-  module _ (frugal : Thriftiness) (back : Control) (lower : List Master) where
+  module _ (frugal : Allowance) (back : Control) (lower : List Master) where
     -- What the running body may free, that of the outermost operation may free.
     pub covers_outermost :
-        (procedure : Option ℕ) (objects : Bool) (depth number : ℕ) (others inner : List Suspension) → AreInner program s frugal back lower procedure objects depth (Some number) others inner
+        (procedure : Option ℕ) (depth number : ℕ) (others inner : List Suspension) → AreInner program s frugal back lower procedure objects depth (Some number) others inner
         → AllWait (implicit_of p) (seen_in procedure p) (callers_of program (inner ++ others)) → (t : ℕ) → Covers procedure t → Covers (Some number) t
     covers_outermost procedure objects depth number others [] w waits t covered = subst (λ (own : Option ℕ). Covers own t) w.0 covered
     covers_outermost procedure objects depth number others (g ∷ inner) (inl (call, more)) waits t covered =
@@ -417,7 +417,7 @@ module _ (program : Program) (spares : SparesOwn program) (s : State) where
 
     -- No object under way in the activations that wait is one that the running body may free, if none is in those behind them.
     pub none_in :
-        (procedure : Option ℕ) (objects : Bool) (depth number : ℕ) (others inner : List Suspension) → AreInner program s frugal back lower procedure objects depth (Some number) others inner
+        (procedure : Option ℕ) (depth number : ℕ) (others inner : List Suspension) → AreInner program s frugal back lower procedure objects depth (Some number) others inner
         → AllWait (implicit_of p) (seen_in procedure p) (callers_of program (inner ++ others)) → (o : Id) (x : Object) → object_at s.heap o ≡ Some x → is_access p.types x.cell.access ≡ true
         → Covers procedure x.cell.access → (Covers (Some number) x.cell.access → IsUnder (under_in (callers_of program others)) o → ⊥) → IsUnder (under_in (callers_of program (inner ++ others))) o → ⊥
     none_in procedure objects depth number others [] w waits o x found of covered behind under = behind (subst (λ (own : Option ℕ). Covers own x.cell.access) w.0 covered) under
@@ -438,14 +438,14 @@ module _ (program : Program) (spares : SparesOwn program) (s : State) where
         by further (inr later) = further later
 
     -- The object whose operation such an activation waits for is the first one.
-    operated_first : (running : Option ℕ) (objects outer : Bool) (depth : ℕ) (others : List Suspension) (among : List Value) (g : Suspension)
+    operated_first : (running : Option ℕ) (depth : ℕ) (others : List Suspension) (among : List Value) (g : Suspension)
         → (operation : IsOperation program s frugal back lower running objects outer depth others among g) → operated_in g.control ≡ Names operation.pause.object ∷ []
     operated_first running objects outer depth others among g operation =
         ap (λ (waiting : Suspension). operated_in waiting.control) operation.is ∙ operated_is program depth s operation.pause
 
     -- Nor is it one whose operation they wait for.
     pub operated_apart :
-        (procedure : Option ℕ) (objects : Bool) (depth number : ℕ) (others inner : List Suspension) → AreInner program s frugal back lower procedure objects depth (Some number) others inner
+        (procedure : Option ℕ) (depth number : ℕ) (others inner : List Suspension) → AreInner program s frugal back lower procedure objects depth (Some number) others inner
         → AllWait (implicit_of p) (seen_in procedure p) (callers_of program (inner ++ others)) → (o : Id) (x : Object) → object_at s.heap o ≡ Some x → is_access p.types x.cell.access ≡ true
         → Covers procedure x.cell.access → IsAmong (Names o) (operated_among inner) → ⊥
     operated_apart procedure objects depth number others [] w waits o x found of covered among = among
@@ -463,7 +463,7 @@ module _ (program : Program) (spares : SparesOwn program) (s : State) where
 
     -- Each of these is one to which an activation that waits refers.
     operated_referred :
-        (running : Option ℕ) (objects : Bool) (depth : ℕ) (outermost : Option ℕ) (others inner : List Suspension)
+        (running : Option ℕ) (depth : ℕ) (outermost : Option ℕ) (others inner : List Suspension)
         → AreInner program s frugal back lower running objects depth outermost others inner
         → (o : Id) → IsAmong (Names o) (operated_among inner) → (t : ℕ) × IsReferred (referenced_in (callers_of program (inner ++ others))) o t
     operated_referred running objects depth outermost others [] w o among = absurd among
@@ -512,8 +512,8 @@ module _ (program : Program) (s : State) (grounds : Grounds program s) (gs : Lis
   outermost = w.outermost
 
   -- What the bodies of these operations go by.
-  abbrev thrifty : Thriftiness
-  thrifty = thriftiness_of form (may_create_in outermost.treatment)
+  abbrev thrifty : Allowance
+  thrifty = allowance_of form
 
   abbrev behind_it : List Suspension
   behind_it = origin program (length w.inner) s outermost ∷ outermost.suspensions
@@ -554,23 +554,23 @@ module _ (program : Program) (s : State) (grounds : Grounds program s) (gs : Lis
   pub treated_begin : (v : Value) (treatment : Treatment) (tasks : List Task) (k : Control) → s.control ≡ frame.Treats v treatment tasks ∷ k → NothingBegins v k
   treated_begin v treatment tasks k is =
       by treatment w.frugal.upper
-      (subst (λ (all : Control). Frugal thrifty w.objects outermost.behind (operated_among w.inner) s.mode all w.frugal.upper) is w.frugal.frugally)
+      (subst (λ (all : Control). Frugal thrifty outermost.behind (operated_among w.inner) s.mode all w.frugal.upper) is w.frugal.frugally)
     where
-      behind : (ms : List Master) → NoOperationRunsOn v k → FrugalLeads thrifty w.objects outermost.behind (operated_among w.inner) k ms → NothingBegins v k
+      behind : (ms : List Master) → NoOperationRunsOn v k → FrugalLeads thrifty outermost.behind (operated_among w.inner) k ms → NothingBegins v k
       behind ms alone q =
           let other = other_treated program (length w.inner) s outermost v (leads_alone thrifty w.objects v outermost.behind (operated_among w.inner) k ms alone q) in
           leads_begin thrifty w.objects v outermost.behind (operated_among w.inner) k ms
           (λ among. operated_runs thrifty w.objects v outermost.behind (operated_among w.inner) k ms among q alone)
           (waits_begin v other outermost.treatment outermost.awaited) q
 
-      behind_leaving : (ms : List Master) → NoOperationRunsOn v k → FrugalLeaves thrifty w.objects outermost.behind (operated_among w.inner) k ms → NothingBegins v k
+      behind_leaving : (ms : List Master) → NoOperationRunsOn v k → FrugalLeaves thrifty outermost.behind (operated_among w.inner) k ms → NothingBegins v k
       behind_leaving ms alone q =
           let other = other_treated program (length w.inner) s outermost v (leaves_alone thrifty w.objects v outermost.behind (operated_among w.inner) k ms alone q) in
           leaves_begin thrifty w.objects v outermost.behind (operated_among w.inner) k ms
           (λ among. leaving_runs thrifty w.objects v outermost.behind (operated_among w.inner) k ms among q alone)
           (waits_begin v other outermost.treatment outermost.awaited) q
 
-      by : (way : Treatment) (ms : List Master) → Frugal thrifty w.objects outermost.behind (operated_among w.inner) s.mode (frame.Treats v way tasks ∷ k) ms → NothingBegins v k
+      by : (way : Treatment) (ms : List Master) → Frugal thrifty outermost.behind (operated_among w.inner) s.mode (frame.Treats v way tasks ∷ k) ms → NothingBegins v k
       by way ms (inl q) = behind ms q.0.3 q.1
       by way ms (inr (inl leaving)) = behind_leaving ms leaving.1.0.3 leaving.1.1
       by (begins birth done) ms (inr (inr beginning)) = behind ms beginning.1.0.2 beginning.1.1
@@ -658,7 +658,7 @@ module _ (program : Program) (s : State) (grounds : Grounds program s) (gs : Lis
       (subst (λ (t : State). Halts program t (Erroneous FinalizesTwice)) (sym (state_is Running (frame.Treats v treatment tasks ∷ k) runs is)) twice)
 
   by_frame :
-      (g : Frame Value) (k : Control) (ms : List Master) → s.mode ≡ Running → s.control ≡ g ∷ k → Frugal thrifty w.objects outermost.behind (operated_among w.inner) Running (g ∷ k) ms → (forms : List TypeForm)
+      (g : Frame Value) (k : Control) (ms : List Master) → s.mode ≡ Running → s.control ≡ g ∷ k → Frugal thrifty outermost.behind (operated_among w.inner) Running (g ∷ k) ms → (forms : List TypeForm)
       → FinalizesBy (may_free program s) forms types bodies g (record s { mode = Running; control = k })
   by_frame (frame.Does fs) k ms runs is q forms = stand (ap begins_first is) forms
   by_frame (frame.FreesIn access c) k ms runs is q forms = stand (ap begins_first is) forms
@@ -668,7 +668,7 @@ module _ (program : Program) (s : State) (grounds : Grounds program s) (gs : Lis
   by_frame (frame.Treats v (ends cause) tasks) k ms runs is (inr (inr beginning)) forms = absurd beginning.1
   by_frame g k ms runs is q forms = tt
 
-  by_mode : (mode : Mode) (k : Control) (ms : List Master) → s.mode ≡ mode → s.control ≡ k → Frugal thrifty w.objects outermost.behind (operated_among w.inner) mode k ms → (forms : List TypeForm) → FinalizesIn (may_free program s) forms types bodies mode k s
+  by_mode : (mode : Mode) (k : Control) (ms : List Master) → s.mode ≡ mode → s.control ≡ k → Frugal thrifty outermost.behind (operated_among w.inner) mode k ms → (forms : List TypeForm) → FinalizesIn (may_free program s) forms types bodies mode k s
   by_mode Running [] ms runs is q forms = tt
   by_mode Running (g ∷ k) ms runs is q forms = by_frame g k ms runs is q forms
   by_mode (Raising e) k ms runs is q forms = tt

@@ -45,7 +45,7 @@ use Rattle.ada_typed.proofs.Overridings.{OperationFor, beginning_for, ending_for
 use Rattle.ada_sound.proofs.Allowance.{body_thrifty}
 use Rattle.ada_sound.proofs.Alters.{Alters}
 use Rattle.ada_sound.proofs.Callers.{Suspension, known_in, Stands, callers_of}
-use Rattle.ada_sound.proofs.FrugalControl.{Frugally, IsEnded, IsLeft, frugal_starts, thriftiness_of}
+use Rattle.ada_sound.proofs.FrugalControl.{Frugally, IsEnded, IsLeft, frugal_starts, allowance_of}
 use Rattle.ada_sound.proofs.Touching.{CoversBy, Enters, Touching, origin}
 use Rattle.ada_sound.proofs.Trackers.{touches_apart}
 use Rattle.ada_sound.proofs.TouchingBegins.{Begun, IsAlone, alone, touching_begins}
@@ -229,7 +229,7 @@ module _ (program : Program) (a : Activation Value) (rest : List (Activation Val
     covers_by may made access of part number b (ends cause) operable may' called there t covered = ends_free program grounds.well access of part number b operable called there t covered
 
     -- So the body begins, for this object, in front of what is behind its treatment.
-    begins_so : operations_may_be_called p ≡ true → makes_parts p ≡ true → (e : Event) (after : State) (c : Begins known a rest s program.types.items (body_forms program) k IsOperated e after) → MayTouch c.treatment → may_be_frugal p ≡ true → is_frugal_body (thrift_of p (may_create_in c.treatment)) c.b ≡ true → TouchesStorage p c.treatment c.b
+    begins_so : operations_may_be_called p ≡ true → makes_parts p ≡ true → (e : Event) (after : State) (c : Begins known a rest s program.types.items (body_forms program) k IsOperated e after) → MayTouch c.treatment → may_be_frugal p ≡ true → is_frugal_body (thrift_of p) c.b ≡ true → TouchesStorage p c.treatment c.b
         → typed.Typed p after → (begun : Begun program gs c.treatment c.behind s.masters after) × (begun.pause.object ≡ c.o) × (begun.pause.after ≡ k)
     begins_so uses made e after c touches may frugal stores typing =
         let operated = c.operated.1 in
@@ -258,7 +258,7 @@ module _ (program : Program) (a : Activation Value) (rest : List (Activation Val
         (watched_begins program grounds.well uses a rest gs s c.treatment at.watch c.o c.x.cell.access c.of operated.1 c.number c.b c.place c.behind c.heap operable c.called c.there frugal at.spared))
 
     -- That is known of it, whatever runs behind it.
-    pub touching_starts : operations_may_be_called p ≡ true → makes_parts p ≡ true → (e : Event) (after : State) (c : Begins known a rest s program.types.items (body_forms program) k IsOperated e after) → MayTouch c.treatment → may_be_frugal p ≡ true → is_frugal_body (thrift_of p (may_create_in c.treatment)) c.b ≡ true → TouchesStorage p c.treatment c.b
+    pub touching_starts : operations_may_be_called p ≡ true → makes_parts p ≡ true → (e : Event) (after : State) (c : Begins known a rest s program.types.items (body_forms program) k IsOperated e after) → MayTouch c.treatment → may_be_frugal p ≡ true → is_frugal_body (thrift_of p) c.b ≡ true → TouchesStorage p c.treatment c.b
         → typed.Typed p after → Begun program gs c.treatment c.behind s.masters after
     touching_starts uses made e after c touches may frugal stores typing = (begins_so uses made e after c touches may frugal stores typing).0
 
@@ -325,15 +325,15 @@ module _ (program : Program) (a : Activation Value) (rest : List (Activation Val
           (subst (λ (w : Value). TreatsBy known w c.treatment c.tasks k c.heap a.places a.operands s.masters) (sym c.operated.3) c.treats)
 
       -- Its body runs, as the outermost one.
-      pub touching_outermost : may_be_frugal p ≡ true → is_frugal_body (thrift_of p (may_create_in c.treatment)) c.b ≡ true → TouchesStorage p c.treatment c.b → typed.Typed p after → Touching program after
+      pub touching_outermost : may_be_frugal p ≡ true → is_frugal_body (thrift_of p) c.b ≡ true → TouchesStorage p c.treatment c.b → typed.Typed p after → Touching program after
       touching_outermost may frugal stores typing =
           let started = begins_so whole same grounds lone_outermost stands (treats_in_use program whole grounds (Treats v treatment tasks ∷ k) is tt) (treats_made program whole grounds v treatment tasks k is) e after c touches may frugal stores typing in
           let begun = started.0 in
           let waits : WaitsFor p.types c.o c.of c.treatment c.tasks k c.behind = subst (λ (types : List TypeForm). WaitsFor types c.o c.of c.treatment c.tasks k c.behind) (same_types a.procedure p) c.waits in
           let objects = may_create_in c.treatment in
           let before = record s { activations = a ∷ rest; heap = c.heap; mode = Running; control = k } in
-          let runs : Frugally (thriftiness_of p objects) s.masters objects c.behind [] after =
-          rw c.is (frugal_starts (thriftiness_of p objects) c.number c.b (body_thrifty p objects c.b frugal) (Part c.o c.place) c.behind before) in
+          let runs : Frugally (allowance_of p objects) s.masters objects c.behind [] after =
+          rw c.is (frugal_starts (allowance_of p objects) c.number c.b (body_thrifty p objects c.b frugal) (Part c.o c.place) c.behind before) in
           record {
             suspensions = origin program 0 after begun.pause ∷ gs;
             ready = begun.ready;

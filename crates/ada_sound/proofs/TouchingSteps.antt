@@ -25,7 +25,7 @@ use Rattle.ada_sound.specs.Agreement.{running_procedure}
 use Rattle.ada_sound.proofs.CallBegins.{runs_called}
 use Rattle.ada_sound.proofs.Callers.{Suspension, known_in, Stands}
 use Rattle.ada_sound.proofs.Calls.{calls_to, waiting}
-use Rattle.ada_sound.proofs.FrugalControl.{Frugal, Frugally, GoesFrugally, Thriftiness, is_return_first, none_operated, operated_in}
+use Rattle.ada_sound.proofs.FrugalControl.{Frugal, Frugally, GoesFrugally, Allowance, is_return_first, none_operated, operated_in}
 use Rattle.ada_sound.proofs.FrugalSteps.{TreatsNothing, frugal_goes}
 use Rattle.ada_sound.proofs.Invariant.{CallsOn, Control, IsAwaited, Known, Rooms, RunsOn, Working}
 use Rattle.ada_sound.proofs.Operating.{may_create_in}
@@ -114,10 +114,10 @@ treats_none g k plain w by left j is =
     cc (plain, never)
 
 -- An activation that waits for a call waits for the operation of no object.
-called_frugally : (frugal : Thriftiness) (lower : List Master) (objects : Bool) (behind : Control) (among : List Value) (k : Control) (after : State) → (IsAwaited k → ⊥)
-    → Frugally frugal lower objects behind among after → Frugally frugal lower objects behind (operated_in k ++ among) after
+called_frugally : (frugal : Allowance) (lower : List Master) (behind : Control) (among : List Value) (k : Control) (after : State) → (IsAwaited k → ⊥)
+    → Frugally frugal lower behind among after → Frugally frugal lower behind (operated_in k ++ among) after
 called_frugally frugal lower objects behind among k after none goes =
-    subst (λ (os : List Value). Frugally frugal lower objects behind (os ++ among) after) (sym (none_operated k none)) goes
+    subst (λ (os : List Value). Frugally frugal lower behind (os ++ among) after) (sym (none_operated k none)) goes
 
 module _ (program : Program) (a : Activation Value) (k : Control) (s : State) (rest : List (Activation Value)) where
   abbrev tds : List TypeDefinition
@@ -203,7 +203,7 @@ module _ (program : Program) (a : Activation Value) (k : Control) (s : State) (r
   returning_step g grounds f = passed_on Returning (λ runs. cc runs) g refl refl _ refl refl grounds f
 
 -- Nothing is left to do of no body.
-nothing_left : (frugal : Thriftiness) (objects : Bool) (behind : Control) (among : List Value) (mode : Mode) (ms : List Master) → Frugal frugal objects behind among mode [] ms → ⊥
+nothing_left : (frugal : Allowance) (behind : Control) (among : List Value) (mode : Mode) (ms : List Master) → Frugal frugal behind among mode [] ms → ⊥
 nothing_left frugal objects behind among mode ms (inl q) = q
 nothing_left frugal objects behind among mode ms (inr (inl leaving)) = leaving.1
 nothing_left frugal objects behind among mode ms (inr (inr beginning)) = beginning.1

@@ -33,7 +33,7 @@ use Rattle.ada_sound.proofs.Allowance.{body_thrifty, is_thrifty_body}
 use Rattle.ada_sound.specs.Agreement.{running_procedure}
 use Rattle.ada_sound.proofs.Alters.{Alters}
 use Rattle.ada_sound.proofs.Callers.{Suspension, known_in, Stands, AreOf}
-use Rattle.ada_sound.proofs.FrugalControl.{BeginsThere, EndsThere, LeavesThere, Frugal, Frugally, FrugalLeads, FrugalLeaves, FrugalOperated, IsInside, Thriftiness, begun_leads, ends_leads, leaves_operated, frugal_starts_inside, operated_in, operated_on}
+use Rattle.ada_sound.proofs.FrugalControl.{BeginsThere, EndsThere, LeavesThere, Frugal, Frugally, FrugalLeads, FrugalLeaves, FrugalOperated, IsInside, Allowance, begun_leads, ends_leads, leaves_operated, frugal_starts_inside, operated_in, operated_on}
 use Rattle.ada_sound.proofs.FrugalSteps.{GoesOrBegins, treats_frugally}
 use Rattle.ada_sound.proofs.Invariant.{Control, Known, Stepped}
 use Rattle.ada_sound.proofs.Operating.{PlainBody, WaitsFor, behind_operation, may_create_in}
@@ -83,7 +83,7 @@ module _ (program : Program) (a : Activation Value) (rest : List (Activation Val
     operation = outermost program whole f
 
     -- What bodies go by, and whether the one that runs may create objects.
-    abbrev frugal : Thriftiness
+    abbrev frugal : Allowance
     frugal = thrifty program whole f
 
     abbrev objects : Bool
@@ -118,15 +118,15 @@ module _ (program : Program) (a : Activation Value) (rest : List (Activation Val
 
     -- The object is freed or undone, or its master is left, or it begins, and no operation of it runs behind; and then this is left to do.
     abbrev IsTreated : Treatment → Type 0
-    IsTreated (begins by done) = BeginsThere (frugal.by objects) v by k × FrugalLeads frugal objects operation.behind among k upper
+    IsTreated (begins by done) = BeginsThere frugal v by k × FrugalLeads frugal operation.behind among k upper
     IsTreated (ends cause) =
-        (EndsThere (frugal.by objects) v (ends cause) k × FrugalLeads frugal objects operation.behind among k upper)
-        ⊎ (LeavesThere (frugal.by objects) v (ends cause) k × FrugalLeaves frugal objects operation.behind among k upper)
+        (EndsThere frugal v (ends cause) k × FrugalLeads frugal operation.behind among k upper)
+        ⊎ (LeavesThere frugal v (ends cause) k × FrugalLeaves frugal operation.behind among k upper)
 
     treated_here : IsTreated treatment
     treated_here = by treatment f.within.frugal.frugally
       where
-        by : (way : Treatment) → Frugal frugal objects operation.behind among Running (Treats v way tasks ∷ k) upper → IsTreated way
+        by : (way : Treatment) → Frugal frugal operation.behind among Running (Treats v way tasks ∷ k) upper → IsTreated way
         by (begins how done) (inl leads) = absurd leads.0.0
         by (begins how done) (inr (inl leaving)) = absurd leaving.1.0.0
         by (begins how done) (inr (inr beginning)) = beginning.1
@@ -148,7 +148,7 @@ module _ (program : Program) (a : Activation Value) (rest : List (Activation Val
     goes_here e after (st, (acts, behind)) goes still =
         stays_on program whole f e after (record { procedure = ap procedure_of acts; suspended = ap older acts }) st (by goes) still
       where
-        by : GoesOrBegins frugal operation.lower objects operation.behind among program.types.items (body_forms program) whole after → Frugally frugal operation.lower objects operation.behind among after
+        by : GoesOrBegins frugal operation.lower objects operation.behind among program.types.items (body_forms program) whole after → Frugally frugal operation.lower operation.behind among after
         by (inl stays) = stays
         by (inr more) =
             let same : length after.activations ≡ length (a ∷ rest) = ap length acts in
@@ -169,23 +169,23 @@ module _ (program : Program) (a : Activation Value) (rest : List (Activation Val
       alters_here = rw c.is c.alters
 
       -- What is behind its operation is left to do, which may create objects where the object begins.
-      leads_behind : FrugalOperated frugal (may_create_in c.treatment) objects operation.behind (Names c.o ∷ among) c.behind upper
+      leads_behind : FrugalOperated frugal operation.behind (Names c.o ∷ among) c.behind upper
       leads_behind = by c.treatment is_treated waits_here
         where
           by : (way : Treatment) → IsTreated way → WaitsFor p.types c.o c.of way c.tasks k c.behind
-              → FrugalOperated frugal (may_create_in way) objects operation.behind (Names c.o ∷ among) c.behind upper
+              → FrugalOperated frugal operation.behind (Names c.o ∷ among) c.behind upper
           by (begins how done) beginning (part, is) =
-              subst (λ (j : Control). FrugalOperated frugal true objects operation.behind (Names c.o ∷ among) j upper) (sym is)
+              subst (λ (j : Control). FrugalOperated frugal operation.behind (Names c.o ∷ among) j upper) (sym is)
               (begun_leads frugal objects operation.behind among (Names c.o) how done c.of part c.tasks k upper beginning.0.1
-              (subst (λ (u : Value). BeginsThere (frugal.by objects) u how k) c.operated.3 beginning.0) beginning.1)
+              (subst (λ (u : Value). BeginsThere frugal u how k) c.operated.3 beginning.0) beginning.1)
           by (ends cause) (inl ending) (is, inside) =
-              subst (λ (j : Control). FrugalOperated frugal false objects operation.behind (Names c.o ∷ among) j upper) (sym is)
+              subst (λ (j : Control). FrugalOperated frugal operation.behind (Names c.o ∷ among) j upper) (sym is)
               (ends_leads frugal objects operation.behind among (Names c.o) (ends cause) c.tasks k upper
-              (subst (λ (u : Value). EndsThere (frugal.by objects) u (ends cause) k) c.operated.3 ending.0) ending.1)
+              (subst (λ (u : Value). EndsThere frugal u (ends cause) k) c.operated.3 ending.0) ending.1)
           by (ends cause) (inr leaving) (is, inside) =
-              subst (λ (j : Control). FrugalOperated frugal false objects operation.behind (Names c.o ∷ among) j upper) (sym is)
+              subst (λ (j : Control). FrugalOperated frugal operation.behind (Names c.o ∷ among) j upper) (sym is)
               (leaves_operated frugal objects operation.behind among (Names c.o) (ends cause) c.tasks k upper
-              (subst (λ (u : Value). LeavesThere (frugal.by objects) u (ends cause) k) c.operated.3 leaving.0) leaving.1)
+              (subst (λ (u : Value). LeavesThere frugal u (ends cause) k) c.operated.3 leaving.0) leaving.1)
 
       -- That of the object runs in front of it.
       operated_here : operated_in c.behind ≡ Names c.o ∷ []
@@ -201,12 +201,12 @@ module _ (program : Program) (a : Activation Value) (rest : List (Activation Val
               let before = finalized_behind (Names c.o) (ends cause) c.tasks k (finalized cause ending ∙ c.operated.3) in
               ap operated_in is ∙ ap (λ (u : Value). u ∷ []) before
 
-      leads_operated : FrugalOperated frugal (may_create_in c.treatment) objects operation.behind (operated_in c.behind ++ among) c.behind upper
+      leads_operated : FrugalOperated frugal operation.behind (operated_in c.behind ++ among) c.behind upper
       leads_operated =
-          subst (λ (us : List Value). FrugalOperated frugal (may_create_in c.treatment) objects operation.behind (us ++ among) c.behind upper) (sym operated_here) leads_behind
+          subst (λ (us : List Value). FrugalOperated frugal operation.behind (us ++ among) c.behind upper) (sym operated_here) leads_behind
 
       -- So it is once that has come to its end.
-      frugal_behind : Frugal frugal objects operation.behind among Running c.behind upper
+      frugal_behind : Frugal frugal operation.behind among Running c.behind upper
       frugal_behind = operated_on frugal (may_create_in c.treatment) objects operation.behind among Running c.behind upper tt leads_operated
 
       -- What is behind its operation.
@@ -325,7 +325,7 @@ module _ (program : Program) (a : Activation Value) (rest : List (Activation Val
         }))
 
         -- One begins that touches storage.
-        module _ (begun : Begun program f.suspensions c.treatment c.behind s.masters after) (frugal_body : is_frugal_body (thrift_of p (may_create_in c.treatment)) c.b ≡ true) where
+        module _ (begun : Begun program f.suspensions c.treatment c.behind s.masters after) (frugal_body : is_frugal_body (thrift_of p) c.b ≡ true) where
           abbrev waits_for : Suspension
           waits_for = origin program 0 after begun.pause
 
@@ -357,7 +357,7 @@ module _ (program : Program) (a : Activation Value) (rest : List (Activation Val
               upper = upper;
               masters = begun.is_lower ∙ f.within.frugal.masters;
               leads =
-                  subst (λ (j : Control). FrugalOperated frugal (may_create_in c.treatment) objects operation.behind (operated_in j ++ among) j upper) (sym begun.is_behind)
+                  subst (λ (j : Control). FrugalOperated frugal operation.behind (operated_in j ++ among) j upper) (sym begun.is_behind)
                   leads_operated;
             },
             subst (λ (procedure : Option ℕ). AreInner program after frugal operation.behind operation.lower procedure objects (suc 0) (Some operation.number) waiting f.within.inner) of_body
@@ -365,7 +365,7 @@ module _ (program : Program) (a : Activation Value) (rest : List (Activation Val
           )
 
           -- Its body is frugal as the others are.
-          runs_begun : Frugally frugal operation.lower (may_create_in c.treatment) operation.behind (operated_among (waits_for ∷ f.within.inner)) after
+          runs_begun : Frugally frugal operation.lower operation.behind (operated_among (waits_for ∷ f.within.inner)) after
           runs_begun =
               let creates = may_create_in c.treatment in
               let body : is_thrifty_body (frugal.by creates) c.b ≡ true = body_thrifty p creates c.b frugal_body in
@@ -391,7 +391,7 @@ module _ (program : Program) (a : Activation Value) (rest : List (Activation Val
         lone_here (ends cause) ended = lone_inside v (ends cause) k ended (treated_begin program whole grounds f.suspensions f.within f.stands v treatment tasks k refl)
 
         -- So one begins inside that touches storage.
-        begins_frugal : MayTouch c.treatment → may_be_frugal p ≡ true → is_frugal_body (thrift_of p (may_create_in c.treatment)) c.b ≡ true → TouchesStorage p c.treatment c.b
+        begins_frugal : MayTouch c.treatment → may_be_frugal p ≡ true → is_frugal_body (thrift_of p) c.b ≡ true → TouchesStorage p c.treatment c.b
             → Went program s.heap e after
         begins_frugal touches may frugal_body stores =
             let uses = treats_in_use program whole grounds whole.control refl tt in

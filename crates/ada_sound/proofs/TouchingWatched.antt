@@ -22,7 +22,7 @@ use Rattle.ada_typed.proofs.Kept.{Each}
 use Rattle.ada_untouched.specs.Untouched.{InnermostHousesNone, NewestHousesNone}
 use Rattle.ada_sound.specs.Agreement.{running_procedure}
 use Rattle.ada_sound.proofs.Callers.{Suspension}
-use Rattle.ada_sound.proofs.FrugalControl.{FrugalOperated, Thriftiness, ends_none, operated_in, thriftiness_of}
+use Rattle.ada_sound.proofs.FrugalControl.{FrugalOperated, Allowance, ends_none, operated_in, allowance_of}
 use Rattle.ada_sound.proofs.FrugalLeaves.{innermost_houses_none, leaves_own, owned_variables}
 use Rattle.ada_sound.proofs.Invariant.{Control, innermost}
 use Rattle.ada_sound.proofs.Pauses.{AllWatched}
@@ -77,9 +77,9 @@ module _
 
 -- Where what runs may create no objects behind all of these activations, whatever runs in front of them may create none, either: so it is in front of a
 -- Finalize.
-module _ (program : Program) (s : State) (frugal : Thriftiness) (back : Control) (lower : List Master) where
+module _ (program : Program) (s : State) (frugal : Allowance) (back : Control) (lower : List Master) where
   pub idle_inside :
-      (running : Option ℕ) (objects : Bool) (depth : ℕ) (outermost : Option ℕ) (others inner : List Suspension) → AreInner program s frugal back lower running objects depth outermost others inner
+      (running : Option ℕ) (depth : ℕ) (outermost : Option ℕ) (others inner : List Suspension) → AreInner program s frugal back lower running objects depth outermost others inner
       → frugal.last ≡ false → objects ≡ false
   idle_inside running objects depth outermost others [] are none = are.1 ∙ none
   idle_inside running objects depth outermost others (g ∷ inner) (inl (call, more)) none = idle_inside g.procedure objects (suc depth) outermost others inner more none
@@ -90,22 +90,22 @@ module _ (program : Program) (s : State) (frugal : Thriftiness) (back : Control)
   -- A Finalize creates none.
   ends_idle :
       (types : List TypeForm) (o : Id) (of : ℕ) (treatment : Treatment) (tasks : List Task) (after behind : Control) → WaitsFor types o of treatment tasks after behind → may_create_in treatment ≡ false
-      → (objects outer : Bool) (among : List Value) (ms : List Master) → FrugalOperated frugal objects outer back among behind ms → objects ≡ false
+      → (among : List Value) (ms : List Master) → FrugalOperated frugal back among behind ms → objects ≡ false
   ends_idle types o of (begins by done) tasks after behind waits none objects outer among ms leads = absurd (cc none)
   ends_idle types o of (ends cause) tasks after behind (is, inside) none objects outer among ms leads =
-      let operated : FrugalOperated frugal objects outer back among (Confines ∷ treating (Names o) (ends cause) tasks after) ms = rw is at leads in
+      let operated : FrugalOperated frugal back among (Confines ∷ treating (Names o) (ends cause) tasks after) ms = rw is at leads in
       operated.2
 
   pub operation_idle :
-      (running : Option ℕ) (objects outer : Bool) (depth : ℕ) (others : List Suspension) (among : List Value) (g : Suspension)
+      (running : Option ℕ) (depth : ℕ) (others : List Suspension) (among : List Value) (g : Suspension)
       → (operation : IsOperation program s frugal back lower running objects outer depth others among g) → may_create_in operation.pause.treatment ≡ false → objects ≡ false
   operation_idle running objects outer depth others among g operation none =
       let f = operation.pause in
       ends_idle (program_form program).types f.object f.of f.treatment f.tasks f.after f.behind f.awaited none objects outer (operated_in f.behind ++ among) operation.upper operation.leads
 
 module _ (program : Program) (gs : List Suspension) (s : State) (w : Within program gs s) where
-  abbrev frugal_here : Thriftiness
-  frugal_here = thriftiness_of (program_form program) (may_create_in w.outermost.treatment)
+  abbrev frugal_here : Allowance
+  frugal_here = allowance_of (program_form program)
 
   -- In front of a Finalize, the body that runs may create no objects.
   pub idle_within : may_create_in w.outermost.treatment ≡ false → w.objects ≡ false
@@ -131,16 +131,16 @@ module _ (program : Program) (gs : List Suspension) (s : State) (w : Within prog
         each_watched program x apart are behind s.heap found (next program.types.items (body_forms program) s)
         (stays_reaching program grounds.well (watches (program_form program).types (Some x)) apart are (is_watched (Some x)) (is_unnamed (program_form program).types (Some x)) behind s grounds.typed reaching (record { on = on; takes = takes_none (idle x refl) s.control refl })).1
 
-    module _ (frugal : Thriftiness) (back : Control) (lower : List Master) where
+    module _ (frugal : Allowance) (back : Control) (lower : List Master) where
       -- The end of the body of none of the operations for which these activations wait is next.
-      abbrev pub AllGoOnInside : (running : Option ℕ) (objects : Bool) (depth : ℕ) (outermost : Option ℕ) (others inner : List Suspension) → AreInner program s frugal back lower running objects depth outermost others inner → Type 0
+      abbrev pub AllGoOnInside : (running : Option ℕ) (depth : ℕ) (outermost : Option ℕ) (others inner : List Suspension) → AreInner program s frugal back lower running objects depth outermost others inner → Type 0
       AllGoOnInside running objects depth outermost others [] are = Unit {0}
       AllGoOnInside running objects depth outermost others (g ∷ inner) (inl (call, more)) = AllGoOnInside g.procedure objects (suc depth) outermost others inner more
       AllGoOnInside running objects depth outermost others (g ∷ inner) (inr (outer, operation, more)) =
           (s.control ≡ Returns [] [] ∷ operation.pause.behind → ⊥) × AllGoOnInside g.procedure outer (suc depth) outermost others inner more
 
       -- So it is with what is watched in each of these, where no body that runs in front of one that may create no objects may create some.
-      pub all_watched : (running : Option ℕ) (objects : Bool) (depth : ℕ) (outermost : Option ℕ) (others inner : List Suspension)
+      pub all_watched : (running : Option ℕ) (depth : ℕ) (outermost : Option ℕ) (others inner : List Suspension)
           → (objects ≡ false → w.objects ≡ false) → (are : AreInner program s frugal back lower running objects depth outermost others inner)
           → AllGoOnInside running objects depth outermost others inner are
           → Each (λ after. AllWatched program s frugal back lower after running objects depth outermost others inner are) (next program.types.items (body_forms program) s)

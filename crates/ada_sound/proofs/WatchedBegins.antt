@@ -50,7 +50,7 @@ module _
   pub watched_begins :
       (by : Treatment) (watch : Option Watch) (o : Id) (access of part number : ℕ) (b : BodyForm) (place : Place) (behind : Control) (heap : List Object)
       → IsOperable p.types access of part → IsCalled (operations_of program.types.items of) by number → slice_get (body_forms program) number ≡ Some b
-      → is_frugal_body (thrift_of p (may_create_in by)) b ≡ true → IsSpared known by o access heap watch
+      → is_frugal_body (thrift_of p) b ≡ true → IsSpared known by o access heap watch
       → Watched program watch behind (operating named number b (Part o place) behind (record s { activations = a ∷ rest; heap = heap; mode = Running }))
   watched_begins by None o access of part number b place behind heap operable called there frugal spared = tt
   watched_begins (begins by done) (Some w) o access of part number b place behind heap operable called there frugal spared = absurd spared

@@ -1,6 +1,6 @@
 -- What the next step looks at, by the first of what is left to do: at no hidden component and at no ghost.
 
-use Rattle.std.specs.Prelude.{◌≡◌, ◌⊎◌, ℕ, Bool, false, List, [], ◌∷◌, Option, Some, None}
+use Rattle.std.specs.Prelude.{◌≡◌, ◌≢◌, ◌⊎◌, ℕ, Bool, false, List, [], ◌∷◌, Option, Some, None}
 use Rattle.std.specs.List.{slice_get}
 use Rattle.ada_program.specs.Form.{PathForm, RecordPathForm, ExpressionForm, reads, is_null, ItemForm, item_of_path, item_of_record, RightForm, value_of, StmtForm, assigns, assigns_record, frees, gets, StmtsForm, no_stmts, a_stmt}
 use Rattle.ada_meaning.specs.declared.state.Id.{Id}
@@ -13,7 +13,7 @@ use Rattle.ada_meaning.specs.Frame as frame
 use Rattle.ada_meaning.specs.Heap.{Cell, Found, on_null, on_gone, on_other, finds}
 use Rattle.ada_meaning.specs.State.{Item, Master, type_housed}
 use Rattle.ada_meaning.specs.Step.{held, newest, selected, before_last}
-use Rattle.ada_meaning.specs.Named.{State, named, look, whole, inside}
+use Rattle.ada_meaning.specs.Named.{Object, State, named, look, object_at, whole, inside}
 pub use Rattle.ada_untouched.specs.Alike.{is_ghost}
 
 -- Which components are hidden of the object that a value names.
@@ -57,19 +57,19 @@ MayBeFreed ghosts c on_gone = Unit {0}
 MayBeFreed ghosts c on_other = Unit {0}
 MayBeFreed ghosts c (finds cell) = MayBeSought ghosts (slice_get cell.values c)
 
--- The newest of these items is the home of no objects (7.6.1).
-abbrev pub NewestHousesNone : List Item → Type 0
-NewestHousesNone [] = Unit {0}
-NewestHousesNone (i ∷ is) = type_housed i.owned ≡ None
+-- No ghost has its home in the item of a number (7.6.1), whether it exists or not.
+abbrev pub HousesNoGhost : (ghosts : Id → Bool) → List Object → (item : ℕ) → Type 0
+HousesNoGhost ghosts heap item = (o : Id) (x : Object) → ghosts o ≡ true → object_at heap o ≡ Some x → x.cell.home.item ≢ item
 
--- So it is of the newest item of the innermost master.
-abbrev pub InnermostHousesNone : List Master → Type 0
-InnermostHousesNone [] = Unit {0}
-InnermostHousesNone (m ∷ ms) = NewestHousesNone m.items
+-- So it is with the newest of these items, or no objects have their home there.
+abbrev pub NewestHousesNoGhost : (ghosts : Id → Bool) → List Object → List Item → Type 0
+NewestHousesNoGhost ghosts heap [] = Unit {0}
+NewestHousesNoGhost ghosts heap (i ∷ is) = (type_housed i.owned ≡ None) ⊎ HousesNoGhost ghosts heap i.number
 
--- There are no ghosts.
-abbrev pub AreNone : (ghosts : Id → Bool) → Type 0
-AreNone ghosts = (o : Id) → ghosts o ≡ false
+-- So it is with the newest item of the innermost master.
+abbrev pub InnermostHousesNoGhost : (ghosts : Id → Bool) → List Object → List Master → Type 0
+InnermostHousesNoGhost ghosts heap [] = Unit {0}
+InnermostHousesNoGhost ghosts heap (m ∷ ms) = NewestHousesNoGhost ghosts heap m.items
 
 module _ (hidden : Id → (component : ℕ) → Bool) (ghosts : Id → Bool) (s : State) where
   -- A path leads on from its variable (4.1).
@@ -125,11 +125,11 @@ module _ (hidden : Id → (component : ℕ) → Bool) (ghosts : Id → Bool) (s 
   StatementsAreOpen (a_stmt f fs) = StatementIsOpen f
 
   -- What a frame looks at, where no jump is on its way. Where a record is copied from an object, that hides no component. An object is treated whose components
-  -- may be hidden (7.6, 7.6.1), or a part of it comes to have a value. Where there are ghosts, none takes an object out of its collection as a master is left
-  -- (7.6.1).
+  -- may be hidden (7.6, 7.6.1), or a part of it comes to have a value. The object that is taken out of its collection as a master is left (7.6.1) is none of the
+  -- ghosts, wherever these are.
   abbrev pub FrameIsOpen : Frame Value → Type 0
   FrameIsOpen (frame.Does fs) = StatementsAreOpen fs
-  FrameIsOpen (frame.Leaves mode) = InnermostHousesNone s.masters ⊎ AreNone ghosts
+  FrameIsOpen (frame.Leaves mode) = InnermostHousesNoGhost ghosts s.heap s.masters
   FrameIsOpen (frame.Evaluates right) = RightIsOpen right
   FrameIsOpen (frame.Computes e) = ExpressionIsOpen e
   FrameIsOpen (frame.Follows cs) = IsOpen hidden ghosts cs (newest named s)
