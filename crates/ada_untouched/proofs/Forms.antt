@@ -2,7 +2,7 @@
 
 use Rattle.std.proofs.Common.{◌≡◌, ◌⊎◌, ℕ, ℤ, Bool, true, false, List, [], ◌∷◌, Option, Some, None, Result, Ok, Err, refl, sym, subst, inl, inr}
 use Rattle.std.specs.Prelude.{not, if◌then◌else◌}
-use Rattle.std.specs.List.{slice_get, slice_index_or}
+use Rattle.std.specs.List.{slice_get, slice_index_or, AllByRecursion}
 use Rattle.ada_values.specs.declared.operator.BinaryOperator.{BinaryOperator}
 use Rattle.ada_values.specs.declared.fault.OperatorFault.{OperatorFault}
 use Rattle.ada_values.specs.declared.fault.OperatorFault.TheVariants.{Overflow, DivisionByZero, WrongType}
@@ -28,9 +28,9 @@ use Rattle.ada_meaning.specs.Step.{halts, moves, tells, at, older, computed, rai
 use Rattle.ada_meaning.specs.Named.{Object, State, Next, named, look, lent, standing, whole, inside, reads_integer, reads_boolean, reads_null, same, create, created, store, on_object, parted, finished, members}
 use Rattle.ada_meaning.specs.Named as heap
 use Rattle.ada_untouched.specs.Alike.{ValuesAlike, StatesBy, SparesGhosts}
-use Rattle.ada_untouched.specs.Untouched.{hides, IsInSight, IsReadable, IsOpen, LeadsOn, LeadsToHolder, NewestHousesNone, InnermostHousesNone, AreNone, ExpressionIsOpen, ItemIsOpen, ItemsAreOpen}
-use Rattle.ada_untouched.proofs.Heaps.{both_there, there_or_not, record_there, same_lists, by_found}
-use Rattle.ada_untouched.proofs.Relation.{Keeps, NextSo, stored_so, in_sight}
+use Rattle.ada_untouched.specs.Untouched.{hides, IsInSight, IsReadable, IsOpen, LeadsOn, LeadsToHolder, HousesNoGhost, NewestHousesNoGhost, InnermostHousesNoGhost, ExpressionIsOpen, ItemIsOpen, ItemsAreOpen}
+use Rattle.ada_untouched.proofs.Heaps.{both_there, there_or_not, record_there, same_lists, by_found, members_in_sight, picked_in_sight}
+use Rattle.ada_untouched.proofs.Relation.{Keeps, NextSo, stored_so}
 
 -- The state with another heap.
 abbrev pub over : List Object → State → State
@@ -263,22 +263,22 @@ module _ {hidden : Id → (component : ℕ) → Bool} {ghosts : Id → Bool} {Ar
       (λ cell us both. alike (record s { heap = on_object parted s.heap v; control = finalizing types v cell cause behind }) (on_object parted k v) (keeps.parts s.heap k a v))
       s.heap k a clear
 
-  members_same : (types : List TypeDefinition) (cause : Cause) (pool : Option ℕ) (vs : List Value) → AreNone ghosts → Same (members_next named types cause pool vs)
-  members_same types cause pool [] none s k a = goes Quiet tt (record s { masters = shorter s.masters }) k a
-  members_same types cause pool (v ∷ vs) none s k a = (
+  members_same : (types : List TypeDefinition) (cause : Cause) (pool : Option ℕ) (vs : List Value) → AllByRecursion (IsInSight ghosts) vs → Same (members_next named types cause pool vs)
+  members_same types cause pool [] clear s k a = goes Quiet tt (record s { masters = shorter s.masters }) k a
+  members_same types cause pool (v ∷ vs) clear s k a = (
     taken named types cause pool (v ∷ vs) (over k s),
     refl,
-    λ i. taken_same types cause pool (slice_index_or (v ∷ vs) i Null) s k a (in_sight none (slice_index_or (v ∷ vs) i Null)),
+    λ i. taken_same types cause pool (slice_index_or (v ∷ vs) i Null) s k a (picked_in_sight ghosts (v ∷ vs) clear i),
   )
 
-  -- Where there are no ghosts, its members are the same in both.
-  collection_same : (types : List TypeDefinition) (cause : Cause) (pool : Option ℕ) (item : ℕ) (s : State) (k : List Object) → AreSo s.heap k → AreNone ghosts → NextSo ghosts AreSo (members_next named types cause pool (members s.heap item) s) (members_next named types cause pool (members k item) (over k s))
+  -- Where no ghost has its home there, its members are the same in both, and each of them may be looked for.
+  collection_same : (types : List TypeDefinition) (cause : Cause) (pool : Option ℕ) (item : ℕ) (s : State) (k : List Object) → AreSo s.heap k → HousesNoGhost ghosts s.heap item → NextSo ghosts AreSo (members_next named types cause pool (members s.heap item) s) (members_next named types cause pool (members k item) (over k s))
   collection_same types cause pool item s k a none =
       subst (λ (vs : List Value). NextSo ghosts AreSo (members_next named types cause pool (members s.heap item) s) (members_next named types cause pool vs (over k s)))
-      (sym (keeps.collects none s.heap k a item)) (members_same types cause pool (members s.heap item) none s k a)
+      (sym (keeps.collects s.heap k a item none)) (members_same types cause pool (members s.heap item) (members_in_sight ghosts item s.heap none) s k a)
 
   -- Masters are left.
-  item_leave_same : (types : List TypeDefinition) (m : ℕ) (item : Item) (what : Owned) (s : State) (k : List Object) → AreSo s.heap k → (type_housed what ≡ None) ⊎ AreNone ghosts → NextSo ghosts AreSo (item_leave_next named types m item what s) (item_leave_next named types m item what (over k s))
+  item_leave_same : (types : List TypeDefinition) (m : ℕ) (item : Item) (what : Owned) (s : State) (k : List Object) → AreSo s.heap k → (type_housed what ≡ None) ⊎ HousesNoGhost ghosts s.heap item.number → NextSo ghosts AreSo (item_leave_next named types m item what s) (item_leave_next named types m item what (over k s))
   item_leave_same types m item (declared x) s k a clear = goes Quiet tt (record s { masters = shorter s.masters }) k a
   item_leave_same types m item (collection access pool) s k a (inl houses) = absurd (cc)
   item_leave_same types m item (collection access pool) s k a (inr none) = collection_same types (Leaving m item.number) pool item.number s k a none
@@ -286,10 +286,10 @@ module _ {hidden : Id → (component : ℕ) → Bool} {ghosts : Id → Bool} {Ar
   item_leave_same types m item (record_object t) s k a (inr none) = collection_same types (Leaving m item.number) None item.number s k a none
   item_leave_same types m item (storage_pool declaration number) s k a clear = told (Gone number) Quiet tt (record s { masters = shorter s.masters }) k a
 
-  master_leave_same : (types : List TypeDefinition) (mode : Mode) (m : ℕ) (items : List Item) (s : State) (k : List Object) → AreSo s.heap k → NewestHousesNone items ⊎ AreNone ghosts → NextSo ghosts AreSo (master_leave_next named types mode m items s) (master_leave_next named types mode m items (over k s))
+  master_leave_same : (types : List TypeDefinition) (mode : Mode) (m : ℕ) (items : List Item) (s : State) (k : List Object) → AreSo s.heap k → NewestHousesNoGhost ghosts s.heap items → NextSo ghosts AreSo (master_leave_next named types mode m items s) (master_leave_next named types mode m items (over k s))
   master_leave_same types mode m [] s k a clear = goes (Left m) tt (record s { masters = older s.masters; mode = mode }) k a
   master_leave_same types mode m (item ∷ items) s k a clear = item_leave_same types m item item.owned (at (frame.Leaves mode ∷ s.control) s) k a clear
 
-  pub leave_same : (types : List TypeDefinition) (mode : Mode) (ms : List Master) (s : State) (k : List Object) → AreSo s.heap k → InnermostHousesNone ms ⊎ AreNone ghosts → NextSo ghosts AreSo (leave_next named types mode ms s) (leave_next named types mode ms (over k s))
+  pub leave_same : (types : List TypeDefinition) (mode : Mode) (ms : List Master) (s : State) (k : List Object) → AreSo s.heap k → InnermostHousesNoGhost ghosts s.heap ms → NextSo ghosts AreSo (leave_next named types mode ms s) (leave_next named types mode ms (over k s))
   leave_same types mode [] s k a clear = refl
   leave_same types mode (m ∷ ms) s k a clear = master_leave_same types mode m.number m.items s k a clear

@@ -1,8 +1,8 @@
 -- Heaps that are alike: what is found there, and what becomes of them.
 
-use Rattle.std.proofs.Common.{◌≡◌, ◌≢◌, ◌⊎◌, ℕ, zero, suc, Bool, true, false, List, [], ◌∷◌, ◌++◌, length, take, drop, Option, Some, None, is_some, refl, sym, ap, ◌∙◌, inl, inr, subst, arith, length-set}
+use Rattle.std.proofs.Common.{◌≡◌, ◌≢◌, ◌⊎◌, ℕ, zero, suc, ◌+◌, Bool, true, false, List, [], ◌∷◌, ◌++◌, length, take, drop, Option, Some, None, is_some, refl, sym, ap, ◌∙◌, inl, inr, subst, arith, length-set}
 use Rattle.std.specs.Prelude.{◌==◌, ◌&&◌, if◌then◌else◌, map}
-use Rattle.std.specs.List.{slice_get, slice_set}
+use Rattle.std.specs.List.{slice_get, slice_set, slice_index_or, AllByRecursion}
 use Rattle.std.proofs.lemmas.Bool.Decides.{eqb_tells}
 use Rattle.ada_meaning.specs.declared.state.Id.{Id}
 use Rattle.ada_meaning.specs.declared.state.Stage.{Stage}
@@ -13,7 +13,7 @@ use Rattle.ada_meaning.specs.Heap.{PartState, Cell, Found, on_null, on_gone, on_
 use Rattle.ada_meaning.specs.Step.{if_whole, record_in}
 use Rattle.ada_meaning.specs.Named.{Object, object_at, changed, existing, seen, look, lent_by, lent, all_alive, standing_by, standing, new_object, create, created, parted, finished, returned, filled, with_part, treated, on_object, store, is_member, members_from, members}
 use Rattle.ada_untouched.specs.Alike.{ValuesAlike, UnlessGhost, ObjectsAlike, FoundAlike, HeapsAlike}
-use Rattle.ada_untouched.specs.Untouched.{hides, IsInSight, AreNone}
+use Rattle.ada_untouched.specs.Untouched.{hides, IsInSight, HousesNoGhost}
 
 -- Lists.
 
@@ -185,11 +185,35 @@ abbrev pub member_by : (item : ℕ) → Option Object → Bool
 member_by item None = false
 member_by item (Some x) = is_member item x
 
-member_alike : (hiding : ℕ → Bool) (ghost : Bool) → ghost ≡ false → (item : ℕ) (f g : Option Object) → FoundAlike hiding ghost f g → member_by item g ≡ member_by item f
-member_alike hiding ghost plain item None None a = refl
-member_alike hiding ghost plain item None (Some y) a = absurd a
-member_alike hiding ghost plain item (Some x) None a = absurd a
-member_alike hiding ghost plain item (Some x) (Some y) a = ap (is_member item) (is_but_for_values hiding ghost x y plain a)
+-- An object that has its home elsewhere is in no collection of this item.
+housed_elsewhere : (item : ℕ) (x : Object) → x.cell.home.item ≢ item → is_member item x ≡ false
+housed_elsewhere item x ne = elim (eqb_tells x.cell.home.item item) [ inl h ↦ absurd (ne h.1) | inr h ↦ neither x.listed (x.cell.home.item == item) h.0 ]
+  where
+    neither : (a b : Bool) → b ≡ false → (a && b) ≡ false
+    neither true b e = e
+    neither false b e = refl
+
+-- A member has its home in the item.
+member_home : (item : ℕ) (x : Object) → is_member item x ≡ true → x.cell.home.item ≡ item
+member_home item x is = elim (eqb_tells x.cell.home.item item) [ inl h ↦ h.1 | inr h ↦ absurd (let no = housed_elsewhere item x h.1 in cc (is, no)) ]
+
+-- An object and the one under its name in the other heap are both in the collection, or neither is; for a ghost has its home elsewhere, in both.
+both_members :
+    (hiding : ℕ → Bool) (ghost : Bool) (item : ℕ) (x y : Object) → (ghost ≡ true → x.cell.home.item ≢ item) → ObjectsAlike hiding ghost x y
+    → is_member item y ≡ is_member item x
+both_members hiding true item x y elsewhere a =
+    let home : y.cell.home.item ≡ x.cell.home.item = ap (λ (cell : Cell Value). cell.home.item) a.cell in
+    housed_elsewhere item y (λ e. elsewhere refl (sym home ∙ e)) ∙ sym (housed_elsewhere item x (elsewhere refl))
+both_members hiding false item x y elsewhere a = ap (is_member item) (is_but_for_values hiding false x y refl a)
+
+-- So it is with what is found under a name in both heaps.
+member_alike :
+    (hiding : ℕ → Bool) (ghost : Bool) (item : ℕ) (f g : Option Object) → ((x : Object) → ghost ≡ true → f ≡ Some x → x.cell.home.item ≢ item)
+    → FoundAlike hiding ghost f g → member_by item g ≡ member_by item f
+member_alike hiding ghost item None None elsewhere a = refl
+member_alike hiding ghost item None (Some y) elsewhere a = absurd a
+member_alike hiding ghost item (Some x) None elsewhere a = absurd a
+member_alike hiding ghost item (Some x) (Some y) elsewhere a = both_members hiding ghost item x y (λ is. elsewhere x is refl) a
 
 -- What is looked for, in whatever way, is found in both, where a test on the rest of the object decides.
 module _ (hiding : ℕ → Bool) (look_at : Object → Found (Cell Value))
@@ -281,6 +305,57 @@ same_members_from item n (x ∷ xs) (y ∷ ys) e each =
 pub same_members : (item : ℕ) (h k : List Object) → length h ≡ length k → ((o : Id) → member_by item (object_at k o) ≡ member_by item (object_at h o)) → members k item ≡ members h item
 same_members item h k e each = ap (λ (ids : List Id). map Names ids) (same_members_from item 0 h k e (λ i. each (record { 0 = i })))
 
+-- Where no ghost has its home in an item, no member of its collection is a ghost.
+module _ (ghosts : Id → Bool) (item : ℕ) where
+  -- So it is among objects of which the first has this name.
+  abbrev NoneFrom : (n : ℕ) → List Object → Type 0
+  NoneFrom n xs = (place : ℕ) (x : Object) → ghosts (record { 0 = n + place }) ≡ true → slice_get xs place ≡ Some x → x.cell.home.item ≢ item
+
+  -- It is so among those behind the first.
+  none_later : (n : ℕ) (x : Object) (xs : List Object) → NoneFrom n (x ∷ xs) → NoneFrom (suc n) xs
+  none_later n x xs none place y is there =
+      let same : suc n + place ≡ n + suc place = omega arith in
+      none (suc place) y (subst (λ (i : ℕ). ghosts (record { 0 = i }) ≡ true) same is) there
+
+  -- Names of two lists may be looked for, if those of each may.
+  in_both : (xs ys : List Id) → AllByRecursion (IsInSight ghosts) (map Names xs) → AllByRecursion (IsInSight ghosts) (map Names ys) → AllByRecursion (IsInSight ghosts) (map Names (xs ++ ys))
+  in_both [] ys f g = g
+  in_both (x ∷ xs) ys f g = (f.0, in_both xs ys f.1 g)
+
+  -- The first object is no ghost, if it is a member.
+  first_in_sight : (n : ℕ) (x : Object) (xs : List Object) → NoneFrom n (x ∷ xs) → is_member item x ≡ true → (ghost : Bool) → ghosts (record { 0 = n }) ≡ ghost → ghosts (record { 0 = n }) ≡ false
+  first_in_sight n x xs none is true ghost =
+      let same : n ≡ n + 0 = omega arith in
+      absurd (none 0 x (subst (λ (i : ℕ). ghosts (record { 0 = i }) ≡ true) same ghost) refl (member_home item x is))
+  first_in_sight n x xs none is false ghost = ghost
+
+  -- So what the first object adds to the members may be looked for.
+  own_in_sight : (n : ℕ) (x : Object) (xs : List Object) → NoneFrom n (x ∷ xs) → (is : Bool) → is_member item x ≡ is → AllByRecursion (IsInSight ghosts) (map Names (if is then record { 0 = n } ∷ [] else []))
+  own_in_sight n x xs none true is = (first_in_sight n x xs none is (ghosts (record { 0 = n })) refl, tt)
+  own_in_sight n x xs none false is = tt
+
+  -- Each member among objects of which the first has this name may be looked for.
+  all_in_sight : (n : ℕ) (xs : List Object) → NoneFrom n xs → AllByRecursion (IsInSight ghosts) (map Names (members_from item n xs))
+  all_in_sight n [] none = tt
+  all_in_sight n (x ∷ xs) none =
+      in_both (members_from item (suc n) xs) (if is_member item x then record { 0 = n } ∷ [] else [])
+      (all_in_sight (suc n) xs (none_later n x xs none)) (own_in_sight n x xs none (is_member item x) refl)
+
+  -- Each member of the collection may be looked for.
+  pub members_in_sight : (h : List Object) → HousesNoGhost ghosts h item → AllByRecursion (IsInSight ghosts) (members h item)
+  members_in_sight h none = all_in_sight 0 h (λ place x is there. none (record { 0 = place }) x (first_of place is) there)
+    where
+      first_of : (place : ℕ) → ghosts (record { 0 = 0 + place }) ≡ true → ghosts (record { 0 = place }) ≡ true
+      first_of place is =
+          let same : 0 + place ≡ place = omega arith in
+          subst (λ (i : ℕ). ghosts (record { 0 = i }) ≡ true) same is
+
+-- Whichever of some values is picked, it may be looked for, if each of them may.
+pub picked_in_sight : (ghosts : Id → Bool) (vs : List Value) → AllByRecursion (IsInSight ghosts) vs → (i : ℕ) → IsInSight ghosts (slice_index_or vs i Null)
+picked_in_sight ghosts [] each i = refl
+picked_in_sight ghosts (v ∷ vs) each zero = each.0
+picked_in_sight ghosts (v ∷ vs) each (suc i) = picked_in_sight ghosts vs each.1 i
+
 module _ (hidden : Id → (component : ℕ) → Bool) (ghosts : Id → Bool) (h k : List Object) (a : HeapsAlike hidden ghosts h k) where
   pub look_alike : (v : Value) → IsInSight ghosts v → CellsAlike (hides hidden v) (look h v) (look k v)
   look_alike Null plain = refl
@@ -320,6 +395,7 @@ module _ (hidden : Id → (component : ℕ) → Bool) (ghosts : Id → Bool) (h 
   pub created_alike : (words : ℕ) → created k words ≡ created h words
   created_alike words = ap (λ (n : ℕ). Names (record { 0 = n })) (sym a.count)
 
-  -- Where there are no ghosts, collections have the same members.
-  pub members_alike : AreNone ghosts → (item : ℕ) → members k item ≡ members h item
-  members_alike none item = same_members item h k a.count (λ o. member_alike (hidden o) (ghosts o) (none o) item (object_at h o) (object_at k o) (a.objects o))
+  -- Where no ghost has its home in an item, its collection has the same members.
+  pub members_alike : (item : ℕ) → HousesNoGhost ghosts h item → members k item ≡ members h item
+  members_alike item none =
+      same_members item h k a.count (λ o. member_alike (hidden o) (ghosts o) item (object_at h o) (object_at k o) (none o) (a.objects o))

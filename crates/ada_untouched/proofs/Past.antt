@@ -19,14 +19,15 @@ use Rattle.ada_meaning.specs.Frame.{Frame}
 use Rattle.ada_meaning.specs.Frame as frame
 use Rattle.ada_meaning.specs.Heap.{Cell, Found, on_null, on_gone, on_other, finds}
 use Rattle.ada_meaning.specs.Pace.{object_operations, heap_operations, operations_left, full_cost, full_weight}
+use Rattle.ada_meaning.specs.State.{Item, Master}
 use Rattle.ada_meaning.specs.Step.{halts, moves, tells, asks, picks, held, newest, selected, before_last}
 use Rattle.ada_meaning.specs.Named.{Object, State, Next, named, object_at, changed, existing, seen, look, lent_by, lent, all_alive, standing_by, standing, new_object, create, parted, finished, returned, filled, treated, on_object, whole, inside, next}
 use Rattle.ada_untouched.specs.Alike.{NextBy}
-use Rattle.ada_untouched.specs.Untouched.{hides, IsInSight, IsReadable, IsOpen, LeadsToHolder, MayBeSought, MayBeFreed, ExpressionIsOpen, ItemIsOpen, ItemsAreOpen, RightIsOpen, FreedIsOpen, StatementIsOpen, StatementsAreOpen, FrameIsOpen, JumpIsOpen, FirstIsOpen}
+use Rattle.ada_untouched.specs.Untouched.{hides, IsInSight, IsReadable, IsOpen, LeadsToHolder, MayBeSought, MayBeFreed, NewestHousesNoGhost, InnermostHousesNoGhost, ExpressionIsOpen, ItemIsOpen, ItemsAreOpen, RightIsOpen, FreedIsOpen, StatementIsOpen, StatementsAreOpen, FrameIsOpen, JumpIsOpen, FirstIsOpen}
 use Rattle.ada_untouched.specs.Past.{is_gone, is_past, is_past_at, SameOrPast, HeapsButForPast, StatesButForPast, nothing_left, forgotten, forgetting}
 use Rattle.ada_untouched.specs.Law.{PastObjectsDoNotMatter, PastObjectsWeighNothing, ForgettingChangesPastAlone}
 use Rattle.ada_untouched.proofs.Heaps.{CellsAlike, same_values, member_by, same_members, on_length, on_both, added, added_length, one_or_other, set_here, set_there}
-use Rattle.ada_untouched.proofs.Relation.{Keeps, NextSo, in_sight}
+use Rattle.ada_untouched.proofs.Relation.{Keeps, NextSo}
 use Rattle.ada_untouched.proofs.Law.{steps_so}
 
 -- An object that is past is gone, in no collection, and its words are back.
@@ -152,7 +153,7 @@ heaps_but_for_past_keep = record {
   lends = λ h k a v clear. lent_past h k a (hides none_hidden v) v;
   stands = λ h k a v clear. standing_past h k a (hides none_hidden v) v;
   names = λ h k a words. ap (λ (n : ℕ). Names (record { 0 = n })) (sym a.count);
-  collects = λ none h k a. members_past h k a;
+  collects = λ h k a item none. members_past h k a item;
   parts = λ h k a. on_past h k a parted parted_past;
   finishes = λ h k a. on_past h k a finished finished_past;
   returns = λ h k a. on_past h k a returned returned_past;
@@ -169,7 +170,19 @@ none_hides (Scalar v) c = refl
 none_hides (Part o place) c = refl
 
 sights : (v : Value) → IsInSight no_ghosts v
-sights v = in_sight (λ o. refl) v
+sights Null = refl
+sights (Names o) = refl
+sights (Scalar v) = refl
+sights (Part o place) = refl
+
+-- There are no ghosts, so none has its home in an item.
+newest_houses_none : (h : List Object) (items : List Item) → NewestHousesNoGhost no_ghosts h items
+newest_houses_none h [] = tt
+newest_houses_none h (i ∷ is) = inr (λ o x ghost found same. cc ghost)
+
+innermost_houses_none : (h : List Object) (masters : List Master) → InnermostHousesNoGhost no_ghosts h masters
+innermost_houses_none h [] = tt
+innermost_houses_none h (m ∷ ms) = newest_houses_none h m.items
 
 readable : (v : Value) (c : ℕ) → IsReadable none_hidden no_ghosts v c
 readable v c = (sights v, none_hides v c)
@@ -231,7 +244,7 @@ module _ (s : State) where
 
   frame_open : (f : Frame Value) → FrameIsOpen none_hidden no_ghosts s f
   frame_open (frame.Does fs) = statements_open fs
-  frame_open (frame.Leaves mode) = inr (λ o. refl)
+  frame_open (frame.Leaves mode) = innermost_houses_none s.heap s.masters
   frame_open (frame.Evaluates right) = right_open right
   frame_open (frame.Computes e) = expression_open e
   frame_open (frame.Follows cs) = open_path cs (newest named s)

@@ -1,24 +1,23 @@
 -- What the law needs of a relation on heaps: what is looked for is found in both, and whatever becomes of an object keeps it.
 
-use Rattle.std.proofs.Common.{◌≡◌, ℕ, ◌+◌, Bool, List, [], ◌∷◌, refl}
+use Rattle.std.proofs.Common.{◌≡◌, ℕ, ◌+◌, Bool, List, [], ◌∷◌}
 use Rattle.ada_meaning.specs.declared.state.Id.{Id}
 use Rattle.ada_meaning.specs.declared.state.Value.{Value}
-use Rattle.ada_meaning.specs.declared.state.Value.TheVariants.{Null, Names, Scalar, Part}
 use Rattle.ada_meaning.specs.Heap.{PartState, Cell}
 use Rattle.ada_meaning.specs.Step.{stored_from}
 use Rattle.ada_meaning.specs.Named.{Object, Next, named, look, lent, standing, create, created, parted, finished, returned, treated, on_object, store, members}
 use Rattle.ada_untouched.specs.Alike.{HeapsAlike, SparesGhosts, NextBy}
-use Rattle.ada_untouched.specs.Untouched.{hides, IsInSight, AreNone}
+use Rattle.ada_untouched.specs.Untouched.{hides, IsInSight, HousesNoGhost}
 use Rattle.ada_untouched.proofs.Heaps.{CellsAlike, parted_alike, finished_alike, returned_alike, treated_alike, look_alike, lent_alike, standing_alike, on_alike, store_alike, create_alike, created_alike, members_alike}
 
--- Of two heaps that are related so: what may be looked for is found in both, but for hidden components; the next name is the same; and where there are no
--- ghosts, so are the members of each collection. They are so again where an object changes in both, or comes to both.
+-- Of two heaps that are related so: what may be looked for is found in both, but for hidden components; the next name is the same; and so are the members of
+-- a collection, where no ghost has its home in its item. They are so again where an object changes in both, or comes to both.
 pub record Keeps (hidden : Id → (component : ℕ) → Bool) (ghosts : Id → Bool) (AreSo : List Object → List Object → Type 0) : Type 0 where
   pub looks : (h k : List Object) → AreSo h k → (v : Value) → IsInSight ghosts v → CellsAlike (hides hidden v) (look h v) (look k v)
   pub lends : (h k : List Object) → AreSo h k → (v : Value) → IsInSight ghosts v → CellsAlike (hides hidden v) (lent h v) (lent k v)
   pub stands : (h k : List Object) → AreSo h k → (v : Value) → IsInSight ghosts v → CellsAlike (hides hidden v) (standing h v) (standing k v)
   pub names : (h k : List Object) → AreSo h k → (words : ℕ) → created k words ≡ created h words
-  pub collects : AreNone ghosts → (h k : List Object) → AreSo h k → (item : ℕ) → members k item ≡ members h item
+  pub collects : (h k : List Object) → AreSo h k → (item : ℕ) → HousesNoGhost ghosts h item → members k item ≡ members h item
   pub parts : (h k : List Object) → AreSo h k → (v : Value) → AreSo (on_object parted h v) (on_object parted k v)
   pub finishes : (h k : List Object) → AreSo h k → (v : Value) → AreSo (on_object finished h v) (on_object finished k v)
   pub returns : (h k : List Object) → AreSo h k → (v : Value) → AreSo (on_object returned h v) (on_object returned k v)
@@ -31,13 +30,6 @@ pub record Keeps (hidden : Id → (component : ℕ) → Bool) (ghosts : Id → B
 -- What comes next is the same, but that the heaps are related so; and each event spares the ghosts.
 abbrev pub NextSo : (ghosts : Id → Bool) → (AreSo : List Object → List Object → Type 0) → Next → Next → Type 0
 NextSo ghosts AreSo coming n = NextBy AreSo (SparesGhosts ghosts) coming n
-
--- Where there are no ghosts, any object may be looked for.
-pub in_sight : {ghosts : Id → Bool} → AreNone ghosts → (v : Value) → IsInSight ghosts v
-in_sight none Null = refl
-in_sight none (Names o) = none o
-in_sight none (Scalar v) = refl
-in_sight none (Part o place) = refl
 
 -- Components from one on get these values in both.
 pub stored_so :
@@ -53,7 +45,7 @@ heaps_alike_keep hidden ghosts = record {
   lends = lent_alike hidden ghosts;
   stands = standing_alike hidden ghosts;
   names = created_alike hidden ghosts;
-  collects = λ none h k a. members_alike hidden ghosts h k a none;
+  collects = members_alike hidden ghosts;
   parts = λ h k a. on_alike hidden ghosts h k a parted parted_alike;
   finishes = λ h k a. on_alike hidden ghosts h k a finished finished_alike;
   returns = λ h k a. on_alike hidden ghosts h k a returned returned_alike;
