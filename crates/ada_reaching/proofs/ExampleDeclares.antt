@@ -1,7 +1,7 @@
 -- A procedure calls another one, which declares a record object of which a part is finalized as its master is left, beside an object of an access type that all
 -- bodies shun.
 
-use Rattle.std.proofs.Common.{◌≡◌, ℕ, zero, suc, Bool, false, true, ◌==◌, ◌||◌, List, [], ◌∷◌, ◌++◌, arith, refl, sym, ap, subst, inl}
+use Rattle.std.proofs.Common.{◌≡◌, ◌<◌, ℕ, zero, suc, Bool, false, true, ◌==◌, ◌||◌, List, [], ◌∷◌, ◌++◌, arith, refl, sym, ap, subst, inl}
 use Rattle.std.specs.Prelude.{Some, None, if◌then◌else◌, pos}
 use Rattle.std.specs.List.{slice_get}
 use Rattle.ada_values.specs.declared.value.Value.TheVariants as scalar
@@ -186,6 +186,10 @@ houses_own (suc zero) x at is =
     ap (λ (y : Object). Some y.cell.access) same
 houses_own (suc (suc n)) x at is = absurd (cc at)
 
+-- So the first one is taken.
+first_of_one : 0 < 1
+first_of_one = omega arith
+
 -- An object is allocated, Keep is called, and leaves its master: the object that it has declared is taken out, and the Finalize of that is about to begin.
 pub declaration_is_met : DeclarationIsMet
 unfolding next expression_form stmt_form
@@ -203,7 +207,7 @@ declaration_is_met = (
         (there settled _ (refl, refl) (there settled _ (refl, refl) here)))))))))))))))))),
     (
       _,
-      (omega arith, refl, refl),
+      (first_of_one, refl, refl),
       (
         shuns,
         beside,

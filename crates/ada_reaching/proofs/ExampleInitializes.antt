@@ -23,7 +23,6 @@ use Rattle.ada_program.specs.Controlled.{operations_by, operations_of, procedure
 use Rattle.ada_program.specs.Form.{expression_form, stmt_form}
 use Rattle.ada_program.specs.ProgramForm.{body_form, program_form}
 use Rattle.ada_program.specs.WellFormed.{IsWellFormed}
-use Rattle.ada_meaning.specs.declared.state.Id.{Id}
 use Rattle.ada_meaning.specs.declared.state.Stage.TheVariants.{Existing}
 use Rattle.ada_meaning.specs.declared.state.Value.TheVariants.{Scalar}
 use Rattle.ada_meaning.specs.Named.{Object, next}
