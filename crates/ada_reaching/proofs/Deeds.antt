@@ -249,7 +249,8 @@ module _ (types : List TypeForm) (shuns : ℕ → Bool) (apart : Apart) where
       declaration_idle (creates_pool pool) shape none = absurd (cc shape)
       declaration_idle (collects access) shape none = absurd (cc shape)
       declaration_idle (declares x right) shape none = right_idle right shape none
-      declaration_idle (declares_record x object initial) shape none = absurd (cc shape)
+      declaration_idle (declares_record x object None) shape none = shape
+      declaration_idle (declares_record x object (Some items)) shape none = absurd (cc shape)
 
       declarations_idle :
           (ds : List DeclarationForm) → declarations_shun types (λ t. false) apart variables ds ≡ true

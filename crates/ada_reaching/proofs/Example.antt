@@ -27,7 +27,7 @@ use Rattle.ada_reaching.specs.Deeds.{AreShaped, UseNone}
 use Rattle.ada_reaching.specs.Law.{AreApart}
 use Rattle.ada_reaching.specs.Reaching.{IsOfShunned, none_unnamed}
 use Rattle.ada_reaching.specs.Example.{PremiseIsMet, PremiseIsNeeded}
-use Rattle.ada_reaching.proofs.ExampleParts.{types, near_path, far_path, variables, one_statement, fill, program, well_by, shuns, apart, calls_first, first_uses_none, link, near, ghosts, second_there, holds_null, done_shun, no_end}
+use Rattle.ada_reaching.proofs.ExampleParts.{types, near_path, far_path, variables, one_statement, fill, program, well_by, shuns, apart, calls_first, first_uses_none, link, near, ghosts, second_there, one_low, of_main, of_fill, of_first, holds_null, done_shun, no_end}
 
 -- L.Next, the component of a formal parameter
 abbrev next_path : Path
@@ -119,6 +119,7 @@ premise_is_met = (
       ghosts,
       none_unnamed,
       _,
+      of_main,
       body_form join,
       _,
       record {
@@ -131,12 +132,21 @@ premise_is_met = (
           reaching = record {
             ghosts_there = ghosts_there;
             are_ghosts = λ o is. absurd (cc);
+            low = one_low of_main (link ∷ near ∷ []) 1 near refl (omega arith);
             places = (refl, (refl, tt));
             operands = (refl, tt);
-            control = (refl, refl, done_shun (program_form stores) (apart types) ghosts none_unnamed _ _ _ _ (refl, (refl, tt)));
+            upper = of_first ∷ of_fill ∷ [];
+            masters = refl;
+            control = (
+              refl,
+              refl,
+              done_shun (program_form stores) (apart types) ghosts none_unnamed _ of_main _ of_first of_fill _ _ tt
+                  ((tt, omega arith), ((tt, omega arith), tt)) (refl, (refl, tt)),
+            );
+            jumps = tt;
             seeks = λ x at. tt;
           };
-          within = record { on = no_end _ refl _ _; takes = tt };
+          within = record { on = no_end _ refl _ _; houses = tt };
           ghost = record { 0 = 1 };
           is_ghost = refl;
         };

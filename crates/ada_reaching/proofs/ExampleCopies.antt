@@ -3,7 +3,7 @@
 use Rattle.std.proofs.Common.{◌≡◌, ◌≢◌, ◌<◌, ◌≤◌, ◌⊎◌, ℕ, zero, suc, ◌+◌, Bool, false, true, ◌==◌, ◌||◌, List, [], ◌∷◌, ◌++◌, arith, refl, sym, ap, subst, inl, inr}
 use Rattle.std.specs.Prelude.{Some, None, pos}
 use Rattle.std.specs.List.{slice_get}
-use Rattle.std.proofs.lemmas.Bool.{eqb-true}
+use Rattle.std.proofs.lemmas.Bool.{eqb-true, or_cases}
 use Rattle.ada_values.specs.declared.value.Value.TheVariants as scalar
 use Rattle.ada_program.specs.declared.program.Actual.TheVariants as actual
 use Rattle.ada_program.specs.declared.program.Declaration.TheVariants as declaration
@@ -28,13 +28,15 @@ use Rattle.ada_meaning.specs.declared.state.Value.TheVariants.{Names, Scalar}
 use Rattle.ada_meaning.specs.Named.{Object, object_at, next}
 use Rattle.ada_meaning.specs.Records.{component_at, IsCopied}
 use Rattle.ada_meaning.specs.Run.{settled, grants, here, there}
+use Rattle.ada_meaning.specs.State.{declared, record_object, Master}
+use Rattle.ada_meaning.specs.Step.{owning}
 use Rattle.ada_meaning.proofs.OperationExamples.{known_by}
 use Rattle.ada_typed.proofs.Example.{vec, no_name, spot}
 use Rattle.ada_reaching.specs.Deeds.{AreShaped, UseNone}
 use Rattle.ada_reaching.specs.Law.{AreApart}
-use Rattle.ada_reaching.specs.Reaching.{IsOfShunned, IsDeclared, IsGhost}
+use Rattle.ada_reaching.specs.Reaching.{AreLow, IsOfShunned, IsDeclared, IsGhost}
 use Rattle.ada_reaching.specs.Example.{CopyIsMet}
-use Rattle.ada_reaching.proofs.ExampleParts.{types, near_path, far_path, variables, one_statement, fill, program, well_by, shuns, apart, calls_first, first_uses_none, link, near, holds_null, done_shun, no_end}
+use Rattle.ada_reaching.proofs.ExampleParts.{types, near_path, far_path, variables, one_statement, fill, program, well_by, shuns, apart, calls_first, first_uses_none, link, near, one_low, of_main, of_first, holds_null, done_shun, no_end}
 
 -- R and S, the formal parameters of Copy
 abbrev formal_path : ℕ → Path
@@ -146,6 +148,25 @@ ghost_by n false at is =
 ghosts_among : (o : Id) → two_ghosts o ≡ true → IsGhost (program_form copies).types shuns (unnamed o) (object_at objects o)
 ghosts_among o is = ghost_by o.0 (unnamed o) refl is
 
+-- The main body owns W, too,
+abbrev with_declared : List Master
+with_declared = owning (record { number = 2; owned = record_object 6 }) of_main
+
+-- and Fill owns Z.
+abbrev of_more : Master
+of_more = record {
+  number = 1;
+  items =
+      record { number = 5; owned = declared 2 } ∷ record { number = 4; owned = declared 1 } ∷ record { number = 3; owned = declared 0 } ∷ [];
+}
+
+-- The home of each ghost is older than what Fill owns.
+ghosts_low : AreLow two_ghosts with_declared objects
+ghosts_low o x is = elim (or_cases (o.0 == 0) (o.0 == 2) is) [
+  | inl first ↦ one_low with_declared objects 0 declared_link refl (omega arith) o x first
+  | inr third ↦ one_low with_declared objects 2 near refl (omega arith) o x third
+]
+
 -- X and Z name two of the objects.
 abbrev of_x : Id
 of_x = record { 0 = 1 }
@@ -216,6 +237,7 @@ copy_is_met = (
       two_ghosts,
       unnamed,
       _,
+      with_declared,
       body_form copy,
       _,
       record {
@@ -229,16 +251,21 @@ copy_is_met = (
             reaching = record {
               ghosts_there = ghosts_among;
               are_ghosts = λ o is. ap (λ (b : Bool). b || (o.0 == 2)) is;
+              low = ghosts_low;
               places = (refl, (refl, tt));
               operands = (refl, (tt, tt));
+              upper = of_first ∷ of_more ∷ [];
+              masters = refl;
               control = (
                 refl,
                 refl,
-                done_shun (program_form copies) (apart copies.types.items) two_ghosts unnamed _ _ _ _ (refl, (refl, (refl, tt))),
+                done_shun (program_form copies) (apart copies.types.items) two_ghosts unnamed _ with_declared _ of_first of_more _ _ tt
+                    ((tt, omega arith), ((tt, omega arith), ((tt, omega arith), tt))) (refl, (refl, (refl, tt))),
               );
+              jumps = tt;
               seeks = λ x at. tt;
             };
-            within = record { on = no_end _ refl _ _; takes = tt };
+            within = record { on = no_end _ refl _ _; houses = tt };
             ghost = record { 0 = 2 };
             is_ghost = refl;
           };

@@ -34,7 +34,7 @@ use Rattle.ada_reaching.specs.Deeds.{AreShaped, UseNone}
 use Rattle.ada_reaching.specs.Law.{AreApart}
 use Rattle.ada_reaching.specs.Reaching.{none_unnamed}
 use Rattle.ada_reaching.specs.Example.{FinalizationIsMet}
-use Rattle.ada_reaching.proofs.ExampleParts.{far_path, one_statement, fill, program, well_by, shuns, found_shuns, UsesNone, uses_none, none_used, ghosts, second_there, done_shun, no_end}
+use Rattle.ada_reaching.proofs.ExampleParts.{far_path, one_statement, fill, program, well_by, shuns, found_shuns, UsesNone, uses_none, none_used, near, ghosts, second_there, one_low, of_main, of_fill, of_first, done_shun, no_end}
 
 -- The parent part of Box, and Value : Integer := 0,
 abbrev box_parts : List Part
@@ -50,11 +50,11 @@ boxed = record {
 }
 
 -- and all of it: type Box is new Limited_Controlled with record Value : Integer := 0; end record;
-abbrev box : TypeDefinition
+abbrev pub box : TypeDefinition
 box = definition.Record no_name (vec box_parts (omega arith)) (vec (kind.Integer (pos 0) ∷ []) (omega arith)) (Some boxed)
 
 -- Cell and Near; Box; type Owner is access Box; and what the formal parameter of Finalize is known by.
-abbrev box_types : List TypeDefinition
+abbrev pub box_types : List TypeDefinition
 box_types =
     definition.Record no_name (vec parts (omega arith)) (vec (kind.Integer (pos 0) ∷ []) (omega arith)) None
     ∷ definition.Access no_name (record { 0 = 0 }) None
@@ -71,7 +71,7 @@ drop_box =
     (stmt.Free (record { 0 = 3 }) far_path)
 
 -- overriding procedure Finalize (B : in out Box) is begin null; end Finalize;
-abbrev finalize_box : Procedure
+abbrev pub finalize_box : Procedure
 finalize_box = one_statement (vec (mode.InOut ∷ []) (omega arith)) (vec (known_by 4 ∷ []) (omega arith)) (vec [] (omega arith)) stmt.Null
 
 -- Drop (X);
@@ -100,14 +100,14 @@ beside = record {
 }
 
 -- What holds of the first procedure and of the third one holds of those.
-of_both : (P : ℕ → Type 0) → P 0 → P 2 → (procedure : ℕ) → beside.calls procedure ≡ true → P procedure
+pub of_both : (P : ℕ → Type 0) → P 0 → P 2 → (procedure : ℕ) → beside.calls procedure ≡ true → P procedure
 of_both P one other procedure is = elim (or_cases (procedure == 0) (procedure == 2) is) [
   | inl first ↦ subst P (sym (eqb-true procedure 0 first)) one
   | inr third ↦ subst P (sym (eqb-true procedure 2 third)) other
 ]
 
 -- Box overrides Finalize by the third one,
-overrides_by : (is_box : Bool) (number : ℕ) → procedure_number (operations_by (if is_box then Some box else None)).finalize ≡ Some number → number ≡ 2
+pub overrides_by : (is_box : Bool) (number : ℕ) → procedure_number (operations_by (if is_box then Some box else None)).finalize ≡ Some number → number ≡ 2
 overrides_by true number is = cc
 overrides_by false number is = absurd (cc)
 
@@ -185,6 +185,7 @@ finalization_is_met = (
       ghosts,
       none_unnamed,
       _,
+      of_main,
       body_form drop_box,
       _,
       record {
@@ -197,16 +198,21 @@ finalization_is_met = (
           reaching = record {
             ghosts_there = second_there (program_form drops).types freed_box refl;
             are_ghosts = λ o is. absurd (cc);
+            low = one_low of_main (freed_box ∷ near ∷ []) 1 near refl (omega arith);
             places = (refl, tt);
             operands = tt;
+            upper = of_first ∷ of_fill ∷ [];
+            masters = refl;
             control = (
               (refl, (3, inl (refl, whole))),
               refl,
-              (refl, refl, (refl, refl, (tt, refl, done_shun (program_form drops) beside ghosts none_unnamed _ _ _ _ (refl, (refl, tt))))),
+              (refl, refl, (refl, refl, (tt, refl, done_shun (program_form drops) beside ghosts none_unnamed _ of_main _ of_first of_fill _ _ tt
+                  ((tt, omega arith), ((tt, omega arith), tt)) (refl, (refl, tt))))),
             );
+            jumps = tt;
             seeks = tt;
           };
-          within = record { on = no_end _ refl _ _; takes = tt };
+          within = record { on = no_end _ refl _ _; houses = tt };
           ghost = record { 0 = 1 };
           is_ghost = refl;
         };

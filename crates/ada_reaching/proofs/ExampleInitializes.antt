@@ -23,7 +23,6 @@ use Rattle.ada_program.specs.Controlled.{operations_by, operations_of, procedure
 use Rattle.ada_program.specs.Form.{expression_form, stmt_form}
 use Rattle.ada_program.specs.ProgramForm.{body_form, program_form}
 use Rattle.ada_program.specs.WellFormed.{IsWellFormed}
-use Rattle.ada_meaning.specs.declared.state.Id.{Id}
 use Rattle.ada_meaning.specs.declared.state.Stage.TheVariants.{Existing}
 use Rattle.ada_meaning.specs.declared.state.Value.TheVariants.{Scalar}
 use Rattle.ada_meaning.specs.Named.{Object, next}
@@ -34,9 +33,9 @@ use Rattle.ada_reaching.specs.Apart.{Apart, whole}
 use Rattle.ada_reaching.specs.Forms.{body_shuns}
 use Rattle.ada_reaching.specs.Deeds.{AreShaped, UseNone}
 use Rattle.ada_reaching.specs.Law.{AreApart}
-use Rattle.ada_reaching.specs.Reaching.{IsOfShunned, none_unnamed}
+use Rattle.ada_reaching.specs.Reaching.{none_unnamed}
 use Rattle.ada_reaching.specs.Example.{InitializationIsMet}
-use Rattle.ada_reaching.proofs.ExampleParts.{far_path, one_statement, program, well_by, shuns, found_shuns, UsesNone, uses_none, none_used, near, done_shun, no_end}
+use Rattle.ada_reaching.proofs.ExampleParts.{far_path, one_statement, program, well_by, shuns, found_shuns, UsesNone, uses_none, none_used, first_near, first_ghost, first_there, one_low, of_main, of_fill, of_first, done_shun, no_end}
 
 -- The parent part of Box, and Value : Integer := 0,
 abbrev box_parts : List Part
@@ -178,20 +177,6 @@ new_box = record {
   out = true;
 }
 
--- The object of Near, which is the ghost, is the first one.
-abbrev first_near : Object
-first_near = record near { cell = record (near.cell) { number = 1 } }
-
--- It alone is a ghost.
-abbrev ghosts : Id → Bool
-ghosts o = o.0 == 0
-
--- It is of a type that is to be shunned.
-first_there : (o : Id) → ghosts o ≡ true → IsOfShunned (program_form makes).types shuns (slice_get (first_near ∷ new_box ∷ []) o.0)
-first_there o is =
-    subst (λ (n : ℕ). IsOfShunned (program_form makes).types shuns (slice_get (first_near ∷ new_box ∷ []) n)) (sym (eqb-true o.0 0 is))
-    (record { object = first_near; there = refl; shunned = refl; accessed = refl })
-
 -- The first object is allocated, Make is called, and the Initialize of the object that it allocates is about to begin.
 pub initialization_is_met : InitializationIsMet
 unfolding next expression_form stmt_form
@@ -210,9 +195,10 @@ initialization_is_met = (
     (
       shuns,
       beside,
-      ghosts,
+      first_ghost,
       none_unnamed,
       _,
+      of_main,
       body_form make_box,
       _,
       record {
@@ -223,18 +209,23 @@ initialization_is_met = (
           runs_on = record { procedure = 0; runs = refl; body = refl; steps = (_, refl) };
           shuns_all = refl;
           reaching = record {
-            ghosts_there = first_there;
+            ghosts_there = first_there (program_form makes).types (new_box ∷ []) refl;
             are_ghosts = λ o is. absurd (cc);
+            low = one_low of_main (first_near ∷ new_box ∷ []) 0 first_near refl (omega arith);
             places = (tt, tt);
             operands = (refl, tt);
+            upper = of_first ∷ of_fill ∷ [];
+            masters = refl;
             control = (
               (refl, record { access = 3; may = refl; created = refl; left = whole; begun = tt }),
               refl,
-              (tt, refl, done_shun (program_form makes) beside ghosts none_unnamed _ _ _ _ (tt, (refl, tt))),
+              (tt, refl, done_shun (program_form makes) beside first_ghost none_unnamed _ of_main _ of_first of_fill _ _ tt
+                  ((tt, omega arith), ((tt, omega arith), tt)) (tt, (refl, tt))),
             );
+            jumps = tt;
             seeks = λ x at. tt;
           };
-          within = record { on = no_end _ refl _ _; takes = tt };
+          within = record { on = no_end _ refl _ _; houses = tt };
           ghost = record { 0 = 0 };
           is_ghost = refl;
         };

@@ -1,6 +1,6 @@
 -- What the examples share: types and their objects, the body that calls, and what is left of it, and what it takes to be well formed, and to shun a type.
 
-use Rattle.std.proofs.Common.{◌≡◌, ◌≢◌, ℕ, Bool, false, true, ◌==◌, List, [], ◌∷◌, arith, refl, sym, ap, ◌∙◌, subst, inl, inr, ◌&&◌, length}
+use Rattle.std.proofs.Common.{◌≡◌, ◌≢◌, ◌<◌, ℕ, Bool, false, true, ◌==◌, List, [], ◌∷◌, arith, refl, sym, ap, ◌∙◌, subst, inl, inr, ◌&&◌, length}
 use Rattle.std.specs.Prelude.{Option, Some, None, pos}
 use Rattle.std.specs.Global.{Vec}
 use Rattle.std.specs.List.{slice_get, list_all}
@@ -41,14 +41,14 @@ use Rattle.ada_meaning.specs.declared.state.Value.TheVariants.{Null, Names, Scal
 use Rattle.ada_meaning.specs.Frame.{Frame, is_return}
 use Rattle.ada_meaning.specs.Frame as frame
 use Rattle.ada_meaning.specs.Named.{Object}
-use Rattle.ada_meaning.specs.State.{Activation}
+use Rattle.ada_meaning.specs.State.{Activation, declared, collection, Master, height}
 use Rattle.ada_meaning.proofs.OperationExamples.{component_of}
 use Rattle.ada_typed.proofs.Example.{vec, no_name, spot, parts}
 use Rattle.ada_reaching.specs.Apart.{Apart}
 use Rattle.ada_reaching.specs.Forms.{body_shuns}
 use Rattle.ada_reaching.specs.Deeds.{DoesFollow, UseNone}
 use Rattle.ada_reaching.specs.Law.{AreApart}
-use Rattle.ada_reaching.specs.Reaching.{IsOfShunned, AreElsewhere, LeftShuns}
+use Rattle.ada_reaching.specs.Reaching.{IsOfShunned, AreElsewhere, AreLow, AreOwnedApart, LeftShuns}
 
 -- What the components of Link hold, Value : Integer := 0 and Next : Near,
 abbrev components : List ComponentKind
@@ -265,6 +265,44 @@ second_there definitions other accessed o is =
     subst (λ (n : ℕ). IsOfShunned definitions shuns (slice_get (other ∷ near ∷ []) n)) (sym (eqb-true o.0 1 is))
     (record { object = near; there = refl; shunned = refl; accessed = accessed })
 
+-- So it is where it is the first one that is allocated.
+abbrev pub first_near : Object
+first_near = record near { cell = record (near.cell) { number = 1 } }
+
+-- It alone is a ghost then,
+abbrev pub first_ghost : Id → Bool
+first_ghost o = o.0 == 0
+
+-- of a type that is to be shunned.
+pub first_there :
+    (definitions : List TypeForm) (others : List Object) → is_access definitions 1 ≡ true → (o : Id) → first_ghost o ≡ true
+    → IsOfShunned definitions shuns (slice_get (first_near ∷ others) o.0)
+first_there definitions others accessed o is =
+    subst (λ (n : ℕ). IsOfShunned definitions shuns (slice_get (first_near ∷ others) n)) (sym (eqb-true o.0 0 is))
+    (record { object = first_near; there = refl; shunned = refl; accessed = accessed })
+
+-- Where one object alone is a ghost, the home of the ghosts is older than what the bodies own if that of the object is.
+pub one_low :
+    (lower : List Master) (heap : List Object) (n : ℕ) (own : Object) → slice_get heap n ≡ Some own → own.cell.home.item < height lower
+    → AreLow (λ (o : Id). o.0 == n) lower heap
+one_low lower heap n own there below o x is at =
+    let found : slice_get heap n ≡ Some x = subst (λ (i : ℕ). slice_get heap i ≡ Some x) (eqb-true o.0 n is) at in
+    let same : own ≡ x = cc (there, found) in
+    subst (λ (y : Object). y.cell.home.item < height lower) same below
+
+-- The master of the main body, which owns the collections of Near and of Far.
+abbrev pub of_main : List Master
+of_main =
+    record { number = 0; items = record { number = 1; owned = collection 3 (Some 0) } ∷ record { number = 0; owned = collection 1 (Some 0) } ∷ [] } ∷ []
+
+-- That of Fill, which owns X and Y.
+abbrev pub of_fill : Master
+of_fill = record { number = 1; items = record { number = 3; owned = declared 1 } ∷ record { number = 2; owned = declared 0 } ∷ [] }
+
+-- That of the first procedure, which owns nothing.
+abbrev pub of_first : Master
+of_first = record { number = 2; items = [] }
+
 -- The component of the other one holds null before, and no name.
 pub holds_null : (o : Id) → Some Null ≢ Some (Names o)
 holds_null o same = absurd (cc same)
@@ -273,25 +311,27 @@ holds_null o same = absurd (cc same)
 abbrev pub done : (behind : List (Frame Value)) → List (Frame Value)
 done behind = frame.Does no_stmts ∷ frame.Handles no_handlers ∷ frame.Closes ∷ behind
 
--- What is left of the first procedure then shuns Near, and so does Fill, which waits for it, has nothing left to do but its end, and gets nothing back in a
--- component: what its variables hold refers to no ghost.
-pub done_shun :
-    (p : ProgramForm) (may : Apart) (ghosts unnamed : Id → Bool) (behind : List (Frame Value)) (actuals : List ActualForm)
-    (held : List Value) (suspended : List (Activation Value)) → AreElsewhere ghosts unnamed held
-    → LeftShuns p shuns may ghosts unnamed behind (Some 0) (done (frame.Returns actuals [] ∷ done (frame.Returns [] [] ∷ behind)))
+-- Fill shuns Near, where it waits for the end of the first procedure, has nothing left to do but its end, and gets nothing back in a component: what its
+-- variables hold refers to no ghost.
+pub end_shuns :
+    (p : ProgramForm) (may : Apart) (ghosts unnamed : Id → Bool) (behind : List (Frame Value)) (lower : List Master) (actuals : List ActualForm)
+    (fills : Master) (held : List Value) (suspended : List (Activation Value)) → AreOwnedApart may lower fills.items → AreElsewhere ghosts unnamed held
+    → LeftShuns p shuns may ghosts unnamed behind lower (Some 0) (frame.Returns actuals [] ∷ done (frame.Returns [] [] ∷ behind)) (fills ∷ [])
     (record { procedure = Some 1; places = held; operands = [] } ∷ suspended)
-done_shun p may ghosts unnamed behind actuals held suspended others = (
+end_shuns p may ghosts unnamed behind lower actuals fills held suspended owned others =
+    inr (record { references = tt; places = others; operands = tt; anew = refl; others = (refl, refl, (refl, refl, (tt, refl, (owned, inl (refl, refl))))) })
+
+-- So it is in front of that, where the first procedure has nothing left to do but its end.
+pub done_shun :
+    (p : ProgramForm) (may : Apart) (ghosts unnamed : Id → Bool) (behind : List (Frame Value)) (lower : List Master) (actuals : List ActualForm)
+    (first fills : Master) (held : List Value) (suspended : List (Activation Value)) → AreOwnedApart may lower first.items
+    → AreOwnedApart may lower fills.items → AreElsewhere ghosts unnamed held
+    → LeftShuns p shuns may ghosts unnamed behind lower (Some 0) (done (frame.Returns actuals [] ∷ done (frame.Returns [] [] ∷ behind)))
+    (first ∷ fills ∷ []) (record { procedure = Some 1; places = held; operands = [] } ∷ suspended)
+done_shun p may ghosts unnamed behind lower actuals first fills held suspended own owned others = (
   refl,
   refl,
-  (
-    refl,
-    refl,
-    (
-      tt,
-      refl,
-      inr (record { references = tt; places = others; operands = tt; anew = refl; others = (refl, refl, (refl, refl, (tt, refl, inl refl))) }),
-    ),
-  ),
+  (refl, refl, (tt, refl, (own, end_shuns p may ghosts unnamed behind lower actuals fills held suspended owned others))),
 )
 
 -- What is no end of a call is not that of the outermost body.

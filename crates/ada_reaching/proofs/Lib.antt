@@ -44,5 +44,7 @@ pub mod Example
 pub mod ExampleCopies
 -- it is met where a freed object is finalized
 pub mod ExampleFinalizes
--- and where one that is allocated is initialized
+-- where one that is allocated is initialized
 pub mod ExampleInitializes
+-- and where one that is declared is finalized
+pub mod ExampleDeclares

@@ -2,7 +2,7 @@
 //! theorem.
 
 ghost use Rattle.ada_reaching.specs.Deeds.{UnusedObjectsAreUntouched};
-ghost use Rattle.ada_reaching.specs.Example.{CopyIsMet, FinalizationIsMet, InitializationIsMet, PremiseIsMet, PremiseIsNeeded};
+ghost use Rattle.ada_reaching.specs.Example.{CopyIsMet, DeclarationIsMet, FinalizationIsMet, InitializationIsMet, PremiseIsMet, PremiseIsNeeded};
 ghost use Rattle.ada_reaching.specs.Law.{ShunnedObjectsAreUntouched};
 
 /// While bodies run that follow and free no value of some access types, and the operations of what they free and allocate, each object of
@@ -44,6 +44,13 @@ pub fn objects_are_finalized()
 /// so does that Initialize.
 pub fn objects_are_initialized()
     ensures { InitializationIsMet }
+{}
+
+/// So they are where a record object is declared that has a controlled part (3.3.1, 7.6.1): in a run of a well-formed program a procedure
+/// that such a body calls declares it by default and leaves its master, and the Finalize of the part begins, while an object of an access
+/// type is there that both bodies shun, and so does that Finalize.
+pub fn objects_are_declared()
+    ensures { DeclarationIsMet }
 {}
 
 /// And the premise is needed: in a run of a well-formed program a body follows a value of such a type, and the step looks at the object and
