@@ -6,6 +6,7 @@ use Rattle.std.specs.Prelude.{Some, None, pos}
 use Rattle.ada_program.specs.declared.program.Declaration.TheVariants as declaration
 use Rattle.ada_program.specs.declared.program.Exception.TheVariants.{StorageError}
 use Rattle.ada_program.specs.declared.program.Expression.{Integer, Path as Reads}
+use Rattle.ada_program.specs.declared.program.Operations.{Operations}
 use Rattle.ada_program.specs.declared.program.PartKind.TheVariants as part
 use Rattle.ada_program.specs.declared.program.Procedure.{Procedure}
 use Rattle.ada_program.specs.declared.program.Program.{Program}
@@ -29,23 +30,23 @@ use Rattle.ada_sound.proofs.ExampleRecords.{of_object, of_object_type}
 use Rattle.ada_sound.proofs.ExampleOperations.{of_kind, operation}
 
 -- type Tag is new Limited_Controlled with record Value : Integer; end record;
-abbrev tag_type : TypeDefinition
-tag_type =
+abbrev pub tag_by : Operations → TypeDefinition
+tag_by operations =
     definition.Record no_name (vec (of_kind part.Parent 0 0 ∷ of_kind (part.Elementary an_integer) 0 1 ∷ []) (omega arith)) (vec (an_integer ∷ []) (omega arith))
-    (Some (record { number = record { 0 = 0 }; parts = 1; limited = true; operations = tag_operations }))
+    (Some (record { number = record { 0 = 0 }; parts = 1; limited = true; operations = operations }))
 
 -- type Box is new Limited_Controlled with record Held : Label; end record;
-abbrev box_type : TypeDefinition
-box_type =
+abbrev pub box_by : Operations → TypeDefinition
+box_by operations =
     definition.Record no_name (vec (of_kind part.Parent 0 0 ∷ of_kind (part.Elementary (an_access 1)) 0 1 ∷ []) (omega arith)) (vec (an_access 1 ∷ []) (omega arith))
-    (Some (record { number = record { 0 = 1 }; parts = 1; limited = true; operations = equipping_operations }))
+    (Some (record { number = record { 0 = 1 }; parts = 1; limited = true; operations = operations }))
 
 -- Tag; type Label is access Tag; Box; and what B and the formal parameters are known by.
 abbrev pub equipping_types : List TypeDefinition
 equipping_types =
-    tag_type
+    tag_by tag_operations
     ∷ access_to 0
-    ∷ box_type
+    ∷ box_by equipping_operations
     ∷ definition.Object (record { 0 = 2 })
     ∷ definition.Object (record { 0 = 0 })
     ∷ definition.Object (record { 0 = 0 })
@@ -65,21 +66,16 @@ finalizes_tag = operation 5 (stmt.PutImage (Reads (of_object 0 0)) ∷ []) (omeg
 abbrev pub frees_tag : Procedure
 frees_tag = operation 7 (stmt.Free (record { 0 = 1 }) (of_object 0 0) ∷ []) (omega arith) [] (omega arith)
 
--- Those, and B.Held := new Tag;
-abbrev equipping_procedures : List Procedure
-equipping_procedures =
-    initializes_tag
-    ∷ finalizes_tag
-    ∷ operation 6 (stmt.Assign (of_object 0 0) (right.Default (record { 0 = 1 })) ∷ []) (omega arith) [] (omega arith)
-    ∷ frees_tag
-    ∷ []
+-- B.Held := new Tag;
+abbrev pub initializes_box : Procedure
+initializes_box = operation 6 (stmt.Assign (of_object 0 0) (right.Default (record { 0 = 1 })) ∷ []) (omega arith) [] (omega arith)
 
 -- B : Box; begin null;
 abbrev pub equipping : Program
 equipping = record {
   types = vec equipping_types (omega arith);
   pools = vec [] (omega arith);
-  procedures = vec equipping_procedures (omega arith);
+  procedures = vec (initializes_tag ∷ finalizes_tag ∷ initializes_box ∷ frees_tag ∷ []) (omega arith);
   variables = vec (of_object_type 3 ∷ []) (omega arith);
   texts = vec [] (omega arith);
   exceptions = vec [] (omega arith);

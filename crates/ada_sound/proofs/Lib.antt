@@ -437,6 +437,8 @@ pub mod ExampleFilling
 pub mod ExampleEquipping
 -- one whose Initialize declares such an object, and allocates one
 pub mod ExampleTagging
+-- one whose Finalize declares such an object
+pub mod ExampleMetering
 -- and those whose Adjust allocates
 pub mod ExampleDuplicating
 pub mod ExamplePairing

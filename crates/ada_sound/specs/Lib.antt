@@ -31,6 +31,8 @@ pub mod NestingExample
 pub mod HousingExample
 pub mod StockingExample
 pub mod TaggingExample
+-- one whose Finalize declares such an object
+pub mod MeteringExample
 -- what the rules let through
 pub mod Owners
 -- what they say of calls

@@ -29,6 +29,7 @@ ghost use Rattle.ada_sound.specs.NestingExample as nesting_example;
 ghost use Rattle.ada_sound.specs.HousingExample as housing_example;
 ghost use Rattle.ada_sound.specs.StockingExample as stocking_example;
 ghost use Rattle.ada_sound.specs.TaggingExample as tagging_example;
+ghost use Rattle.ada_sound.specs.MeteringExample as metering_example;
 
 /// The laws are not empty: a program is accepted and comes to a statement; it finishes after it has followed an access
 /// value, written a line, freed an object, and left its main procedure, with which another object went. And one is
@@ -232,6 +233,10 @@ pub fn premises_are_met()
 /// is refused, `Storage_Error` leaves the Initialize of the box from its declarations (11.4): the declared tag has its value, and
 /// is finalized there; the box has none, its words go back, and the exception leaves the main procedure.
 ///
+/// And one is accepted in which a component frees a tag whose Finalize declares a meter, with a Finalize of its own (3.3.1, 7.6.1):
+/// the meter gets the 7 of the tag. Where the Finalize of the tag is left, the meter is finalized, which writes the 7, and its words
+/// go back, before those of the tag do. `flow_invariant` speaks of where the statement of that Finalize begins.
+///
 /// And one is accepted whose Adjust allocates (7.6, 4.8): a record that owns a cell is assigned to another one, of the same
 /// type. Right behind the copy the components of both name one cell; Adjust reads it, and gives the copy a cell of its own,
 /// or null, where an exception is raised. Where both cells are granted, each of the two records is finalized at the leaving
@@ -369,6 +374,15 @@ pub fn operations_are_accepted()
         × (stmt_forms program ≡ operation_examples.equipping_stmts)
         × IsChecked program × FinishesAfter tagging_example.tagging_events program
         × always.HaltsAfter tagging_example.untagged_events (Unhandled StorageError) program
+        × always.InSomeRun program (λ events last. operation_examples.IsSpokenOfInside program last) }
+    ensures meters { (program : Program)
+        × (operations_of program.types.items 0 ≡ metering_example.metered_operations)
+        × (operations_of program.types.items 1 ≡ metering_example.metering_operations)
+        × (operations_of program.types.items 2 ≡ metering_example.meter_operations)
+        × (body_forms program ≡ metering_example.metering_bodies)
+        × (declaration_forms program ≡ operation_examples.equipping_declarations)
+        × (stmt_forms program ≡ operation_examples.equipping_stmts)
+        × IsChecked program × FinishesAfter metering_example.metering_events program
         × always.InSomeRun program (λ events last. operation_examples.IsSpokenOfInside program last) }
     ensures duplicates { (program : Program)
         × (operations_of program.types.items 0 ≡ operation_examples.duplicating_operations)

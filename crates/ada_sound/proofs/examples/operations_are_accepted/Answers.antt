@@ -14,6 +14,7 @@ use Rattle.ada_sound.proofs.ExampleAllocating as allocating
 use Rattle.ada_sound.proofs.ExampleUndoing as undoing
 use Rattle.ada_sound.proofs.ExampleFilling as filling
 use Rattle.ada_sound.proofs.ExampleEquipping as equipping
+use Rattle.ada_sound.proofs.ExampleMetering as metering
 use Rattle.ada_sound.proofs.ExampleTagging as tagging
 use Rattle.ada_sound.proofs.ExampleDuplicating as duplicating
 use Rattle.ada_sound.proofs.ExamplePairing as pairing
@@ -194,6 +195,18 @@ returns c = record {
     tagging.tags,
     tagging.is_refused,
     tagging.is_spoken_of,
+  );
+  meters = (
+    metering.metering,
+    metering.tag_overrides,
+    metering.box_overrides,
+    metering.meter_overrides,
+    metering.metering_has,
+    metering.metering_declares,
+    metering.metering_does,
+    metering.metering_accepted,
+    metering.meters,
+    metering.is_spoken_of,
   );
   duplicates = (
     duplicating.duplicating,

@@ -1,0 +1,28 @@
+with Ada.Finalization; with Ada.Text_IO; with Ada.Unchecked_Deallocation;
+procedure Main is
+   type Cell is record Value : Integer := 6; end record;
+   type Link is access Cell;
+   procedure Free is new Ada.Unchecked_Deallocation (Cell, Link);
+   type Count is new Ada.Finalization.Limited_Controlled with record Value : Integer := 0; end record;
+   type Holder is new Ada.Finalization.Limited_Controlled with record Held : Link; end record;
+   overriding procedure Initialize (Object : in out Count);
+   overriding procedure Finalize (Object : in out Holder);
+   overriding procedure Initialize (Object : in out Count) is
+      L : Link;
+   begin
+      L := new Cell;
+      Object.Value := L.Value;
+      Free (L);
+   exception
+      when others => Object.Value := 2;
+   end Initialize;
+   overriding procedure Finalize (Object : in out Holder) is
+      C : Count;
+   begin
+      Ada.Text_IO.Put_Line (Integer'Image (C.Value));
+      Free (Object.Held);
+   end Finalize;
+   H : Holder;
+begin
+   H.Held := new Cell;
+end Main;
