@@ -1,7 +1,6 @@
--- Procedures that are frugal have frugal bodies, by what is known of all procedures: what is known of the first ones stays known. What is frugal stays so where
--- more may be declared.
+-- Procedures that are frugal have frugal bodies, by what is known of all procedures: what is known of the first ones stays known.
 
-use Rattle.std.proofs.Common.{◌≡◌, ℕ, zero, suc, Bool, true, false, ◌&&◌, ◌||◌, List, [], ◌∷◌, ◌++◌, length, ◌+◌, ◌<◌, Some, None, refl, sym, ap, ◌∙◌, subst, arith}
+use Rattle.std.proofs.Common.{◌≡◌, ℕ, zero, suc, Bool, true, false, ◌&&◌, List, [], ◌∷◌, ◌++◌, length, ◌+◌, ◌<◌, Some, None, refl, sym, ap, ◌∙◌, subst, arith}
 use Rattle.std.specs.Prelude.{not, is_some}
 use Rattle.std.specs.List.{list_all, slice_get, slice_index_or}
 use Rattle.ada_program.specs.Form.{RecordPathForm, ItemForm, RightForm, nothing, value_of, allocates, allocates_default, computes, StmtForm, skips, assigns, assigns_record, frees, gets, writes, writes_text, chooses, repeats, counts, exits, calls, returns, raises, encloses, StmtsForm, no_stmts, a_stmt, BranchesForm, otherwise, a_branch, HandlersForm, no_handlers, a_handler, DeclarationForm, creates_pool, collects, declares, declares_record}
@@ -17,18 +16,11 @@ abbrev pub TellsMore : (less more : List Bool) → Type 0
 TellsMore less more = (n : ℕ) → slice_index_or less n false ≡ true → slice_index_or more n false ≡ true
 
 -- What frugal bodies go by, where this is known of procedures.
-abbrev pub by : List TypeForm → (objects : Bool) → (frugal : List Bool) → Thrift
-by types objects frugal = record { types = types; objects = objects; procedures = frugal }
+abbrev pub by : List TypeForm → (frugal : List Bool) → Thrift
+by types frugal = record { types = types; procedures = frugal }
 
--- One of two tests may be replaced by what follows from it.
-wider : (a b c : Bool) → (a ≡ true → c ≡ true) → (a || b) ≡ true → (c || b) ≡ true
-wider true b c one h = rw (one refl) refl
-wider false true true one h = refl
-wider false true false one h = refl
-wider false false c one h = absurd (cc h)
-
--- What is frugal by the one is so by the other, which lets at least the same be created, and knows at least the same procedures.
-module _ (one other : Thrift) (same : one.types ≡ other.types) (lets : one.objects ≡ true → other.objects ≡ true) (tells : TellsMore one.procedures other.procedures) where
+-- What is frugal by the one is so by the other, which knows at least the same procedures.
+module _ (one other : Thrift) (same : one.types ≡ other.types) (tells : TellsMore one.procedures other.procedures) where
   -- What is asked of types holds of the same types.
   bare_more : (t : ℕ) → has_bare_objects one.types t ≡ has_bare_objects other.types t
   bare_more t = ap (λ (types : List TypeForm). has_bare_objects types t) same
@@ -37,17 +29,14 @@ module _ (one other : Thrift) (same : one.types ≡ other.types) (lets : one.obj
   right_more nothing h = refl
   right_more (value_of path) h = refl
   right_more (allocates access items) h = sym (bare_more access) ∙ h
-  right_more (allocates_default access) h =
-      ap (λ (b : Bool). other.objects || b) (sym (bare_more access)) ∙ wider one.objects (has_bare_objects one.types access) other.objects lets h
+  right_more (allocates_default access) h = refl
   right_more (computes e) h = refl
 
   declaration_more : (d : DeclarationForm) → is_frugal_declaration one d ≡ true → is_frugal_declaration other d ≡ true
   declaration_more (creates_pool p) h = h
   declaration_more (collects access) h = h
   declaration_more (declares x right) h = right_more right h
-  declaration_more (declares_record x t None) h =
-      others one.objects (holds_scalars one.types t) other.objects (holds_scalars other.types t) lets
-      (λ scalars. ap (λ (types : List TypeForm). holds_scalars types t) (sym same) ∙ scalars) h
+  declaration_more (declares_record x t None) h = ap (λ (types : List TypeForm). holds_scalars types t) (sym same) ∙ h
   declaration_more (declares_record x t (Some items)) h = h
 
   declarations_more : (ds : List DeclarationForm) → are_frugal_declarations one ds ≡ true → are_frugal_declarations other ds ≡ true
@@ -111,10 +100,10 @@ append_more [] ys n h = absurd (cc h)
 append_more (x ∷ xs) ys zero h = h
 append_more (x ∷ xs) ys (suc n) h = append_more xs ys n h
 
-pub from_more : (types : List TypeForm) (objects : Bool) (known : List Bool) (bs : List BodyForm) → TellsMore known (frugal_from types objects known bs)
-from_more types objects known [] n h = h
-from_more types objects known (b ∷ bs) n h =
-    from_more types objects (known ++ is_frugal_body (by types objects known) b ∷ []) bs n (append_more known (is_frugal_body (by types objects known) b ∷ []) n h)
+pub from_more : (types : List TypeForm) (known : List Bool) (bs : List BodyForm) → TellsMore known (frugal_from types known bs)
+from_more types known [] n h = h
+from_more types known (b ∷ bs) n h =
+    from_more types (known ++ is_frugal_body (by types known) b ∷ []) bs n (append_more known (is_frugal_body (by types known) b ∷ []) n h)
 
 -- What is told of the first procedures is told of them later, too.
 append_keeps : (xs ys : List Bool) (n : ℕ) → n < length xs → slice_index_or (xs ++ ys) n false ≡ slice_index_or xs n false
@@ -130,33 +119,32 @@ pub append_length : (xs : List Bool) (x : Bool) → length (xs ++ x ∷ []) ≡ 
 append_length [] x = refl
 append_length (y ∷ xs) x = ap suc (append_length xs x)
 
-from_keeps : (types : List TypeForm) (objects : Bool) (known : List Bool) (bs : List BodyForm) (n : ℕ) → n < length known
-    → slice_index_or (frugal_from types objects known bs) n false ≡ slice_index_or known n false
-from_keeps types objects known [] n less = refl
-from_keeps types objects known (b ∷ bs) n less =
-    let here = is_frugal_body (by types objects known) b in
-    from_keeps types objects (known ++ here ∷ []) bs n (omega (arith, less, append_length known here)) ∙ append_keeps known (here ∷ []) n less
+from_keeps : (types : List TypeForm) (known : List Bool) (bs : List BodyForm) (n : ℕ) → n < length known
+    → slice_index_or (frugal_from types known bs) n false ≡ slice_index_or known n false
+from_keeps types known [] n less = refl
+from_keeps types known (b ∷ bs) n less =
+    let here = is_frugal_body (by types known) b in
+    from_keeps types (known ++ here ∷ []) bs n (omega (arith, less, append_length known here)) ∙ append_keeps known (here ∷ []) n less
 
 -- So each one behind those that are known is told as its body is.
-from_at : (types : List TypeForm) (objects : Bool) (known : List Bool) (bs : List BodyForm) (n i : ℕ) (b : BodyForm) → i ≡ n + length known → slice_get bs n ≡ Some b
-    → slice_index_or (frugal_from types objects known bs) i false ≡ true → is_frugal_body (by types objects (frugal_from types objects known bs)) b ≡ true
-from_at types objects known [] n i b place at told = absurd (cc at)
-from_at types objects known (c ∷ bs) zero i b place at told =
-    let here = is_frugal_body (by types objects known) c in
+from_at : (types : List TypeForm) (known : List Bool) (bs : List BodyForm) (n i : ℕ) (b : BodyForm) → i ≡ n + length known → slice_get bs n ≡ Some b
+    → slice_index_or (frugal_from types known bs) i false ≡ true → is_frugal_body (by types (frugal_from types known bs)) b ≡ true
+from_at types known [] n i b place at told = absurd (cc at)
+from_at types known (c ∷ bs) zero i b place at told =
+    let here = is_frugal_body (by types known) c in
     let more = known ++ here ∷ [] in
     let first : i ≡ length known = omega (arith, place) in
-    let kept : slice_index_or (frugal_from types objects more bs) (length known) false ≡ slice_index_or more (length known) false =
-    from_keeps types objects more bs (length known) (omega (arith, append_length known here)) in
-    let frugal : here ≡ true = sym (kept ∙ append_last known here) ∙ ap (λ (j : ℕ). slice_index_or (frugal_from types objects more bs) j false) (sym first) ∙ told in
+    let kept : slice_index_or (frugal_from types more bs) (length known) false ≡ slice_index_or more (length known) false =
+    from_keeps types more bs (length known) (omega (arith, append_length known here)) in
+    let frugal : here ≡ true = sym (kept ∙ append_last known here) ∙ ap (λ (j : ℕ). slice_index_or (frugal_from types more bs) j false) (sym first) ∙ told in
     let same : c ≡ b = cc at in
-    subst (λ (d : BodyForm). is_frugal_body (by types objects (frugal_from types objects more bs)) d ≡ true) same
-    (body_more (by types objects known) (by types objects (frugal_from types objects more bs)) refl (λ same. same)
-    (λ j h. from_more types objects more bs j (append_more known (here ∷ []) j h)) c frugal)
-from_at types objects known (c ∷ bs) (suc n) i b place at told =
-    let here = is_frugal_body (by types objects known) c in
-    from_at types objects (known ++ here ∷ []) bs n i b (omega (arith, place, append_length known here)) at told
+    subst (λ (d : BodyForm). is_frugal_body (by types (frugal_from types more bs)) d ≡ true) same
+    (body_more (by types known) (by types (frugal_from types more bs)) refl (λ j h. from_more types more bs j (append_more known (here ∷ []) j h)) c frugal)
+from_at types known (c ∷ bs) (suc n) i b place at told =
+    let here = is_frugal_body (by types known) c in
+    from_at types (known ++ here ∷ []) bs n i b (omega (arith, place, append_length known here)) at told
 
 -- A procedure that is told to be frugal has a frugal body.
-pub frugal_at : (p : ProgramForm) (objects : Bool) (number : ℕ) (b : BodyForm) → slice_index_or (frugal_procedures p objects) number false ≡ true
-    → slice_get p.bodies number ≡ Some b → is_frugal_body (thrift_of p objects) b ≡ true
-frugal_at p objects number b told there = from_at p.types objects [] p.bodies number number b (omega arith) there told
+pub frugal_at : (p : ProgramForm) (number : ℕ) (b : BodyForm) → slice_index_or (frugal_procedures p) number false ≡ true
+    → slice_get p.bodies number ≡ Some b → is_frugal_body (thrift_of p) b ≡ true
+frugal_at p number b told there = from_at p.types [] p.bodies number number b (omega arith) there told

@@ -49,13 +49,13 @@ either_second true b h = refl
 either_second false b h = h
 
 pub uses_plain_initialize : (p : ProgramForm) (o : Option ProcedureNo) → is_plain_operation p o ≡ true → uses_initialize p o ≡ true
-uses_plain_initialize p o h = either_first (is_plain_operation p o) (may_be_frugal p && is_frugal_operation p true o) h
+uses_plain_initialize p o h = either_first (is_plain_operation p o) (may_be_frugal p && is_frugal_operation p o) h
 
 pub uses_quiet_initialize : (p : ProgramForm) (o : Option ProcedureNo) → is_quiet_operation p o ≡ true → uses_initialize p o ≡ true
 uses_quiet_initialize p o h = uses_plain_initialize p o (plain_operation p o h)
 
 pub uses_quiet_finalize : (p : ProgramForm) (o : Option ProcedureNo) → is_quiet_operation p o ≡ true → uses_finalize p o ≡ true
-uses_quiet_finalize p o h = either_first (is_quiet_operation p o) (may_be_frugal p && is_frugal_operation p false o) h
+uses_quiet_finalize p o h = either_first (is_quiet_operation p o) (may_be_frugal p && is_frugal_operation p o) h
 
 -- A quiet Adjust is in use, but where it overrides that of a type which declares a component of an access type.
 other_chosen : (which one other : Bool) → which ≡ false → other ≡ true → (if which then one else other) ≡ true
@@ -65,7 +65,7 @@ other_chosen false one other is h = h
 pub uses_quiet_adjust : (p : ProgramForm) (owns : Bool) (o : Option ProcedureNo) → is_quiet_operation p o ≡ true → (owns && is_some (operation_body p o)) ≡ false →
     uses_adjust p owns o ≡ true
 uses_quiet_adjust p owns o h none =
-    either_second (adjusts_nothing p && is_frugal_operation p true o) (uses_called_adjust p owns o)
+    either_second (adjusts_nothing p && is_frugal_operation p o) (uses_called_adjust p owns o)
     (other_chosen (owns && is_some (operation_body p o)) (may_track p && is_simple_operation p (adjusts_alone p) o) (is_quiet_operation p o)
     none h)
 

@@ -10,8 +10,6 @@ pub mod QuietFrugal
 pub mod QuietSimple
 -- procedures that are frugal have frugal bodies
 pub mod FrugalAt
--- what is frugal is so where it may create more
-pub mod ObjectsMore
 -- collections that are created in order, found in one pass
 pub mod Collecting
 -- record types with controlled parts, by their numbers, and tables of what is known of them

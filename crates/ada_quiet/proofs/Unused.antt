@@ -76,7 +76,7 @@ quiet_as p o procedure b is at = ap (is_quiet_operation p) is ∙ ap (is_quiet_p
 
 -- An Initialize is in use as its body is.
 abbrev begun_procedure : ProgramForm → (procedure : ProcedureNo) → Option BodyForm → Bool
-begun_procedure p procedure o = is_plain_procedure p.types o || (may_be_frugal p && is_frugal_operation p true (Some procedure))
+begun_procedure p procedure o = is_plain_procedure p.types o || (may_be_frugal p && is_frugal_operation p (Some procedure))
 
 begun_as : (p : ProgramForm) (o : Option ProcedureNo) (procedure : ProcedureNo) (b : BodyForm) → o ≡ Some procedure → slice_get p.bodies procedure.0 ≡ Some b →
     uses_initialize p o ≡ initializes_in_use p procedure b
@@ -85,7 +85,7 @@ begun_as p o procedure b is at = ap (uses_initialize p) is ∙ ap (begun_procedu
 -- An Adjust is in use as its body is.
 abbrev adjusted_procedure : ProgramForm → (owns : Bool) → (procedure : ProcedureNo) → Option BodyForm → Bool
 adjusted_procedure p owns procedure o =
-    (adjusts_nothing p && is_frugal_operation p true (Some procedure))
+    (adjusts_nothing p && is_frugal_operation p (Some procedure))
     || (if owns && is_some o
     then may_track p && is_simple_procedure p.types (adjusts_alone p) o
     else is_quiet_procedure p.types o)
@@ -101,7 +101,7 @@ adjusted_as p owns o procedure b is at = ap (uses_adjust p owns) is ∙ ap (adju
 -- A Finalize is in use as its body is.
 abbrev used_procedure : ProgramForm → (procedure : ProcedureNo) → Option BodyForm → Bool
 used_procedure p procedure o =
-    is_quiet_procedure p.types o || (may_be_frugal p && is_frugal_operation p false (Some procedure))
+    is_quiet_procedure p.types o || (may_be_frugal p && is_frugal_operation p (Some procedure))
 
 used_as : (p : ProgramForm) (o : Option ProcedureNo) (procedure : ProcedureNo) (b : BodyForm) → o ≡ Some procedure → slice_get p.bodies procedure.0 ≡ Some b →
     uses_finalize p o ≡ finalizes_in_use p procedure b
@@ -324,8 +324,8 @@ last_true true b h = refl
 last_true false b h = h
 
 none_adjusted : (p : ProgramForm) (owns : Bool) (procedure : ProcedureNo) → adjusted_procedure p owns procedure None ≡ true
-none_adjusted p true procedure = last_true (adjusts_nothing p && is_frugal_operation p true (Some procedure)) true refl
-none_adjusted p false procedure = last_true (adjusts_nothing p && is_frugal_operation p true (Some procedure)) true refl
+none_adjusted p true procedure = last_true (adjusts_nothing p && is_frugal_operation p (Some procedure)) true refl
+none_adjusted p false procedure = last_true (adjusts_nothing p && is_frugal_operation p (Some procedure)) true refl
 
 loud_adjusted : (p : ProgramForm) (owns : Bool) (o : Option ProcedureNo) → uses_adjust p owns o ≡ false → (b : BodyForm) × (operation_body p o ≡ Some b)
 loud_adjusted p true None h = absurd (cc (last_true (adjusts_nothing p && true) true refl, h))

@@ -11,10 +11,9 @@ use Rattle.ada_quiet.specs.Bare.{record_has_component_of}
 use Rattle.ada_quiet.specs.declared.components.Held.{Held}
 use Rattle.ada_quiet.specs.Frugal.{Thrift}
 
--- What frugal bodies go by, as the code holds it: the types, whether they may declare record objects and allocate objects with controlled parts, and which
--- procedures have frugal bodies.
-abbrev pub thrift_in : List TypeDefinition → (objects : Bool) → (frugal : List Bool) → Thrift
-thrift_in types objects frugal = record { types = types_in types; objects = objects; procedures = frugal }
+-- What frugal bodies go by, as the code holds it: the types, and which procedures have frugal bodies.
+abbrev pub thrift_in : List TypeDefinition → (frugal : List Bool) → Thrift
+thrift_in types frugal = record { types = types_in types; procedures = frugal }
 
 -- The procedure or the type of a number is marked. None behind the last mark is.
 abbrev pub is_marked : (marks : List Bool) → (number : ℕ) → Bool

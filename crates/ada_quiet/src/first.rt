@@ -3,7 +3,7 @@
 //! component of an access type, not simple, or may not track, or frees objects where a record of the program has two controlled parts, or
 //! Finalize is neither quiet nor, where it may be, frugal.
 
-ghost use Rattle.std.specs.Prelude.{◌≡◌, ◌↔◌, None, true, false, map, IfOk};
+ghost use Rattle.std.specs.Prelude.{◌≡◌, ◌↔◌, None, true, map, IfOk};
 ghost use Rattle.ada_program.specs.Kept.{types_in};
 ghost use Rattle.ada_program.specs.ProgramForm.{program_form};
 ghost use Rattle.ada_quiet.specs.Earlier.{count_up_to, override_counts};
@@ -97,11 +97,8 @@ fn allowed_in(alloc: Global, program: &Program) -> Result<Allowed, AllocError>
 /// What is known of the procedures of a program.
 #[derive(Clone, Copy)]
 struct Known<'a> {
-    /// Of each one, by its number, whether its body is frugal, where it may declare record objects, and allocate objects with controlled
-    /// parts.
-    creating: &'a [bool],
-    /// And where it may not.
-    sparing: &'a [bool],
+    /// Of each one, by its number, whether its body is frugal.
+    frugal: &'a [bool],
     /// Of each record type with controlled parts, the last one that overrides an operation of a part of its objects.
     last: &'a [Option<ProcedureNo>],
 }
@@ -116,8 +113,7 @@ fn unused_in(
     owns: bool,
     finalization: Option<Finalization>,
 ) -> Result<Option<Spot>, AllocError>
-    requires creating { known.creating.now ≡ frugal.frugal_procedures (program_form program.now) true }
-    requires sparing { known.sparing.now ≡ frugal.frugal_procedures (program_form program.now) false }
+    requires frugal { known.frugal.now ≡ frugal.frugal_procedures (program_form program.now) }
     requires last { map count_up_to known.last.now ≡ override_counts (types_in program.now.types.items) }
     ensures { IfOk result (λ first. first
         ≡ rules.unused_in (program_form program.now) may.frugal may.nothing may.tracks may.alone owns finalization) }
@@ -128,7 +124,7 @@ fn unused_in(
     let operations = finalization.operations;
     let begins = uses_initialize(
         program,
-        known.creating,
+        known.frugal,
         known.last,
         may.frugal,
         operations.initialize,
@@ -136,7 +132,7 @@ fn unused_in(
     let adjusts = uses_adjust(
         alloc,
         program,
-        known.creating,
+        known.frugal,
         known.last,
         may.nothing,
         may.tracks,
@@ -147,7 +143,7 @@ fn unused_in(
     let ends = uses_finalize(
         alloc,
         program,
-        known.sparing,
+        known.frugal,
         known.last,
         may.frugal,
         operations.finalize,
@@ -168,16 +164,14 @@ fn first_uncallable(alloc: Global, program: &Program) -> Result<Option<Spot>, Al
     ensures first { IfOk result (IsFirst (BeginsUnused (program_form program.now))) }
     ensures called { IfOk result (λ first. (first ≡ None) ↔ (operations_may_be_called (program_form program.now) ≡ true)) }
 {
-    let creating = frugal_procedures(alloc, program, true)?;
-    let sparing = frugal_procedures(alloc, program, false)?;
+    let frugal = frugal_procedures(alloc, program)?;
     let last = last_overriders(alloc, &program.types)?;
     let may = allowed_in(alloc, program)?;
     let mut first = None;
     'types: for number in 0..program.types.len() {
         let owns = has_access(&program.types, number);
         let known = Known {
-            creating: &creating,
-            sparing: &sparing,
+            frugal: &frugal,
             last: &last,
         };
         let found = unused_in(

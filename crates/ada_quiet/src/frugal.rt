@@ -1,6 +1,6 @@
 //! Declarations, statements and bodies, where they are frugal: they allocate, move, follow and free objects (4.8, 13.11.2), assign records
-//! without controlled parts (5.2), call procedures with frugal bodies alone (6.4), and declare variables. Where they may, they also declare
-//! record objects that name nothing, and allocate objects with controlled parts, both initialized by default (3.3.1, 7.6).
+//! without controlled parts (5.2), call procedures with frugal bodies alone (6.4), and declare variables and record objects that name
+//! nothing. These objects, and what they allocate with controlled parts, are initialized by default (3.3.1, 7.6).
 
 ghost use Rattle.std.specs.Prelude.{◌≡◌, ◌&&◌, false, map, slice_index_or, IfOk};
 ghost use Rattle.std.specs.List.{list_all};
@@ -26,8 +26,6 @@ use std::alloc::{AllocError, Global};
 struct Thrift<'a> {
     /// The types of the program.
     types: &'a [TypeDefinition],
-    /// Whether they may declare record objects, and allocate objects with controlled parts.
-    objects: bool,
     /// Of each procedure that is known, by its number, whether its body is frugal.
     procedures: &'a [bool],
 }
@@ -64,22 +62,20 @@ fn holds_scalars(types: &[TypeDefinition], object: TypeNo) -> bool
     }
 }
 
-/// Whether what is assigned is no new object (4.8), or one that has no controlled parts, or, where that may be, is initialized by default
-/// (7.6).
+/// Whether what is assigned is no new object (4.8), or one that has no controlled parts, or is initialized by default (7.6).
 fn allocates_frugally(thrift: Thrift<'_>, right: &Right) -> bool
-    ensures { let by = thrift_in thrift.entry.types.now thrift.entry.objects thrift.entry.procedures.now in
+    ensures { let by = thrift_in thrift.entry.types.now thrift.entry.procedures.now in
         result ≡ rules.allocates_frugally by (right_form right.now) }
 {
     match right {
-        Right::Null | Right::Path(_) | Right::Value(_) => true,
-        Right::Default(access) => thrift.objects || has_bare_objects(thrift.types, *access),
+        Right::Null | Right::Path(_) | Right::Default(_) | Right::Value(_) => true,
         Right::Allocator { access, items: _ } => has_bare_objects(thrift.types, *access),
     }
 }
 
 /// Whether what a variable is given at first is, if it is given something (3.3.1).
 fn initial_allocates_frugally(thrift: Thrift<'_>, initial: &Option<Right>) -> bool
-    ensures { let by = thrift_in thrift.entry.types.now thrift.entry.objects thrift.entry.procedures.now in
+    ensures { let by = thrift_in thrift.entry.types.now thrift.entry.procedures.now in
         result ≡ rules.allocates_frugally by (initial_form initial.now) }
 {
     match initial {
@@ -88,10 +84,10 @@ fn initial_allocates_frugally(thrift: Thrift<'_>, initial: &Option<Right>) -> bo
     }
 }
 
-/// Whether a declaration is that of a variable, and so it is with what that is given at first (3.3.1), or, where that may be, that of a
-/// record object that names nothing and is initialized by default.
+/// Whether a declaration is that of a variable, and so it is with what that is given at first (3.3.1), or that of a record object that names
+/// nothing and is initialized by default.
 fn is_frugal_declaration(thrift: Thrift<'_>, declaration: &Declaration) -> bool
-    ensures { let by = thrift_in thrift.entry.types.now thrift.entry.objects thrift.entry.procedures.now in
+    ensures { let by = thrift_in thrift.entry.types.now thrift.entry.procedures.now in
         result ≡ rules.is_frugal_declaration by (declaration_form declaration.now) }
 {
     match declaration {
@@ -103,7 +99,7 @@ fn is_frugal_declaration(thrift: Thrift<'_>, declaration: &Declaration) -> bool
             variable: _,
             object,
             initial: None,
-        } => thrift.objects && holds_scalars(thrift.types, *object),
+        } => holds_scalars(thrift.types, *object),
         Declaration::Record {
             variable: _,
             object: _,
@@ -115,7 +111,7 @@ fn is_frugal_declaration(thrift: Thrift<'_>, declaration: &Declaration) -> bool
 
 /// Whether each of these declarations is.
 fn are_frugal_declarations(thrift: Thrift<'_>, declarations: &[Declaration]) -> bool
-    ensures { let by = thrift_in thrift.entry.types.now thrift.entry.objects thrift.entry.procedures.now in
+    ensures { let by = thrift_in thrift.entry.types.now thrift.entry.procedures.now in
         result ≡ rules.are_frugal_declarations by (map declaration_form declarations.now) }
 {
     'declarations: for declaration in declarations {
@@ -141,7 +137,7 @@ pub(crate) fn is_frugal_call(frugal: &[bool], procedure: ProcedureNo) -> bool
 #[cycle(statements)]
 #[tactic(auto, using(std::proofs::lemmas::Grind::common_steps, ada_program::specs::Form::statement_rules))]
 fn is_frugal_stmt(thrift: Thrift<'_>, statement: &Stmt) -> bool
-    ensures { let by = thrift_in thrift.entry.types.now thrift.entry.objects thrift.entry.procedures.now in
+    ensures { let by = thrift_in thrift.entry.types.now thrift.entry.procedures.now in
         result ≡ rules.is_frugal_stmt by (stmt_form statement.now) }
 {
     match statement {
@@ -191,7 +187,7 @@ fn is_frugal_stmt(thrift: Thrift<'_>, statement: &Stmt) -> bool
 /// Whether statements are frugal.
 #[cycle(statements)]
 fn are_frugal(thrift: Thrift<'_>, statements: &[Stmt]) -> bool
-    ensures { let by = thrift_in thrift.entry.types.now thrift.entry.objects thrift.entry.procedures.now in
+    ensures { let by = thrift_in thrift.entry.types.now thrift.entry.procedures.now in
         result ≡ rules.are_frugal by (stmts_form statements.now) }
 {
     'statements: for statement in statements {
@@ -205,7 +201,7 @@ fn are_frugal(thrift: Thrift<'_>, statements: &[Stmt]) -> bool
 /// Whether branches are (5.3).
 #[cycle(statements)]
 fn are_frugal_branches(thrift: Thrift<'_>, branches: &[Branch]) -> bool
-    ensures { let by = thrift_in thrift.entry.types.now thrift.entry.objects thrift.entry.procedures.now in
+    ensures { let by = thrift_in thrift.entry.types.now thrift.entry.procedures.now in
         (others : StmtsForm) → rules.are_frugal_branches by (branches_form branches.now others) ≡ (result && rules.are_frugal by others) }
 {
     'branches: for branch in branches {
@@ -219,7 +215,7 @@ fn are_frugal_branches(thrift: Thrift<'_>, branches: &[Branch]) -> bool
 /// Whether handlers are (11.2).
 #[cycle(statements)]
 fn are_frugal_handlers(thrift: Thrift<'_>, handlers: &[Handler]) -> bool
-    ensures { let by = thrift_in thrift.entry.types.now thrift.entry.objects thrift.entry.procedures.now in
+    ensures { let by = thrift_in thrift.entry.types.now thrift.entry.procedures.now in
         result ≡ rules.are_frugal_handlers by (handlers_form handlers.now) }
 {
     'handlers: for handler in handlers {
@@ -231,10 +227,10 @@ fn are_frugal_handlers(thrift: Thrift<'_>, handlers: &[Handler]) -> bool
 }
 
 /// Whether a body is frugal: it allocates objects, moves, follows and frees; it calls procedures with frugal bodies alone, assigns no
-/// record with controlled parts as a whole, gives values to the components of no new one, and declares variables, and, where it may, record
-/// objects that name nothing. An exception may come out of it. Linear in the body.
+/// record with controlled parts as a whole, gives values to the components of no new one, and declares variables, and record objects that
+/// name nothing. An exception may come out of it. Linear in the body.
 fn is_frugal_body(thrift: Thrift<'_>, procedure: &Procedure) -> bool
-    ensures { let by = thrift_in thrift.entry.types.now thrift.entry.objects thrift.entry.procedures.now in
+    ensures { let by = thrift_in thrift.entry.types.now thrift.entry.procedures.now in
         result ≡ rules.is_frugal_body by (body_form procedure.now) }
 {
     are_frugal_declarations(thrift, &procedure.declarations)
@@ -242,23 +238,17 @@ fn is_frugal_body(thrift: Thrift<'_>, procedure: &Procedure) -> bool
         && are_frugal_handlers(thrift, &procedure.handlers)
 }
 
-/// Of each procedure, by its number, whether its body is frugal, where it may declare record objects, and allocate objects with controlled
-/// parts, or not: it calls those before it. Linear in the bodies.
+/// Of each procedure, by its number, whether its body is frugal: it calls those before it. Linear in the bodies.
 ///
 /// # Errors
 /// `AllocError` where memory was refused.
-pub(crate) fn frugal_procedures(
-    alloc: Global,
-    program: &Program,
-    objects: bool,
-) -> Result<Vec<bool>, AllocError>
-    ensures { IfOk result (λ frugal. frugal.items ≡ rules.frugal_procedures (program_form program.now) objects) }
+pub(crate) fn frugal_procedures(alloc: Global, program: &Program) -> Result<Vec<bool>, AllocError>
+    ensures { IfOk result (λ frugal. frugal.items ≡ rules.frugal_procedures (program_form program.now)) }
 {
     let mut frugal = Vec::new(alloc);
     'procedures: for procedure in &program.procedures {
         let thrift = Thrift {
             types: &program.types,
-            objects,
             procedures: &frugal,
         };
         let is_frugal = is_frugal_body(thrift, procedure);

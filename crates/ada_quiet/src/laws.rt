@@ -2,12 +2,9 @@
 //! theorem.
 
 ghost use Rattle.ada_quiet.specs.Laws.{
-  BodiesWithObjects,
   CalmIsToldWithin,
-  OperationsWithObjects,
   OverridesAreCounted,
   PlainIsFrugal,
-  ProceduresWithObjects,
   QuietIsInUse,
   QuietIsSimple,
 };
@@ -15,14 +12,6 @@ ghost use Rattle.ada_quiet.specs.Laws.{
 /// A plain body is frugal, whatever is known of types and procedures: what touches no storage allocates, moves, follows and frees nothing.
 pub fn plain_is_frugal()
     ensures { PlainIsFrugal }
-{}
-
-/// What is frugal where it may declare no record objects, and allocate none with controlled parts, is so where it may: a body, a procedure,
-/// and what overrides an operation.
-pub fn frugal_without_objects_is_frugal()
-    ensures bodies { BodiesWithObjects }
-    ensures procedures { ProceduresWithObjects }
-    ensures operations { OperationsWithObjects }
 {}
 
 /// A quiet body is simple, whether objects may be freed or not: it calls nothing, copies no record, and frees nothing.

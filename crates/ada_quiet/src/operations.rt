@@ -1,6 +1,6 @@
 //! The bodies that override operations of controlled types (7.6), where they are plain, quiet, frugal or simple.
 
-ghost use Rattle.std.specs.Prelude.{◌≡◌, ◌&&◌, Bool, Some, is_some, map, not, IfOk};
+ghost use Rattle.std.specs.Prelude.{◌≡◌, ◌&&◌, Some, is_some, map, not, IfOk};
 ghost use Rattle.std.specs.List.{list_any, slice_get};
 ghost use Rattle.ada_program.specs.Kept.{types_in};
 ghost use Rattle.ada_program.specs.ProgramForm.{part_form, program_form, type_form};
@@ -59,9 +59,9 @@ pub(crate) fn is_frugal_operation(
     last: &[Option<ProcedureNo>],
     operation: Option<ProcedureNo>,
 ) -> bool
-    requires { map count_up_to last.now ≡ override_counts (types_in program.now.types.items) }
-    ensures { let p = program_form program.now in (objects : Bool) → frugal.now ≡ spent.frugal_procedures p objects
-        → result ≡ spent.is_frugal_operation p objects operation }
+    requires frugal { frugal.now ≡ spent.frugal_procedures (program_form program.now) }
+    requires last { map count_up_to last.now ≡ override_counts (types_in program.now.types.items) }
+    ensures { result ≡ spent.is_frugal_operation (program_form program.now) operation }
 {
     match operation {
         None => true,

@@ -1,6 +1,6 @@
 //! Where an Initialize and a Finalize may be frugal, and where these and an Adjust are in use (7.6, 7.6.1).
 
-ghost use Rattle.std.specs.Prelude.{◌≡◌, true, false, map, IfOk};
+ghost use Rattle.std.specs.Prelude.{◌≡◌, map, IfOk};
 ghost use Rattle.ada_program.specs.Kept.{types_in};
 ghost use Rattle.ada_program.specs.ProgramForm.{program_form, type_form};
 ghost use Rattle.ada_quiet.specs.Earlier.{count_up_to, override_counts};
@@ -58,8 +58,7 @@ pub fn may_be_frugal(alloc: Global, program: &Program) -> Result<bool, AllocErro
     )
 }
 
-/// Whether what overrides Initialize is plain, or frugal, where it may be: it may declare record objects, and allocate objects with
-/// controlled parts.
+/// Whether what overrides Initialize is plain, or frugal, where it may be.
 pub(crate) fn uses_initialize(
     program: &Program,
     procedures: &[bool],
@@ -67,7 +66,7 @@ pub(crate) fn uses_initialize(
     frugal: bool,
     operation: Option<ProcedureNo>,
 ) -> bool
-    requires frugal { procedures.now ≡ frugal_procedures (program_form program.now) true }
+    requires frugal { procedures.now ≡ frugal_procedures (program_form program.now) }
     requires last { map count_up_to last.now ≡ override_counts (types_in program.now.types.items) }
     ensures { result ≡ first.initializes (program_form program.now) frugal operation }
 {
@@ -92,7 +91,7 @@ pub(crate) fn uses_adjust(
     owns: bool,
     operation: Option<ProcedureNo>,
 ) -> Result<bool, AllocError>
-    requires frugal { procedures.now ≡ frugal_procedures (program_form program.now) true }
+    requires frugal { procedures.now ≡ frugal_procedures (program_form program.now) }
     requires last { map count_up_to last.now ≡ override_counts (types_in program.now.types.items) }
     ensures { IfOk result (λ answer. answer ≡ first.adjusts (program_form program.now) nothing tracks alone owns operation) }
 {
@@ -105,8 +104,7 @@ pub(crate) fn uses_adjust(
     Ok(tracks && is_simple_operation(program, alone, operation))
 }
 
-/// Whether what overrides Finalize is quiet, or frugal, where it may be: it may neither declare record objects nor allocate objects with
-/// controlled parts.
+/// Whether what overrides Finalize is quiet, or frugal, where it may be.
 ///
 /// # Errors
 /// `AllocError` where memory for the exceptions that it raises was refused.
@@ -118,7 +116,7 @@ pub(crate) fn uses_finalize(
     frugal: bool,
     operation: Option<ProcedureNo>,
 ) -> Result<bool, AllocError>
-    requires frugal { procedures.now ≡ frugal_procedures (program_form program.now) false }
+    requires frugal { procedures.now ≡ frugal_procedures (program_form program.now) }
     requires last { map count_up_to last.now ≡ override_counts (types_in program.now.types.items) }
     ensures { IfOk result (λ answer. answer ≡ first.finalizes (program_form program.now) frugal operation) }
 {

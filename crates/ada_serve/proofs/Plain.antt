@@ -212,28 +212,28 @@ module _ (program : Program) where
   simple_follows : (may_free : Bool) (o : Option ProcedureNo) → is_simple_operation p may_free o ≡ true → Follows program o
   simple_follows may_free o simple = leads_to_none program o (λ cost. operation_simple cost may_free o simple)
 
-  frugal_follows : (objects : Bool) (o : Option ProcedureNo) → is_frugal_operation p objects o ≡ true → Follows program o
-  frugal_follows objects None frugal = λ f g bound within agree. refl
-  frugal_follows objects (Some procedure) frugal =
-      let told = slice_index_or (frugal_procedures p objects) procedure.0 false in
+  frugal_follows : (o : Option ProcedureNo) → is_frugal_operation p o ≡ true → Follows program o
+  frugal_follows None frugal = λ f g bound within agree. refl
+  frugal_follows (Some procedure) frugal =
+      let told = slice_index_or (frugal_procedures p) procedure.0 false in
       earlier_follows program procedure (right_of told (declares_earlier_parts p procedure.0 (slice_get p.bodies procedure.0)) frugal)
 
   -- So it is with an Initialize and a Finalize that are in use.
   initialize_used : (o : Option ProcedureNo) → uses_initialize p o ≡ true → Follows program o
   initialize_used o used =
-      by_either (is_plain_operation p o) (may_be_frugal p && is_frugal_operation p true o) (plain_follows o)
-      (λ both. frugal_follows true o (right_of (may_be_frugal p) (is_frugal_operation p true o) both)) used
+      by_either (is_plain_operation p o) (may_be_frugal p && is_frugal_operation p o) (plain_follows o)
+      (λ both. frugal_follows o (right_of (may_be_frugal p) (is_frugal_operation p o) both)) used
 
   finalize_used : (o : Option ProcedureNo) → uses_finalize p o ≡ true → Follows program o
   finalize_used o used =
-      by_either (is_quiet_operation p o) (may_be_frugal p && is_frugal_operation p false o) (λ quiet. plain_follows o (plain_operation p o quiet))
-      (λ both. frugal_follows false o (right_of (may_be_frugal p) (is_frugal_operation p false o) both)) used
+      by_either (is_quiet_operation p o) (may_be_frugal p && is_frugal_operation p o) (λ quiet. plain_follows o (plain_operation p o quiet))
+      (λ both. frugal_follows o (right_of (may_be_frugal p) (is_frugal_operation p o) both)) used
 
   -- So it is with an Adjust that is in use: it is frugal, where none is called, simple, where it may track, or quiet.
   adjust_used : (owns : Bool) (o : Option ProcedureNo) → uses_adjust p owns o ≡ true → Follows program o
   adjust_used owns o used =
-      by_either (adjusts_nothing p && is_frugal_operation p true o) (uses_called_adjust p owns o)
-      (λ nothing. frugal_follows true o (right_of (adjusts_nothing p) (is_frugal_operation p true o) nothing))
+      by_either (adjusts_nothing p && is_frugal_operation p o) (uses_called_adjust p owns o)
+      (λ nothing. frugal_follows o (right_of (adjusts_nothing p) (is_frugal_operation p o) nothing))
       (λ called. by (owns && is_some (operation_body p o)) called) used
     where
       by : (tracks : Bool) → (if tracks then may_track p && is_simple_operation p (adjusts_alone p) o else is_quiet_operation p o) ≡ true → Follows program o

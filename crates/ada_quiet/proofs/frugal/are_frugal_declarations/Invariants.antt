@@ -7,5 +7,5 @@ use Rattle.ada_quiet.proofs.frugal.are_frugal_declarations.Given as goal
 -- what is left tells of all
 abbrev pub invariant-declarations : goal.invariant-declarations
 invariant-declarations l =
-    are_frugal_declarations (thrift_in l.thrift.types.now l.thrift.objects l.thrift.procedures.now) (map declaration_form (drop l.declaration-index l.declarations))
-    ≡ are_frugal_declarations (thrift_in l.thrift.types.now l.thrift.objects l.thrift.procedures.now) (map declaration_form l.declarations)
+    are_frugal_declarations (thrift_in l.thrift.types.now l.thrift.procedures.now) (map declaration_form (drop l.declaration-index l.declarations))
+    ≡ are_frugal_declarations (thrift_in l.thrift.types.now l.thrift.procedures.now) (map declaration_form l.declarations)

@@ -10,14 +10,14 @@ use Rattle.ada_quiet.specs.Known.{thrift_in}
 use Rattle.ada_quiet.proofs.frugal.frugal_procedures.Goals as goal
 
 -- what is known of one more, and what is left behind it, tell of all
-next : (types : List TypeDefinition) (objects : Bool) (frugal more : List Bool) (here : Bool) (ps : List Procedure) (n : ℕ) (b : Procedure) (all : List Bool) → n < length ps
-    → b ≡ get_or ps n b → here ≡ is_frugal_body (thrift_in types objects frugal) (body_form b) → more ≡ frugal ++ here ∷ []
-    → frugal_from (types_in types) objects frugal (map body_form (drop n ps)) ≡ all → frugal_from (types_in types) objects more (map body_form (drop (n + 1) ps)) ≡ all
-next types objects frugal more here ps n b all inside there is grown before =
+next : (types : List TypeDefinition) (frugal more : List Bool) (here : Bool) (ps : List Procedure) (n : ℕ) (b : Procedure) (all : List Bool) → n < length ps
+    → b ≡ get_or ps n b → here ≡ is_frugal_body (thrift_in types frugal) (body_form b) → more ≡ frugal ++ here ∷ []
+    → frugal_from (types_in types) frugal (map body_form (drop n ps)) ≡ all → frugal_from (types_in types) more (map body_form (drop (n + 1) ps)) ≡ all
+next types frugal more here ps n b all inside there is grown before =
     let rest = drop (n + 1) ps in
-    ap (λ (marks : List Bool). frugal_from (types_in types) objects marks (map body_form rest)) (grown ∙ ap (λ (told : Bool). frugal ++ told ∷ []) is)
-    ∙ ap (λ (q : Procedure). frugal_from (types_in types) objects frugal (map body_form (q ∷ rest))) there
-    ∙ sym (at_drop_more (λ qs. frugal_from (types_in types) objects frugal (map body_form qs)) ps n b inside)
+    ap (λ (marks : List Bool). frugal_from (types_in types) marks (map body_form rest)) (grown ∙ ap (λ (told : Bool). frugal ++ told ∷ []) is)
+    ∙ ap (λ (q : Procedure). frugal_from (types_in types) frugal (map body_form (q ∷ rest))) there
+    ∙ sym (at_drop_more (λ qs. frugal_from (types_in types) frugal (map body_form qs)) ps n b inside)
     ∙ before
 
 pub procedures-preserved : goal.procedures-preserved
@@ -29,7 +29,7 @@ procedures-preserved c =
     let inside = subst (λ (ps : List Procedure). index < length ps) c.deref-procedure-items.ensures.value c.procedures-test.true in
     let there = subst (λ (ps : List Procedure). b ≡ get_or ps index b) c.deref-procedure-items.ensures.value c.procedure-item.is in
     let is = c.is_frugal_body-is_frugal.ensures
-    ∙ ap (λ (types : List TypeDefinition). is_frugal_body (thrift_in types c.args.objects c.deref-in-procedures.result.now) (body_form b)) c.deref.ensures.value
-    ∙ ap (λ (marks : List Bool). is_frugal_body (thrift_in program.types.items c.args.objects marks) (body_form b)) c.deref-in-procedures.ensures.value in
-    next program.types.items c.args.objects frugal c.push.new.self.items c.is_frugal_body-is_frugal.result program.procedures.items index b _ inside there is
+    ∙ ap (λ (types : List TypeDefinition). is_frugal_body (thrift_in types c.deref-in-procedures.result.now) (body_form b)) c.deref.ensures.value
+    ∙ ap (λ (marks : List Bool). is_frugal_body (thrift_in program.types.items marks) (body_form b)) c.deref-in-procedures.ensures.value in
+    next program.types.items frugal c.push.new.self.items c.is_frugal_body-is_frugal.result program.procedures.items index b _ inside there is
     c.in_ok-push.ensures.items c.procedures.invariant

@@ -6,5 +6,5 @@ use Rattle.ada_quiet.proofs.frugal.frugal_procedures.Given as goal
 -- what is known so far, and what is left, tell of all
 abbrev pub invariant-procedures : goal.invariant-procedures
 invariant-procedures l =
-    frugal_from (map type_form l.program.types.items) l.objects l.frugal.items (map body_form (drop l.procedure-index l.program.procedures.items))
-    ≡ frugal_procedures (program_form l.program) l.objects
+    frugal_from (map type_form l.program.types.items) l.frugal.items (map body_form (drop l.procedure-index l.program.procedures.items))
+    ≡ frugal_procedures (program_form l.program)
