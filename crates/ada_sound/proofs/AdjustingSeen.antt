@@ -24,8 +24,8 @@ use Rattle.ada_tracked.specs.Simple.{FrameIsSimple}
 use Rattle.ada_tracked.specs.Staying.{BodyIsSimple, IsWithinBody, StaysSimple, at_once, behind_treatment}
 use Rattle.ada_typed.proofs.Kept.{behind_call, crosses as crosses_by, Behind, Each, is_treatment, Keeps}
 use Rattle.ada_typed.proofs.KeptSteps.{pass_keeps, step_keeps}
-use Rattle.ada_sound.proofs.Adjusting.{simple_thriftiness}
-use Rattle.ada_sound.proofs.FrugalControl.{Frugal, FrugalBegins, FrugalLeads, FrugalLeaves, Allowance, is_return_first}
+use Rattle.ada_sound.proofs.Allowance.{Allowance, simple_allowance}
+use Rattle.ada_sound.proofs.FrugalControl.{Frugal, FrugalBegins, FrugalLeads, FrugalLeaves, is_return_first}
 use Rattle.ada_sound.proofs.FrugalSteps.{is_call_first, treats_none}
 use Rattle.ada_sound.proofs.Invariant.{Control}
 use Rattle.ada_sound.proofs.Steps as inside
@@ -37,26 +37,26 @@ calls_or_copies (Elaborates (declares_record x t initial ∷ ds) fs hs ∷ k) = 
 calls_or_copies k = false
 
 -- Not in a frugal body, where no procedure is called frugal.
-leads_on : (types : List TypeForm) (behind : Control) (among : List Value) (k : Control) (ms : List Master) → FrugalLeads (simple_thriftiness types) false behind among k ms → calls_or_copies k ≡ false
+leads_on : (types : List TypeForm) (behind : Control) (among : List Value) (k : Control) (ms : List Master) → FrugalLeads (simple_allowance types) behind among k ms → calls_or_copies k ≡ false
 leads_on types behind among (Does (a_stmt (calls procedure actuals) fs) ∷ k) ms q = absurd (cc (q.0))
 leads_on types behind among (Elaborates (declares_record x t initial ∷ ds) fs hs ∷ k) [] q = absurd q
 leads_on types behind among (Elaborates (declares_record x t None ∷ ds) fs hs ∷ k) (m ∷ ms) q = let declares = q.0.1.0 in absurd (cc declares)
 leads_on types behind among (Elaborates (declares_record x t (Some items) ∷ ds) fs hs ∷ k) (m ∷ ms) q = let declares = q.0.1.0 in absurd (cc declares)
 leads_on types behind among k ms q = refl
 
-leaves_on : (types : List TypeForm) (behind : Control) (among : List Value) (k : Control) (ms : List Master) → FrugalLeaves (simple_thriftiness types) false behind among k ms → calls_or_copies k ≡ false
+leaves_on : (types : List TypeForm) (behind : Control) (among : List Value) (k : Control) (ms : List Master) → FrugalLeaves (simple_allowance types) behind among k ms → calls_or_copies k ≡ false
 leaves_on types behind among (Does (a_stmt (calls procedure actuals) fs) ∷ k) ms q = absurd q
 leaves_on types behind among (Elaborates (declares_record x t initial ∷ ds) fs hs ∷ k) ms q = absurd q
 leaves_on types behind among k ms q = refl
 
 -- Nor is it where a new object begins first.
-begins_on : (types : List TypeForm) (behind : Control) (among : List Value) (k : Control) (ms : List Master) → FrugalBegins (simple_thriftiness types) false behind among k ms → calls_or_copies k ≡ false
+begins_on : (types : List TypeForm) (behind : Control) (among : List Value) (k : Control) (ms : List Master) → FrugalBegins (simple_allowance types) behind among k ms → calls_or_copies k ≡ false
 begins_on types behind among [] ms q = refl
 begins_on types behind among (frame.Treats v (frame.begins by done) tasks ∷ k) ms q = refl
 begins_on types behind among (frame.Awaits v by done of part tasks ∷ k) ms q = refl
 begins_on types behind among (f ∷ k) ms q = absurd q
 
-pub frugal_alone : (types : List TypeForm) (behind : Control) (among : List Value) (mode : Mode) (k : Control) (ms : List Master) → Frugal (simple_thriftiness types) false behind among mode k ms → calls_or_copies k ≡ false
+pub frugal_alone : (types : List TypeForm) (behind : Control) (among : List Value) (mode : Mode) (k : Control) (ms : List Master) → Frugal (simple_allowance types) behind among mode k ms → calls_or_copies k ≡ false
 frugal_alone types behind among mode k ms (inl q) = leads_on types behind among k ms q
 frugal_alone types behind among mode k ms (inr (inl q)) = leaves_on types behind among k ms q.1
 frugal_alone types behind among mode k ms (inr (inr q)) = begins_on types behind among k ms q.1
@@ -284,19 +284,19 @@ module _ (types : List TypeDefinition) (bodies : List BodyForm) (w : View) where
 
   -- So none is, where the other one is frugal, frees no objects with controlled parts, and declares no record objects.
   treated_not : (frugal : Allowance) → frugal.treats_parts ≡ false → frugal.objects ≡ false → (back : Control) (among : List Value) (s t : State) (ms : List Master) (v : Value) (treatment : frame.Treatment) (tasks : List Task) (k : Control) → Seen types bodies w s t → Frugal frugal back among t.mode t.control ms → s.control ≡ frame.Treats v treatment tasks ∷ k → ⊥
-  treated_not frugal objects none_parts none_objects back among s t ms v treatment tasks k (plainly others is) frugally e =
+  treated_not frugal none_parts none_objects back among s t ms v treatment tasks k (plainly others is) frugally e =
       let control : t.control ≡ frame.Treats v treatment tasks ∷ seen_control w k = rw (is, e) refl in
-      treats_none frugal objects none_parts none_objects back among t.mode t.control ms frugally v treatment tasks (seen_control w k) control
-  treated_not frugal objects none_parts none_objects back among s t ms v treatment tasks k (following c cs j running_is control_is others l vs is goes_on) frugally e = absurd (cc (control_is, e))
-  treated_not frugal objects none_parts none_objects back among s t ms v treatment tasks k (elsewhere waiting c j vs running_is control_is operands_are others none is) frugally e =
+      treats_none frugal none_parts none_objects back among t.mode t.control ms frugally v treatment tasks (seen_control w k) control
+  treated_not frugal none_parts none_objects back among s t ms v treatment tasks k (following c cs j running_is control_is others l vs is goes_on) frugally e = absurd (cc (control_is, e))
+  treated_not frugal none_parts none_objects back among s t ms v treatment tasks k (elsewhere waiting c j vs running_is control_is operands_are others none is) frugally e =
       no_treatment waiting c j k v treatment tasks (sym control_is ∙ e)
-  treated_not frugal objects none_parts none_objects back among s t ms v treatment tasks k (delayed waiting c x spot fs j vs running_is control_is operands_are others is stood) frugally e =
+  treated_not frugal none_parts none_objects back among s t ms v treatment tasks k (delayed waiting c x spot fs j vs running_is control_is operands_are others is stood) frugally e =
       no_treatment waiting c (Does fs ∷ j) k v treatment tasks (sym control_is ∙ e)
 
   -- So what is left to do stays simple.
   pub simple_still : (frugal : Allowance) → frugal.treats_parts ≡ false → frugal.objects ≡ false → (back : Control) (among : List Value) (s t : State) (ms : List Master) → Seen types bodies w s t → Frugal frugal back among t.mode t.control ms → StaysSimple w.tracks.first s.control → BodyIsSimple w.tracks.first s.control
-  simple_still frugal objects none_parts none_objects back among s t ms seen frugally (at_once simple) = simple
-  simple_still frugal objects none_parts none_objects back among s t ms seen frugally (behind_treatment v treatment tasks k is simple) = absurd (treated_not frugal objects none_parts none_objects back among s t ms v treatment tasks k seen frugally is)
+  simple_still frugal none_parts none_objects back among s t ms seen frugally (at_once simple) = simple
+  simple_still frugal none_parts none_objects back among s t ms seen frugally (behind_treatment v treatment tasks k is simple) = absurd (treated_not frugal none_parts none_objects back among s t ms v treatment tasks k seen frugally is)
 
   -- Where the real state leaves a master, the other one does.
   no_leaving : (waiting : Waiting) (c : ℕ) (k l : Control) (mode : Mode) → waiting_frame waiting c ∷ k ≡ Leaves mode ∷ l → ⊥
