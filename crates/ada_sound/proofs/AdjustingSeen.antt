@@ -284,19 +284,19 @@ module _ (types : List TypeDefinition) (bodies : List BodyForm) (w : View) where
 
   -- So none is, where the other one is frugal, frees no objects with controlled parts, and declares no record objects.
   treated_not : (frugal : Allowance) → frugal.treats_parts ≡ false → frugal.objects ≡ false → (back : Control) (among : List Value) (s t : State) (ms : List Master) (v : Value) (treatment : frame.Treatment) (tasks : List Task) (k : Control) → Seen types bodies w s t → Frugal frugal back among t.mode t.control ms → s.control ≡ frame.Treats v treatment tasks ∷ k → ⊥
-  treated_not frugal objects none_parts none_objects back among s t ms v treatment tasks k (plainly others is) frugally e =
+  treated_not frugal none_parts none_objects back among s t ms v treatment tasks k (plainly others is) frugally e =
       let control : t.control ≡ frame.Treats v treatment tasks ∷ seen_control w k = rw (is, e) refl in
-      treats_none frugal objects none_parts none_objects back among t.mode t.control ms frugally v treatment tasks (seen_control w k) control
-  treated_not frugal objects none_parts none_objects back among s t ms v treatment tasks k (following c cs j running_is control_is others l vs is goes_on) frugally e = absurd (cc (control_is, e))
-  treated_not frugal objects none_parts none_objects back among s t ms v treatment tasks k (elsewhere waiting c j vs running_is control_is operands_are others none is) frugally e =
+      treats_none frugal none_parts none_objects back among t.mode t.control ms frugally v treatment tasks (seen_control w k) control
+  treated_not frugal none_parts none_objects back among s t ms v treatment tasks k (following c cs j running_is control_is others l vs is goes_on) frugally e = absurd (cc (control_is, e))
+  treated_not frugal none_parts none_objects back among s t ms v treatment tasks k (elsewhere waiting c j vs running_is control_is operands_are others none is) frugally e =
       no_treatment waiting c j k v treatment tasks (sym control_is ∙ e)
-  treated_not frugal objects none_parts none_objects back among s t ms v treatment tasks k (delayed waiting c x spot fs j vs running_is control_is operands_are others is stood) frugally e =
+  treated_not frugal none_parts none_objects back among s t ms v treatment tasks k (delayed waiting c x spot fs j vs running_is control_is operands_are others is stood) frugally e =
       no_treatment waiting c (Does fs ∷ j) k v treatment tasks (sym control_is ∙ e)
 
   -- So what is left to do stays simple.
   pub simple_still : (frugal : Allowance) → frugal.treats_parts ≡ false → frugal.objects ≡ false → (back : Control) (among : List Value) (s t : State) (ms : List Master) → Seen types bodies w s t → Frugal frugal back among t.mode t.control ms → StaysSimple w.tracks.first s.control → BodyIsSimple w.tracks.first s.control
-  simple_still frugal objects none_parts none_objects back among s t ms seen frugally (at_once simple) = simple
-  simple_still frugal objects none_parts none_objects back among s t ms seen frugally (behind_treatment v treatment tasks k is simple) = absurd (treated_not frugal objects none_parts none_objects back among s t ms v treatment tasks k seen frugally is)
+  simple_still frugal none_parts none_objects back among s t ms seen frugally (at_once simple) = simple
+  simple_still frugal none_parts none_objects back among s t ms seen frugally (behind_treatment v treatment tasks k is simple) = absurd (treated_not frugal none_parts none_objects back among s t ms v treatment tasks k seen frugally is)
 
   -- Where the real state leaves a master, the other one does.
   no_leaving : (waiting : Waiting) (c : ℕ) (k l : Control) (mode : Mode) → waiting_frame waiting c ∷ k ≡ Leaves mode ∷ l → ⊥

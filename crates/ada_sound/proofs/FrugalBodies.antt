@@ -132,17 +132,17 @@ one_more (m ∷ ms) [] mark nest step more = absurd step
 one_more (m ∷ ms) (n ∷ ns) mark nest step more = (step.0, one_more ms ns mark nest step.1 more)
 
 all_step : (types : List TypeForm) (bodies : List BodyForm) (allowance : List Bool) (nests : Callees) → InStep allowance nests
-    → InStep (frugal_from types objects allowance bodies) (callees_from types nests bodies)
-all_step types objects [] allowance nests step = step
-all_step types objects (b ∷ bodies) allowance nests step =
+    → InStep (frugal_from types allowance bodies) (callees_from types nests bodies)
+all_step types [] allowance nests step = step
+all_step types (b ∷ bodies) allowance nests step =
     let frugal : Thrift = record { types = types; objects = objects; procedures = allowance } in
-    all_step types objects bodies (allowance ++ is_frugal_body frugal b ∷ []) (nests ++ body_nests types nests b ∷ [])
+    all_step types bodies (allowance ++ is_frugal_body frugal b ∷ []) (nests ++ body_nests types nests b ∷ [])
     (one_more allowance nests (is_frugal_body frugal b) (body_nests types nests b) step (λ is around. body_is frugal nests (step_nests allowance nests step) b around is))
 
 -- The body of a frugal procedure nests wherever it is called, whatever it frees and declares.
 pub frugal_nests : (p : ProgramForm) (number : ℕ) → slice_index_or (frugal_procedures p) number false ≡ true → (around : List ℕ)
     → call_nests (slice_get (callees_of p) number) around ≡ true
-frugal_nests p objects number is around = step_nests (frugal_procedures p) (callees_of p) (all_step p.types objects p.bodies [] [] tt) number is around
+frugal_nests p number is around = step_nests (frugal_procedures p) (callees_of p) (all_step p.types p.bodies [] [] tt) number is around
 
 -- What a body goes by that calls nothing, and creates no object with controlled parts.
 abbrev pub calling_none : List TypeForm → Thrift

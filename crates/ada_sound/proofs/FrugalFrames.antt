@@ -64,7 +64,7 @@ first_number n others = rw (eq-eqb n n refl) refl
 
 module _ (frugal : Allowance) (lower : List Master) (behind : Control) (among : List Value) (tds : List TypeDefinition) (bodies : List BodyForm) (s : State) where
   abbrev pub Fine : Next → Type 0
-  Fine n = GoesFrugally frugal lower objects behind among n
+  Fine n = GoesFrugally frugal lower behind among n
 
   abbrev pub Goes : State → Type 0
   Goes after = Frugally frugal lower behind among after
@@ -192,7 +192,7 @@ module _ (frugal : Allowance) (lower : List Master) (behind : Control) (among : 
     granted_on access count words home all k (inr (may, alone)) q = record {
       upper = ms;
       masters = refl;
-      frugally = beginning_frugal frugal objects behind among (created s.heap words) Creation [] (all_tasks tds access PartsFirst) k ms (refl, may, alone) q;
+      frugally = beginning_frugal frugal behind among (created s.heap words) Creation [] (all_tasks tds access PartsFirst) k ms (refl, may, alone) q;
     }
       where
         cell : Cell Value
@@ -212,7 +212,7 @@ module _ (frugal : Allowance) (lower : List Master) (behind : Control) (among : 
     born_on v by done of part tasks (Some p) all k beginning q = record {
       upper = ms;
       masters = refl;
-      frugally = beginning_frugal frugal objects behind among v by (record { of = of; number = part } ∷ done) tasks k ms beginning q;
+      frugally = beginning_frugal frugal behind among v by (record { of = of; number = part } ∷ done) tasks k ms beginning q;
     }
 
     pub awaited_on : (v : Value) (by : Birth) (done : List Part) (of part : ℕ) (tasks : List Task) (found : Found (Cell Value)) (all : List (Activation Value)) → (k : Control) → BeginsThere frugal v by k → Left k → Fine (awaited_next named v by done of part tasks found (now all k ms))
@@ -225,7 +225,7 @@ module _ (frugal : Allowance) (lower : List Master) (behind : Control) (among : 
     undone_on : EndsCreated frugal → (e : Exception) (v : Value) (by : Birth) (done : List Part) (cell : Cell Value) (all : List (Activation Value)) → (k : Control) → BeginsThere frugal v by k → Left k → Goes (undone named e v done cell (jumping_in e all k ms))
     undone_on ends_created e v by done cell all k beginning q =
         on _ refl
-        (treating_leads frugal objects behind among v (ends (Undoing s.next)) (map (λ p. performs p.of p.number) done)
+        (treating_leads frugal behind among v (ends (Undoing s.next)) (map (λ p. performs p.of p.number) done)
         (Ends v ∷ GivesBack v (Undoing s.next) cell.home.pool ∷ Resumes (Raising e) ∷ k) ms (tt, ends_created beginning.1, refl, beginning.2) (tt, (tt, (tt, q))))
 
     undo_on : EndsCreated frugal → (e : Exception) (v : Value) (by : Birth) (done : List Part) (found : Found (Cell Value)) (all : List (Activation Value)) → (k : Control) → BeginsThere frugal v by k → Left k → Fine (undo_next named e v done found (jumping_in e all k ms))
@@ -293,7 +293,7 @@ module _ (frugal : Allowance) (lower : List Master) (behind : Control) (among : 
     freeing_on access v cell clears all k (inl none) q = rw none (on _ refl (tt, (tt, q)))
     freeing_on access v cell clears all k (inr (treats_parts, alone)) q =
         on (freeing named tds access v cell clears (now all k ms)) refl
-        (treating_leads frugal objects behind among v (ends (Freeing s.next)) (all_tasks tds cell.access WholeFirst)
+        (treating_leads frugal behind among v (ends (Freeing s.next)) (all_tasks tds cell.access WholeFirst)
         (Ends v ∷ GivesBack v (Freeing s.next) (Some (pool_freed_to (home_of access (ms ++ lower)))) ∷ clears ∷ k) ms (tt, treats_parts, refl, alone) (tt, (tt, q)))
 
     freeing_next_on : (access : ℕ) (v : Value) (cell : Cell Value) (clears : Frame Value) (event : Event Value) → (all : List (Activation Value)) → (k : Control) → IsFreely frugal tds (clears ∷ k) v (finds cell) → Left (clears ∷ k) → Fine (freeing_next named tds access v cell clears event (now all k ms))
@@ -525,7 +525,7 @@ module _ (frugal : Allowance) (lower : List Master) (behind : Control) (among : 
   declaration_on m ms own (declares_record x t None) ds fs hs thrifty more all k unborn q = record {
     upper = record m { items = record { number = height ((m ∷ ms) ++ lower); owned = record_object t } ∷ m.items } ∷ ms;
     masters = refl;
-    frugally = beginning_frugal frugal objects behind among (created s.heap (words_of tds t)) Creation [] (all_tasks tds t PartsFirst) (Elaborates ds fs hs ∷ k)
+    frugally = beginning_frugal frugal behind among (created s.heap (words_of tds t)) Creation [] (all_tasks tds t PartsFirst) (Elaborates ds fs hs ∷ k)
         (record m { items = record { number = height ((m ∷ ms) ++ lower); owned = record_object t } ∷ m.items } ∷ ms)
         (refl, thrifty, unborn thrifty (next_id s.heap) (past_unborn s.heap)) (((thrifty, own), more), q);
   }
@@ -546,7 +546,7 @@ module _ (frugal : Allowance) (lower : List Master) (behind : Control) (among : 
   declares_on (m ∷ ms) x v all k q = record {
     upper = with_variable (record { number = height ((m ∷ ms) ++ lower); owned = declared x }) m ∷ ms;
     masters = refl;
-    frugally = inl (more_leads frugal (record { number = height ((m ∷ ms) ++ lower); owned = declared x }) (λ objects'. tt) objects behind among k m ms q.1);
+    frugally = inl (more_leads frugal (record { number = height ((m ∷ ms) ++ lower); owned = declared x }) (λ objects'. tt) behind among k m ms q.1);
   }
 
   -- A master is left.
@@ -591,7 +591,7 @@ module _ (frugal : Allowance) (lower : List Master) (behind : Control) (among : 
   member_on m ms left cause v on_other all k leaving may alone q = leaving_on (m ∷ ms) (named.part s.heap v) all (Ends v ∷ GivesBack v cause None ∷ Leaves left ∷ k) q
   member_on m ms left cause v (finds cell) all k leaving may alone q =
       leaving_on (m ∷ ms) (named.part s.heap v) all (treating v (ends cause) (all_tasks tds cell.access WholeFirst) (Ends v ∷ GivesBack v cause None ∷ Leaves left ∷ k))
-      (treating_leaves frugal objects behind among v (ends cause) (all_tasks tds cell.access WholeFirst) (Ends v ∷ GivesBack v cause None ∷ Leaves left ∷ k) (m ∷ ms) (leaving, may, refl, alone) q)
+      (treating_leaves frugal behind among v (ends cause) (all_tasks tds cell.access WholeFirst) (Ends v ∷ GivesBack v cause None ∷ Leaves left ∷ k) (m ∷ ms) (leaving, may, refl, alone) q)
 
   pub leaves_on : (ms : List Master) (left : Mode) (all : List (Activation Value)) → (k : Control) → (frugal.objects ≡ true → LeftAlone s.heap (ms ++ lower) (Leaves left ∷ k))
       → FrugalLeaves frugal behind among (Leaves left ∷ k) ms → Fine (leave_next named tds left (ms ++ lower) (now all k ms))

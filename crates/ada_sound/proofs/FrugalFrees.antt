@@ -337,28 +337,28 @@ module _ (frugal : Allowance) (tds : List TypeDefinition) where
 
   -- What is freed next in a frugal body may be so, where it is among these access types.
   pub next_freely :
-      AccessIsBare frugal.types tds → (may : ℕ → Bool) (thrift : Allowance) → thrift.by objects ≡ frugal → (behind : Control) (among : List Value) (heap : List Object) (values results : List Value) (k : Control) (ms : List Master)
+      AccessIsBare frugal.types tds → (may : ℕ → Bool) (thrift : Allowance) → thrift.by ≡ frugal → (behind : Control) (among : List Value) (heap : List Object) (values results : List Value) (k : Control) (ms : List Master)
       → (frugal.treats_parts ≡ true → ListedAlone may heap k)
-      → FrugalLeads thrift objects behind among k ms → FreesAmong may k → NextFreesOwn k heap values results → NextIsFreely k heap values results
-  next_freely bare may thrift objects same behind among heap values results [] ms alone q freely own = tt
-  next_freely bare may thrift objects same behind among heap values results (Does (a_stmt (frees access path) fs) ∷ k) ms alone q freely own =
+      → FrugalLeads thrift behind among k ms → FreesAmong may k → NextFreesOwn k heap values results → NextIsFreely k heap values results
+  next_freely bare may thrift same behind among heap values results [] ms alone q freely own = tt
+  next_freely bare may thrift same behind among heap values results (Does (a_stmt (frees access path) fs) ∷ k) ms alone q freely own =
       λ stands. is_freely bare may heap (Does fs ∷ k) alone (place_at values path.root) access (rw same at (apart (may_treat thrifty access) (are_thrifty thrifty fs) q.0).0) freely (own stands)
-  next_freely bare may thrift objects same behind among heap values results (FreesIn access c ∷ k) ms alone q freely own =
+  next_freely bare may thrift same behind among heap values results (FreesIn access c ∷ k) ms alone q freely own =
       λ cell w found there. is_freely bare may heap k alone w access (rw same at q.0) freely (own cell w found there)
-  next_freely bare may thrift objects same behind among heap values results (f ∷ k) ms alone q freely own = tt
+  next_freely bare may thrift same behind among heap values results (f ∷ k) ms alone q freely own = tt
 
 -- Where bodies treat no objects with controlled parts, what is freed next has none.
 pub frees_bare : (frugal : Allowance) → frugal.treats_parts ≡ false → (behind : Control) (among : List Value) (mode : Mode) (k : Control) (ms : List Master)
     → Frugal frugal behind among mode k ms → FreesAmong (has_bare_objects frugal.types) k
-frees_bare frugal objects none behind among mode [] ms q = tt
-frees_bare frugal objects none behind among mode (Does (a_stmt (frees access path) fs) ∷ k) ms (inl q) =
+frees_bare frugal none behind among mode [] ms q = tt
+frees_bare frugal none behind among mode (Does (a_stmt (frees access path) fs) ∷ k) ms (inl q) =
     let may = (apart (may_treat frugal access) (are_thrifty frugal fs) q.0).0 in rw none at may
-frees_bare frugal objects none behind among mode (Does (a_stmt (frees access path) fs) ∷ k) ms (inr (inl leaving)) = absurd leaving.1
-frees_bare frugal objects none behind among mode (Does (a_stmt (frees access path) fs) ∷ k) ms (inr (inr beginning)) = absurd beginning.1
-frees_bare frugal objects none behind among mode (FreesIn access c ∷ k) ms (inl q) = let may = q.0 in rw none at may
-frees_bare frugal objects none behind among mode (FreesIn access c ∷ k) ms (inr (inl leaving)) = absurd leaving.1
-frees_bare frugal objects none behind among mode (FreesIn access c ∷ k) ms (inr (inr beginning)) = absurd beginning.1
-frees_bare frugal objects none behind among mode (f ∷ k) ms q = tt
+frees_bare frugal none behind among mode (Does (a_stmt (frees access path) fs) ∷ k) ms (inr (inl leaving)) = absurd leaving.1
+frees_bare frugal none behind among mode (Does (a_stmt (frees access path) fs) ∷ k) ms (inr (inr beginning)) = absurd beginning.1
+frees_bare frugal none behind among mode (FreesIn access c ∷ k) ms (inl q) = let may = q.0 in rw none at may
+frees_bare frugal none behind among mode (FreesIn access c ∷ k) ms (inr (inl leaving)) = absurd leaving.1
+frees_bare frugal none behind among mode (FreesIn access c ∷ k) ms (inr (inr beginning)) = absurd beginning.1
+frees_bare frugal none behind among mode (f ∷ k) ms q = tt
 
 -- For a new object there is nothing to do; or bodies may create those with controlled parts, and none of its operations runs behind this, as none of an object
 -- that is still to be created does.

@@ -141,20 +141,20 @@ owned_variables allowance none (i ∷ is) own = (by i.owned own.0, owned_variabl
 -- The master that a frugal body leaves is one of its own, also where an object in it is finalized first.
 leaving_own : (frugal : Allowance) (back : Control) (among : List Value) (k : Control) (upper lower : List Master) → FrugalLeaves frugal back among k upper
     → AreOwnedBy frugal (innermost (upper ++ lower))
-leaving_own frugal objects back among [] upper lower leaving = absurd leaving
-leaving_own frugal objects back among (Leaves left ∷ k) [] lower leaving = absurd leaving
-leaving_own frugal objects back among (Leaves left ∷ k) (m ∷ upper) lower leaving = leaving.0
-leaving_own frugal objects back among (Ends v ∷ k) upper lower leaving = leaving_own frugal objects back among k upper lower leaving
-leaving_own frugal objects back among (GivesBack v cause pool ∷ k) upper lower leaving = leaving_own frugal objects back among k upper lower leaving
-leaving_own frugal objects back among (Treats v treatment tasks ∷ k) upper lower leaving = leaving_own frugal objects back among k upper lower leaving.1
-leaving_own frugal objects back among (Confines ∷ k) upper lower leaving = leaving_own frugal objects back among k upper lower leaving.1
-leaving_own frugal objects back among (f ∷ k) upper lower leaving = absurd leaving
+leaving_own frugal back among [] upper lower leaving = absurd leaving
+leaving_own frugal back among (Leaves left ∷ k) [] lower leaving = absurd leaving
+leaving_own frugal back among (Leaves left ∷ k) (m ∷ upper) lower leaving = leaving.0
+leaving_own frugal back among (Ends v ∷ k) upper lower leaving = leaving_own frugal back among k upper lower leaving
+leaving_own frugal back among (GivesBack v cause pool ∷ k) upper lower leaving = leaving_own frugal back among k upper lower leaving
+leaving_own frugal back among (Treats v treatment tasks ∷ k) upper lower leaving = leaving_own frugal back among k upper lower leaving.1
+leaving_own frugal back among (Confines ∷ k) upper lower leaving = leaving_own frugal back among k upper lower leaving.1
+leaving_own frugal back among (f ∷ k) upper lower leaving = absurd leaving
 
 pub leaves_own : (frugal : Allowance) (back : Control) (among : List Value) (mode left : Mode) (k : Control) (upper lower : List Master) → Frugal frugal back among mode (Leaves left ∷ k) upper
     → AreOwnedBy frugal (innermost (upper ++ lower))
-leaves_own frugal objects back among mode left k upper lower (inl leads) = absurd leads.0
-leaves_own frugal objects back among mode left k upper lower (inr (inl (may, leaving))) = leaving_own frugal objects back among (Leaves left ∷ k) upper lower leaving
-leaves_own frugal objects back among mode left k upper lower (inr (inr (may, beginning))) = absurd beginning
+leaves_own frugal back among mode left k upper lower (inl leads) = absurd leads.0
+leaves_own frugal back among mode left k upper lower (inr (inl (may, leaving))) = leaving_own frugal back among (Leaves left ∷ k) upper lower leaving
+leaves_own frugal back among mode left k upper lower (inr (inr (may, beginning))) = absurd beginning
 
 -- Such a master owns no collection.
 owned_stay : (allowance : Allowance) (ahead : Owned → Bool) (is : List Item) → AreOwnedBy allowance is → departs ahead is ≡ false
@@ -190,12 +190,12 @@ module _ (known : Known) (frugal : Allowance) (back : Control) (among : List Val
 pub frugal_stays : (known : Known) (frugal : Allowance) (back : Control) (among : List Value) (mode : Mode) (k : Control) (heap : List Object) (places operands : List Value) (upper lower : List Master)
     → Frugal frugal back among mode k upper
     → ReadyIn known Running k heap places operands (upper ++ lower) → departs_next (departs known.ahead (innermost (upper ++ lower))) k ≡ false
-frugal_stays known frugal objects back among mode [] heap places operands upper lower frugally ready = refl
-frugal_stays known frugal objects back among mode (Leaves left ∷ k) heap places operands upper lower frugally ready =
-    owned_stay frugal known.ahead (innermost (upper ++ lower)) (leaves_own frugal objects back among mode left k upper lower frugally)
-frugal_stays known frugal objects back among mode (Ends v ∷ GivesBack w (Leaving m item) pool ∷ k) heap places operands upper lower (inl leads) ready =
-    absurd (none_ending known frugal objects back among heap places (upper ++ lower) upper v w m item pool k ready leads.1.1)
-frugal_stays known frugal objects back among mode (Ends v ∷ GivesBack w (Leaving m item) pool ∷ k) heap places operands upper lower (inr (inl leaving)) ready =
-    owned_stay frugal known.ahead (innermost (upper ++ lower)) (leaving_own frugal objects back among k upper lower leaving.1)
-frugal_stays known frugal objects back among mode (Ends v ∷ GivesBack w (Leaving m item) pool ∷ k) heap places operands upper lower (inr (inr beginning)) ready = absurd beginning.1
-frugal_stays known frugal objects back among mode k heap places operands upper lower frugally ready = refl
+frugal_stays known frugal back among mode [] heap places operands upper lower frugally ready = refl
+frugal_stays known frugal back among mode (Leaves left ∷ k) heap places operands upper lower frugally ready =
+    owned_stay frugal known.ahead (innermost (upper ++ lower)) (leaves_own frugal back among mode left k upper lower frugally)
+frugal_stays known frugal back among mode (Ends v ∷ GivesBack w (Leaving m item) pool ∷ k) heap places operands upper lower (inl leads) ready =
+    absurd (none_ending known frugal back among heap places (upper ++ lower) upper v w m item pool k ready leads.1.1)
+frugal_stays known frugal back among mode (Ends v ∷ GivesBack w (Leaving m item) pool ∷ k) heap places operands upper lower (inr (inl leaving)) ready =
+    owned_stay frugal known.ahead (innermost (upper ++ lower)) (leaving_own frugal back among k upper lower leaving.1)
+frugal_stays known frugal back among mode (Ends v ∷ GivesBack w (Leaving m item) pool ∷ k) heap places operands upper lower (inr (inr beginning)) ready = absurd beginning.1
+frugal_stays known frugal back among mode k heap places operands upper lower frugally ready = refl

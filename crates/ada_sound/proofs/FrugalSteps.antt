@@ -71,10 +71,10 @@ TreatsNothing k = (v : Value) (treatment : Treatment) (tasks : List Task) (j : C
 
 module _ (frugal : Allowance) (lower : List Master) (behind : Control) (among : List Value) (tds : List TypeDefinition) (bodies : List BodyForm) (access_bare : AccessIsBare frugal.types tds) (records_bare : RecordIsBare frugal.types tds) (finds_frugal : FindsFrugal frugal bodies) (ends_created : EndsCreated frugal) (s : State) where
   abbrev Fine : Next → Type 0
-  Fine n = GoesFrugally frugal lower objects behind among n
+  Fine n = GoesFrugally frugal lower behind among n
 
   abbrev now : List (Activation Value) → Control → List Master → State
-  now all k ms = frames.now frugal lower objects behind among tds bodies s all k ms
+  now all k ms = frames.now frugal lower behind among tds bodies s all k ms
 
   -- Where the end of a body is next, it is one that was called: what called it goes on.
   abbrev IsInner : Frame Value → Control → List Master → Type 0
@@ -83,108 +83,108 @@ module _ (frugal : Allowance) (lower : List Master) (behind : Control) (among : 
 
   -- Without the newest operand, or the two newest ones.
   abbrev without : List (Activation Value) → List (Activation Value)
-  without all = frames.without frugal lower objects behind among tds bodies s all
+  without all = frames.without frugal lower behind among tds bodies s all
 
   abbrev twice_without : List (Activation Value) → List (Activation Value)
   twice_without all = without (without all)
 
   -- What is left of the body goes on.
   frame_on : (f : Frame Value) (k : Control) (ms : List Master) → (all : List (Activation Value)) → IsInner f k ms → is_treatment f ≡ false → FrameIsFreely frugal tds f k s.heap (places_of all) (operands_of all) → (frugal.objects ≡ true → Unborn s.heap (f ∷ k)) → FrugalLeads frugal behind among (f ∷ k) ms → Fine (frame_next named tds bodies f (now all k ms))
-  frame_on (Elaborates ds fs hs) k ms all inner plain freely unborn q = frames.declarations_on frugal lower objects behind among tds bodies s ms ds fs hs all k unborn q
-  frame_on (Does no_stmts) k ms all inner plain freely unborn (thrifty, q) = frames.on frugal lower objects behind among tds bodies s ms _ refl q
+  frame_on (Elaborates ds fs hs) k ms all inner plain freely unborn q = frames.declarations_on frugal lower behind among tds bodies s ms ds fs hs all k unborn q
+  frame_on (Does no_stmts) k ms all inner plain freely unborn (thrifty, q) = frames.on frugal lower behind among tds bodies s ms _ refl q
   frame_on (Does (a_stmt f fs)) k ms all inner plain freely unborn (thrifty, q) =
       let both = apart _ _ thrifty in
-      frames.stmt_on frugal lower objects behind among tds bodies s ms f finds_frugal records_bare both.0 all (Does fs ∷ k) freely (both.1, q)
+      frames.stmt_on frugal lower behind among tds bodies s ms f finds_frugal records_bare both.0 all (Does fs ∷ k) freely (both.1, q)
   frame_on (Decides fs branches) k ms all inner plain freely unborn (thrifty, q) =
-      frames.decided_on frugal lower objects behind among tds bodies s ms fs branches (named.reads_boolean (first_or Null (operands_of all))) thrifty (without all) k q
-  frame_on (Repeats condition fs) k ms all inner plain freely unborn (thrifty, q) = frames.repeats_on frugal lower objects behind among tds bodies s ms condition fs thrifty all k q
+      frames.decided_on frugal lower behind among tds bodies s ms fs branches (named.reads_boolean (first_or Null (operands_of all))) thrifty (without all) k q
+  frame_on (Repeats condition fs) k ms all inner plain freely unborn (thrifty, q) = frames.repeats_on frugal lower behind among tds bodies s ms condition fs thrifty all k q
   frame_on (Turns e fs) k ms all inner plain freely unborn (thrifty, q) =
-      frames.turned_on frugal lower objects behind among tds bodies s ms e fs (named.reads_boolean (first_or Null (operands_of all))) thrifty (without all) k q
+      frames.turned_on frugal lower behind among tds bodies s ms e fs (named.reads_boolean (first_or Null (operands_of all))) thrifty (without all) k q
   frame_on (Ranges x fs) k ms all inner plain freely unborn (thrifty, q) =
-      frames.ranges_on frugal lower objects behind among tds bodies s ms x fs (named.reads_integer (first_or Null (operands_of (without all)))) (named.reads_integer (first_or Null (operands_of all))) thrifty
+      frames.ranges_on frugal lower behind among tds bodies s ms x fs (named.reads_integer (first_or Null (operands_of (without all)))) (named.reads_integer (first_or Null (operands_of all))) thrifty
       (twice_without all) k q
-  frame_on (Counts x value last fs) k ms all inner plain freely unborn (thrifty, q) = frames.counts_on frugal lower objects behind among tds bodies s ms x value last fs thrifty all k q
+  frame_on (Counts x value last fs) k ms all inner plain freely unborn (thrifty, q) = frames.counts_on frugal lower behind among tds bodies s ms x value last fs thrifty all k q
   frame_on Exits k ms all inner plain freely unborn (thrifty, q) =
-      frames.exited_on frugal lower objects behind among tds bodies s ms (named.reads_boolean (first_or Null (operands_of all))) (without all) k q
-  frame_on (Handles hs) k ms all inner plain freely unborn (thrifty, q) = frames.on frugal lower objects behind among tds bodies s ms _ refl q
+      frames.exited_on frugal lower behind among tds bodies s ms (named.reads_boolean (first_or Null (operands_of all))) (without all) k q
+  frame_on (Handles hs) k ms all inner plain freely unborn (thrifty, q) = frames.on frugal lower behind among tds bodies s ms _ refl q
   frame_on Closes k [] all inner plain freely unborn q = absurd q
-  frame_on Closes k (m ∷ ms) all inner plain freely unborn q = frames.leaves_first frugal lower objects behind among tds bodies s (m ∷ ms) Running k _ refl refl refl q
+  frame_on Closes k (m ∷ ms) all inner plain freely unborn q = frames.leaves_first frugal lower behind among tds bodies s (m ∷ ms) Running k _ refl refl refl q
   frame_on (Calls number b actuals) k ms all inner plain freely unborn (thrifty, q) =
-      frames.begun_on frugal lower objects behind among tds bodies s ms number b actuals (newest_ones named (operand_count actuals) (now all k ms)) thrifty all k q
-  frame_on (Returns actuals references) k ms all inner plain freely unborn q = frames.returned_on frugal lower objects behind among tds bodies s ms actuals references all k inner
-  frame_on (Refers path) k ms all inner plain freely unborn (thrifty, q) = frames.record_on frugal lower objects behind among tds bodies s ms path all k q
+      frames.begun_on frugal lower behind among tds bodies s ms number b actuals (newest_ones named (operand_count actuals) (now all k ms)) thrifty all k q
+  frame_on (Returns actuals references) k ms all inner plain freely unborn q = frames.returned_on frugal lower behind among tds bodies s ms actuals references all k inner
+  frame_on (Refers path) k ms all inner plain freely unborn (thrifty, q) = frames.record_on frugal lower behind among tds bodies s ms path all k q
   frame_on (RefersIn place t) k ms all inner plain freely unborn (thrifty, q) =
-      frames.refers_on frugal lower objects behind among tds bodies s ms (first_or Null (operands_of all)) place (width_of tds t) (look s.heap (first_or Null (operands_of all))) (without all) k q
-  frame_on (Opens path) k ms all inner plain freely unborn (thrifty, q) = frames.open_on frugal lower objects behind among tds bodies s ms path.selectors path.root all k q
+      frames.refers_on frugal lower behind among tds bodies s ms (first_or Null (operands_of all)) place (width_of tds t) (look s.heap (first_or Null (operands_of all))) (without all) k q
+  frame_on (Opens path) k ms all inner plain freely unborn (thrifty, q) = frames.open_on frugal lower behind among tds bodies s ms path.selectors path.root all k q
   frame_on (OpensIn c) k ms all inner plain freely unborn (thrifty, q) =
-      frames.opens_on frugal lower objects behind among tds bodies s ms (first_or Null (operands_of all)) c (look s.heap (first_or Null (operands_of all))) (without all) k q
-  frame_on (Evaluates right) k ms all inner plain freely unborn (thrifty, q) = frames.right_on frugal lower objects behind among tds bodies s ms right thrifty all k q
-  frame_on (Computes e) k ms all inner plain freely unborn (thrifty, q) = frames.expression_on frugal lower objects behind among tds bodies s ms e all k q
+      frames.opens_on frugal lower behind among tds bodies s ms (first_or Null (operands_of all)) c (look s.heap (first_or Null (operands_of all))) (without all) k q
+  frame_on (Evaluates right) k ms all inner plain freely unborn (thrifty, q) = frames.right_on frugal lower behind among tds bodies s ms right thrifty all k q
+  frame_on (Computes e) k ms all inner plain freely unborn (thrifty, q) = frames.expression_on frugal lower behind among tds bodies s ms e all k q
   frame_on (Follows cs) k ms all inner plain freely unborn (thrifty, q) =
-      frames.path_on frugal lower objects behind among tds bodies s ms cs (first_or Null (operands_of all)) (without all) k q
+      frames.path_on frugal lower behind among tds bodies s ms cs (first_or Null (operands_of all)) (without all) k q
   frame_on (TestsNull equal) k ms all inner plain freely unborn (thrifty, q) =
-      frames.null_test_on frugal lower objects behind among tds bodies s ms equal (named.reads_null (first_or Null (operands_of all))) (without all) k q
-  frame_on (Continues links) k ms all inner plain freely unborn (thrifty, q) = frames.links_on frugal lower objects behind among tds bodies s ms links all k q
+      frames.null_test_on frugal lower behind among tds bodies s ms equal (named.reads_null (first_or Null (operands_of all))) (without all) k q
+  frame_on (Continues links) k ms all inner plain freely unborn (thrifty, q) = frames.links_on frugal lower behind among tds bodies s ms links all k q
   frame_on (Applies operator) k ms all inner plain freely unborn (thrifty, q) =
-      frames.outcome_on frugal lower objects behind among tds bodies s ms (named.binary operator (first_or Null (operands_of (without all))) (first_or Null (operands_of all))) (twice_without all) k q
+      frames.outcome_on frugal lower behind among tds bodies s ms (named.binary operator (first_or Null (operands_of (without all))) (first_or Null (operands_of all))) (twice_without all) k q
   frame_on (AppliesAlone operator) k ms all inner plain freely unborn (thrifty, q) =
-      frames.outcome_on frugal lower objects behind among tds bodies s ms (named.unary operator (first_or Null (operands_of all))) (without all) k q
-  frame_on (Fills items) k ms all inner plain freely unborn (thrifty, q) = frames.items_on frugal lower objects behind among tds bodies s ms items all k q
+      frames.outcome_on frugal lower behind among tds bodies s ms (named.unary operator (first_or Null (operands_of all))) (without all) k q
+  frame_on (Fills items) k ms all inner plain freely unborn (thrifty, q) = frames.items_on frugal lower behind among tds bodies s ms items all k q
   frame_on (Copies first t) k ms all inner plain freely unborn (thrifty, q) =
-      frames.copies_on frugal lower objects behind among tds bodies s ms (first_or Null (operands_of all)) first (width_of tds t) (look s.heap (first_or Null (operands_of all))) (without all) k q
+      frames.copies_on frugal lower behind among tds bodies s ms (first_or Null (operands_of all)) first (width_of tds t) (look s.heap (first_or Null (operands_of all))) (without all) k q
   frame_on (Creates access count) k ms all inner plain freely unborn (thrifty, q) =
-      frames.new_on frugal lower objects behind among tds bodies s ms access count (words_of tds access) (home_of access (ms ++ lower)) all k
+      frames.new_on frugal lower behind among tds bodies s ms access count (words_of tds access) (home_of access (ms ++ lower)) all k
       (is_newly frugal tds access_bare access s.heap k unborn thrifty) q
   frame_on (Stores x) k ms all inner plain freely unborn (thrifty, q) =
-      frames.puts_on frugal lower objects behind among tds bodies s ms x (first_or Null (operands_of all)) (without all) k q
+      frames.puts_on frugal lower behind among tds bodies s ms x (first_or Null (operands_of all)) (without all) k q
   frame_on (Targets c right) k ms all inner plain freely unborn (thrifty, q) =
-      frames.target_on frugal lower objects behind among tds bodies s ms (first_or Null (operands_of all)) c right (look s.heap (first_or Null (operands_of all))) thrifty (without all) k q
+      frames.target_on frugal lower behind among tds bodies s ms (first_or Null (operands_of all)) c right (look s.heap (first_or Null (operands_of all))) thrifty (without all) k q
   frame_on (StoresIn o c) k ms all inner plain freely unborn (thrifty, q) =
-      frames.store_on frugal lower objects behind among tds bodies s ms o c (first_or Null (operands_of all)) (look s.heap o) (without all) k q
+      frames.store_on frugal lower behind among tds bodies s ms o c (first_or Null (operands_of all)) (look s.heap o) (without all) k q
   frame_on (TargetsRecord first t items) k ms all inner plain freely unborn (thrifty, q) =
-      frames.record_target_on frugal lower objects behind among tds bodies s ms (first_or Null (operands_of all)) first (width_of tds t) items (look s.heap (first_or Null (operands_of all))) (without all) k q
+      frames.record_target_on frugal lower behind among tds bodies s ms (first_or Null (operands_of all)) first (width_of tds t) items (look s.heap (first_or Null (operands_of all))) (without all) k q
   frame_on (StoresRecord o first count) k ms all inner plain freely unborn (thrifty, q) =
-      frames.store_record_on frugal lower objects behind among tds bodies s ms o first count (look s.heap o) all k q
+      frames.store_record_on frugal lower behind among tds bodies s ms o first count (look s.heap o) all k q
   frame_on (Receives c) k ms all inner plain freely unborn (thrifty, q) =
-      frames.receive_on frugal lower objects behind among tds bodies s ms (first_or Null (operands_of all)) c (look s.heap (first_or Null (operands_of all))) (without all) k q
+      frames.receive_on frugal lower behind among tds bodies s ms (first_or Null (operands_of all)) c (look s.heap (first_or Null (operands_of all))) (without all) k q
   frame_on (FreesIn access c) k ms all inner plain freely unborn (thrifty, q) =
-      frames.free_in_on frugal lower objects behind among tds bodies s ms access (first_or Null (operands_of all)) c (look s.heap (first_or Null (operands_of all))) (without all) k freely q
-  frame_on (Declares x) k ms all inner plain freely unborn q = frames.declares_on frugal lower objects behind among tds bodies s ms x (first_or Null (operands_of all)) (without all) k q
+      frames.free_in_on frugal lower behind among tds bodies s ms access (first_or Null (operands_of all)) c (look s.heap (first_or Null (operands_of all))) (without all) k freely q
+  frame_on (Declares x) k ms all inner plain freely unborn q = frames.declares_on frugal lower behind among tds bodies s ms x (first_or Null (operands_of all)) (without all) k q
   frame_on Writes k ms all inner plain freely unborn (thrifty, q) =
-      frames.line_on frugal lower objects behind among tds bodies s ms (named.reads_integer (first_or Null (operands_of all))) (without all) k q
-  frame_on (Ends v) k ms all inner plain freely unborn (thrifty, q) = frames.end_on frugal lower objects behind among tds bodies s ms v (look s.heap v) all k q
-  frame_on (GivesBack v cause pool) k ms all inner plain freely unborn (thrifty, q) = frames.back_on frugal lower objects behind among tds bodies s ms v cause pool (lent s.heap v) all k q
-  frame_on (Clears x) k ms all inner plain freely unborn (thrifty, q) = frames.puts_on frugal lower objects behind among tds bodies s ms x Null all k q
-  frame_on (ClearsIn o c) k ms all inner plain freely unborn (thrifty, q) = frames.store_on frugal lower objects behind among tds bodies s ms o c Null (look s.heap o) all k q
+      frames.line_on frugal lower behind among tds bodies s ms (named.reads_integer (first_or Null (operands_of all))) (without all) k q
+  frame_on (Ends v) k ms all inner plain freely unborn (thrifty, q) = frames.end_on frugal lower behind among tds bodies s ms v (look s.heap v) all k q
+  frame_on (GivesBack v cause pool) k ms all inner plain freely unborn (thrifty, q) = frames.back_on frugal lower behind among tds bodies s ms v cause pool (lent s.heap v) all k q
+  frame_on (Clears x) k ms all inner plain freely unborn (thrifty, q) = frames.puts_on frugal lower behind among tds bodies s ms x Null all k q
+  frame_on (ClearsIn o c) k ms all inner plain freely unborn (thrifty, q) = frames.store_on frugal lower behind among tds bodies s ms o c Null (look s.heap o) all k q
   frame_on (Treats v treatment tasks) k ms all inner plain freely unborn q = absurd (cc plain)
-  frame_on Confines k ms all inner plain freely unborn q = frames.on frugal lower objects behind among tds bodies s ms _ refl q.1
-  frame_on (Resumes mode) k ms all inner plain freely unborn (thrifty, q) = frames.on frugal lower objects behind among tds bodies s ms _ refl q
+  frame_on Confines k ms all inner plain freely unborn q = frames.on frugal lower behind among tds bodies s ms _ refl q.1
+  frame_on (Resumes mode) k ms all inner plain freely unborn (thrifty, q) = frames.on frugal lower behind among tds bodies s ms _ refl q
   frame_on f k ms all inner plain freely unborn q = absurd q.0
 
   -- The innermost master is being left, and no object is treated next.
   leaving_on : (k : Control) (ms : List Master) → (all : List (Activation Value)) → TreatsNothing k → (frugal.objects ≡ true → LeftAlone s.heap (ms ++ lower) k)
       → FrugalLeaves frugal behind among k ms → Fine (mode_next named tds bodies Running (now all k ms))
   leaving_on [] ms all none alone q = absurd q
-  leaving_on (Leaves left ∷ k) ms all none alone q = frames.leaves_on frugal lower objects behind among tds bodies s ms left all k alone q
-  leaving_on (Ends v ∷ k) ms all none alone q = frames.end_left_on frugal lower objects behind among tds bodies s v (look s.heap v) ms all k q
-  leaving_on (GivesBack v cause pool ∷ k) ms all none alone q = frames.back_left_on frugal lower objects behind among tds bodies s v cause pool (lent s.heap v) ms all k q
+  leaving_on (Leaves left ∷ k) ms all none alone q = frames.leaves_on frugal lower behind among tds bodies s ms left all k alone q
+  leaving_on (Ends v ∷ k) ms all none alone q = frames.end_left_on frugal lower behind among tds bodies s v (look s.heap v) ms all k q
+  leaving_on (GivesBack v cause pool ∷ k) ms all none alone q = frames.back_left_on frugal lower behind among tds bodies s v cause pool (lent s.heap v) ms all k q
   leaving_on (Treats v treatment tasks ∷ k) ms all none alone q = absurd (none v treatment tasks k refl)
-  leaving_on (Confines ∷ k) ms all none alone q = frames.leaving_on frugal lower objects behind among tds bodies s ms s.heap all k q.1
+  leaving_on (Confines ∷ k) ms all none alone q = frames.leaving_on frugal lower behind among tds bodies s ms s.heap all k q.1
   leaving_on (f ∷ k) ms all none alone q = absurd q
 
   -- An object that begins first goes on doing so, where it is not treated next: the body of an operation has ended.
   beginning_on : (k : Control) (ms : List Master) → (all : List (Activation Value)) → TreatsNothing k → FrugalBegins frugal behind among k ms → Fine (mode_next named tds bodies Running (now all k ms))
   beginning_on [] ms all none q = absurd q
   beginning_on (Treats v treatment tasks ∷ k) ms all none q = absurd (none v treatment tasks k refl)
-  beginning_on (Awaits v by done of part tasks ∷ k) ms all none q = frames.awaited_on frugal lower objects behind among tds bodies s ms v by done of part tasks (look s.heap v) all k q.0 q.1
+  beginning_on (Awaits v by done of part tasks ∷ k) ms all none q = frames.awaited_on frugal lower behind among tds bodies s ms v by done of part tasks (look s.heap v) all k q.0 q.1
   beginning_on (f ∷ k) ms all none q = absurd q
 
   -- An exception has come out of the beginning of an object, or goes on where one is to begin.
-  breaking_on : (e : Exception) (k : Control) (ms : List Master) → (all : List (Activation Value)) → FrugalBegins frugal behind among k ms → Fine (mode_next named tds bodies (Raising e) (frames.jumping_in frugal lower objects behind among tds bodies s e all k ms))
+  breaking_on : (e : Exception) (k : Control) (ms : List Master) → (all : List (Activation Value)) → FrugalBegins frugal behind among k ms → Fine (mode_next named tds bodies (Raising e) (frames.jumping_in frugal lower behind among tds bodies s e all k ms))
   breaking_on e [] ms all q = absurd q
-  breaking_on e (Treats v (begins by done) tasks ∷ k) ms all q = frames.on frugal lower objects behind among tds bodies s ms _ refl q.1
+  breaking_on e (Treats v (begins by done) tasks ∷ k) ms all q = frames.on frugal lower behind among tds bodies s ms _ refl q.1
   breaking_on e (Treats v (ends cause) tasks ∷ k) ms all q = absurd q
-  breaking_on e (Awaits v by done of part tasks ∷ k) ms all q = frames.broken_on frugal lower objects behind among tds bodies s ms ends_created e v by done all k q.0 q.1
+  breaking_on e (Awaits v by done of part tasks ∷ k) ms all q = frames.broken_on frugal lower behind among tds bodies s ms ends_created e v by done all k q.0 q.1
   breaking_on e (f ∷ k) ms all q = absurd q
 
   -- A jump passes what is left of the body, or lands there.
@@ -192,46 +192,46 @@ module _ (frugal : Allowance) (lower : List Master) (behind : Control) (among : 
   passing m all k ms = record s { mode = m; control = k; activations = all; masters = ms ++ lower }
 
   handled_on : (e : Exception) (hs : HandlersForm) (found : Option StmtsForm) → handler_of e hs ≡ found → are_thrifty_handlers frugal hs ≡ true → (k : Control) (ms : List Master) → (all : List (Activation Value)) → FrugalLeads frugal behind among k ms → Fine (landed named (handler_landing found) (Raising e) (passing (Raising e) all k ms))
-  handled_on e hs None is thrifty k ms all q = frames.on frugal lower objects behind among tds bodies s ms _ refl q
+  handled_on e hs None is thrifty k ms all q = frames.on frugal lower behind among tds bodies s ms _ refl q
   handled_on e hs (Some no_stmts) is thrifty k ms all q = tt
-  handled_on e hs (Some (a_stmt f fs)) is thrifty k ms all q = frames.on frugal lower objects behind among tds bodies s ms _ refl (handler_frugal frugal hs e (a_stmt f fs) is thrifty, q)
+  handled_on e hs (Some (a_stmt f fs)) is thrifty k ms all q = frames.on frugal lower behind among tds bodies s ms _ refl (handler_frugal frugal hs e (a_stmt f fs) is thrifty, q)
 
   raising_on : (e : Exception) (f : Frame Value) (k : Control) (ms : List Master) → (all : List (Activation Value)) → IsInner f k ms → FrugalLeads frugal behind among (f ∷ k) ms → Fine (jump_next named (Raising e) (f ∷ k) (passing (Raising e) all (f ∷ k) ms))
   raising_on e (Elaborates ds fs hs) k [] all inner q = absurd q
-  raising_on e (Elaborates ds fs hs) k (m ∷ ms) all inner q = frames.leaves_first frugal lower objects behind among tds bodies s (m ∷ ms) (Raising e) k _ refl refl refl (q.0.0, q.1)
+  raising_on e (Elaborates ds fs hs) k (m ∷ ms) all inner q = frames.leaves_first frugal lower behind among tds bodies s (m ∷ ms) (Raising e) k _ refl refl refl (q.0.0, q.1)
   raising_on e Closes k [] all inner q = absurd q
-  raising_on e Closes k (m ∷ ms) all inner q = frames.leaves_first frugal lower objects behind among tds bodies s (m ∷ ms) (Raising e) k _ refl refl refl q
+  raising_on e Closes k (m ∷ ms) all inner q = frames.leaves_first frugal lower behind among tds bodies s (m ∷ ms) (Raising e) k _ refl refl refl q
   raising_on e (Handles hs) k ms all inner q = handled_on e hs (handler_of e hs) refl q.0 k ms all q.1
-  raising_on e (Returns actuals references) k ms all inner q = frames.on frugal lower objects behind among tds bodies s ms _ refl inner
+  raising_on e (Returns actuals references) k ms all inner q = frames.on frugal lower behind among tds bodies s ms _ refl inner
   raising_on e (Awaits v by done of part tasks) k ms all inner q = absurd q.0
   raising_on e Confines k ms all inner q = tt
   raising_on e (Declares x) k [] all inner q = absurd q
-  raising_on e (Declares x) k (m ∷ ms) all inner q = frames.on frugal lower objects behind among tds bodies s (m ∷ ms) _ refl q.1
-  raising_on e f k ms all inner q = frames.on frugal lower objects behind among tds bodies s ms _ refl q.1
+  raising_on e (Declares x) k (m ∷ ms) all inner q = frames.on frugal lower behind among tds bodies s (m ∷ ms) _ refl q.1
+  raising_on e f k ms all inner q = frames.on frugal lower behind among tds bodies s ms _ refl q.1
 
   exiting_on : (f : Frame Value) (k : Control) (ms : List Master) → (all : List (Activation Value)) → IsInner f k ms → FrugalLeads frugal behind among (f ∷ k) ms → Fine (jump_next named Exiting (f ∷ k) (passing Exiting all (f ∷ k) ms))
   exiting_on (Elaborates ds fs hs) k [] all inner q = absurd q
-  exiting_on (Elaborates ds fs hs) k (m ∷ ms) all inner q = frames.leaves_first frugal lower objects behind among tds bodies s (m ∷ ms) Exiting k _ refl refl refl (q.0.0, q.1)
+  exiting_on (Elaborates ds fs hs) k (m ∷ ms) all inner q = frames.leaves_first frugal lower behind among tds bodies s (m ∷ ms) Exiting k _ refl refl refl (q.0.0, q.1)
   exiting_on Closes k [] all inner q = absurd q
-  exiting_on Closes k (m ∷ ms) all inner q = frames.leaves_first frugal lower objects behind among tds bodies s (m ∷ ms) Exiting k _ refl refl refl q
-  exiting_on (Returns actuals references) k ms all inner q = frames.on frugal lower objects behind among tds bodies s ms _ refl inner
+  exiting_on Closes k (m ∷ ms) all inner q = frames.leaves_first frugal lower behind among tds bodies s (m ∷ ms) Exiting k _ refl refl refl q
+  exiting_on (Returns actuals references) k ms all inner q = frames.on frugal lower behind among tds bodies s ms _ refl inner
   exiting_on (Awaits v by done of part tasks) k ms all inner q = absurd q.0
   exiting_on Confines k ms all inner q = tt
   exiting_on (Declares x) k [] all inner q = absurd q
-  exiting_on (Declares x) k (m ∷ ms) all inner q = frames.on frugal lower objects behind among tds bodies s (m ∷ ms) _ refl q.1
-  exiting_on f k ms all inner q = frames.on frugal lower objects behind among tds bodies s ms _ refl q.1
+  exiting_on (Declares x) k (m ∷ ms) all inner q = frames.on frugal lower behind among tds bodies s (m ∷ ms) _ refl q.1
+  exiting_on f k ms all inner q = frames.on frugal lower behind among tds bodies s ms _ refl q.1
 
   returning_on : (f : Frame Value) (k : Control) (ms : List Master) → (all : List (Activation Value)) → IsInner f k ms → FrugalLeads frugal behind among (f ∷ k) ms → Fine (jump_next named Returning (f ∷ k) (passing Returning all (f ∷ k) ms))
   returning_on (Elaborates ds fs hs) k [] all inner q = absurd q
-  returning_on (Elaborates ds fs hs) k (m ∷ ms) all inner q = frames.leaves_first frugal lower objects behind among tds bodies s (m ∷ ms) Returning k _ refl refl refl (q.0.0, q.1)
+  returning_on (Elaborates ds fs hs) k (m ∷ ms) all inner q = frames.leaves_first frugal lower behind among tds bodies s (m ∷ ms) Returning k _ refl refl refl (q.0.0, q.1)
   returning_on Closes k [] all inner q = absurd q
-  returning_on Closes k (m ∷ ms) all inner q = frames.leaves_first frugal lower objects behind among tds bodies s (m ∷ ms) Returning k _ refl refl refl q
-  returning_on (Returns actuals references) k ms all inner q = frames.on frugal lower objects behind among tds bodies s ms _ refl (frames.storing_left frugal lower objects behind among tds bodies s ms references k inner)
+  returning_on Closes k (m ∷ ms) all inner q = frames.leaves_first frugal lower behind among tds bodies s (m ∷ ms) Returning k _ refl refl refl q
+  returning_on (Returns actuals references) k ms all inner q = frames.on frugal lower behind among tds bodies s ms _ refl (frames.storing_left frugal lower behind among tds bodies s ms references k inner)
   returning_on (Awaits v by done of part tasks) k ms all inner q = absurd q.0
   returning_on Confines k ms all inner q = tt
   returning_on (Declares x) k [] all inner q = absurd q
-  returning_on (Declares x) k (m ∷ ms) all inner q = frames.on frugal lower objects behind among tds bodies s (m ∷ ms) _ refl q.1
-  returning_on f k ms all inner q = frames.on frugal lower objects behind among tds bodies s ms _ refl q.1
+  returning_on (Declares x) k (m ∷ ms) all inner q = frames.on frugal lower behind among tds bodies s (m ∷ ms) _ refl q.1
+  returning_on f k ms all inner q = frames.on frugal lower behind among tds bodies s ms _ refl q.1
 
   -- Whatever the mode is.
   is_inner : (f : Frame Value) (k : Control) (ms : List Master) → ((actuals : List ActualForm) (references : List Value) (j : Control) → f ∷ k ≡ Returns actuals references ∷ j → FrugalLeads frugal behind among j ms) → IsInner f k ms
@@ -273,7 +273,7 @@ module _ (frugal : Allowance) (lower : List Master) (behind : Control) (among : 
 
 -- Where a body comes to its end next, it is one that was called: what called it goes on in these masters.
 abbrev pub EndsInner : (frugal : Allowance) (behind : Control) (among : List Value) → Control → List Master → Type 0
-EndsInner frugal objects behind among k ms = (actuals : List ActualForm) (references : List Value) (j : Control) → k ≡ Returns actuals references ∷ j → FrugalLeads frugal behind among j ms
+EndsInner frugal behind among k ms = (actuals : List ActualForm) (references : List Value) (j : Control) → k ≡ Returns actuals references ∷ j → FrugalLeads frugal behind among j ms
 
 -- While a frugal body runs, or one that it calls, and its own end is not next, whatever comes next is in such a body, too, where no object is treated next.
 -- Each Free of what runs is by the instance for the access type of what it frees (13.11.2), among some types; and where bodies may free objects with controlled
@@ -283,23 +283,23 @@ pub frugal_steps :
     (p : ProgramForm) → OwnBody p → (tds : List TypeDefinition) (bodies : List BodyForm) (frugal : Allowance) → AccessIsBare frugal.types tds → RecordIsBare frugal.types tds
     → FindsFrugal frugal bodies → EndsCreated frugal
     → (behind : Control) (among : List Value) (lower : List Master) (s : State) (f : Frugally frugal lower behind among s)
-    → EndsInner frugal objects behind among s.control f.upper → (s.mode ≡ Running → TreatsNothing s.control) → typed.TypedIn p s
+    → EndsInner frugal behind among s.control f.upper → (s.mode ≡ Running → TreatsNothing s.control) → typed.TypedIn p s
     → (may : ℕ → Bool) → (s.mode ≡ Running → FreesAmong may s.control)
     → (frugal.treats_parts ≡ true → begins_first s.control ≡ false → ListedAlone may s.heap s.control)
     → (frugal.objects ≡ true → Unborn s.heap s.control)
     → (frugal.objects ≡ true → s.mode ≡ Running → LeftAlone s.heap s.masters s.control)
-    → GoesFrugally frugal lower objects behind among (next tds bodies s)
+    → GoesFrugally frugal lower behind among (next tds bodies s)
 unfolding next
-frugal_steps p whole tds bodies frugal objects bare records_bare finds_frugal ends_created behind among lower s f inner none typing may frees alone unborn left =
-    subst (λ (t : State). GoesFrugally frugal lower objects behind among (mode_next named tds bodies s.mode t)) state_is
-    (mode_on frugal lower objects behind among tds bodies bare records_bare finds_frugal ends_created s s.mode s.control f.upper s.activations inner none
+frugal_steps p whole tds bodies frugal bare records_bare finds_frugal ends_created behind among lower s f inner none typing may frees alone unborn left =
+    subst (λ (t : State). GoesFrugally frugal lower behind among (mode_next named tds bodies s.mode t)) state_is
+    (mode_on frugal lower behind among tds bodies bare records_bare finds_frugal ends_created s s.mode s.control f.upper s.activations inner none
     (λ runs. by f.frugally (frees runs) (next_own p whole s typing runs)) unborn (λ created runs. subst (λ (ms : List Master). LeftAlone s.heap ms s.control) f.masters (left created runs)) f.frugally)
   where
     by : Frugal frugal behind among s.mode s.control f.upper → FreesAmong may s.control → NextFreesOwn s.control s.heap (places_of s.activations) (operands_of s.activations)
         → NextIsFreely frugal tds s.control s.heap (places_of s.activations) (operands_of s.activations)
     by (inl q) freely own =
-        next_freely frugal tds bare may frugal objects refl behind among s.heap (places_of s.activations) (operands_of s.activations) s.control f.upper
-        (λ treats_parts. alone treats_parts (leads_first frugal objects behind among s.control f.upper q)) q freely own
+        next_freely frugal tds bare may frugal refl behind among s.heap (places_of s.activations) (operands_of s.activations) s.control f.upper
+        (λ treats_parts. alone treats_parts (leads_first frugal behind among s.control f.upper q)) q freely own
     by (inr (inl (may', leaving))) freely own = leaving_freely s.control f.upper leaving
       where
         leaving_freely : (k : Control) (ms : List Master) → FrugalLeaves frugal behind among k ms → NextIsFreely frugal tds k s.heap (places_of s.activations) (operands_of s.activations)
@@ -325,17 +325,17 @@ frugal_steps p whole tds bodies frugal objects bare records_bare finds_frugal en
 -- The body, or what it calls, runs on, unless its own end is next, or an object is treated, in a run of a well-formed program.
 pub frugal_goes :
     (program : Program) → FreesItsOwn (program_form program)
-    → (last : Bool) (lower : List Master) (behind : Control) (among : List Value) (s : State) (f : Frugally (allowance_of (program_form program) last) lower objects behind among s)
-    → EndsInner (allowance_of (program_form program) last) objects behind among s.control f.upper → (s.mode ≡ Running → TreatsNothing s.control)
+    → (last : Bool) (lower : List Master) (behind : Control) (among : List Value) (s : State) (f : Frugally (allowance_of (program_form program) last) lower behind among s)
+    → EndsInner (allowance_of (program_form program) last) behind among s.control f.upper → (s.mode ≡ Running → TreatsNothing s.control)
     → typed.TypedIn (seen_in (running_procedure s) (program_form program)) s
     → (may : ℕ → Bool) → (s.mode ≡ Running → FreesAmong may s.control) → (begins_first s.control ≡ false → ListedAlone may s.heap s.control)
     → Unborn s.heap s.control → (s.mode ≡ Running → LeftAlone s.heap s.masters s.control)
-    → GoesFrugally (allowance_of (program_form program) last) lower objects behind among (next program.types.items (body_forms program) s)
-frugal_goes program whole last lower objects behind among s f inner none typing may frees alone unborn left =
+    → GoesFrugally (allowance_of (program_form program) last) lower behind among (next program.types.items (body_forms program) s)
+frugal_goes program whole last lower behind among s f inner none typing may frees alone unborn left =
     let p = program_form program in
     let procedure = running_procedure s in
-    frugal_steps (seen_in procedure p) (own_bodies p whole procedure) program.types.items (body_forms program) (allowance_of p last) objects (bare_by program) (records_bare_by program)
-    (λ number b there told. body_thrifty p objects b (frugal_at p objects number b told there)) (λ created. refl) behind among lower s f inner none typing may frees
+    frugal_steps (seen_in procedure p) (own_bodies p whole procedure) program.types.items (body_forms program) (allowance_of p last) (bare_by program) (records_bare_by program)
+    (λ number b there told. body_thrifty p b (frugal_at p number b told there)) (λ created. refl) behind among lower s f inner none typing may frees
     (λ treats_parts. alone) (λ created. unborn) (λ created. left)
 
 -- An object is treated next that such a body frees, or whose master it leaves (7.6.1), or that it allocates or declares (4.8, 3.3.1): the body of an operation
@@ -390,7 +390,7 @@ module _ (frugal : Allowance) (lower : List Master) (back : Control) (among : Li
       goes_begun done tasks = inl (record {
         upper = f.upper;
         masters = f.masters;
-        frugally = rw runs (beginning_frugal frugal objects back among v by done tasks k f.upper fresh leads);
+        frugally = rw runs (beginning_frugal frugal back among v by done tasks k f.upper fresh leads);
       })
 
       born_on : (done : List Part) (of part : ℕ) (tasks : List Task) (found : Option PartState) → GoesTreating (born_next named v by done of part tasks found (record s { control = k }))
@@ -398,7 +398,7 @@ module _ (frugal : Allowance) (lower : List Master) (back : Control) (among : Li
       born_on done of part tasks (Some p) = inl (record {
         upper = f.upper;
         masters = f.masters;
-        frugally = rw runs (beginning_frugal frugal objects back among v by (record { of = of; number = part } ∷ done) tasks k f.upper fresh leads);
+        frugally = rw runs (beginning_frugal frugal back among v by (record { of = of; number = part } ∷ done) tasks k f.upper fresh leads);
       })
 
       begun_on : (done : List Part) (of part : ℕ) (tasks : List Task) (operation : Option ℕ) (found : Option PartState) → GoesTreating (begun_next named bodies v by done of part tasks operation found (record s { control = k }))
@@ -423,57 +423,57 @@ module _ (frugal : Allowance) (lower : List Master) (back : Control) (among : Li
 
 pub treats_frugally :
     (frugal : Allowance) (lower : List Master) (back : Control) (among : List Value) (tds : List TypeDefinition) (bodies : List BodyForm) (s : State) → Frugally frugal lower back among s → s.mode ≡ Running
-    → (v : Value) (treatment : Treatment) (tasks : List Task) (k : Control) → s.control ≡ Treats v treatment tasks ∷ k → GoesTreating frugal lower objects back among tds bodies s (next tds bodies s)
+    → (v : Value) (treatment : Treatment) (tasks : List Task) (k : Control) → s.control ≡ Treats v treatment tasks ∷ k → GoesTreating frugal lower back among tds bodies s (next tds bodies s)
 unfolding next
-treats_frugally frugal lower objects back among tds bodies s f runs v treatment tasks k first =
+treats_frugally frugal lower back among tds bodies s f runs v treatment tasks k first =
     coming s.mode s.control runs first
   where
     by_frugal : (treatment' : Treatment) → Frugal frugal back among s.mode (Treats v treatment' tasks ∷ k) f.upper
-        → GoesTreating frugal lower objects back among tds bodies s (treats_next named tds bodies v treatment' tasks (task_next tasks) (record s { control = k }))
+        → GoesTreating frugal lower back among tds bodies s (treats_next named tds bodies v treatment' tasks (task_next tasks) (record s { control = k }))
     by_frugal (begins how done) (inl q) = absurd q.0.0
-    by_frugal (ends cause) (inl q) = treats_on frugal lower objects back among tds bodies s v k cause so tasks (task_next tasks)
+    by_frugal (ends cause) (inl q) = treats_on frugal lower back among tds bodies s v k cause so tasks (task_next tasks)
       where
-        so : (heap : List Object) (left : List Task) → GoesOrBegins frugal lower objects back among tds bodies s (record s { heap = heap; control = treating v (ends cause) left k })
+        so : (heap : List Object) (left : List Task) → GoesOrBegins frugal lower back among tds bodies s (record s { heap = heap; control = treating v (ends cause) left k })
         so heap left = inl (record {
           upper = f.upper;
           masters = f.masters;
-          frugally = inl (treating_leads frugal objects back among v (ends cause) left k f.upper q.0 q.1);
+          frugally = inl (treating_leads frugal back among v (ends cause) left k f.upper q.0 q.1);
         })
     by_frugal (begins how done) (inr (inl (may, q))) = absurd q.0.0
-    by_frugal (ends cause) (inr (inl (may, q))) = treats_on frugal lower objects back among tds bodies s v k cause so tasks (task_next tasks)
+    by_frugal (ends cause) (inr (inl (may, q))) = treats_on frugal lower back among tds bodies s v k cause so tasks (task_next tasks)
       where
-        so : (heap : List Object) (left : List Task) → GoesOrBegins frugal lower objects back among tds bodies s (record s { heap = heap; control = treating v (ends cause) left k })
+        so : (heap : List Object) (left : List Task) → GoesOrBegins frugal lower back among tds bodies s (record s { heap = heap; control = treating v (ends cause) left k })
         so heap left = inl (record {
           upper = f.upper;
           masters = f.masters;
-          frugally = inr (inl (rw runs (may_leave (treating v (ends cause) left k)), treating_leaves frugal objects back among v (ends cause) left k f.upper q.0 q.1));
+          frugally = inr (inl (rw runs (may_leave (treating v (ends cause) left k)), treating_leaves frugal back among v (ends cause) left k f.upper q.0 q.1));
         })
-    by_frugal (begins how done) (inr (inr (may, q))) = begins_on frugal lower objects back among tds bodies s v k how f q.1 runs q.0 done tasks (task_next tasks)
+    by_frugal (begins how done) (inr (inr (may, q))) = begins_on frugal lower back among tds bodies s v k how f q.1 runs q.0 done tasks (task_next tasks)
     by_frugal (ends cause) (inr (inr (may, q))) = absurd q
 
-    coming : (mode : Mode) (c : Control) → mode ≡ Running → c ≡ Treats v treatment tasks ∷ k → GoesTreating frugal lower objects back among tds bodies s (mode_next named tds bodies mode (record s { control = c }))
+    coming : (mode : Mode) (c : Control) → mode ≡ Running → c ≡ Treats v treatment tasks ∷ k → GoesTreating frugal lower back among tds bodies s (mode_next named tds bodies mode (record s { control = c }))
     coming mode c running is = rw (running, is) (by_frugal treatment (subst (λ (j : Control). Frugal frugal back among s.mode j f.upper) first f.frugally))
 
 -- Where bodies free no objects with controlled parts, and declare no record objects, no object is treated.
 pub treats_none : (frugal : Allowance) → frugal.treats_parts ≡ false → frugal.objects ≡ false → (behind : Control) (among : List Value) (mode : Mode) (k : Control) (ms : List Master)
     → Frugal frugal behind among mode k ms → TreatsNothing k
-treats_none frugal objects none idle behind among mode k ms (inl q) v treatment tasks j is =
-    let first = none_treated frugal objects none behind among (Treats v treatment tasks) j ms (rw is at q) in
+treats_none frugal none idle behind among mode k ms (inl q) v treatment tasks j is =
+    let first = none_treated frugal none behind among (Treats v treatment tasks) j ms (rw is at q) in
     let never : true ≡ false = first.0 in
     absurd (cc never)
-treats_none frugal objects none idle behind among mode k ms (inr (inl (may, leaving))) v treatment tasks j is =
-    let first = none_left frugal objects idle behind among (Treats v treatment tasks) j ms (rw is at leaving) in
+treats_none frugal none idle behind among mode k ms (inr (inl (may, leaving))) v treatment tasks j is =
+    let first = none_left frugal idle behind among (Treats v treatment tasks) j ms (rw is at leaving) in
     let never : true ≡ false = first.0 in
     absurd (cc never)
-treats_none frugal objects none idle behind among mode k ms (inr (inr (may, beginning))) v treatment tasks j is = none_beginning frugal objects idle behind among k ms beginning
+treats_none frugal none idle behind among mode k ms (inr (inr (may, beginning))) v treatment tasks j is = none_beginning frugal idle behind among k ms beginning
 
 -- No operation of a controlled type ends in such a body, either.
 pub none_ends : (frugal : Allowance) → frugal.treats_parts ≡ false → frugal.objects ≡ false → (behind : Control) (among : List Value) (mode : Mode) (k : Control) (ms : List Master)
     → Frugal frugal behind among mode k ms → ends_operation k ≡ false
-none_ends frugal objects none idle behind among mode [] ms frugally = refl
-none_ends frugal objects none idle behind among mode (f ∷ k) ms (inl q) = (none_treated frugal objects none behind among f k ms q).1
-none_ends frugal objects none idle behind among mode (f ∷ k) ms (inr (inl q)) = (none_left frugal objects idle behind among f k ms q.1).1
-none_ends frugal objects none idle behind among mode (f ∷ k) ms (inr (inr q)) = absurd (none_beginning frugal objects idle behind among (f ∷ k) ms q.1)
+none_ends frugal none idle behind among mode [] ms frugally = refl
+none_ends frugal none idle behind among mode (f ∷ k) ms (inl q) = (none_treated frugal none behind among f k ms q).1
+none_ends frugal none idle behind among mode (f ∷ k) ms (inr (inl q)) = (none_left frugal idle behind among f k ms q.1).1
+none_ends frugal none idle behind among mode (f ∷ k) ms (inr (inr q)) = absurd (none_beginning frugal idle behind among (f ∷ k) ms q.1)
 
 -- A call comes next.
 abbrev pub is_call_first : Control → Bool
@@ -490,22 +490,22 @@ calls_nothing f k inner none plain = refl
 
 leaving_crosses : (frugal : Allowance) → frugal.objects ≡ false → (behind : Control) (among : List Value) (mode : Mode) (k : Control) (ms : List Master) → MayLeave mode k
     → FrugalLeaves frugal behind among k ms → crosses mode k ≡ false
-leaving_crosses frugal objects idle behind among mode [] ms may leaving = absurd leaving
-leaving_crosses frugal objects idle behind among mode (Leaves left ∷ k) ms may leaving = rw may refl
-leaving_crosses frugal objects idle behind among mode (Ends v ∷ k) ms may leaving = rw may refl
-leaving_crosses frugal objects idle behind among mode (GivesBack v cause pool ∷ k) ms may leaving = rw may refl
-leaving_crosses frugal objects idle behind among mode (Treats v treatment tasks ∷ k) ms may leaving = let creates = leaving.0.1 in absurd (cc (idle, creates))
-leaving_crosses frugal objects idle behind among mode (Confines ∷ k) ms may leaving = let creates = leaving.0.0 in absurd (cc (idle, creates))
-leaving_crosses frugal objects idle behind among mode (f ∷ k) ms may leaving = absurd leaving
+leaving_crosses frugal idle behind among mode [] ms may leaving = absurd leaving
+leaving_crosses frugal idle behind among mode (Leaves left ∷ k) ms may leaving = rw may refl
+leaving_crosses frugal idle behind among mode (Ends v ∷ k) ms may leaving = rw may refl
+leaving_crosses frugal idle behind among mode (GivesBack v cause pool ∷ k) ms may leaving = rw may refl
+leaving_crosses frugal idle behind among mode (Treats v treatment tasks ∷ k) ms may leaving = let creates = leaving.0.1 in absurd (cc (idle, creates))
+leaving_crosses frugal idle behind among mode (Confines ∷ k) ms may leaving = let creates = leaving.0.0 in absurd (cc (idle, creates))
+leaving_crosses frugal idle behind among mode (f ∷ k) ms may leaving = absurd leaving
 
 -- Where bodies free no objects with controlled parts, and declare no record objects, and neither the end of a body is next, nor the beginning of one, no body
 -- begins, none ends, and no operation is called.
 pub frugal_crosses : (frugal : Allowance) → frugal.treats_parts ≡ false → frugal.objects ≡ false → (behind : Control) (among : List Value) (mode : Mode) (k : Control) (ms : List Master)
     → Frugal frugal behind among mode k ms → is_return_first k ≡ false → (mode ≡ Running → is_call_first k ≡ false) → crosses mode k ≡ false
-frugal_crosses frugal objects ends_none idle behind among mode k ms (inr (inl (may, leaving))) inner none = leaving_crosses frugal objects idle behind among mode k ms may leaving
-frugal_crosses frugal objects ends_none idle behind among mode k ms (inr (inr (may, beginning))) inner none = absurd (none_beginning frugal objects idle behind among k ms beginning)
-frugal_crosses frugal objects ends_none idle behind among mode [] ms (inl q) inner none = absurd q
-frugal_crosses frugal objects ends_none idle behind among Running (f ∷ k) ms (inl q) inner none = calls_nothing f k inner (none refl) (none_treated frugal objects ends_none behind among f k ms q).0
-frugal_crosses frugal objects ends_none idle behind among (Raising e) (f ∷ k) ms (inl q) inner none = inner
-frugal_crosses frugal objects ends_none idle behind among Exiting (f ∷ k) ms (inl q) inner none = inner
-frugal_crosses frugal objects ends_none idle behind among Returning (f ∷ k) ms (inl q) inner none = inner
+frugal_crosses frugal ends_none idle behind among mode k ms (inr (inl (may, leaving))) inner none = leaving_crosses frugal idle behind among mode k ms may leaving
+frugal_crosses frugal ends_none idle behind among mode k ms (inr (inr (may, beginning))) inner none = absurd (none_beginning frugal idle behind among k ms beginning)
+frugal_crosses frugal ends_none idle behind among mode [] ms (inl q) inner none = absurd q
+frugal_crosses frugal ends_none idle behind among Running (f ∷ k) ms (inl q) inner none = calls_nothing f k inner (none refl) (none_treated frugal ends_none behind among f k ms q).0
+frugal_crosses frugal ends_none idle behind among (Raising e) (f ∷ k) ms (inl q) inner none = inner
+frugal_crosses frugal ends_none idle behind among Exiting (f ∷ k) ms (inl q) inner none = inner
+frugal_crosses frugal ends_none idle behind among Returning (f ∷ k) ms (inl q) inner none = inner

@@ -176,6 +176,8 @@ pub mod FrugalControl
 pub mod FrugalFrees
 pub mod FrugalFrames
 pub mod FrugalSteps
+-- what goes with the newest item, where one of them is left
+pub mod HousesIts
 -- the masters that it leaves
 pub mod FrugalLeaves
 -- where a Finalize may be frugal

@@ -138,7 +138,7 @@ module _ (p : ProgramForm) where
 
   -- A procedure is frugal, where that may be, and creates objects with controlled parts or none.
   abbrev pub IsFrugal : → ℕ → Type 0
-  IsFrugal objects number = (may_be_frugal p ≡ true) × (slice_index_or (frugal_procedures p) number false ≡ true)
+  IsFrugal number = (may_be_frugal p ≡ true) × (slice_index_or (frugal_procedures p) number false ≡ true)
 
   abbrev pub IsSimple : ℕ → Type 0
   IsSimple number = (may_track p ≡ true) × (is_simple_procedure p.types (adjusts_alone p) (slice_get p.bodies number) ≡ true)
@@ -166,10 +166,10 @@ module _ (p : ProgramForm) where
   not_quiet None number other is = absurd (cc is)
   not_quiet (Some procedure) number other is = let same : procedure.0 ≡ number = cc is in rw same at other
 
-  frugal_one : (o : Option ProcedureNo) (number : ℕ) → is_frugal_operation p objects o ≡ true → procedure_number o ≡ Some number
+  frugal_one : (o : Option ProcedureNo) (number : ℕ) → is_frugal_operation p o ≡ true → procedure_number o ≡ Some number
       → slice_index_or (frugal_procedures p) number false ≡ true
-  frugal_one objects None number frugal is = absurd (cc is)
-  frugal_one objects (Some procedure) number frugal is =
+  frugal_one None number frugal is = absurd (cc is)
+  frugal_one (Some procedure) number frugal is =
       let same : procedure.0 ≡ number = cc is in
       rw same at (apart (slice_index_or (frugal_procedures p) procedure.0 false) (declares_earlier_parts p procedure.0 (slice_get p.bodies procedure.0)) frugal).0
 
