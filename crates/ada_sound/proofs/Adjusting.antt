@@ -38,7 +38,7 @@ use Rattle.ada_typed.proofs.Kept.{behind_call}
 use Rattle.ada_sound.proofs.CallsApart.{CallApart}
 use Rattle.ada_sound.proofs.Callers.{Suspension, AreOf, callers_of, known_in}
 use Rattle.ada_sound.proofs.CopiedOwners.{CopyLeft, NameThere, hiding, owners_left}
-use Rattle.ada_sound.proofs.FrugalControl.{Frugally, Allowance}
+use Rattle.ada_sound.proofs.FrugalControl.{Frugally}
 use Rattle.ada_sound.proofs.Invariant.{AdjustsAside, Control, Ready, Rooms, RunsOn, Standing, body_among, under_in}
 use Rattle.ada_sound.proofs.Judged.{known_judged}
 use Rattle.ada_sound.proofs.Operating.{IsCalm, WaitsFor}
@@ -51,10 +51,6 @@ use Rattle.ada_sound.specs.Agreement.{running_procedure}
 pub data IsOfCopy : Birth → Type 0 where
   copied : IsOfCopy Copy
   assigned : (number : ℕ) → IsOfCopy (Adjustment number)
-
--- What its body goes by: it calls nothing, declares variables alone, and neither allocates nor frees an object with controlled parts.
-abbrev pub simple_thriftiness : List TypeForm → Allowance
-simple_thriftiness types = record { by = λ objects. simple_allowance types; last = false }
 
 -- The body of such an Adjust runs.
 pub record Adjusting (program : Program) (s : State) : Type 0 where
@@ -101,7 +97,7 @@ pub record Adjusting (program : Program) (s : State) : Type 0 where
   pub kept : Keeping
   pub rooms : Rooms
   pub holds : Holds
-  pub frugal : Frugally (simple_thriftiness (program_form program).types) lower false behind [] t
+  pub frugal : Frugally (simple_allowance (program_form program).types) lower behind [] t
   pub waits : Paused (known_in program procedure suspensions) object access places after lower rooms holds
   pub untreated : (v : Value) → v ≢ Names object → NothingBegins v after
   pub rests : RunsOn (known_in program procedure suspensions) after rooms holds

@@ -379,7 +379,7 @@ module _ (program : Program) (number : ℕ) (b : BodyForm) (there : slice_get (p
           frugal = record {
             upper = record { number = s.next; items = [] } ∷ [];
             masters = refl;
-            frugally = inl ((tt, thrifty_as_judged (simple_allowance p.types) w.tracks b frugal), inl ((refl, refl), refl, refl, refl, refl));
+            frugally = inl ((tt, thrifty_as_judged (simple_allowance p.types) w.tracks b frugal), inl ((refl, refl), refl, refl, refl));
           };
           waits = record {
             parted = at.parted;

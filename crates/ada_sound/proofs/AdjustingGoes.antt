@@ -34,7 +34,7 @@ use Rattle.ada_typed.proofs.Kept.{Behind, Each, behind_call}
 use Rattle.ada_judged.specs.Obeying.{BodyIsOrderly}
 use Rattle.ada_quiet.specs.Calm.{calmly_copied_types, has_calm_objects}
 use Rattle.ada_quiet.specs.InUse.{is_copied_in_order, stand_in_a_row, adjusts_itself, may_track}
-use Rattle.ada_sound.proofs.Adjusting.{Adjusting, simple_thriftiness, waiting}
+use Rattle.ada_sound.proofs.Adjusting.{Adjusting, waiting}
 use Rattle.ada_sound.proofs.AdjustingCore.{judged_keeps}
 use Rattle.ada_sound.proofs.AdjustingEnds.{EndsCopy, GetBack, adjusting_ends, gets_back, judged_of}
 use Rattle.ada_sound.proofs.AdjustingKept.{IsJudged}
@@ -161,13 +161,13 @@ module _ (program : Program) (s : State) (f : Adjusting program s) (ends_now : s
   stands_so : f.t ≡ seen_state f.w s
   stands_so = (plainly_at_end program.types.items (program_form program).bodies f.w s f.t [] [] f.behind f.seen ends_now).1
 
-  frugal_now : Frugally (simple_thriftiness (program_form program).types) f.lower false f.behind [] (seen_state f.w s)
-  frugal_now = subst (Frugally (simple_thriftiness (program_form program).types) f.lower false f.behind []) stands_so f.frugal
+  frugal_now : Frugally (simple_allowance (program_form program).types) f.lower f.behind [] (seen_state f.w s)
+  frugal_now = subst (Frugally (simple_allowance (program_form program).types) f.lower f.behind []) stands_so f.frugal
 
   pub lower_left : s.masters ≡ f.lower
   lower_left =
-      let last : Frugal (simple_thriftiness (program_form program).types) false f.behind [] s.mode (Returns [] [] ∷ f.behind) frugal_now.upper = subst (λ (k : Control). Frugal (simple_thriftiness (program_form program).types) false f.behind [] s.mode (seen_control f.w k) frugal_now.upper) ends_now frugal_now.frugally in
-      let end = frugal_ends (simple_thriftiness (program_form program).types) false f.behind [] s.mode [] [] f.behind frugal_now.upper refl last in
+      let last : Frugal (simple_allowance (program_form program).types) f.behind [] s.mode (Returns [] [] ∷ f.behind) frugal_now.upper = subst (λ (k : Control). Frugal (simple_allowance (program_form program).types) f.behind [] s.mode (seen_control f.w k) frugal_now.upper) ends_now frugal_now.frugally in
+      let end = frugal_ends (simple_allowance (program_form program).types) f.behind [] s.mode [] [] f.behind frugal_now.upper refl last in
       frugal_now.masters ∙ ap (λ (upper : List Master). upper ++ f.lower) end.2
 
 -- The activation that waits is the next one.

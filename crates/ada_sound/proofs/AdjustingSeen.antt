@@ -24,8 +24,8 @@ use Rattle.ada_tracked.specs.Simple.{FrameIsSimple}
 use Rattle.ada_tracked.specs.Staying.{BodyIsSimple, IsWithinBody, StaysSimple, at_once, behind_treatment}
 use Rattle.ada_typed.proofs.Kept.{behind_call, crosses as crosses_by, Behind, Each, is_treatment, Keeps}
 use Rattle.ada_typed.proofs.KeptSteps.{pass_keeps, step_keeps}
-use Rattle.ada_sound.proofs.Adjusting.{simple_thriftiness}
-use Rattle.ada_sound.proofs.FrugalControl.{Frugal, FrugalBegins, FrugalLeads, FrugalLeaves, Allowance, is_return_first}
+use Rattle.ada_sound.proofs.Allowance.{Allowance, simple_allowance}
+use Rattle.ada_sound.proofs.FrugalControl.{Frugal, FrugalBegins, FrugalLeads, FrugalLeaves, is_return_first}
 use Rattle.ada_sound.proofs.FrugalSteps.{is_call_first, treats_none}
 use Rattle.ada_sound.proofs.Invariant.{Control}
 use Rattle.ada_sound.proofs.Steps as inside
@@ -37,26 +37,26 @@ calls_or_copies (Elaborates (declares_record x t initial ∷ ds) fs hs ∷ k) = 
 calls_or_copies k = false
 
 -- Not in a frugal body, where no procedure is called frugal.
-leads_on : (types : List TypeForm) (behind : Control) (among : List Value) (k : Control) (ms : List Master) → FrugalLeads (simple_thriftiness types) false behind among k ms → calls_or_copies k ≡ false
+leads_on : (types : List TypeForm) (behind : Control) (among : List Value) (k : Control) (ms : List Master) → FrugalLeads (simple_allowance types) behind among k ms → calls_or_copies k ≡ false
 leads_on types behind among (Does (a_stmt (calls procedure actuals) fs) ∷ k) ms q = absurd (cc (q.0))
 leads_on types behind among (Elaborates (declares_record x t initial ∷ ds) fs hs ∷ k) [] q = absurd q
 leads_on types behind among (Elaborates (declares_record x t None ∷ ds) fs hs ∷ k) (m ∷ ms) q = let declares = q.0.1.0 in absurd (cc declares)
 leads_on types behind among (Elaborates (declares_record x t (Some items) ∷ ds) fs hs ∷ k) (m ∷ ms) q = let declares = q.0.1.0 in absurd (cc declares)
 leads_on types behind among k ms q = refl
 
-leaves_on : (types : List TypeForm) (behind : Control) (among : List Value) (k : Control) (ms : List Master) → FrugalLeaves (simple_thriftiness types) false behind among k ms → calls_or_copies k ≡ false
+leaves_on : (types : List TypeForm) (behind : Control) (among : List Value) (k : Control) (ms : List Master) → FrugalLeaves (simple_allowance types) behind among k ms → calls_or_copies k ≡ false
 leaves_on types behind among (Does (a_stmt (calls procedure actuals) fs) ∷ k) ms q = absurd q
 leaves_on types behind among (Elaborates (declares_record x t initial ∷ ds) fs hs ∷ k) ms q = absurd q
 leaves_on types behind among k ms q = refl
 
 -- Nor is it where a new object begins first.
-begins_on : (types : List TypeForm) (behind : Control) (among : List Value) (k : Control) (ms : List Master) → FrugalBegins (simple_thriftiness types) false behind among k ms → calls_or_copies k ≡ false
+begins_on : (types : List TypeForm) (behind : Control) (among : List Value) (k : Control) (ms : List Master) → FrugalBegins (simple_allowance types) behind among k ms → calls_or_copies k ≡ false
 begins_on types behind among [] ms q = refl
 begins_on types behind among (frame.Treats v (frame.begins by done) tasks ∷ k) ms q = refl
 begins_on types behind among (frame.Awaits v by done of part tasks ∷ k) ms q = refl
 begins_on types behind among (f ∷ k) ms q = absurd q
 
-pub frugal_alone : (types : List TypeForm) (behind : Control) (among : List Value) (mode : Mode) (k : Control) (ms : List Master) → Frugal (simple_thriftiness types) false behind among mode k ms → calls_or_copies k ≡ false
+pub frugal_alone : (types : List TypeForm) (behind : Control) (among : List Value) (mode : Mode) (k : Control) (ms : List Master) → Frugal (simple_allowance types) behind among mode k ms → calls_or_copies k ≡ false
 frugal_alone types behind among mode k ms (inl q) = leads_on types behind among k ms q
 frugal_alone types behind among mode k ms (inr (inl q)) = leaves_on types behind among k ms q.1
 frugal_alone types behind among mode k ms (inr (inr q)) = begins_on types behind among k ms q.1

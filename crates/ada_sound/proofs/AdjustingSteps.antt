@@ -40,7 +40,7 @@ use Rattle.ada_sound.proofs.CallsApart.{CallApart, AllCallApart}
 use Rattle.ada_sound.proofs.CallsApartSteps.{calls_stay_apart}
 use Rattle.ada_sound.proofs.FormalStays.{SamePlaces, AllSamePlaces, places_stay}
 use Rattle.ada_sound.proofs.Gathered.{AllocatesBare}
-use Rattle.ada_sound.proofs.Adjusting.{Adjusting, simple_thriftiness, waiting}
+use Rattle.ada_sound.proofs.Adjusting.{Adjusting, waiting}
 use Rattle.ada_sound.proofs.Coming.{each_next}
 use Rattle.ada_sound.proofs.AdjustingKept.{IsJudged, each_both, alters_matched, says_covered, says_matched, says_silent, standing_kept}
 use Rattle.ada_sound.proofs.AdjustingSeen.{SameRun, StandsFor, calls_or_copies, each_runs_on, frugal_alone, next_simple, seen_leaves, seen_within, simple_crosses, simple_still, stands_for, within}
@@ -101,7 +101,7 @@ module _ (program : Program) (s : State) (f : Adjusting program s) where
 
   own_masters : (left : Mode) (k : Control) → f.t.control ≡ Leaves left ∷ k → AreOwnedBy (simple_allowance (program_form program).types) (innermost f.t.masters)
   own_masters left k at =
-      let owned = leaves_own (simple_thriftiness (program_form program).types) false f.behind [] f.t.mode left k f.frugal.upper f.lower (rw at at f.frugal.frugally) in
+      let owned = leaves_own (simple_allowance (program_form program).types) f.behind [] f.t.mode left k f.frugal.upper f.lower (rw at at f.frugal.frugally) in
       subst (λ (ms : List Master). AreOwnedBy (simple_allowance (program_form program).types) (innermost ms)) (sym f.frugal.masters) owned
 
   -- Where the real state leaves one, the other one does.
@@ -143,7 +143,7 @@ module _
   firsts = seen_within tds bodies f.w s f.t f.seen f.simple inner some_waits
 
   none_crosses : inside.crosses f.t.mode f.t.control ≡ false
-  none_crosses = frugal_crosses (simple_thriftiness p.types) false refl refl f.behind [] f.t.mode f.t.control f.frugal.upper f.frugal.frugally firsts.0 (λ runs. firsts.1)
+  none_crosses = frugal_crosses (simple_allowance p.types) refl refl f.behind [] f.t.mode f.t.control f.frugal.upper f.frugal.frugally firsts.0 (λ runs. firsts.1)
 
   alone_there : calls_or_copies f.t.control ≡ false
   alone_there = frugal_alone p.types f.behind [] f.t.mode f.t.control f.frugal.upper f.frugal.frugally
@@ -161,13 +161,13 @@ module _
   finalizes : FinalizesIn bare_types known.program.types tds bodies f.t.mode f.t.control f.t
   finalizes = by f.t.mode f.t.control f.frugal.upper f.frugal.frugally
     where
-      by_frame : (g : Frame Value) (k : Control) (mode : Mode) (ms : List Master) → Frugal (simple_thriftiness p.types) false f.behind [] mode (g ∷ k) ms → FinalizesBy bare_types known.program.types tds bodies g (record f.t { mode = Running; control = k })
+      by_frame : (g : Frame Value) (k : Control) (mode : Mode) (ms : List Master) → Frugal (simple_allowance p.types) f.behind [] mode (g ∷ k) ms → FinalizesBy bare_types known.program.types tds bodies g (record f.t { mode = Running; control = k })
       by_frame (frame.Does fs) k mode ms q = alive
       by_frame (frame.FreesIn access c) k mode ms q = alive
-      by_frame (frame.Treats v treatment tasks) k mode ms q = absurd (treats_none (simple_thriftiness p.types) false refl refl f.behind [] mode (frame.Treats v treatment tasks ∷ k) ms q v treatment tasks k refl)
+      by_frame (frame.Treats v treatment tasks) k mode ms q = absurd (treats_none (simple_allowance p.types) refl refl f.behind [] mode (frame.Treats v treatment tasks ∷ k) ms q v treatment tasks k refl)
       by_frame g k mode ms q = tt
 
-      by : (mode : Mode) (k : Control) (ms : List Master) → Frugal (simple_thriftiness p.types) false f.behind [] mode k ms → FinalizesIn bare_types known.program.types tds bodies mode k f.t
+      by : (mode : Mode) (k : Control) (ms : List Master) → Frugal (simple_allowance p.types) f.behind [] mode k ms → FinalizesIn bare_types known.program.types tds bodies mode k f.t
       by Running [] ms q = tt
       by Running (g ∷ k) ms q = by_frame g k Running ms q
       by (Raising e) k ms q = tt
@@ -189,11 +189,11 @@ module _
   stays_next runs =
       let ready : ReadyIn known Running f.t.control f.t.heap (places f.t) (operands_of f.t.activations) (f.frugal.upper ++ f.lower) = rw (runs, f.frugal.masters) at f.ready.1 in
       subst (λ (ms : List Master). departs_next (departs known.ahead (innermost ms)) f.t.control ≡ false) (sym f.frugal.masters)
-      (frugal_stays known (simple_thriftiness p.types) false f.behind [] f.t.mode f.t.control f.t.heap (places f.t) (operands_of f.t.activations) f.frugal.upper f.lower f.frugal.frugally ready)
+      (frugal_stays known (simple_allowance p.types) f.behind [] f.t.mode f.t.control f.t.heap (places f.t) (operands_of f.t.activations) f.frugal.upper f.lower f.frugal.frugally ready)
 
   -- What is freed next is bare.
   freely : FreesAmong bare_types f.t.control
-  freely = frees_bare (simple_thriftiness p.types) false refl f.behind [] f.t.mode f.t.control f.frugal.upper f.frugal.frugally
+  freely = frees_bare (simple_allowance p.types) refl f.behind [] f.t.mode f.t.control f.frugal.upper f.frugal.frugally
 
   none_is_under : NoneIsUnder bare_types (outers known).under f.t.heap
   none_is_under o x under found = let none : IsUnder [] o = subst (λ (all : List Id). IsUnder all o) f.settled under in absurd none
@@ -216,14 +216,14 @@ module _
       judged.keeps (waiting program s f ∷ f.suspensions) f.t alone_there none_crosses f.typed bare_there
       (subst (λ (ms : List Master). AllPairs CollectTwoTypes (items_of ms)) (sym of_t.masters) orderly.two) bare_types finalizes none_is_under (λ runs. freely) low stays_next f.ready
 
-  frugal_on : GoesFrugally (simple_thriftiness p.types) f.lower false f.behind [] (next tds bodies f.t)
+  frugal_on : GoesFrugally (simple_allowance p.types) f.lower f.behind [] (next tds bodies f.t)
   frugal_on =
-      frugal_steps known.program judged.owns tds bodies (simple_thriftiness p.types) false (bare_by program) (records_bare_by program) (λ number b there told. absurd (cc told)) (λ objects. absurd (cc objects)) f.behind [] f.lower f.t f.frugal
-      (λ actuals references k is. absurd (let first = firsts.0 in cc (rw is at first))) (λ runs. treats_none (simple_thriftiness p.types) false refl refl f.behind [] f.t.mode f.t.control f.frugal.upper f.frugal.frugally) f.typed
+      frugal_steps known.program judged.owns tds bodies (simple_allowance p.types) (bare_by program) (records_bare_by program) (λ number b there told. absurd (cc told)) (λ objects. absurd (cc objects)) f.behind [] f.lower f.t f.frugal
+      (λ actuals references k is. absurd (let first = firsts.0 in cc (rw is at first))) (λ runs. treats_none (simple_allowance p.types) refl refl f.behind [] f.t.mode f.t.control f.frugal.upper f.frugal.frugally) f.typed
       bare_types (λ runs. freely) (λ treats_parts first. absurd (cc treats_parts)) (λ objects. absurd (cc objects)) (λ objects runs. absurd (cc objects))
 
   typed_on : Each (typed.TypedIn known.program) (next tds bodies f.t)
-  typed_on = judged.stays f.t f.typed alone_there none_crosses (none_ends (simple_thriftiness p.types) false refl refl f.behind [] f.t.mode f.t.control f.frugal.upper f.frugal.frugally)
+  typed_on = judged.stays f.t f.typed alone_there none_crosses (none_ends (simple_allowance p.types) refl refl f.behind [] f.t.mode f.t.control f.frugal.upper f.frugal.frugally)
 
   -- And the real one takes a step to which it does.
   real_on : Each (SameRun s) (next tds bodies s)
@@ -262,7 +262,7 @@ module _
   -- What holds behind a step.
   adjusting_by :
       (e : Event) (after stands : State) → Seen tds bodies f.w after stands → Runs after → Alters s.heap e after.heap → StaysSimple f.w.tracks.first after.control → Standing known stands
-      → Kept stands → Ready known stands → Frugally (simple_thriftiness p.types) f.lower false f.behind [] stands → Says known.implicit own e s.heap after → InAdjusting program s f e after
+      → Kept stands → Ready known stands → Frugally (simple_allowance p.types) f.lower f.behind [] stands → Says known.implicit own e s.heap after → InAdjusting program s f e after
   adjusting_by e after stands seen same a simple standing typing ready frugal says =
       let y = a.kept f.object f.x f.found in
       let runs : running_procedure after ≡ Some f.number = same.0.procedure ∙ f.runs in (
@@ -280,7 +280,7 @@ module _
             lone = f.lone;
             t = stands;
             seen = seen;
-            simple = simple_still tds bodies f.w (simple_thriftiness p.types) false refl refl f.behind [] after stands frugal.upper seen frugal.frugally simple;
+            simple = simple_still tds bodies f.w (simple_allowance p.types) refl refl f.behind [] after stands frugal.upper seen frugal.frugally simple;
             procedure = f.procedure;
             places = f.places;
             suspensions = f.suspensions;
@@ -334,7 +334,7 @@ module _
   -- Both take a step.
   both_on :
       (e g : Event) (after stands : State) → Matches f.w e g → Seen tds bodies f.w after stands → Runs after → StaysSimple f.w.tracks.first after.control → Stepped known f.t.heap g stands
-      → Kept stands → Frugally (simple_thriftiness p.types) f.lower false f.behind [] stands → InAdjusting program s f e after
+      → Kept stands → Frugally (simple_allowance p.types) f.lower f.behind [] stands → InAdjusting program s f e after
   both_on e g after stands matches seen same simple step typing frugal =
       let of_after = stands_for tds bodies f.w after stands seen in
       let before : Alters f.t.heap g (blanked f.w after.heap) = subst (Alters f.t.heap g) of_after.heap step.alters in
@@ -353,19 +353,19 @@ module _
       alters_unblanked f.w s.heap after.heap e (subst (Alters (blanked f.w s.heap) e) (sym of_t.heap ∙ of_after.heap) (alters_same (blanked f.w s.heap) e)) in
       adjusting_by e after f.t seen same a simple f.standing (f.typed, f.apart) f.ready f.frugal (says_silent f.w known.implicit own e s.heap after followed silent)
 
-  next_on : (n m : Next) → Shown tds bodies f.w f.t n m → Each Runs n → AllStaySimple f.w.tracks.first n → Fine known f.t.heap f.t.masters m → GoesFrugally (simple_thriftiness p.types) f.lower false f.behind [] m → Each Kept m → GoesAdjusting program s f n
+  next_on : (n m : Next) → Shown tds bodies f.w f.t n m → Each Runs n → AllStaySimple f.w.tracks.first n → Fine known f.t.heap f.t.masters m → GoesFrugally (simple_allowance p.types) f.lower f.behind [] m → Each Kept m → GoesAdjusting program s f n
   next_on (halts halt) m is same simple fine goes typing =
       let well_ends : EndsWell halt f.t.heap f.t.masters = subst (Fine known f.t.heap f.t.masters) is fine in
       ends_unblanked f.w halt s.heap s.masters (subst (λ (heap : List Object). EndsWell halt heap s.masters) of_t.heap (subst (EndsWell halt f.t.heap) of_t.masters well_ends))
   next_on (moves e after) m (both g stands is matches seen) same simple fine goes typing =
-      both_on e g after stands matches seen same simple (subst (Fine known f.t.heap f.t.masters) is fine) (subst (Each Kept) is typing) (subst (GoesFrugally (simple_thriftiness p.types) f.lower false f.behind []) is goes)
+      both_on e g after stands matches seen same simple (subst (Fine known f.t.heap f.t.masters) is fine) (subst (Each Kept) is typing) (subst (GoesFrugally (simple_allowance p.types) f.lower f.behind []) is goes)
   next_on (moves e after) m (alone silent seen) same simple fine goes typing = alone_on e after silent seen same simple
   next_on (tells request e after) m (stands, is, seen) same simple fine goes typing =
-      both_on e e after stands (matching.same refl) seen same simple (subst (Fine known f.t.heap f.t.masters) is fine) (subst (Each Kept) is typing) (subst (GoesFrugally (simple_thriftiness p.types) f.lower false f.behind []) is goes)
+      both_on e e after stands (matching.same refl) seen same simple (subst (Fine known f.t.heap f.t.masters) is fine) (subst (Each Kept) is typing) (subst (GoesFrugally (simple_allowance p.types) f.lower f.behind []) is goes)
   next_on (asks request answered) m (answers, is, seen) same simple fine goes typing = λ granted.
       (let steps : Fine known f.t.heap f.t.masters (asks request answers) = subst (Fine known f.t.heap f.t.masters) is fine in
       let types : Each Kept (asks request answers) = subst (Each Kept) is typing in
-      let runs : GoesFrugally (simple_thriftiness p.types) f.lower false f.behind [] (asks request answers) = subst (GoesFrugally (simple_thriftiness p.types) f.lower false f.behind []) is goes in
+      let runs : GoesFrugally (simple_allowance p.types) f.lower f.behind [] (asks request answers) = subst (GoesFrugally (simple_allowance p.types) f.lower f.behind []) is goes in
       both_on Quiet Quiet (answered granted) (answers granted) (matching.same refl) (seen granted) (same granted) (simple granted) (steps granted) (types granted) (runs granted))
   next_on (picks n taken) m none same simple fine goes typing = none
 

@@ -53,9 +53,9 @@ records_open frugal there (creates_pool p ∷ ds) is = absurd (cc is)
 records_open frugal there (collects access ∷ ds) is = absurd (cc is)
 records_open frugal there (declares x right ∷ ds) is = records_open frugal there ds (and_parts (allocates_frugally frugal right) (are_frugal_declarations frugal ds) is).1
 records_open frugal there (declares_record x t None ∷ ds) is =
-    let both = and_parts (frugal.objects && holds_scalars frugal.types t) (are_frugal_declarations frugal ds) is in
+    let both = and_parts (holds_scalars frugal.types t) (are_frugal_declarations frugal ds) is in
     and_from (record_nests frugal.types there t) (list_all (record_nests frugal.types there) (record_objects ds))
-    (known_open there (reached_components frugal.types t) (and_parts frugal.objects (holds_scalars frugal.types t) both.0).1) (records_open frugal there ds both.1)
+    (known_open there (reached_components frugal.types t) both.0) (records_open frugal there ds both.1)
 records_open frugal there (declares_record x t (Some items) ∷ ds) is = absurd (cc is)
 
 -- What calls of frugal procedures create nests.
@@ -135,7 +135,7 @@ all_step : (types : List TypeForm) (bodies : List BodyForm) (allowance : List Bo
     → InStep (frugal_from types allowance bodies) (callees_from types nests bodies)
 all_step types [] allowance nests step = step
 all_step types (b ∷ bodies) allowance nests step =
-    let frugal : Thrift = record { types = types; objects = objects; procedures = allowance } in
+    let frugal : Thrift = record { types = types; procedures = allowance } in
     all_step types bodies (allowance ++ is_frugal_body frugal b ∷ []) (nests ++ body_nests types nests b ∷ [])
     (one_more allowance nests (is_frugal_body frugal b) (body_nests types nests b) step (λ is around. body_is frugal nests (step_nests allowance nests step) b around is))
 
@@ -144,9 +144,9 @@ pub frugal_nests : (p : ProgramForm) (number : ℕ) → slice_index_or (frugal_p
     → call_nests (slice_get (callees_of p) number) around ≡ true
 frugal_nests p number is around = step_nests (frugal_procedures p) (callees_of p) (all_step p.types p.bodies [] [] tt) number is around
 
--- What a body goes by that calls nothing, and creates no object with controlled parts.
+-- What a body goes by that calls nothing.
 abbrev pub calling_none : List TypeForm → Thrift
-calling_none types = record { types = types; objects = false; procedures = [] }
+calling_none types = record { types = types; procedures = [] }
 
 -- Such a body nests whatever calls create.
 pub lone_nests : (types : List TypeForm) (callees : Callees) (b : BodyForm) (around : List ℕ) → is_frugal_body (calling_none types) b ≡ true → body_nests types callees b around ≡ true

@@ -44,7 +44,7 @@ use Rattle.ada_sound.proofs.Allowance.{Allowance, may_treat, allocates_thriftily
 use Rattle.ada_sound.proofs.Fits.{place_at}
 use Rattle.ada_sound.proofs.Invariant.{Control}
 use Rattle.ada_sound.proofs.OperationStarts.{apart}
-use Rattle.ada_sound.proofs.FrugalControl.{AreOwnedBy, BeginsThere, FrugalLeads, FrugalLeaves, Frugally, GoesFrugally, IsLeft, IsOwnedBy, MayLeave, Allowance, beginning_frugal, more_leads, treating_leads, treating_leaves, with_variable}
+use Rattle.ada_sound.proofs.FrugalControl.{AreOwnedBy, BeginsThere, FrugalLeads, FrugalLeaves, Frugally, GoesFrugally, IsLeft, IsOwnedBy, MayLeave, beginning_frugal, more_leads, treating_leads, treating_leaves, with_variable}
 use Rattle.ada_sound.proofs.FrugalFrees.{RecordIsBare, IsFreely, StmtIsFreely, IsNewly, LeftAlone, Unborn, past_unborn}
 use Rattle.ada_sound.proofs.Stored.{IsTaken, taken_is}
 
@@ -546,7 +546,7 @@ module _ (frugal : Allowance) (lower : List Master) (behind : Control) (among : 
   declares_on (m ∷ ms) x v all k q = record {
     upper = with_variable (record { number = height ((m ∷ ms) ++ lower); owned = declared x }) m ∷ ms;
     masters = refl;
-    frugally = inl (more_leads frugal (record { number = height ((m ∷ ms) ++ lower); owned = declared x }) (λ objects'. tt) behind among k m ms q.1);
+    frugally = inl (more_leads frugal (record { number = height ((m ∷ ms) ++ lower); owned = declared x }) tt behind among k m ms q.1);
   }
 
   -- A master is left.

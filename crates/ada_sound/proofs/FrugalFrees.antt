@@ -49,7 +49,7 @@ use Rattle.ada_sound.proofs.Allowance.{Allowance, may_create, may_treat, are_thr
 use Rattle.ada_sound.proofs.Assigned.{access_from, this_is}
 use Rattle.ada_sound.proofs.Calm.{ends_operation, operation_ends_there}
 use Rattle.ada_sound.proofs.Fits.{place_at}
-use Rattle.ada_sound.proofs.FrugalControl.{Frugal, FrugalLeads, Allowance}
+use Rattle.ada_sound.proofs.FrugalControl.{Frugal, FrugalLeads}
 use Rattle.ada_sound.proofs.Invariant.{Control}
 use Rattle.ada_sound.proofs.OperationStarts.{apart}
 use Rattle.ada_sound.proofs.Standing.{FreesAmong}
@@ -337,15 +337,15 @@ module _ (frugal : Allowance) (tds : List TypeDefinition) where
 
   -- What is freed next in a frugal body may be so, where it is among these access types.
   pub next_freely :
-      AccessIsBare frugal.types tds → (may : ℕ → Bool) (thrift : Allowance) → thrift.by ≡ frugal → (behind : Control) (among : List Value) (heap : List Object) (values results : List Value) (k : Control) (ms : List Master)
+      AccessIsBare frugal.types tds → (may : ℕ → Bool) (behind : Control) (among : List Value) (heap : List Object) (values results : List Value) (k : Control) (ms : List Master)
       → (frugal.treats_parts ≡ true → ListedAlone may heap k)
-      → FrugalLeads thrift behind among k ms → FreesAmong may k → NextFreesOwn k heap values results → NextIsFreely k heap values results
-  next_freely bare may thrift same behind among heap values results [] ms alone q freely own = tt
-  next_freely bare may thrift same behind among heap values results (Does (a_stmt (frees access path) fs) ∷ k) ms alone q freely own =
-      λ stands. is_freely bare may heap (Does fs ∷ k) alone (place_at values path.root) access (rw same at (apart (may_treat thrifty access) (are_thrifty thrifty fs) q.0).0) freely (own stands)
-  next_freely bare may thrift same behind among heap values results (FreesIn access c ∷ k) ms alone q freely own =
-      λ cell w found there. is_freely bare may heap k alone w access (rw same at q.0) freely (own cell w found there)
-  next_freely bare may thrift same behind among heap values results (f ∷ k) ms alone q freely own = tt
+      → FrugalLeads frugal behind among k ms → FreesAmong may k → NextFreesOwn k heap values results → NextIsFreely k heap values results
+  next_freely bare may behind among heap values results [] ms alone q freely own = tt
+  next_freely bare may behind among heap values results (Does (a_stmt (frees access path) fs) ∷ k) ms alone q freely own =
+      λ stands. is_freely bare may heap (Does fs ∷ k) alone (place_at values path.root) access (apart (may_treat frugal access) (are_thrifty frugal fs) q.0).0 freely (own stands)
+  next_freely bare may behind among heap values results (FreesIn access c ∷ k) ms alone q freely own =
+      λ cell w found there. is_freely bare may heap k alone w access q.0 freely (own cell w found there)
+  next_freely bare may behind among heap values results (f ∷ k) ms alone q freely own = tt
 
 -- Where bodies treat no objects with controlled parts, what is freed next has none.
 pub frees_bare : (frugal : Allowance) → frugal.treats_parts ≡ false → (behind : Control) (among : List Value) (mode : Mode) (k : Control) (ms : List Master)
@@ -394,6 +394,6 @@ pub is_newly :
     → may_create frugal access ≡ true → IsNewly frugal tds access heap k
 is_newly frugal tds bare access heap k unborn may = by frugal.objects refl may
   where
-    by : → frugal.objects ≡ objects → (objects || has_bare_objects frugal.types access) ≡ true → IsNewly frugal tds access heap k
+    by : (objects : Bool) → frugal.objects ≡ objects → (objects || has_bare_objects frugal.types access) ≡ true → IsNewly frugal tds access heap k
     by true is either = inr (is, unborn is (next_id heap) (past_unborn heap))
     by false is has = inl (bare access PartsFirst has)

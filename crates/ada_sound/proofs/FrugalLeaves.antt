@@ -26,7 +26,7 @@ use Rattle.ada_scopes.proofs.Homes.{ItemsFit, OwnedFits}
 use Rattle.ada_tracked.specs.Law.{InnermostHousesNone, NewestHousesNone}
 use Rattle.ada_sound.proofs.Allowance.{Allowance}
 use Rattle.ada_sound.proofs.Fits.{access_is, component_access, component_is, in_front, lies_among, sparing}
-use Rattle.ada_sound.proofs.FrugalControl.{AreOwnedBy, Frugal, FrugalLeads, FrugalLeaves, IsOwnedBy, Allowance}
+use Rattle.ada_sound.proofs.FrugalControl.{AreOwnedBy, Frugal, FrugalLeads, FrugalLeaves, IsOwnedBy}
 use Rattle.ada_sound.proofs.FrugalFrees.{accepted_access}
 use Rattle.ada_sound.proofs.Invariant.{Control, EndingBy, Known, LeavesTo, Parting, ReadyIn, Rooms, ThenBack, departs, departs_next, innermost, is_collection}
 use Rattle.ada_sound.proofs.Items.{Counted, HasItem, Houses, item_below}

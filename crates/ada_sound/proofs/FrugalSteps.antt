@@ -37,12 +37,12 @@ use Rattle.ada_typed.proofs.Bodies.{own_bodies}
 use Rattle.ada_typed.proofs.Control as typed
 use Rattle.ada_typed.proofs.Control.{OwnBody}
 use Rattle.ada_typed.proofs.Kept.{Each, crosses as crosses_by, is_treatment}
-use Rattle.ada_sound.proofs.Allowance.{Allowance, are_thrifty, are_thrifty_handlers, is_thrifty_body, body_thrifty}
+use Rattle.ada_sound.proofs.Allowance.{Allowance, allowance_of, are_thrifty, are_thrifty_handlers, is_thrifty_body, body_thrifty}
 use Rattle.ada_sound.specs.Agreement.{running_procedure}
 use Rattle.ada_sound.proofs.Calm.{ends_operation, operation_ends_there}
 use Rattle.ada_sound.proofs.Invariant.{Control, IsAwaited}
 use Rattle.ada_sound.proofs.OperationStarts.{apart}
-use Rattle.ada_sound.proofs.FrugalControl.{Allowance, allowance_of, FrugalLeads, FrugalLeaves, MayLeave, Frugal, is_return_first, none_treated, none_left, treating_leads, treating_leaves, Frugally, GoesFrugally, BeginsThere, FrugalBegins, beginning_frugal, begins_first, leads_first, none_beginning}
+use Rattle.ada_sound.proofs.FrugalControl.{FrugalLeads, FrugalLeaves, MayLeave, Frugal, is_return_first, none_treated, none_left, treating_leads, treating_leaves, Frugally, GoesFrugally, BeginsThere, FrugalBegins, beginning_frugal, begins_first, leads_first, none_beginning}
 use Rattle.ada_sound.proofs.Standing.{FreesAmong}
 use Rattle.ada_sound.proofs.Steps.{crosses}
 use Rattle.ada_sound.proofs.FrugalFrees.{AccessIsBare, bare_by, RecordIsBare, records_bare_by, NextFreesOwn, next_own, ListedAlone, FrameIsFreely, NextIsFreely, next_freely, LeftAlone, Unborn, is_newly}
@@ -298,7 +298,7 @@ frugal_steps p whole tds bodies frugal bare records_bare finds_frugal ends_creat
     by : Frugal frugal behind among s.mode s.control f.upper → FreesAmong may s.control → NextFreesOwn s.control s.heap (places_of s.activations) (operands_of s.activations)
         → NextIsFreely frugal tds s.control s.heap (places_of s.activations) (operands_of s.activations)
     by (inl q) freely own =
-        next_freely frugal tds bare may frugal refl behind among s.heap (places_of s.activations) (operands_of s.activations) s.control f.upper
+        next_freely frugal tds bare may behind among s.heap (places_of s.activations) (operands_of s.activations) s.control f.upper
         (λ treats_parts. alone treats_parts (leads_first frugal behind among s.control f.upper q)) q freely own
     by (inr (inl (may', leaving))) freely own = leaving_freely s.control f.upper leaving
       where
@@ -325,16 +325,16 @@ frugal_steps p whole tds bodies frugal bare records_bare finds_frugal ends_creat
 -- The body, or what it calls, runs on, unless its own end is next, or an object is treated, in a run of a well-formed program.
 pub frugal_goes :
     (program : Program) → FreesItsOwn (program_form program)
-    → (last : Bool) (lower : List Master) (behind : Control) (among : List Value) (s : State) (f : Frugally (allowance_of (program_form program) last) lower behind among s)
-    → EndsInner (allowance_of (program_form program) last) behind among s.control f.upper → (s.mode ≡ Running → TreatsNothing s.control)
+    → (lower : List Master) (behind : Control) (among : List Value) (s : State) (f : Frugally (allowance_of (program_form program)) lower behind among s)
+    → EndsInner (allowance_of (program_form program)) behind among s.control f.upper → (s.mode ≡ Running → TreatsNothing s.control)
     → typed.TypedIn (seen_in (running_procedure s) (program_form program)) s
     → (may : ℕ → Bool) → (s.mode ≡ Running → FreesAmong may s.control) → (begins_first s.control ≡ false → ListedAlone may s.heap s.control)
     → Unborn s.heap s.control → (s.mode ≡ Running → LeftAlone s.heap s.masters s.control)
-    → GoesFrugally (allowance_of (program_form program) last) lower behind among (next program.types.items (body_forms program) s)
-frugal_goes program whole last lower behind among s f inner none typing may frees alone unborn left =
+    → GoesFrugally (allowance_of (program_form program)) lower behind among (next program.types.items (body_forms program) s)
+frugal_goes program whole lower behind among s f inner none typing may frees alone unborn left =
     let p = program_form program in
     let procedure = running_procedure s in
-    frugal_steps (seen_in procedure p) (own_bodies p whole procedure) program.types.items (body_forms program) (allowance_of p last) (bare_by program) (records_bare_by program)
+    frugal_steps (seen_in procedure p) (own_bodies p whole procedure) program.types.items (body_forms program) (allowance_of p) (bare_by program) (records_bare_by program)
     (λ number b there told. body_thrifty p b (frugal_at p number b told there)) (λ created. refl) behind among lower s f inner none typing may frees
     (λ treats_parts. alone) (λ created. unborn) (λ created. left)
 
@@ -502,10 +502,10 @@ leaving_crosses frugal idle behind among mode (f ∷ k) ms may leaving = absurd 
 -- begins, none ends, and no operation is called.
 pub frugal_crosses : (frugal : Allowance) → frugal.treats_parts ≡ false → frugal.objects ≡ false → (behind : Control) (among : List Value) (mode : Mode) (k : Control) (ms : List Master)
     → Frugal frugal behind among mode k ms → is_return_first k ≡ false → (mode ≡ Running → is_call_first k ≡ false) → crosses mode k ≡ false
-frugal_crosses frugal ends_none idle behind among mode k ms (inr (inl (may, leaving))) inner none = leaving_crosses frugal idle behind among mode k ms may leaving
-frugal_crosses frugal ends_none idle behind among mode k ms (inr (inr (may, beginning))) inner none = absurd (none_beginning frugal idle behind among k ms beginning)
-frugal_crosses frugal ends_none idle behind among mode [] ms (inl q) inner none = absurd q
-frugal_crosses frugal ends_none idle behind among Running (f ∷ k) ms (inl q) inner none = calls_nothing f k inner (none refl) (none_treated frugal ends_none behind among f k ms q).0
-frugal_crosses frugal ends_none idle behind among (Raising e) (f ∷ k) ms (inl q) inner none = inner
-frugal_crosses frugal ends_none idle behind among Exiting (f ∷ k) ms (inl q) inner none = inner
-frugal_crosses frugal ends_none idle behind among Returning (f ∷ k) ms (inl q) inner none = inner
+frugal_crosses frugal none_ended idle behind among mode k ms (inr (inl (may, leaving))) inner none = leaving_crosses frugal idle behind among mode k ms may leaving
+frugal_crosses frugal none_ended idle behind among mode k ms (inr (inr (may, beginning))) inner none = absurd (none_beginning frugal idle behind among k ms beginning)
+frugal_crosses frugal none_ended idle behind among mode [] ms (inl q) inner none = absurd q
+frugal_crosses frugal none_ended idle behind among Running (f ∷ k) ms (inl q) inner none = calls_nothing f k inner (none refl) (none_treated frugal none_ended behind among f k ms q).0
+frugal_crosses frugal none_ended idle behind among (Raising e) (f ∷ k) ms (inl q) inner none = inner
+frugal_crosses frugal none_ended idle behind among Exiting (f ∷ k) ms (inl q) inner none = inner
+frugal_crosses frugal none_ended idle behind among Returning (f ∷ k) ms (inl q) inner none = inner

@@ -39,7 +39,7 @@ use Rattle.ada_meaning.specs.declared.event.Cause.{Cause}
 use Rattle.ada_meaning.specs.Frame.{Treatment, begins, ends}
 use Rattle.ada_sound.proofs.FrugalBodies.{frugal_nests}
 use Rattle.ada_sound.proofs.SimpleBodies.{simple_nests, simple_with}
-use Rattle.ada_sound.proofs.Operating.{IsCalled, PlainBody, may_create_in}
+use Rattle.ada_sound.proofs.Operating.{IsCalled, PlainBody}
 
 -- Quiet statements create nothing but Integers and Booleans.
 module _ (types : List TypeForm) (variables : List VariableForm) where
@@ -136,8 +136,8 @@ module _ (p : ProgramForm) where
   abbrev pub IsNotQuiet : ℕ → Type 0
   IsNotQuiet number = is_quiet_procedure p.types (slice_get p.bodies number) ≡ false
 
-  -- A procedure is frugal, where that may be, and creates objects with controlled parts or none.
-  abbrev pub IsFrugal : → ℕ → Type 0
+  -- A procedure is frugal, where that may be.
+  abbrev pub IsFrugal : ℕ → Type 0
   IsFrugal number = (may_be_frugal p ≡ true) × (slice_index_or (frugal_procedures p) number false ≡ true)
 
   abbrev pub IsSimple : ℕ → Type 0
@@ -146,9 +146,9 @@ module _ (p : ProgramForm) where
   -- What overrides Initialize is plain or frugal, what overrides Adjust is quiet, or simple and of a type that owns, and what overrides Finalize is quiet, or
   -- frugal.
   record AreUsed (Owns : Type 0) (o : Operations) (number : ℕ) : Type 0 where
-    initializes : procedure_number o.initialize ≡ Some number → IsPlain number ⊎ (IsFrugal true number × IsNotPlain number)
+    initializes : procedure_number o.initialize ≡ Some number → IsPlain number ⊎ (IsFrugal number × IsNotPlain number)
     adjusts : copies_parts p ≡ true → procedure_number o.adjust ≡ Some number → IsQuiet number ⊎ (IsSimple number × Owns)
-    finalizes : procedure_number o.finalize ≡ Some number → IsQuiet number ⊎ (IsFrugal false number × IsNotQuiet number)
+    finalizes : procedure_number o.finalize ≡ Some number → IsQuiet number ⊎ (IsFrugal number × IsNotQuiet number)
 
   plain_one : (o : Option ProcedureNo) (number : ℕ) → is_plain_operation p o ≡ true → procedure_number o ≡ Some number → IsPlain number
   plain_one None number plain is = absurd (cc is)
@@ -173,15 +173,15 @@ module _ (p : ProgramForm) where
       let same : procedure.0 ≡ number = cc is in
       rw same at (apart (slice_index_or (frugal_procedures p) procedure.0 false) (declares_earlier_parts p procedure.0 (slice_get p.bodies procedure.0)) frugal).0
 
-  finalize_one : (o : Option ProcedureNo) (number : ℕ) → uses_finalize p o ≡ true → procedure_number o ≡ Some number → IsQuiet number ⊎ (IsFrugal false number × IsNotQuiet number)
+  finalize_one : (o : Option ProcedureNo) (number : ℕ) → uses_finalize p o ≡ true → procedure_number o ≡ Some number → IsQuiet number ⊎ (IsFrugal number × IsNotQuiet number)
   finalize_one o number uses is = by (is_quiet_operation p o) refl uses
     where
-      by : (quiet : Bool) → is_quiet_operation p o ≡ quiet → (quiet || (may_be_frugal p && is_frugal_operation p false o)) ≡ true
-          → IsQuiet number ⊎ (IsFrugal false number × IsNotQuiet number)
+      by : (quiet : Bool) → is_quiet_operation p o ≡ quiet → (quiet || (may_be_frugal p && is_frugal_operation p o)) ≡ true
+          → IsQuiet number ⊎ (IsFrugal number × IsNotQuiet number)
       by true quiet uses' = inl (quiet_one o number quiet is)
       by false quiet uses' =
-          let both = apart (may_be_frugal p) (is_frugal_operation p false o) uses' in
-          inr ((both.0, frugal_one false o number both.1 is), not_quiet o number quiet is)
+          let both = apart (may_be_frugal p) (is_frugal_operation p o) uses' in
+          inr ((both.0, frugal_one o number both.1 is), not_quiet o number quiet is)
 
   simple_one :
       (o : Option ProcedureNo) (number : ℕ) → is_simple_operation p (adjusts_alone p) o ≡ true → procedure_number o ≡ Some number
@@ -204,12 +204,12 @@ module _ (p : ProgramForm) where
           let both = apart (may_track p) (is_simple_operation p (adjusts_alone p) o) uses' in
           inr ((both.0, simple_one o number both.1 is), (apart owns (is_some (operation_body p o)) so).0)
 
-  initialize_one : (o : Option ProcedureNo) (number : ℕ) → uses_initialize p o ≡ true → procedure_number o ≡ Some number → IsPlain number ⊎ (IsFrugal true number × IsNotPlain number)
+  initialize_one : (o : Option ProcedureNo) (number : ℕ) → uses_initialize p o ≡ true → procedure_number o ≡ Some number → IsPlain number ⊎ (IsFrugal number × IsNotPlain number)
   initialize_one o number uses is = by (is_plain_operation p o) refl uses
     where
-      by : (plain : Bool) → is_plain_operation p o ≡ plain → (plain || (may_be_frugal p && is_frugal_operation p true o)) ≡ true → IsPlain number ⊎ (IsFrugal true number × IsNotPlain number)
+      by : (plain : Bool) → is_plain_operation p o ≡ plain → (plain || (may_be_frugal p && is_frugal_operation p o)) ≡ true → IsPlain number ⊎ (IsFrugal number × IsNotPlain number)
       by true plain uses' = inl (plain_one o number plain is)
-      by false plain uses' = let both = apart (may_be_frugal p) (is_frugal_operation p true o) uses' in inr ((both.0, frugal_one true o number both.1 is), not_plain o number plain is)
+      by false plain uses' = let both = apart (may_be_frugal p) (is_frugal_operation p o) uses' in inr ((both.0, frugal_one o number both.1 is), not_plain o number plain is)
 
   three_used : (Owns : Type 0) (owns : Bool) (f : Option Finalization) (number : ℕ) → (owns ≡ true → is_adjust_of number f ≡ true → Owns) → uses_operations p owns f ≡ true → AreUsed Owns (operations_in f) number
   three_used Owns owns None number own uses = record { initializes = λ is. absurd (cc is); adjusts = λ copies is. absurd (cc is); finalizes = λ is. absurd (cc is) }
@@ -305,30 +305,30 @@ module _ (p : ProgramForm) where
   initialize_nests t None right uses = tt
   initialize_nests t (Some procedure) right uses = by (initialize_one (Some procedure) procedure.0 uses refl)
     where
-      by : IsPlain procedure.0 ⊎ (IsFrugal true procedure.0 × IsNotPlain procedure.0) → NestsAnywhere (callees_of p) (Some procedure)
+      by : IsPlain procedure.0 ⊎ (IsFrugal procedure.0 × IsNotPlain procedure.0) → NestsAnywhere (callees_of p) (Some procedure)
       by (inl plain) = plain_nests t (Some procedure) right plain
-      by (inr both) = frugal_nests p true procedure.0 both.0.1
+      by (inr both) = frugal_nests p procedure.0 both.0.1
 
   finalize_nests : (t : ℕ) (o : Option ProcedureNo) → overrides_rightly p.types (callable_in p) t o ≡ true → uses_finalize p o ≡ true → NestsAnywhere (callees_of p) o
   finalize_nests t None right uses = tt
   finalize_nests t (Some procedure) right uses = by (finalize_one (Some procedure) procedure.0 uses refl)
     where
-      by : IsQuiet procedure.0 ⊎ (IsFrugal false procedure.0 × IsNotQuiet procedure.0) → NestsAnywhere (callees_of p) (Some procedure)
+      by : IsQuiet procedure.0 ⊎ (IsFrugal procedure.0 × IsNotQuiet procedure.0) → NestsAnywhere (callees_of p) (Some procedure)
       by (inl quiet) = plain_nests t (Some procedure) right (plain_operation p (Some procedure) quiet)
-      by (inr both) = frugal_nests p false procedure.0 both.0.1
+      by (inr both) = frugal_nests p procedure.0 both.0.1
 
   adjust_nests : (t : ℕ) (owns : Bool) (o : Option ProcedureNo) → overrides_rightly p.types (callable_in p) t o ≡ true → uses_adjust p owns o ≡ true → NestsAnywhere (callees_of p) o
   adjust_nests t owns None right uses = tt
-  adjust_nests t owns (Some procedure) right uses = either (or_cases (adjusts_nothing p && is_frugal_operation p true (Some procedure)) (uses_called_adjust p owns (Some procedure)) uses)
+  adjust_nests t owns (Some procedure) right uses = either (or_cases (adjusts_nothing p && is_frugal_operation p (Some procedure)) (uses_called_adjust p owns (Some procedure)) uses)
     where
       by : IsQuiet procedure.0 ⊎ (IsSimple procedure.0 × (owns ≡ true)) → NestsAnywhere (callees_of p) (Some procedure)
       by (inl quiet) = plain_nests t (Some procedure) right (plain_operation p (Some procedure) quiet)
       by (inr both) = let b = there_one t (Some procedure) procedure.0 right refl in nests_there procedure.0 b.0 b.1 (λ callees around. simple_nests p.types callees b.0 around (simple_with p.types (adjusts_alone p) b.0 (rw (b.1) at both.0.1)))
 
-      either : ((adjusts_nothing p && is_frugal_operation p true (Some procedure)) ≡ true) ⊎ (uses_called_adjust p owns (Some procedure) ≡ true) → NestsAnywhere (callees_of p) (Some procedure)
+      either : ((adjusts_nothing p && is_frugal_operation p (Some procedure)) ≡ true) ⊎ (uses_called_adjust p owns (Some procedure) ≡ true) → NestsAnywhere (callees_of p) (Some procedure)
       either (inl nothing) =
-          let frugal = (apart (adjusts_nothing p) (is_frugal_operation p true (Some procedure)) nothing).1 in
-          frugal_nests p true procedure.0 (apart (slice_index_or (frugal_procedures p) procedure.0 false) (declares_earlier_parts p procedure.0 (slice_get p.bodies procedure.0)) frugal).0
+          let frugal = (apart (adjusts_nothing p) (is_frugal_operation p (Some procedure)) nothing).1 in
+          frugal_nests p procedure.0 (apart (slice_index_or (frugal_procedures p) procedure.0 false) (declares_earlier_parts p procedure.0 (slice_get p.bodies procedure.0)) frugal).0
       either (inr called) = by (adjust_one owns (Some procedure) procedure.0 called refl)
 
   nests_three : (t : ℕ) (owns : Bool) (f : Option Finalization) → has_operations p.types (callable_in p) t f ≡ true → uses_operations p owns f ≡ true → AllNestAnywhere (callees_of p) (operations_in f)
@@ -435,13 +435,13 @@ module _ (program : Program) (uses : operations_may_be_called (program_form prog
   quiet_body : IsQuiet whole number → PlainBody whole.types b × (body_raises no_calls b (λ e. true) ≡ false)
   quiet_body quiet = (plain_body (plain_procedure whole.types (slice_get whole.bodies number) quiet), not-true (body_raises no_calls b (λ e. true)) (apart _ _ (rw there at quiet)).1)
 
-  finalizes_as : (cause : Cause) → IsQuiet whole number ⊎ (IsFrugal whole false number × IsNotQuiet whole number) → IsUsedAs whole of number (ends cause) b
+  finalizes_as : (cause : Cause) → IsQuiet whole number ⊎ (IsFrugal whole number × IsNotQuiet whole number) → IsUsedAs whole of number (ends cause) b
   finalizes_as cause (inl quiet) = inl (quiet_body quiet)
-  finalizes_as cause (inr both) = inr (inl (tt, both.0.0, frugal_at whole false number b both.0.1 there, rw there at both.1))
+  finalizes_as cause (inr both) = inr (inl (tt, both.0.0, frugal_at whole number b both.0.1 there, rw there at both.1))
 
-  initializes_as : (done : List parts.Part) → IsPlain whole number ⊎ (IsFrugal whole true number × IsNotPlain whole number) → IsUsedAs whole of number (begins Creation done) b
+  initializes_as : (done : List parts.Part) → IsPlain whole number ⊎ (IsFrugal whole number × IsNotPlain whole number) → IsUsedAs whole of number (begins Creation done) b
   initializes_as done (inl plain) = inl (plain_body plain, tt)
-  initializes_as done (inr both) = inr (inl (tt, both.0.0, frugal_at whole true number b both.0.1 there, rw there at both.1))
+  initializes_as done (inr both) = inr (inl (tt, both.0.0, frugal_at whole number b both.0.1 there, rw there at both.1))
 
   adjusts_as : (treatment : Treatment) → AdjustsCopy treatment → (body_raises no_calls b (λ e. true) ≡ false → LetsNothingOut treatment b)
       → IsQuiet whole number ⊎ (IsSimple whole number × AdjustsOwn whole.types of number) → IsUsedAs whole of number treatment b

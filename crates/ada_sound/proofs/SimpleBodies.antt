@@ -20,7 +20,7 @@ module _ (frugal : Thrift) where
   frugal_right nothing is = refl
   frugal_right (value_of path) is = refl
   frugal_right (allocates access items) is = (apart (has_bare_objects frugal.types access) (list_all is_plain_item items) is).0
-  frugal_right (allocates_default access) is = or_right frugal.objects (has_bare_objects frugal.types access) is
+  frugal_right (allocates_default access) is = refl
   frugal_right (computes e) is = refl
 
   -- So it is with declarations.
