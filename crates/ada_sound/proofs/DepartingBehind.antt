@@ -41,10 +41,9 @@ use Rattle.ada_sound.proofs.Allowance.{Allowance}
 use Rattle.ada_sound.proofs.FrugalControl.{Frugal, FrugalLeads, FrugalLeaves, FrugalOperated, MayLeave}
 use Rattle.ada_sound.proofs.Invariant.{ConfinesBy, Control, EndsTo, IsNewest, Known, ReadyIn, TreatsBy, innermost}
 use Rattle.ada_sound.proofs.Items.{Counted, HasItem, Houses, has_after, houses_pool, houses_type, newest_is}
-use Rattle.ada_sound.proofs.Operating.{AreVariables, Comes, IsCalm, OwnVariables, Sight}
+use Rattle.ada_sound.proofs.Operating.{Comes, IsCalm, Sight}
 use Rattle.ada_sound.proofs.OrdinarySteps.{state_with}
 use Rattle.ada_sound.proofs.Stored.{Stored}
-use Rattle.ada_sound.proofs.TouchingLeaves.{variable_houses}
 use Rattle.ada_sound.proofs.TouchingStands.{frugal_calm}
 
 -- A master may be left, where nothing goes wrong.

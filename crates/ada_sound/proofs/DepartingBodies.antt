@@ -15,14 +15,13 @@ use Rattle.ada_program.specs.WellFormed.{is_access}
 use Rattle.ada_meaning.specs.declared.event.Cause.TheVariants.{Leaving}
 use Rattle.ada_meaning.specs.declared.event.Halt.{Halt}
 use Rattle.ada_meaning.specs.declared.state.Id.{Id}
-use Rattle.ada_meaning.specs.declared.state.Mode.{Mode}
 use Rattle.ada_meaning.specs.declared.state.Stage.{Stage}
 use Rattle.ada_meaning.specs.declared.state.Stage.TheVariants.{Building, Existing, Gone}
 use Rattle.ada_meaning.specs.declared.state.Value.{Value}
 use Rattle.ada_meaning.specs.declared.state.Value.TheVariants.{Names}
 use Rattle.ada_meaning.specs.Event.{Quiet}
 use Rattle.ada_meaning.specs.Frame as frame
-use Rattle.ada_meaning.specs.Frame.{Treatment, begins, ends, Leaves, Returns}
+use Rattle.ada_meaning.specs.Frame.{Treatment, begins, ends, Returns}
 use Rattle.ada_meaning.specs.Law.{Falls, items_of}
 use Rattle.ada_meaning.specs.Named.{Object, State, Next, object_at, next}
 use Rattle.ada_meaning.specs.Run.{Event}

@@ -1,7 +1,7 @@
 -- Each step while an operation that touches storage is under way: of its body, or of one that it has called, or of the operation of an object that one of these
 -- frees or allocates, or that is undone; their ends included (7.6, 7.6.1, 13.11.2, 4.8).
 
-use Rattle.std.proofs.Common.{◌≡◌, ℕ, Bool, true, false, List, [], ◌∷◌, ◌++◌, refl, sym, ap, subst, ◌∙◌, inl, inr, suc}
+use Rattle.std.proofs.Common.{◌≡◌, ℕ, true, false, List, [], ◌∷◌, ◌++◌, refl, sym, ap, subst, ◌∙◌, inl, inr, suc}
 use Rattle.std.specs.Prelude.{Some}
 use Rattle.ada_program.specs.declared.program.Exception.{Exception}
 use Rattle.ada_program.specs.declared.program.Program.{Program}
