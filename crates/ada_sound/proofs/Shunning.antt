@@ -1,15 +1,16 @@
--- Frugal bodies that create no object with controlled parts, as that of a Finalize, are of the shape of bodies that shun access types (3.10). They call such
--- procedures alone; and where they use no value of a type, neither does what they call, nor the end of what they free (4.1, 7.6.1, 13.11.2).
+-- Frugal bodies are of the shape of bodies that shun access types (3.10). They call such procedures alone; and where they use no value of a type, neither does
+-- what they call, nor the start of what they allocate or declare, nor the end of what they free or declare (4.1, 4.8, 7.6, 7.6.1, 13.11.2).
 
-use Rattle.std.proofs.Common.{◌≡◌, ℕ, Bool, true, false, not, ◌==◌, ◌&&◌, ◌||◌, List, [], ◌∷◌, length, Option, Some, None, refl}
+use Rattle.std.proofs.Common.{◌≡◌, ℕ, Bool, true, false, not, ◌==◌, ◌&&◌, ◌||◌, List, [], ◌∷◌, length, Option, Some, None, refl, sym, subst}
 use Rattle.std.specs.Prelude.{nat_lt, is_some}
 use Rattle.std.specs.List.{list_all, slice_index_or}
-use Rattle.std.proofs.lemmas.Bool.{and_from, and_parts, or_left, or_parts}
+use Rattle.std.proofs.lemmas.Bool.{and_from, and_parts, or_parts, or_right}
+use Rattle.ada_program.specs.declared.program.ScalarType.TheVariants.{Integer, Boolean}
 use Rattle.ada_program.specs.declared.program.VariableKind.{VariableKind}
 use Rattle.ada_program.specs.declared.program.VariableKind.TheVariants as variable
 use Rattle.ada_program.specs.Form.{PathForm, RecordPathForm, ActualForm, in_value, in_null, in_access, in_record, in_out_path, in_out_access, in_out_component, in_out_record, ExpressionForm, integer, boolean, reads, is_null, applied_to, chained, LinksForm, no_more_links, a_link, ItemForm, null_item, item_of_path, item_of_value, item_of_record, RightForm, nothing, value_of, allocates, allocates_default, computes, DeclarationForm, creates_pool, collects, declares, declares_record, StmtForm, skips, assigns, assigns_record, frees, gets, writes, writes_text, chooses, repeats, counts, exits, calls, returns, raises, encloses, StmtsForm, no_stmts, a_stmt, BranchesForm, otherwise, a_branch, HandlersForm, no_handlers, a_handler}
 use Rattle.ada_program.specs.ProgramForm.{TypeForm, VariableForm, BodyForm, ProgramForm, seen_by}
-use Rattle.ada_program.specs.WellFormed.{designated_type, finalization_of, is_access, path_kind, selected_kind, type_fits, value_access, variable_fits, variable_kind}
+use Rattle.ada_program.specs.WellFormed.{Profile, callable_in, choice_fits, collection_fits, collections_first, condition_fits, declarations_fit, designated_type, finalization_of, has_statement, has_type, initial_fits, is_borrower, is_record_object, is_type, lends_to, names_before, names_borrower, object_named, path_kind, record_initial_fits, right_fits, scalar_of, selected_kind, statement_fits, stmts_fit, branches_fit, handlers_fit, type_fits, value_access, variable_fits, variable_kind}
 use Rattle.ada_quiet.specs.Bare.{has_bare_objects}
 use Rattle.ada_quiet.specs.Apart.{is_bare_item}
 use Rattle.ada_quiet.specs.Frugal.{allocates_frugally, thrift_of, frugal_procedures, is_frugal_declaration, are_frugal_declarations, is_frugal_stmt, are_frugal, are_frugal_branches, are_frugal_handlers, is_frugal_body}
@@ -17,10 +18,11 @@ use Rattle.ada_deeds.specs.declared.deed.Callee.{Callee}
 use Rattle.ada_deeds.specs.declared.deed.Callee.TheVariants as callee
 use Rattle.ada_deeds.specs.declared.deed.Deed.{Deed}
 use Rattle.ada_deeds.specs.declared.deed.Deed.TheVariants as deed
-use Rattle.ada_deeds.specs.declared.deed.Operation.TheVariants.{Finalize}
-use Rattle.ada_deeds.specs.Forms.{path_does, expression_does, condition_does, actuals_do, freeing_does, is_left, procedure_does, parts_do, designated_by, declarations_do, leaving_does, stmt_does, stmts_do, branches_do, handlers_do, body_does}
+use Rattle.ada_deeds.specs.declared.deed.Operation.TheVariants.{Initialize, Finalize}
+use Rattle.ada_deeds.specs.Forms.{path_does, expression_does, condition_does, actuals_do, allocation_does, freeing_does, is_left, procedure_does, parts_do, creation_does, designated_by, right_does, declaration_does, declarations_do, leaving_does, stmt_does, stmts_do, branches_do, handlers_do, body_does}
+use Rattle.ada_deeds.specs.Implicit.{record_at}
 use Rattle.ada_deeds.specs.Within.{does_by}
-use Rattle.ada_deeds.proofs.Naming.{KindFits, path_fits_kind}
+use Rattle.ada_deeds.proofs.Naming.{KindFits, access_at, default_access, left_holds, object_at, object_type, path_fits_kind, right_holds, variable_fits_kind}
 use Rattle.ada_reaching.specs.Apart.{Apart}
 use Rattle.ada_reaching.specs.Forms.{may_follow, may_end, selectors_shun, path_shuns, record_path_shuns, expression_shuns, links_shun, condition_shuns, item_shuns, right_shuns, actual_shuns, declaration_shuns, declarations_shun, statement_shuns, statements_shun, branches_shun, handlers_shun, body_shuns}
 use Rattle.ada_typed.proofs.Bodies.{SeenFits}
@@ -149,16 +151,19 @@ module _ (p : ProgramForm) (u : ℕ) where
   CallsFrugal apart =
       (n : ℕ) → slice_index_or (frugal_procedures p) n false ≡ true → Spares p u (λ d. procedure_does (does_by p d) n) → apart.calls n ≡ true
 
-  -- and objects of each access type may be freed whose end is no use (7.6.1).
+  -- objects of each type may end whose end is no use (7.6.1),
   abbrev pub EndsSpared : Apart → Type 0
-  EndsSpared apart =
-      (access : ℕ) → is_access p.types access ≡ true → Spares p u (λ d. parts_do (does_by p d) Finalize (designated_type p.types access))
-      → apart.ends access ≡ true
+  EndsSpared apart = (t : ℕ) → Spares p u (λ d. parts_do (does_by p d) Finalize (record_at p.types t)) → apart.ends t ≡ true
+
+  -- and those of each type may start of which neither the start nor the end is a use: where an exception comes out of the start, what has begun ends (7.6).
+  abbrev pub StartsSpared : Apart → Type 0
+  StartsSpared apart = (t : ℕ) → Spares p u (λ d. creation_does (does_by p d) (record_at p.types t)) → apart.starts t ≡ true
 
   -- So it is with those that a body of a well-formed program goes by.
   module _
-      (apart : Apart) (marked : CallsFrugal apart) (ended : EndsSpared apart) (types_fit : list_all (type_fits p.types) p.types ≡ true)
-      (variables : List VariableForm) (variables_fit : list_all (variable_fits p.types) variables ≡ true) where
+      (apart : Apart) (marked : CallsFrugal apart) (ended : EndsSpared apart) (started : StartsSpared apart)
+      (types_fit : list_all (type_fits p.types) p.types ≡ true) (variables : List VariableForm)
+      (variables_fit : list_all (variable_fits p.types) variables ≡ true) (texts exceptions : List (List ℕ)) (callable : List Profile) where
     -- What a value names may be freed, where its end is no use.
     kind_ended :
         (kind : Option VariableKind) → KindFits p.types kind → Spares p u (λ d. parts_do (does_by p d) Finalize (designated_by p.types (value_access kind)))
@@ -166,35 +171,65 @@ module _ (p : ProgramForm) (u : ℕ) where
     kind_ended None fits spares = refl
     kind_ended (Some variable.Integer) fits spares = refl
     kind_ended (Some variable.Boolean) fits spares = refl
-    kind_ended (Some (variable.Access access)) fits spares = ended access.0 fits spares
+    kind_ended (Some (variable.Access access)) fits spares =
+        ended access.0
+        (subst (λ (o : Option ℕ). Spares p u (λ d. parts_do (does_by p d) Finalize o)) (sym (access_at p.types access.0 fits)) spares)
     kind_ended (Some (variable.Record object)) fits spares = refl
 
-    -- What is assigned has the shape: what is allocated has no controlled parts (5.2, 4.8, 7.6).
-    right_shaped : (right : RightForm) → allocates_frugally (thrift_of p) right ≡ true → right_shuns p.types (λ t. false) apart variables right ≡ true
-    right_shaped nothing is = refl
-    right_shaped (value_of path) is = path_shaped p.types apart variables path
-    right_shaped (allocates access items) is =
+    -- What is assigned has the shape: what is allocated has no controlled parts, or is initialized by default, and that is no use (5.2, 4.8, 7.6).
+    right_shaped :
+        (kind : Option VariableKind) (right : RightForm) → KindFits p.types kind → right_fits p.types variables kind right ≡ true
+        → allocates_frugally (thrift_of p) right ≡ true → Spares p u (λ d. right_does p.types variables (does_by p d) d right)
+        → right_shuns p.types (λ t. false) apart variables right ≡ true
+    right_shaped kind nothing known fits is spares = refl
+    right_shaped kind (value_of path) known fits is spares = path_shaped p.types apart variables path
+    right_shaped kind (allocates access items) known fits is spares =
         let test = item_shuns p.types (λ t. false) apart variables in
         and_from (has_bare_objects p.types access) (list_all test items) is (all_so test (item_shaped p.types apart variables) items)
-    right_shaped (allocates_default access) is = or_left (has_bare_objects p.types access) (apart.starts access) is
-    right_shaped (computes e) is = expression_shaped p.types apart variables e
+    right_shaped kind (allocates_default access) known fits is spares =
+        let same = access_at p.types access (default_access p.types types_fit variables variables_fit kind access known fits) in
+        let created = second allocation_does (λ (d : Deed). creation_does (does_by p d) (designated_type p.types access)) spares in
+        or_right (has_bare_objects p.types access) (apart.starts access)
+        (started access (subst (λ (o : Option ℕ). Spares p u (λ d. creation_does (does_by p d) o)) (sym same) created))
+    right_shaped kind (computes e) known fits is spares = expression_shaped p.types apart variables e
 
-    -- A declaration of a variable has it (3.3.1),
-    declaration_shaped : (d : DeclarationForm) → is_frugal_declaration (thrift_of p) d ≡ true → declaration_shuns p.types (λ t. false) apart variables d ≡ true
-    declaration_shaped (creates_pool pool) is = absurd (cc is)
-    declaration_shaped (collects access) is = absurd (cc is)
-    declaration_shaped (declares x right) is = right_shaped right is
-    declaration_shaped (declares_record x object None) is = absurd (cc is)
-    declaration_shaped (declares_record x object (Some items)) is = absurd (cc is)
+    -- A declaration has it (3.3.1): that of a variable,
+    declaration_shaped :
+        (c : DeclarationForm) → initial_fits p.types variables c ≡ true → is_frugal_declaration (thrift_of p) c ≡ true
+        → Spares p u (λ d. declaration_does p.types variables (does_by p d) d c) → declaration_shuns p.types (λ t. false) apart variables c ≡ true
+    declaration_shaped (creates_pool pool) fits is spares = absurd (cc is)
+    declaration_shaped (collects access) fits is spares = absurd (cc is)
+    declaration_shaped (declares x right) fits is spares =
+        let kind = variable_kind variables x in
+        let before = names_before x right in
+        let takes = right_fits p.types variables kind right in
+        right_shaped kind right (variable_fits_kind p.types types_fit variables variables_fit x)
+        (right_holds before takes (left_holds (before && takes) (lends_to variables (is_borrower variables x) right) fits)) is spares
+    -- and that of a record object, which is known by its own type, and starts by default.
+    declaration_shaped (declares_record x object None) fits is spares =
+        let kind = variable_kind variables x in
+        let known =
+        left_holds (is_record_object object kind) (record_initial_fits p.types variables x (object_named p.types (Some object)) None) fits in
+        let held = variable_fits_kind p.types types_fit variables variables_fit x in
+        let same = object_at p.types object (object_type p.types types_fit variables variables_fit kind object held known) in
+        let created = subst (λ (o : Option ℕ). Spares p u (λ d. creation_does (does_by p d) o)) (sym same) spares in
+        let begun = λ (d : Deed). parts_do (does_by p d) Initialize (record_at p.types object) in
+        let undone = λ (d : Deed). parts_do (does_by p d) Finalize (record_at p.types object) in
+        and_from (apart.starts object) (apart.ends object) (started object created) (ended object (second begun undone created))
+    declaration_shaped (declares_record x object (Some items)) fits is spares = absurd (cc is)
 
-    -- and so have all declarations of such a body.
+    -- So have all declarations of such a body.
     declarations_shaped :
-        (ds : List DeclarationForm) → are_frugal_declarations (thrift_of p) ds ≡ true → declarations_shun p.types (λ t. false) apart variables ds ≡ true
-    declarations_shaped [] is = refl
-    declarations_shaped (d ∷ ds) is =
-        let both = and_parts (is_frugal_declaration (thrift_of p) d) (are_frugal_declarations (thrift_of p) ds) is in
-        and_from (declaration_shuns p.types (λ t. false) apart variables d) (declarations_shun p.types (λ t. false) apart variables ds)
-        (declaration_shaped d both.0) (declarations_shaped ds both.1)
+        (cs : List DeclarationForm) → list_all (initial_fits p.types variables) cs ≡ true → are_frugal_declarations (thrift_of p) cs ≡ true
+        → Spares p u (λ d. declarations_do p.types variables (does_by p d) d cs) → declarations_shun p.types (λ t. false) apart variables cs ≡ true
+    declarations_shaped [] fits is spares = refl
+    declarations_shaped (c ∷ cs) fits is spares =
+        let both = and_parts (is_frugal_declaration (thrift_of p) c) (are_frugal_declarations (thrift_of p) cs) is in
+        let fit = and_parts (initial_fits p.types variables c) (list_all (initial_fits p.types variables) cs) fits in
+        let one = λ (d : Deed). declaration_does p.types variables (does_by p d) d c in
+        let more = λ (d : Deed). declarations_do p.types variables (does_by p d) d cs in
+        and_from (declaration_shuns p.types (λ t. false) apart variables c) (declarations_shun p.types (λ t. false) apart variables cs)
+        (declaration_shaped c fit.0 both.0 (first one more spares)) (declarations_shaped cs fit.1 both.1 (second one more spares))
 
     -- A block, or a body: what it declares, its statements and its handlers.
     abbrev master_does : List DeclarationForm → StmtsForm → HandlersForm → Deed → Bool
@@ -210,14 +245,14 @@ module _ (p : ProgramForm) (u : ℕ) where
 
     -- where its statements and its handlers have it.
     master_shaped :
-        (ds : List DeclarationForm) (fs : StmtsForm) (hs : HandlersForm)
+        (ds : List DeclarationForm) (fs : StmtsForm) (hs : HandlersForm) → list_all (initial_fits p.types variables) ds ≡ true
         → (are_frugal (thrift_of p) fs ≡ true → Spares p u (λ d. stmts_do p.types variables (does_by p d) d fs)
         → statements_shun p.types (λ t. false) apart variables fs ≡ true)
         → (are_frugal_handlers (thrift_of p) hs ≡ true → Spares p u (λ d. handlers_do p.types variables (does_by p d) d hs)
         → handlers_shun p.types (λ t. false) apart variables hs ≡ true)
         → (are_frugal_declarations (thrift_of p) ds && are_frugal (thrift_of p) fs && are_frugal_handlers (thrift_of p) hs) ≡ true
         → Spares p u (master_does ds fs hs) → master_shuns ds fs hs ≡ true
-    master_shaped ds fs hs within behind frugal spares =
+    master_shaped ds fs hs fit within behind frugal spares =
         let begun = are_frugal_declarations (thrift_of p) ds in
         let parts = and_parts (begun && are_frugal (thrift_of p) fs) (are_frugal_handlers (thrift_of p) hs) frugal in
         let inner = and_parts begun (are_frugal (thrift_of p) fs) parts.0 in
@@ -231,26 +266,31 @@ module _ (p : ProgramForm) (u : ℕ) where
         and_from (declarations_shun p.types (λ t. false) apart variables ds && statements_shun p.types (λ t. false) apart variables fs)
         (handlers_shun p.types (λ t. false) apart variables hs)
         (and_from (declarations_shun p.types (λ t. false) apart variables ds) (statements_shun p.types (λ t. false) apart variables fs)
-        (declarations_shaped ds inner.0) (within inner.1 (left_spares hs inside (second declared left two))))
+        (declarations_shaped ds fit inner.0 (first declared left two)) (within inner.1 (left_spares hs inside (second declared left two))))
         (behind parts.1 (second (λ d. declared d || left d) handled three))
 
     mutual
       -- A frugal statement has the shape, where what it does is no use,
       statement_shaped :
-          (f : StmtForm) → is_frugal_stmt (thrift_of p) f ≡ true
+          (inside : Bool) (f : StmtForm) → statement_fits p.types variables texts exceptions callable inside f ≡ true → is_frugal_stmt (thrift_of p) f ≡ true
           → Spares p u (λ d. stmt_does p.types variables (does_by p d) d f) → statement_shuns p.types (λ t. false) apart variables f ≡ true
-      statement_shaped skips frugal spares = refl
-      statement_shaped (assigns target right) frugal spares =
+      statement_shaped inside skips fits frugal spares = refl
+      statement_shaped inside (assigns target right) fits frugal spares =
+          let kind = path_kind p.types variables target in
+          let evaluated = λ (d : Deed). path_does p.types variables d target in
+          let assigned = λ (d : Deed). right_does p.types variables (does_by p d) d right in
+          let taken = left_holds (right_fits p.types variables kind right) (lends_to variables (names_borrower variables target) right) fits in
           and_from (path_shuns p.types (λ t. false) apart variables target) (right_shuns p.types (λ t. false) apart variables right)
-          (path_shaped p.types apart variables target) (right_shaped right frugal)
-      statement_shaped (assigns_record target items) frugal spares =
+          (path_shaped p.types apart variables target)
+          (right_shaped kind right (path_fits_kind p.types types_fit variables variables_fit target) taken frugal (second evaluated assigned spares))
+      statement_shaped inside (assigns_record target items) fits frugal spares =
           let leads = record_path_shuns p.types (λ t. false) apart variables target in
           let test = item_shuns p.types (λ t. false) apart variables in
           and_from (leads && list_all test items) (not (is_some (finalization_of p.types target.record_type)))
           (and_from leads (list_all test items) (record_path_shaped p.types apart variables target)
           (all_so test (item_shaped p.types apart variables) items))
           (and_parts (not (is_some (finalization_of p.types target.record_type))) (list_all (is_bare_item p.types) items) frugal).0
-      statement_shaped (frees access path) frugal spares =
+      statement_shaped inside (frees access path) fits frugal spares =
           let leads = path_shuns p.types (λ t. false) apart variables path in
           let kind = path_kind p.types variables path in
           let named = λ (d : Deed). path_does p.types variables d path || freeing_does d (value_access kind) in
@@ -258,53 +298,74 @@ module _ (p : ProgramForm) (u : ℕ) where
           and_from (leads && may_follow (λ t. false) kind) (may_end apart kind)
           (and_from leads (may_follow (λ t. false) kind) (path_shaped p.types apart variables path) (all_may kind))
           (kind_ended kind (path_fits_kind p.types types_fit variables variables_fit path) (second named finalized spares))
-      statement_shaped (gets target) frugal spares = path_shaped p.types apart variables target
-      statement_shaped (writes e) frugal spares = expression_shaped p.types apart variables e
-      statement_shaped (writes_text text) frugal spares = refl
-      statement_shaped (chooses branches) frugal spares = branches_shaped branches frugal spares
-      statement_shaped (repeats condition fs spot) frugal spares =
+      statement_shaped inside (gets target) fits frugal spares = path_shaped p.types apart variables target
+      statement_shaped inside (writes e) fits frugal spares = expression_shaped p.types apart variables e
+      statement_shaped inside (writes_text text) fits frugal spares = refl
+      statement_shaped inside (chooses branches) fits frugal spares = branches_shaped inside branches fits frugal spares
+      statement_shaped inside (repeats condition fs spot) fits frugal spares =
           let tested = λ (d : Deed). condition_does p.types variables d condition in
           let does = λ (d : Deed). stmts_do p.types variables (does_by p d) d fs in
+          let within = stmts_fit p.types variables texts exceptions callable true fs in
           and_from (condition_shuns p.types (λ t. false) apart variables condition) (statements_shun p.types (λ t. false) apart variables fs)
-          (condition_shaped p.types apart variables condition) (statements_shaped fs frugal (second tested does spares))
-      statement_shaped (counts x low high fs spot) frugal spares =
+          (condition_shaped p.types apart variables condition)
+          (statements_shaped true fs (right_holds (condition_fits p.types variables condition && has_statement fs) within fits) frugal
+          (second tested does spares))
+      statement_shaped inside (counts x low high fs spot) fits frugal spares =
           let from = expression_shuns p.types (λ t. false) apart variables low in
           let to = expression_shuns p.types (λ t. false) apart variables high in
           let range = λ (d : Deed). expression_does p.types variables d low || expression_does p.types variables d high in
           let does = λ (d : Deed). stmts_do p.types variables (does_by p d) d fs in
+          let within = stmts_fit p.types variables texts exceptions callable true fs in
+          let head =
+          is_type Integer (scalar_of (variable_kind variables x)) && has_type p.types variables Integer low && has_type p.types variables Integer high
+          && has_statement fs in
           and_from (from && to) (statements_shun p.types (λ t. false) apart variables fs)
           (and_from from to (expression_shaped p.types apart variables low) (expression_shaped p.types apart variables high))
-          (statements_shaped fs frugal (second range does spares))
-      statement_shaped (exits condition spot) frugal spares = condition_shaped p.types apart variables condition
-      statement_shaped (calls procedure actuals) frugal spares =
+          (statements_shaped true fs (right_holds head within fits) frugal (second range does spares))
+      statement_shaped inside (exits condition spot) fits frugal spares = condition_shaped p.types apart variables condition
+      statement_shaped inside (calls procedure actuals) fits frugal spares =
           let given = λ (d : Deed). actuals_do p.types variables d actuals in
           let called = λ (d : Deed). procedure_does (does_by p d) procedure in
           let test = actual_shuns p.types (λ t. false) apart variables in
           and_from (list_all test actuals) (apart.calls procedure) (all_so test (actual_shaped p.types apart variables) actuals)
           (marked procedure frugal (second given called spares))
-      statement_shaped (returns spot) frugal spares = refl
-      statement_shaped (raises e) frugal spares = refl
-      statement_shaped (encloses ds fs hs) frugal spares = master_shaped ds fs hs (statements_shaped fs) (handlers_shaped hs) frugal spares
+      statement_shaped inside (returns spot) fits frugal spares = refl
+      statement_shaped inside (raises e) fits frugal spares = refl
+      statement_shaped inside (encloses ds fs hs) fits frugal spares =
+          let declared = declarations_fit p.types variables ds in
+          let stated = stmts_fit p.types variables texts exceptions callable inside fs in
+          let handled = handlers_fit p.types variables texts exceptions callable inside hs in
+          let two = and_parts (declared && stated) handled fits in
+          let one = and_parts declared stated two.0 in
+          let before = collections_first ds && list_all (collection_fits p.types) ds in
+          master_shaped ds fs hs (right_holds before (list_all (initial_fits p.types variables) ds) one.0) (statements_shaped inside fs one.1)
+          (handlers_shaped inside hs two.1) frugal spares
 
       -- and so have statements,
       statements_shaped :
-          (fs : StmtsForm) → are_frugal (thrift_of p) fs ≡ true
+          (inside : Bool) (fs : StmtsForm) → stmts_fit p.types variables texts exceptions callable inside fs ≡ true → are_frugal (thrift_of p) fs ≡ true
           → Spares p u (λ d. stmts_do p.types variables (does_by p d) d fs) → statements_shun p.types (λ t. false) apart variables fs ≡ true
-      statements_shaped no_stmts frugal spares = refl
-      statements_shaped (a_stmt f fs) frugal spares =
+      statements_shaped inside no_stmts fits frugal spares = refl
+      statements_shaped inside (a_stmt f fs) fits frugal spares =
           let both = and_parts (is_frugal_stmt (thrift_of p) f) (are_frugal (thrift_of p) fs) frugal in
+          let here = statement_fits p.types variables texts exceptions callable inside f in
+          let fit = and_parts here (stmts_fit p.types variables texts exceptions callable inside fs) fits in
           let one = λ (d : Deed). stmt_does p.types variables (does_by p d) d f in
           let more = λ (d : Deed). stmts_do p.types variables (does_by p d) d fs in
           and_from (statement_shuns p.types (λ t. false) apart variables f) (statements_shun p.types (λ t. false) apart variables fs)
-          (statement_shaped f both.0 (first one more spares)) (statements_shaped fs both.1 (second one more spares))
+          (statement_shaped inside f fit.0 both.0 (first one more spares)) (statements_shaped inside fs fit.1 both.1 (second one more spares))
 
       -- branches (5.3)
       branches_shaped :
-          (branches : BranchesForm) → are_frugal_branches (thrift_of p) branches ≡ true
-          → Spares p u (λ d. branches_do p.types variables (does_by p d) d branches) → branches_shun p.types (λ t. false) apart variables branches ≡ true
-      branches_shaped (otherwise fs) frugal spares = statements_shaped fs frugal spares
-      branches_shaped (a_branch e fs branches) frugal spares =
+          (inside : Bool) (branches : BranchesForm) → branches_fit p.types variables texts exceptions callable inside branches ≡ true
+          → are_frugal_branches (thrift_of p) branches ≡ true → Spares p u (λ d. branches_do p.types variables (does_by p d) d branches)
+          → branches_shun p.types (λ t. false) apart variables branches ≡ true
+      branches_shaped inside (otherwise fs) fits frugal spares = statements_shaped inside fs fits frugal spares
+      branches_shaped inside (a_branch e fs branches) fits frugal spares =
           let both = and_parts (are_frugal (thrift_of p) fs) (are_frugal_branches (thrift_of p) branches) frugal in
+          let typed = has_type p.types variables Boolean e in
+          let stated = stmts_fit p.types variables texts exceptions callable inside fs in
+          let later = and_parts (typed && stated) (branches_fit p.types variables texts exceptions callable inside branches) fits in
           let tested = λ (d : Deed). expression_does p.types variables d e in
           let does = λ (d : Deed). stmts_do p.types variables (does_by p d) d fs in
           let more = λ (d : Deed). branches_do p.types variables (does_by p d) d branches in
@@ -312,26 +373,35 @@ module _ (p : ProgramForm) (u : ℕ) where
           and_from (expression_shuns p.types (λ t. false) apart variables e && statements_shun p.types (λ t. false) apart variables fs)
           (branches_shun p.types (λ t. false) apart variables branches)
           (and_from (expression_shuns p.types (λ t. false) apart variables e) (statements_shun p.types (λ t. false) apart variables fs)
-          (expression_shaped p.types apart variables e) (statements_shaped fs both.0 (second tested does two)))
-          (branches_shaped branches both.1 (second (λ d. tested d || does d) more spares))
+          (expression_shaped p.types apart variables e) (statements_shaped inside fs (right_holds typed stated later.0) both.0 (second tested does two)))
+          (branches_shaped inside branches later.1 both.1 (second (λ d. tested d || does d) more spares))
 
       -- and handlers (11.2).
       handlers_shaped :
-          (hs : HandlersForm) → are_frugal_handlers (thrift_of p) hs ≡ true
-          → Spares p u (λ d. handlers_do p.types variables (does_by p d) d hs) → handlers_shun p.types (λ t. false) apart variables hs ≡ true
-      handlers_shaped no_handlers frugal spares = refl
-      handlers_shaped (a_handler choices fs hs) frugal spares =
+          (inside : Bool) (hs : HandlersForm) → handlers_fit p.types variables texts exceptions callable inside hs ≡ true
+          → are_frugal_handlers (thrift_of p) hs ≡ true → Spares p u (λ d. handlers_do p.types variables (does_by p d) d hs)
+          → handlers_shun p.types (λ t. false) apart variables hs ≡ true
+      handlers_shaped inside no_handlers fits frugal spares = refl
+      handlers_shaped inside (a_handler choices fs hs) fits frugal spares =
           let both = and_parts (are_frugal (thrift_of p) fs) (are_frugal_handlers (thrift_of p) hs) frugal in
+          let chosen = list_all (choice_fits exceptions) choices && has_statement fs in
+          let stated = stmts_fit p.types variables texts exceptions callable inside fs in
+          let later = and_parts (chosen && stated) (handlers_fit p.types variables texts exceptions callable inside hs) fits in
           let one = λ (d : Deed). stmts_do p.types variables (does_by p d) d fs in
           let more = λ (d : Deed). handlers_do p.types variables (does_by p d) d hs in
           and_from (statements_shun p.types (λ t. false) apart variables fs) (handlers_shun p.types (λ t. false) apart variables hs)
-          (statements_shaped fs both.0 (first one more spares)) (handlers_shaped hs both.1 (second one more spares))
+          (statements_shaped inside fs (right_holds chosen stated later.0) both.0 (first one more spares))
+          (handlers_shaped inside hs later.1 both.1 (second one more spares))
 
   -- So has such a body, as the program that it sees fits.
   pub body_shaped :
-      (apart : Apart) → CallsFrugal apart → EndsSpared apart → (number : ℕ) (b : BodyForm) → SeenFits (seen_by number b p)
+      (apart : Apart) → CallsFrugal apart → EndsSpared apart → StartsSpared apart → (number : ℕ) (b : BodyForm) → SeenFits (seen_by number b p)
       → is_frugal_body (thrift_of p) b ≡ true → Spares p u (λ d. body_does p.types (does_by p d) d b) → body_shuns p.types (λ t. false) apart b ≡ true
-  body_shaped apart marked ended number b fits =
-      master_shaped apart marked ended fits.types_fit b.variables fits.variables_fit b.declarations b.statements b.handlers
-      (statements_shaped apart marked ended fits.types_fit b.variables fits.variables_fit b.statements)
-      (handlers_shaped apart marked ended fits.types_fit b.variables fits.variables_fit b.handlers)
+  body_shaped apart marked ended started number b fits =
+      let callable = callable_in (seen_by number b p) in
+      master_shaped apart marked ended started fits.types_fit b.variables fits.variables_fit p.texts p.exceptions callable b.declarations b.statements
+      b.handlers fits.initials_fit
+      (statements_shaped apart marked ended started fits.types_fit b.variables fits.variables_fit p.texts p.exceptions callable false b.statements
+      fits.statements_fit)
+      (handlers_shaped apart marked ended started fits.types_fit b.variables fits.variables_fit p.texts p.exceptions callable false b.handlers
+      fits.handlers_fit)

@@ -1,19 +1,21 @@
 -- The body of a Finalize shuns an access type (3.10) that the end of an object does not reach, in which such a part lies (7.6, 7.6.1): where the body is
--- frugal, it follows and frees no value of the type (4.1, 13.11.2), and neither do what it calls and the operations of what it frees.
+-- frugal, it follows and frees no value of the type (4.1, 13.11.2), and neither do what it calls and the operations of what it frees, allocates and declares.
 
 use Rattle.std.proofs.Common.{◌≡◌, ℕ, Bool, true, false, not, ◌==◌, ◌&&◌, ◌||◌, List, [], ◌∷◌, length, Option, Some, None, refl, sym, ap, ◌∙◌, subst, arith, inl, inr}
 use Rattle.std.specs.Prelude.{nat_lt}
 use Rattle.std.specs.List.{slice_get, slice_index_or}
 use Rattle.std.proofs.lemmas.Bool.{and_from, and_parts, or_parts, cases_Bool, eqb-true, eq-eqb, ltb-true, not-true, false_from_ne_true}
-use Rattle.ada_parts.specs.declared.tasks.Direction.TheVariants.{WholeFirst}
+use Rattle.ada_parts.specs.declared.tasks.Direction.{Direction}
+use Rattle.ada_parts.specs.declared.tasks.Direction.TheVariants.{PartsFirst, WholeFirst}
 use Rattle.ada_parts.specs.Shape.{Shape}
 use Rattle.ada_parts.specs.Task.{Task, performs, performed, treats}
 use Rattle.ada_program.specs.declared.program.Program.{Program}
 use Rattle.ada_program.specs.Controlled.{number_reached, operations_of, procedure_number, shapes_of}
 use Rattle.ada_program.specs.ProgramForm.{BodyForm, ProgramForm, program_form, body_forms, seen_by}
-use Rattle.ada_program.specs.WellFormed.{IsWellFormed, designated_type, is_access}
+use Rattle.ada_program.specs.WellFormed.{IsWellFormed}
+use Rattle.ada_meaning.specs.declared.event.Birth.TheVariants.{Creation}
 use Rattle.ada_meaning.specs.declared.event.Cause.TheVariants.{Freeing}
-use Rattle.ada_meaning.specs.Frame.{Treatment, ends}
+use Rattle.ada_meaning.specs.Frame.{Treatment, begins, ends}
 use Rattle.ada_meaning.specs.Step.{all_tasks, member_at, picked_task, tasks_for}
 use Rattle.ada_quiet.specs.Frugal.{thrift_of, frugal_procedures, is_frugal_body}
 use Rattle.ada_quiet.specs.InUse.{operations_may_be_called}
@@ -24,14 +26,13 @@ use Rattle.ada_deeds.specs.declared.deed.Callee.TheVariants as callee
 use Rattle.ada_deeds.specs.declared.deed.Deed.{Deed}
 use Rattle.ada_deeds.specs.declared.deed.Deed.TheVariants as deed
 use Rattle.ada_deeds.specs.declared.deed.Operation.{Operation}
-use Rattle.ada_deeds.specs.declared.deed.Operation.TheVariants.{Finalize}
+use Rattle.ada_deeds.specs.declared.deed.Operation.TheVariants.{Initialize, Finalize}
 use Rattle.ada_deeds.specs.Does.{called_does, is_deed_of, Does, does}
-use Rattle.ada_deeds.specs.Forms.{body_does, parts_do}
+use Rattle.ada_deeds.specs.Forms.{body_does, creation_does, overriding, parts_do}
 use Rattle.ada_deeds.specs.Implicit.{implicit_of, record_at}
 use Rattle.ada_deeds.specs.Within.{does_within, callee_count, does_by}
-use Rattle.ada_deeds.proofs.Naming.{access_at}
 use Rattle.ada_deeds.proofs.Within.{counts_are_enough}
-use Rattle.ada_reaching.specs.Apart.{Apart, CallsApart, IsLeftOf, whole, picked, called}
+use Rattle.ada_reaching.specs.Apart.{Apart, CallsApart, IsBegunIn, IsLeftOf, whole, picked, called}
 use Rattle.ada_reaching.specs.Forms.{body_shuns}
 use Rattle.ada_reaching.specs.Law.{AreApart}
 use Rattle.ada_reaching.specs.Deeds.{AreShaped, UseNone}
@@ -40,10 +41,11 @@ use Rattle.ada_typed.proofs.Bodies.{SeenFits, seen_as, seen_fits}
 use Rattle.ada_typed.proofs.Lying.{IsOperable, Lying, lying_all, lying_taken}
 use Rattle.ada_typed.proofs.Parts.{known_number, shapes_shown}
 use Rattle.ada_sound.proofs.FrugalUseEnds.{done_lying}
-use Rattle.ada_sound.proofs.QuietOperations.{IsUsedAs, used_as}
-use Rattle.ada_sound.proofs.Shunning.{CallsFrugal, EndsSpared, Spares, body_shaped, calling, following, freeing, is_use}
+use Rattle.ada_sound.proofs.Operating.{IsCalled}
+use Rattle.ada_sound.proofs.QuietOperations.{AdjustsCopy, IsUsedAs, used_as}
+use Rattle.ada_sound.proofs.Shunning.{CallsFrugal, EndsSpared, Spares, StartsSpared, body_shaped, calling, first, following, freeing, is_use, second}
 
--- A body is frugal and creates no object with controlled parts, where there is one.
+-- A body is frugal, where there is one.
 abbrev is_frugal_one : ProgramForm → Option BodyForm → Bool
 is_frugal_one p None = true
 is_frugal_one p (Some b) = is_frugal_body (thrift_of p) b
@@ -53,48 +55,58 @@ abbrev is_shunning : ProgramForm → (access procedure : ℕ) → Bool
 is_shunning p u n =
     is_frugal_one p (slice_get p.bodies n) && not (does_by p (freeing u) (calling n)) && not (does_by p (following u) (calling n))
 
--- These procedures, and the access types of which the end of an object does neither; they allocate no object with controlled parts.
+-- The start of an object frees or follows a value of an access type: that of the record that is named by values of a type, or known by it, or the end of what
+-- has begun of that (7.6, 7.6.1).
+abbrev start_reaches : ProgramForm → (t access : ℕ) → Bool
+start_reaches p t u =
+    creation_does (does_by p (freeing u)) (record_at p.types t) || creation_does (does_by p (following u)) (record_at p.types t)
+
+-- These procedures; the types of which the end of an object does neither; and those of which the start of an object does neither.
 abbrev apart_from : Program → (access : ℕ) → Apart
 apart_from program u = record {
   calls = is_shunning (program_form program) u;
   ends = λ t. not ((implicit_of (program_form program)).end_reaches t u);
-  starts = λ t. false;
+  starts = λ t. not (start_reaches (program_form program) t u);
   definitions = program.types.items;
 }
 
--- What is left of the finalization of an object speaks of records that lie in it.
-module _ (program : Program) (access : ℕ) where
+-- What is left of the initialization or the finalization of an object speaks of records that lie in it.
+module _ (program : Program) (direction : Direction) (access : ℕ) where
   -- All of it does,
-  all_lie : Lying (program_form program).types access (all_tasks program.types.items access WholeFirst)
+  all_lie : Lying (program_form program).types access (all_tasks program.types.items access direction)
   all_lie =
       let definitions = program.types.items in
       let forms = (program_form program).types in
       let number = number_reached definitions access in
-      subst (λ (shapes : List Shape). Lying forms access (tasks_for shapes WholeFirst number)) (shapes_shown definitions forms refl)
-      (lying_all forms access WholeFirst number (known_number definitions forms access refl))
+      subst (λ (shapes : List Shape). Lying forms access (tasks_for shapes direction number)) (shapes_shown definitions forms refl)
+      (lying_all forms access direction number (known_number definitions forms access refl))
 
   -- so it does once a component is picked,
   picked_lies :
       (tasks : List Task) (i : ℕ) → Lying (program_form program).types access tasks
-      → Lying (program_form program).types access (picked_task (shapes_of program.types.items) WholeFirst tasks i)
+      → Lying (program_form program).types access (picked_task (shapes_of program.types.items) direction tasks i)
   picked_lies [] i lies = tt
   picked_lies (treats cs ∷ behind) i lies =
       let forms = (program_form program).types in
-      subst (λ (shapes : List Shape). Lying forms access (picked_task shapes WholeFirst (treats cs ∷ behind) i)) (shapes_shown program.types.items forms refl)
-      (lying_taken forms access WholeFirst cs behind (member_at WholeFirst (length cs) i) lies)
+      subst (λ (shapes : List Shape). Lying forms access (picked_task shapes direction (treats cs ∷ behind) i)) (shapes_shown program.types.items forms refl)
+      (lying_taken forms access direction cs behind (member_at direction (length cs) i) lies)
   picked_lies (performs of part ∷ behind) i lies = lies
 
-  -- or a Finalize has been called.
+  -- or an operation has been called.
   performed_lies : (tasks : List Task) → Lying (program_form program).types access tasks → Lying (program_form program).types access (performed tasks)
   performed_lies [] lies = tt
   performed_lies (treats cs ∷ behind) lies = lies
   performed_lies (performs of part ∷ behind) lies = lies.1
 
   -- So whatever is left does.
-  left_lies : {tasks : List Task} → IsLeftOf program.types.items WholeFirst access tasks → Lying (program_form program).types access tasks
+  left_lies : {tasks : List Task} → IsLeftOf program.types.items direction access tasks → Lying (program_form program).types access tasks
   left_lies whole = all_lie
   left_lies (picked {tasks = tasks} i left) = picked_lies tasks i (left_lies left)
   left_lies (called {tasks = tasks} left) = performed_lies tasks (left_lies left)
+
+-- A part lies in an object, to which the initialization of the object comes (7.6).
+begun_lies : (program : Program) (access of part : ℕ) → IsBegunIn program.types.items access of part → IsOperable (program_form program).types access of part
+begun_lies program access of part begun = (left_lies program PartsFirst access begun.1).0
 
 -- Of some type, or of none.
 module _ (p : ProgramForm) (u : ℕ) where
@@ -118,14 +130,20 @@ module _ (p : ProgramForm) (u : ℕ) where
   parts_spare operation None spares = (refl, refl)
   parts_spare operation (Some t) spares = callee_spares (callee.Parts operation (record { 0 = t })) spares
 
-  -- So where the end of an object of an access type is no use of the type, it does not reach it.
-  end_spares :
-      (access : ℕ) → is_access p.types access ≡ true → Spares p u (λ d. parts_do (does_by p d) Finalize (designated_type p.types access))
-      → (implicit_of p).end_reaches access u ≡ false
-  end_spares access is spares =
-      let same : record_at p.types access ≡ designated_type p.types access = access_at p.types access is in
-      let ended = parts_spare Finalize (designated_type p.types access) spares in
-      rw same (rw (ended.0, ended.1) refl)
+  -- So where the end of an object is no use of the type, it does not reach it,
+  end_spares : (t : ℕ) → Spares p u (λ d. parts_do (does_by p d) Finalize (record_at p.types t)) → (implicit_of p).end_reaches t u ≡ false
+  end_spares t spares =
+      let ended = parts_spare Finalize (record_at p.types t) spares in
+      rw (ended.0, ended.1) refl
+
+  -- and so it is with its start.
+  start_spares : (t : ℕ) → Spares p u (λ d. creation_does (does_by p d) (record_at p.types t)) → start_reaches p t u ≡ false
+  start_spares t spares =
+      let one = λ (d : Deed). parts_do (does_by p d) Initialize (record_at p.types t) in
+      let other = λ (d : Deed). parts_do (does_by p d) Finalize (record_at p.types t) in
+      let begun = parts_spare Initialize (record_at p.types t) (first p u one other spares) in
+      let ended = parts_spare Finalize (record_at p.types t) (second p u one other spares) in
+      rw (begun.0, begun.1, ended.0, ended.1) refl
 
   -- A procedure that is told to be frugal has a frugal body, if it has one.
   told_frugal : (n : ℕ) → slice_index_or (frugal_procedures p) n false ≡ true → is_frugal_one p (slice_get p.bodies n) ≡ true
@@ -133,7 +151,7 @@ module _ (p : ProgramForm) (u : ℕ) where
     where
       by : (found : Option BodyForm) → slice_get p.bodies n ≡ found → is_frugal_one p found ≡ true
       by None there = refl
-      by (Some b) there = frugal_at p false n b told there
+      by (Some b) there = frugal_at p n b told there
 
   -- A frugal procedure that does neither is one of these,
   shunning_from :
@@ -174,39 +192,48 @@ module _ (p : ProgramForm) (u : ℕ) where
       (λ done. none d is
       (does (use_of d is) (does_by p d) (λ other known. (counts_are_enough p d other).0 known) (ap (called_does p.types (does_by p d) d) there ∙ done)))
 
--- In a well-formed program in which each Finalize is quiet or frugal that may be called.
+-- In a well-formed program in which each Initialize is plain or frugal that may be called, and each Finalize is quiet or frugal.
 module _ (program : Program) (well : IsWellFormed (program_form program)) (uses : operations_may_be_called (program_form program) ≡ true) where
   abbrev p : ProgramForm
   p = program_form program
 
-  -- What overrides Finalize is frugal, and creates no object with controlled parts: what is plain is so, too.
-  finalize_frugal :
-      (of number : ℕ) → procedure_number (operations_of program.types.items of).finalize ≡ Some number
+  -- What is called for an object that no copy makes is frugal: what is plain is so, too.
+  called_frugal :
+      (of number : ℕ) (treatment : Treatment) → ¬ AdjustsCopy treatment → IsCalled (operations_of program.types.items of) treatment number
       → is_frugal_one p (slice_get p.bodies number) ≡ true
-  finalize_frugal of number overrides = by (slice_get p.bodies number) refl
+  called_frugal of number treatment none called = by (slice_get p.bodies number) refl
     where
-      -- An object is finalized that is freed.
-      finalizing : Treatment
-      finalizing = ends (Freeing number)
-
-      as_used : (b : BodyForm) → IsUsedAs p of number finalizing b → is_frugal_body (thrift_of p) b ≡ true
+      as_used : (b : BodyForm) → IsUsedAs p of number treatment b → is_frugal_body (thrift_of p) b ≡ true
       as_used b (inl (plain, lets)) = frugal_body (thrift_of p) p.types b plain.plain
       as_used b (inr (inl (may, enabled, frugal, stores))) = frugal
-      as_used b (inr (inr (copies, tracks, own))) = absurd copies
+      as_used b (inr (inr (copies, tracks, own))) = absurd (none copies)
 
       by : (found : Option BodyForm) → slice_get p.bodies number ≡ found → is_frugal_one p found ≡ true
       by None there = refl
-      by (Some b) there = as_used b (used_as program uses well of number b there finalizing (λ copies. absurd copies) overrides)
+      by (Some b) there = as_used b (used_as program uses well of number b there treatment (λ copies. absurd (none copies)) called)
 
-  -- What the end of an object does not do, a Finalize of a record does not do that lies in it.
-  finalize_spares :
-      (access of part number : ℕ) → IsOperable p.types access of part → procedure_number (operations_of program.types.items of).finalize ≡ Some number
-      → (d : Deed) → parts_do (does_by p d) Finalize (record_at p.types access) ≡ false → does_by p d (calling number) ≡ false
-  finalize_spares access of part number operable overrides d none =
+  -- So what overrides Finalize is: it is called for an object that is freed.
+  finalize_frugal :
+      (of number : ℕ) → procedure_number (operations_of program.types.items of).finalize ≡ Some number
+      → is_frugal_one p (slice_get p.bodies number) ≡ true
+  finalize_frugal of number overrides = called_frugal of number (ends (Freeing number)) (λ copies. copies) overrides
+
+  -- So is what overrides Initialize: it is called for an object that is created.
+  initialize_frugal :
+      (of number : ℕ) → procedure_number (operations_of program.types.items of).initialize ≡ Some number
+      → is_frugal_one p (slice_get p.bodies number) ≡ true
+  initialize_frugal of number overrides = called_frugal of number (begins Creation []) (λ copies. copies) overrides
+
+  -- What an operation of an object does not do, that of a record does not do that lies in it.
+  operation_spares :
+      (operation : Operation) (access of part number : ℕ) → IsOperable p.types access of part
+      → procedure_number (overriding operation (operations_of program.types.items of)) ≡ Some number
+      → (d : Deed) → parts_do (does_by p d) operation (record_at p.types access) ≡ false → does_by p d (calling number) ≡ false
+  operation_spares operation access of part number operable overrides d none =
       false_from_ne_true (does_by p d (calling number))
       (λ done.
       let own = (counts_are_enough p d (calling number)).0 done in
-      let all = done_lying program well d Finalize access of part number operable overrides own in
+      let all = done_lying program well d operation access of part number operable overrides own in
       cc (none, all))
 
   -- Of some type, or of none.
@@ -215,23 +242,51 @@ module _ (program : Program) (well : IsWellFormed (program_form program)) (uses 
     abbrev apart : Apart
     apart = apart_from program u
 
-    -- A Finalize of a part of an object is one of these procedures, where the end of the object does not reach the type.
+    -- An operation of a part of an object is one of these procedures, where it is frugal, and that of the object does not reach the type.
+    operation_shuns :
+        (operation : Operation) (access of part number : ℕ) → IsOperable p.types access of part
+        → procedure_number (overriding operation (operations_of program.types.items of)) ≡ Some number
+        → is_frugal_one p (slice_get p.bodies number) ≡ true → parts_do (does_by p (freeing u)) operation (record_at p.types access) ≡ false
+        → parts_do (does_by p (following u)) operation (record_at p.types access) ≡ false → apart.calls number ≡ true
+    operation_shuns operation access of part number operable overrides frugal frees follows =
+        shunning_from p u number frugal (operation_spares operation access of part number operable overrides (freeing u) frees)
+        (operation_spares operation access of part number operable overrides (following u) follows)
+
+    -- So is a Finalize, where the end of the object does not reach the type,
     end_shuns :
         (access of part number : ℕ) → IsOperable p.types access of part → procedure_number (operations_of program.types.items of).finalize ≡ Some number
         → (implicit_of p).end_reaches access u ≡ false → apart.calls number ≡ true
     end_shuns access of part number operable overrides reaches =
         let ended = λ (d : Deed). parts_do (does_by p d) Finalize (record_at p.types access) in
         let none = or_parts (ended (freeing u)) (ended (following u)) reaches in
-        shunning_from p u number (finalize_frugal of number overrides) (finalize_spares access of part number operable overrides (freeing u) none.0)
-        (finalize_spares access of part number operable overrides (following u) none.1)
+        operation_shuns Finalize access of part number operable overrides (finalize_frugal of number overrides) none.0 none.1
 
-    -- So is each Finalize that the end of an object calls that they may free; they begin none.
+    -- and where its start does not, so are an Initialize, and a Finalize of what has begun.
+    start_shuns :
+        (access of part number : ℕ) → IsOperable p.types access of part → start_reaches p access u ≡ false
+        → (procedure_number (operations_of program.types.items of).initialize ≡ Some number → apart.calls number ≡ true)
+        × (procedure_number (operations_of program.types.items of).finalize ≡ Some number → apart.calls number ≡ true)
+    start_shuns access of part number operable reaches =
+        let begun = λ (d : Deed). parts_do (does_by p d) Initialize (record_at p.types access) in
+        let ended = λ (d : Deed). parts_do (does_by p d) Finalize (record_at p.types access) in
+        let none = or_parts (begun (freeing u) || ended (freeing u)) (begun (following u) || ended (following u)) reaches in
+        let frees = or_parts (begun (freeing u)) (ended (freeing u)) none.0 in
+        let follows = or_parts (begun (following u)) (ended (following u)) none.1 in
+        (
+          λ overrides. operation_shuns Initialize access of part number operable overrides (initialize_frugal of number overrides) frees.0 follows.0,
+          λ overrides. operation_shuns Finalize access of part number operable overrides (finalize_frugal of number overrides) frees.1 follows.1,
+        )
+
+    -- So is each operation that the start or the end of an object calls which they may start or end.
     operations_apart : CallsApart program.types.items apart
     operations_apart = record {
       finalizes = λ access of part number tasks may left overrides.
-          end_shuns access of part number (left_lies program access left).0 overrides (not-true ((implicit_of p).end_reaches access u) may);
-      initializes = λ access of part number may begun overrides. absurd (cc may);
-      undoes = λ access of part number may begun overrides. absurd (cc may);
+          end_shuns access of part number (left_lies program WholeFirst access left).0 overrides
+          (not-true ((implicit_of p).end_reaches access u) may);
+      initializes = λ access of part number may begun overrides.
+          (start_shuns access of part number (begun_lies program access of part begun) (not-true (start_reaches p access u) may)).0 overrides;
+      undoes = λ access of part number may begun overrides.
+          (start_shuns access of part number (begun_lies program access of part begun) (not-true (start_reaches p access u) may)).1 overrides;
     }
 
     -- They free and follow no value of the type,
@@ -261,9 +316,13 @@ module _ (program : Program) (well : IsWellFormed (program_form program)) (uses 
         let none = callee_spares p u (calling n) spares in
         shunning_from p u n (told_frugal p u n told) none.0 none.1
 
-    -- and so is each access type of which the end of an object is no use.
+    -- so is each type of which the end of an object is no use,
     ends_spared : EndsSpared p u apart
-    ends_spared access is spares = ap not (end_spares p u access is spares)
+    ends_spared t spares = ap not (end_spares p u t spares)
+
+    -- and so is each type of which the start of an object is none.
+    starts_spared : StartsSpared p u apart
+    starts_spared t spares = ap not (start_spares p u t spares)
 
     -- So they have the shape.
     shaped : AreShaped p program.types.items apart
@@ -272,7 +331,7 @@ module _ (program : Program) (well : IsWellFormed (program_form program)) (uses 
       bodies = λ n b among there.
           let fits : SeenFits (seen_by n b p) = subst (λ (own : ProgramForm). SeenFits own) (seen_as p n b there) (seen_fits p well (Some n)) in
           let frugal = subst (λ (found : Option BodyForm). is_frugal_one p found ≡ true) there (shunning_parts p u n among).0 in
-          body_shaped p u apart calls_frugal ends_spared n b fits frugal
+          body_shaped p u apart calls_frugal ends_spared starts_spared n b fits frugal
           (body_spares p u n b there (uses_none n among));
       operations = operations_apart;
     }
@@ -281,7 +340,8 @@ module _ (program : Program) (well : IsWellFormed (program_form program)) (uses 
     all_apart : AreApart p program.types.items (λ t. u == t) apart
     all_apart = unused_apart p (λ t. u == t) apart unused program.types.items well shaped
 
-  -- Such a body has the shape of bodies that shun types, whatever it uses, and so have all that it calls, and the operations of what it frees.
+  -- Such a body has the shape of bodies that shun types, whatever it uses, and so have all that it calls, and the operations of what it frees, allocates and
+  -- declares.
   module _ (number : ℕ) (b : BodyForm) (there : slice_get p.bodies number ≡ Some b) (frugal : is_frugal_body (thrift_of p) b ≡ true) where
     -- No type has the number behind the last one: so nothing is a use of it.
     none_used : (d : Deed) → is_deed_of p d ≡ nat_lt (length p.types) (length p.types) → does_by p d (calling number) ≡ false
@@ -297,7 +357,7 @@ module _ (program : Program) (well : IsWellFormed (program_form program)) (uses 
         (apart_from program u, shaped u, (shaped u).bodies number b among there)
 
 -- The body of a Finalize of a part of an object, whose end does not reach an access type, shuns that type, and so do all that it calls and the operations of
--- what it frees.
+-- what it frees, allocates and declares.
 pub finalize_shuns :
     (program : Program) → IsWellFormed (program_form program) → operations_may_be_called (program_form program) ≡ true
     → (access of part number u : ℕ) (b : BodyForm) → IsOperable (program_form program).types access of part
@@ -309,8 +369,8 @@ finalize_shuns program well uses access of part number u b operable overrides th
     let all = all_apart program well uses u in
     (apart_from program u, all, all.bodies number b (end_shuns program well uses u access of part number operable overrides reaches) there)
 
--- The frugal body of a procedure that creates no object with controlled parts has the shape of bodies that shun types, and so have all that it calls and the
--- operations of what it frees.
+-- The frugal body of a procedure has the shape of bodies that shun types, and so have all that it calls and the operations of what it frees, allocates and
+-- declares.
 pub body_is_shaped :
     (program : Program) → IsWellFormed (program_form program) → operations_may_be_called (program_form program) ≡ true → (number : ℕ) (b : BodyForm)
     → slice_get (body_forms program) number ≡ Some b → is_frugal_body (thrift_of (program_form program)) b ≡ true

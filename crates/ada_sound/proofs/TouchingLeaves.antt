@@ -26,20 +26,12 @@ use Rattle.ada_sound.proofs.Grounds.{Grounds}
 use Rattle.ada_sound.proofs.InOrder.{component_is_access, none_of_record}
 use Rattle.ada_sound.proofs.Invariant.{Control, ReadyIn, RunsOn, departs, departs_next, innermost, outers}
 use Rattle.ada_sound.proofs.Leavings.{HeldIn, NamedBelow, AreInOrder}
-use Rattle.ada_sound.proofs.Operating.{IsVariable}
 use Rattle.ada_sound.proofs.Items.{Houses}
 use Rattle.ada_sound.specs.Agreement.{running_procedure}
 use Rattle.ada_sound.proofs.Below.{named_below}
 use Rattle.ada_sound.proofs.Returns.{same_types}
 use Rattle.ada_quiet.specs.Calm.{are_calm_in}
 use Rattle.ada_sound.proofs.Fits.{from_ahead}
-
--- A variable is the home of no objects.
-pub variable_houses : (owned : Owned) (access : ℕ) (pool : Option ℕ) → IsVariable owned → Houses owned access pool → ⊥
-variable_houses (declared x) access pool own houses = houses
-variable_houses (collection t from) access pool own houses = own
-variable_houses (record_object t) access pool own houses = own
-variable_houses (storage_pool declaration number) access pool own houses = own
 
 -- No component is of the type of a record object, which is no access type, so nothing more is asked of the order in which such items go.
 module _ (allowance : Allowance) (ahead : Owned → Bool) (types : List TypeForm) (calm : ℕ → Bool) (fit : list_all (type_fits types) types ≡ true) where
