@@ -4,33 +4,32 @@
 use Rattle.std.proofs.Common.{◌≡◌, ℕ, suc, ◌≤◌, Bool, true, false, List, [], ◌∷◌, ◌++◌, length, refl, sym, ap, subst, ◌∙◌, ◌⊎◌, inl, inr}
 use Rattle.std.proofs.lemmas.Bool.{and_parts, false_from_ne_true}
 use Rattle.std.specs.Prelude.{◌==◌, Option, Some}
-use Rattle.std.specs.List.{slice_get}
+use Rattle.std.specs.List.{AllPairs, slice_get}
 use Rattle.ada_deeds.specs.Implicit.{implicit_of}
 use Rattle.ada_finalized.proofs.Twice.{operated_exist}
 use Rattle.ada_finalized.specs.Law.{NamesExisting, NoOperationRuns, NoOperationRunsOn}
 use Rattle.ada_program.specs.declared.program.Program.{Program}
 use Rattle.ada_program.specs.declared.program.TypeDefinition.{TypeDefinition}
-use Rattle.ada_program.specs.Form.{DeclarationForm, HandlersForm, StmtsForm}
 use Rattle.ada_program.specs.ProgramForm.{BodyForm, ProgramForm, program_form, body_forms, seen_in}
 use Rattle.ada_program.specs.WellFormed.{is_access}
 use Rattle.ada_meaning.specs.declared.event.Cause.TheVariants.{Leaving}
 use Rattle.ada_meaning.specs.declared.event.Halt.{Halt}
 use Rattle.ada_meaning.specs.declared.state.Id.{Id}
-use Rattle.ada_meaning.specs.declared.state.Mode.{Mode}
 use Rattle.ada_meaning.specs.declared.state.Stage.{Stage}
 use Rattle.ada_meaning.specs.declared.state.Stage.TheVariants.{Building, Existing, Gone}
 use Rattle.ada_meaning.specs.declared.state.Value.{Value}
 use Rattle.ada_meaning.specs.declared.state.Value.TheVariants.{Names}
 use Rattle.ada_meaning.specs.Event.{Quiet}
 use Rattle.ada_meaning.specs.Frame as frame
-use Rattle.ada_meaning.specs.Frame.{Treatment, begins, ends, Leaves, Returns}
-use Rattle.ada_meaning.specs.Law.{items_of}
+use Rattle.ada_meaning.specs.Frame.{Treatment, begins, ends, Returns}
+use Rattle.ada_meaning.specs.Law.{Falls, items_of}
 use Rattle.ada_meaning.specs.Named.{Object, State, Next, object_at, next}
 use Rattle.ada_meaning.specs.Run.{Event}
 use Rattle.ada_meaning.specs.State.{Activation, Master}
 use Rattle.ada_meaning.specs.Step.{halts, moves, tells, asks, picks, older, operands, places, procedure_of, treating}
+use Rattle.ada_order.proofs.Orders.{items_fall}
 use Rattle.ada_reaching.proofs.Law.{stays_reaching}
-use Rattle.ada_reaching.specs.Law.{AllGoOn, FirstTakesNone, GoesOn, none_hidden}
+use Rattle.ada_reaching.specs.Law.{AllGoOn, FirstHousesIts, GoesOn, none_hidden}
 use Rattle.ada_reaching.specs.Reaching.{IsReaching, none_unnamed}
 use Rattle.ada_scopes.proofs.Components.{items_fit}
 use Rattle.ada_scopes.proofs.Homes.{ItemsFit}
@@ -44,21 +43,19 @@ use Rattle.ada_sound.proofs.Alters.{Alters, alters_same}
 use Rattle.ada_sound.proofs.Callers.{Suspension, callers_of, known_in}
 use Rattle.ada_sound.proofs.CoveredBy.{covered_by}
 use Rattle.ada_sound.proofs.Departing.{IsGoing, IsLeft, IsMember, Seen, Within, confined, ending}
-use Rattle.ada_sound.proofs.DepartingBehind.{BodyEnds, body_ends, confines_running, ending_member, ends_or_not, going_by, has_home, home_inside, home_outside, left_operated, none_quiet, reaching_not_calm, returns_untouched, same_end}
+use Rattle.ada_sound.proofs.DepartingBehind.{BodyEnds, body_ends, confines_running, ending_member, ends_or_not, going_by, has_home, home_inside, home_outside, left_first, left_operated, left_owned, none_quiet, reaching_not_calm, returns_untouched, same_end, scoped_houses}
 use Rattle.ada_sound.proofs.DepartingGoes.{GoesDeparting, InDeparting}
 use Rattle.ada_sound.proofs.DepartingTreats.{is_member_still}
-use Rattle.ada_sound.proofs.FrugalControl.{Frugal, Allowance, allowance_of}
-use Rattle.ada_sound.proofs.FrugalIdle.{frugal_idly}
-use Rattle.ada_sound.proofs.FrugalLeaves.{innermost_houses_none}
+use Rattle.ada_sound.proofs.Allowance.{Allowance, allowance_of}
 use Rattle.ada_sound.proofs.Grounded.{grounds}
 use Rattle.ada_sound.proofs.Grounds.{Grounds, may_free}
 use Rattle.ada_sound.proofs.Invariant.{AllWait, Control, CoveredIn, EndsWell, IsNewest, ReadyIn, Says, innermost}
 use Rattle.ada_sound.proofs.Items.{HasItem}
 use Rattle.ada_sound.proofs.Operates.{Operates}
-use Rattle.ada_sound.proofs.Operating.{Comes, IsCalm, OwnVariables, Sight, WaitsFor, behind_operation, may_create_in}
+use Rattle.ada_sound.proofs.Operating.{Comes, IsCalm, Sight, WaitsFor, behind_operation}
 use Rattle.ada_sound.proofs.OperationLaw.{operation_ends}
 use Rattle.ada_sound.proofs.OrdinarySteps.{operating_goes, state_with}
-use Rattle.ada_sound.proofs.SeenGrounds.{HasHomeThere, home_around, reaching_seen, seen_grounds_within, seen_typed}
+use Rattle.ada_sound.proofs.SeenGrounds.{HasHomeThere, home_around, reaching_seen, seen_grounds_within, seen_scoped, seen_typed}
 use Rattle.ada_sound.proofs.SeenStates.{seen_activations, seen_alters, seen_at, seen_control, seen_ends, seen_masters, seen_mode, seen_on, seen_says}
 use Rattle.ada_sound.proofs.Starts.{Sound}
 use Rattle.ada_sound.proofs.Stored.{Stored, exists_out}
@@ -68,7 +65,6 @@ use Rattle.ada_sound.proofs.TouchingGoes.{GoesTouching, Went}
 use Rattle.ada_sound.proofs.TouchingReturns.{ended_in}
 use Rattle.ada_sound.proofs.TouchingStands.{covers_outermost, finalized_by, frees_not, frugal_calm, treating_before}
 use Rattle.ada_sound.proofs.TouchingSteps.{touching_step}
-use Rattle.ada_sound.proofs.TouchingWatched.{idle_within, takes_none}
 
 -- The outermost operation that touches storage runs behind the end of its body.
 waits_behind : (program : Program) (s : State) (f : Touching program s) (treatment : Treatment)
@@ -82,7 +78,7 @@ touching_not_calm : (program : Program) (s : State) (f : Touching program s) →
 touching_not_calm program s f calm =
     let outermost = f.within.outermost in
     waits_behind program s f outermost.treatment outermost.awaited
-    (frugal_calm (allowance_of (program_form program)) f.within.objects outermost.behind (operated_among f.within.inner) s.mode s.control f.within.frugal.upper calm f.within.frugal.frugally)
+    (frugal_calm (allowance_of (program_form program)) outermost.behind (operated_among f.within.inner) s.mode s.control f.within.frugal.upper calm f.within.frugal.frugally)
 
 -- A step while the operation runs.
 module _ (program : Program) (s : State) (sound : Sound program s) (w : Within program s) where
@@ -111,12 +107,12 @@ module _ (program : Program) (s : State) (sound : Sound program s) (w : Within p
   waits none = let first = (subst NoOperationRuns w.is none).0 in cc first
 
   -- The bodies shun that type in this one, too.
-  reaching_too : IsReaching p shuns w.apart w.ghosts none_unnamed w.behind v
-  reaching_too = reaching_seen w.seen p shuns w.apart w.behind w.reaching
+  reaching_too : IsReaching p shuns w.apart w.ghosts none_unnamed w.behind w.lower v
+  reaching_too = reaching_seen w.seen p shuns w.apart w.behind w.lower w.reaching
 
   -- So one runs behind the call of the running body.
   not_calm : IsCalm (behind_call s.control) → ⊥
-  not_calm calm = reaching_not_calm p shuns w.apart w.ghosts w.behind waits s w.reaching calm
+  not_calm calm = reaching_not_calm p shuns w.apart w.ghosts w.behind w.lower waits s w.reaching calm
 
   -- The object exists: an operation of it runs.
   member_found : object_at v.heap w.object ≡ Some w.member.0
@@ -129,7 +125,7 @@ module _ (program : Program) (s : State) (sound : Sound program s) (w : Within p
       missing : (NamesExisting s.heap (Names w.object) → ⊥) → ⊥
       missing none =
           let never = operated_exist program sound.reached.0 sound.reached.1 s sound.reached.2 w.object none in
-          let behind = left_operated p shuns w.apart w.ghosts w.behind (Names w.object) (procedure_of s.activations) s.control (older s.activations) w.reaching.control never in
+          let behind = left_operated p shuns w.apart w.ghosts w.behind w.lower (Names w.object) (procedure_of s.activations) s.control w.reaching.upper (older s.activations) w.reaching.control never in
           (subst (NoOperationRunsOn (Names w.object)) w.is behind).0 (treating_before (Names w.object) (Leaving w.master w.item) w.tasks (ending w.object w.master w.item w.pool w.mode w.k) refl)
 
       other : (stage : Stage) → w.member.0.stage ≡ stage → (stage ≡ Existing → ⊥) → NamesExisting s.heap (Names w.object) → ⊥
@@ -152,6 +148,17 @@ module _ (program : Program) (s : State) (sound : Sound program s) (w : Within p
       (subst (λ (item : ℕ). HasItem item w.access x.cell.home.pool (items_of masters)) w.member.3
       (subst (λ (access : ℕ). HasItem x.cell.home.item access x.cell.home.pool (items_of masters)) w.member.2 ((stored.sane w.object x member_found).housed out)))
 
+  -- So it is behind the masters of the bodies, which own variables and record objects, and the grounds of the real state say so.
+  home_there : HasItem w.item w.access w.pool (items_of v.masters) → HasHomeThere w.access w.item w.pool s
+  home_there has =
+      let r = w.reaching in
+      let fit : ItemsFit p.types (items_of (r.upper ++ w.lower)) = subst (λ (ms : List Master). ItemsFit p.types (items_of ms)) r.masters (items_fit p s sound.nested) in
+      let masters : v.masters ≡ r.upper ++ w.lower = seen_masters w.seen ∙ r.masters in
+      let own = left_owned p shuns w.apart w.ghosts w.behind w.lower (procedure_of s.activations) s.control r.upper (older s.activations) r.control in
+      let outside = home_outside p.types w.apart w.lower w.item w.access w.pool r.upper w.accessed own fit (subst (λ (ms : List Master). HasItem w.item w.access w.pool (items_of ms)) masters has) in
+      home_around w.access w.item w.pool s r.upper w.lower r.masters (has_home w.item w.access w.pool (items_of w.lower) outside)
+      (left_first p shuns w.apart w.ghosts w.behind w.lower (procedure_of s.activations) s.control r.upper (older s.activations) r.control)
+
   -- The body of an operation that touches storage runs.
   module _ (f : Touching program v) where
     -- The outermost operation.
@@ -165,16 +172,8 @@ module _ (program : Program) (s : State) (sound : Sound program s) (w : Within p
     -- The outermost one is the operation of the object.
     back_is : outermost.behind ≡ w.behind
     back_is =
-        same_end p shuns w.apart w.ghosts w.behind waits w.calm thrifty outermost.behind (waits_behind program v f outermost.treatment outermost.awaited) f.within.calm f.within.objects (operated_among f.within.inner) v.mode v.control f.within.frugal.upper
-        (procedure_of v.activations) (older v.activations) f.within.frugal.frugally reaching_too.control
-
-    -- So that is a Finalize, and creates no objects.
-    finalizes_by : (treatment : Treatment) → WaitsFor p.types outermost.object outermost.of treatment outermost.tasks outermost.after outermost.behind → may_create_in treatment ≡ false
-    finalizes_by (begins by done) (part, is) = absurd (let never = sym is ∙ back_is ∙ w.is in cc never)
-    finalizes_by (ends cause) waiting = refl
-
-    finalizes : may_create_in outermost.treatment ≡ false
-    finalizes = finalizes_by outermost.treatment outermost.awaited
+        same_end p shuns w.apart w.ghosts w.behind w.lower waits w.calm thrifty outermost.behind (waits_behind program v f outermost.treatment outermost.awaited) f.within.calm (operated_among f.within.inner) v.mode v.control f.within.frugal.upper
+        (procedure_of v.activations) reaching_too.upper (older v.activations) f.within.frugal.frugally reaching_too.control
 
     -- Its object is finalized behind that.
     ended_behind : (treatment : Treatment) → WaitsFor p.types outermost.object outermost.of treatment outermost.tasks outermost.after outermost.behind
@@ -201,7 +200,7 @@ module _ (program : Program) (s : State) (sound : Sound program s) (w : Within p
         let so = and_parts (is_access p.types w.access) _ (subst (λ (z : State). may_free program z w.access ≡ true) (sym w.seen.alike.rest) may) in
         let waiting = subst (λ (all : List Suspension). AllWait (implicit_of p) (seen_in (running_procedure v) p) (callers_of program all)) f.within.are f.stands.standing.waiting in
         let behind_it = origin program (length f.within.inner) v outermost ∷ outermost.suspensions in
-        let covered = covers_outermost program sound.spares_own v thrifty outermost.behind outermost.lower (running_procedure v) f.within.objects 0 outermost.number behind_it f.within.inner f.within.within waiting w.access so.1 in
+        let covered = covers_outermost program sound.spares_own v thrifty outermost.behind outermost.lower (running_procedure v) 0 outermost.number behind_it f.within.inner f.within.within waiting w.access so.1 in
         frees_not program sound.spares_own v (length f.within.inner) outermost w.object w.member.0 member_found object_is
         (subst (λ (t : ℕ). CoveredIn (implicit_of p) (seen_in (Some outermost.number) p) t) (sym w.member.2) covered)
         (subst (λ (t : ℕ). is_access p.types t ≡ true) (sym w.member.2) w.accessed)
@@ -211,31 +210,9 @@ module _ (program : Program) (s : State) (sound : Sound program s) (w : Within p
     home_touching : HasItem w.item w.access w.pool (items_of v.masters)
     home_touching = let stored = ready_stored (known_in program (running_procedure v) f.suspensions) v f.ready in home_in stored.0 v.masters stored.1
 
-    -- The home of its type is behind the masters of the bodies.
-    own_first :
-        (mode : Mode) (c : Control) (upper : List Master) → Frugal thrifty outermost.behind (operated_among f.within.inner) mode c upper → (ds : List DeclarationForm) (fs : StmtsForm) (hs : HandlersForm) (k : Control)
-        → c ≡ frame.Elaborates ds fs hs ∷ k → (m : Master) × (ms : List Master) × (upper ≡ m ∷ ms)
-    own_first mode c upper frugal ds fs hs k is = by upper (subst (λ (j : Control). Frugal thrifty outermost.behind (operated_among f.within.inner) mode j upper) is frugal)
-      where
-        by : (ms : List Master) → Frugal thrifty outermost.behind (operated_among f.within.inner) mode (frame.Elaborates ds fs hs ∷ k) ms → (m : Master) × (rest : List Master) × (ms ≡ m ∷ rest)
-        by [] (inl q) = absurd q
-        by [] (inr (inl (runs, leaving))) = absurd leaving
-        by [] (inr (inr (may, beginning))) = absurd beginning
-        by (m ∷ rest) q = (m, rest, refl)
-
-    -- So the grounds of the real state say.
-    home_there : HasHomeThere w.access w.item w.pool s
-    home_there =
-        let upper = f.within.frugal.upper in
-        let masters : s.masters ≡ upper ++ outermost.lower = sym (seen_masters w.seen) ∙ f.within.frugal.masters in
-        let own = (frugal_idly thrifty refl finalizes f.within.objects outermost.behind (operated_among f.within.inner) v.mode v.control upper f.within.frugal.frugally).1 in
-        let outside = home_outside w.item w.access w.pool upper outermost.lower own (subst (λ (ms : List Master). HasItem w.item w.access w.pool (items_of ms)) f.within.frugal.masters home_touching) in
-        home_around w.access w.item w.pool s upper outermost.lower masters (has_home w.item w.access w.pool (items_of outermost.lower) outside)
-        (λ ds fs hs k is. own_first v.mode v.control upper f.within.frugal.frugally ds fs hs k (seen_control w.seen ∙ is))
-
     -- They hold in the state that stands for it.
     grounds_touching : Untouched none_hidden w.ghosts s → Grounds program v
-    grounds_touching untouched = seen_grounds_within program w.seen (grounds program s sound) sound.reached home_there untouched not_calm frees_none
+    grounds_touching untouched = seen_grounds_within program w.seen (grounds program s sound) sound.reached (home_there home_touching) untouched not_calm frees_none
 
   -- The body of one runs that touches none.
   module _ (o : Operates program v) where
@@ -250,27 +227,24 @@ module _ (program : Program) (s : State) (sound : Sound program s) (w : Within p
         let stored = ready_stored (known_in program o.caller.procedure o.suspended.suspensions) (behind_operation (o.caller ∷ o.rest) o.behind o.lower v) c.stepped.ready in
         rw o.masters (home_inside w.item w.access w.pool o.upper o.lower (home_in stored.0 o.lower stored.1))
 
-    -- A master that it leaves is one of its own, which owns variables alone.
-    none_taken : (mode : Mode) (k : Control) (upper : List Master) (operands : List Value) → Comes quiet_sight o.behind upper mode k operands → OwnVariables upper → FirstTakesNone k (upper ++ o.lower)
-    none_taken mode [] upper operands comes own = tt
-    none_taken mode (Leaves exit ∷ k) upper operands (inl (scalars, goes, leads)) own = absurd leads
-    none_taken mode (Leaves exit ∷ k) [] operands (inr (runs, finds)) own = absurd finds.1
-    none_taken mode (Leaves exit ∷ k) (m ∷ ms) operands (inr (runs, finds)) own = innermost_houses_none ((m ∷ ms) ++ o.lower) own.0
-    none_taken mode (f ∷ k) upper operands comes own = tt
-
-  -- A master that is left takes no object.
-  takes_in : Operates program v ⊎ Touching program v → FirstTakesNone v.control v.masters
-  takes_in (inl o) = subst (λ (ms : List Master). FirstTakesNone v.control ms) (sym o.masters) (none_taken o v.mode v.control o.upper o.operands o.body.comes o.body.own)
-  takes_in (inr f) = takes_none program f.suspensions v f.within (idle_within program f.suspensions v f.within (finalizes f)) v.control refl
-
-  -- So it is in the real state.
-  takes : FirstTakesNone s.control s.masters
-  takes = subst (λ (ms : List Master). FirstTakesNone s.control ms) (seen_masters w.seen) (subst (λ (k : Control). FirstTakesNone k v.masters) (seen_control w.seen) (takes_in w.goes))
-
   -- The home of the object is among the masters, whichever body runs.
   home_so : Operates program v ⊎ Touching program v → HasItem w.item w.access w.pool (items_of v.masters)
   home_so (inl o) = home_operating o
   home_so (inr f) = home_touching f
+
+  -- The numbers of items fall.
+  falls : AllPairs Falls (items_of s.masters)
+  falls = items_fall program sound.reached.0 sound.reached.1 s sound.reached.2
+
+  -- Where a master is left, each object that goes with its newest item is of that item's type.
+  houses : FirstHousesIts s.control s.heap s.masters
+  houses = scoped_houses p s sound.nested falls
+
+  -- So it is in the state that stands for the real one.
+  houses_too : FirstHousesIts v.control v.heap v.masters
+  houses_too =
+      scoped_houses p v (seen_scoped w.seen p (home_there (home_so w.goes)) sound.nested)
+      (subst (λ (ms : List Master). AllPairs Falls (items_of ms)) (sym (seen_masters w.seen)) falls)
 
   -- What comes next of the state that stands for the real one.
   seen_goes : Untouched none_hidden w.ghosts s → Operates program v ⊎ Touching program v → GoesTouching program v (next tds bodies v)
@@ -289,17 +263,17 @@ module _ (program : Program) (s : State) (sound : Sound program s) (w : Within p
   -- The bodies go on.
   module _ (on : s.control ≡ Returns [] [] ∷ w.behind → ⊥) where
     -- Each step of the real state looks at no ghost.
-    reach : Untouched none_hidden w.ghosts s × AllGoOn (GoesOn p shuns w.apart w.ghosts none_unnamed w.behind s.heap) (next tds bodies s)
-    reach = stays_reaching program sound.well shuns w.apart w.are_apart w.ghosts none_unnamed w.behind s sound.typed w.reaching (record { on = on; takes = takes })
+    reach : Untouched none_hidden w.ghosts s × AllGoOn (GoesOn p shuns w.apart w.ghosts none_unnamed w.behind w.lower s.heap) (next tds bodies s)
+    reach = stays_reaching program sound.well shuns w.apart w.are_apart w.ghosts none_unnamed w.behind w.lower s sound.typed w.reaching (record { on = on; houses = houses })
 
     -- So it is with the one that stands for it.
-    reach_too : Untouched none_hidden w.ghosts v × AllGoOn (GoesOn p shuns w.apart w.ghosts none_unnamed w.behind v.heap) (next tds bodies v)
+    reach_too : Untouched none_hidden w.ghosts v × AllGoOn (GoesOn p shuns w.apart w.ghosts none_unnamed w.behind w.lower v.heap) (next tds bodies v)
     reach_too =
-        stays_reaching program sound.well shuns w.apart w.are_apart w.ghosts none_unnamed w.behind v (seen_typed w.seen p sound.typed) reaching_too
-        (record { on = λ is. on (sym (seen_control w.seen) ∙ is); takes = takes_in w.goes })
+        stays_reaching program sound.well shuns w.apart w.are_apart w.ghosts none_unnamed w.behind w.lower v (seen_typed w.seen p sound.typed) reaching_too
+        (record { on = λ is. on (sym (seen_control w.seen) ∙ is); houses = houses_too })
 
     module _ (e : Event) (after view : State) (alike : StatesAlike none_hidden w.ghosts after view) (spares : SparesGhosts w.ghosts e)
-        (goes : GoesOn p shuns w.apart w.ghosts none_unnamed w.behind s.heap after) (goes_too : GoesOn p shuns w.apart w.ghosts none_unnamed w.behind v.heap view) where
+        (goes : GoesOn p shuns w.apart w.ghosts none_unnamed w.behind w.lower s.heap after) (goes_too : GoesOn p shuns w.apart w.ghosts none_unnamed w.behind w.lower v.heap view) where
       -- The one state stands for the other one behind the step.
       seen_then : Seen w.access w.item w.pool w.ghosts after view
       seen_then = seen_on w.seen goes.same goes_too.same alike
@@ -333,6 +307,7 @@ module _ (program : Program) (s : State) (sound : Sound program s) (w : Within p
               accessed = w.accessed;
               apart = w.apart;
               are_apart = w.are_apart;
+              lower = w.lower;
               reaching = goes.reaching;
               goes = runs;
             }));
@@ -347,23 +322,23 @@ module _ (program : Program) (s : State) (sound : Sound program s) (w : Within p
       went_at (inl c) = within_on c.alters (inr c.body) c.says (λ depth a number at is. covered_by program e v.heap view c.body.suspensions c.body.stands c.says depth a number at is)
       went_at (inr (inl c)) = within_on c.alters (inl c.operates) (c.says _ _) (λ depth a number at is. c.covered number)
       went_at (inr (inr (c, calm, settled))) =
-          absurd (reaching_not_calm p shuns w.apart w.ghosts w.behind waits after goes.reaching (subst (λ (k : Control). IsCalm (behind_call k)) (seen_control seen_then) calm))
+          absurd (reaching_not_calm p shuns w.apart w.ghosts w.behind w.lower waits after goes.reaching (subst (λ (k : Control). IsCalm (behind_call k)) (seen_control seen_then) calm))
 
     -- So it is with the real one, whatever comes next.
     goes_next :
-        (n m : Next) → NextAlike none_hidden w.ghosts n m → AllGoOn (GoesOn p shuns w.apart w.ghosts none_unnamed w.behind s.heap) n
-        → AllGoOn (GoesOn p shuns w.apart w.ghosts none_unnamed w.behind v.heap) m → GoesTouching program v m → GoesDeparting program s n
+        (n m : Next) → NextAlike none_hidden w.ghosts n m → AllGoOn (GoesOn p shuns w.apart w.ghosts none_unnamed w.behind w.lower s.heap) n
+        → AllGoOn (GoesOn p shuns w.apart w.ghosts none_unnamed w.behind w.lower v.heap) m → GoesTouching program v m → GoesDeparting program s n
     goes_next (halts halt) m is goes too touching = ends_well halt (subst (GoesTouching program v) is touching)
     goes_next (moves e after) m (view, is, alike, spares) goes too touching =
-        inl (went_at e after view alike spares goes (subst (AllGoOn (GoesOn p shuns w.apart w.ghosts none_unnamed w.behind v.heap)) is too) (subst (GoesTouching program v) is touching))
+        inl (went_at e after view alike spares goes (subst (AllGoOn (GoesOn p shuns w.apart w.ghosts none_unnamed w.behind w.lower v.heap)) is too) (subst (GoesTouching program v) is touching))
     goes_next (tells request e after) m (view, is, alike, spares) goes too touching =
-        inl (went_at e after view alike spares goes (subst (AllGoOn (GoesOn p shuns w.apart w.ghosts none_unnamed w.behind v.heap)) is too) (subst (GoesTouching program v) is touching))
+        inl (went_at e after view alike spares goes (subst (AllGoOn (GoesOn p shuns w.apart w.ghosts none_unnamed w.behind w.lower v.heap)) is too) (subst (GoesTouching program v) is touching))
     goes_next (asks request answered) m (views, is, each) goes too touching = λ granted.
-        let all_on : (b : Bool) → GoesOn p shuns w.apart w.ghosts none_unnamed w.behind v.heap (views b) = subst (AllGoOn (GoesOn p shuns w.apart w.ghosts none_unnamed w.behind v.heap)) is too in
+        let all_on : (b : Bool) → GoesOn p shuns w.apart w.ghosts none_unnamed w.behind w.lower v.heap (views b) = subst (AllGoOn (GoesOn p shuns w.apart w.ghosts none_unnamed w.behind w.lower v.heap)) is too in
         let all_went : (b : Bool) → Went program v.heap Quiet (views b) = subst (GoesTouching program v) is touching in
         inl (went_at Quiet (answered granted) (views granted) (each granted) tt (goes granted) (all_on granted) (all_went granted))
     goes_next (picks n taken) m (views, is, each) goes too touching = λ i lt.
-        let all_on : (j : ℕ) → suc j ≤ n → GoesOn p shuns w.apart w.ghosts none_unnamed w.behind v.heap (views j) = subst (AllGoOn (GoesOn p shuns w.apart w.ghosts none_unnamed w.behind v.heap)) is too in
+        let all_on : (j : ℕ) → suc j ≤ n → GoesOn p shuns w.apart w.ghosts none_unnamed w.behind w.lower v.heap (views j) = subst (AllGoOn (GoesOn p shuns w.apart w.ghosts none_unnamed w.behind w.lower v.heap)) is too in
         let all_went : (j : ℕ) → suc j ≤ n → Went program v.heap Quiet (views j) = subst (GoesTouching program v) is touching in
         inl (went_at Quiet (taken i) (views i) (each i) tt (goes i lt) (all_on i lt) (all_went i lt))
 
@@ -469,7 +444,7 @@ module _ (program : Program) (s : State) (sound : Sound program s) (w : Within p
 -- So it is in each state where an operation runs for such a member.
 pub within_step : (program : Program) (s : State) → Sound program s → Within program s → GoesDeparting program s (next program.types.items (body_forms program) s)
 within_step program s sound w =
-    elim (ends_or_not (program_form program) (λ t. w.access == t) w.apart w.ghosts w.behind (procedure_of s.activations) s.control (older s.activations) w.reaching.control) [
+    elim (ends_or_not (program_form program) (λ t. w.access == t) w.apart w.ghosts w.behind w.lower (procedure_of s.activations) s.control w.reaching.upper (older s.activations) w.reaching.control) [
       | inl is ↦ body_ends_here program s sound w is
       | inr on ↦ bodies_go_on program s sound w on
     ]

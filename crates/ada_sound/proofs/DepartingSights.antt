@@ -10,13 +10,15 @@ use Rattle.ada_meaning.specs.declared.state.Id.{Id}
 use Rattle.ada_meaning.specs.declared.state.Value.{Value}
 use Rattle.ada_meaning.specs.declared.state.Value.TheVariants.{Names}
 use Rattle.ada_meaning.specs.Frame as frame
-use Rattle.ada_meaning.specs.Frame.{Frame, Treatment, ends, is_return}
+use Rattle.ada_meaning.specs.Frame.{Frame, Treatment, ends}
 use Rattle.ada_meaning.specs.Named.{State, object_at}
-use Rattle.ada_meaning.specs.State.{Activation}
+use Rattle.ada_meaning.specs.State.{Activation, Master}
 use Rattle.ada_meaning.specs.Step.{older, procedure_of, treating}
 use Rattle.ada_reaching.specs.Apart.{Apart}
-use Rattle.ada_reaching.specs.Reaching.{AtEnd, IsInner, IsLast, LeftShuns}
+use Rattle.ada_reaching.specs.Reaching.{LeftShuns, none_unnamed}
 use Rattle.ada_sound.proofs.Departing.{Seen, Within, ending}
+use Rattle.ada_sound.proofs.DepartingBehind.{left_behind}
+use Rattle.ada_sound.proofs.Invariant.{Control}
 use Rattle.ada_sound.proofs.SeenStates.{seen_at}
 use Rattle.ada_sound.specs.StandsFor.{HasDeparted, IsBeingLeft, StandsFor}
 
@@ -25,21 +27,17 @@ contains_later : {X : Type 0} (y x : X) (xs : List X) → Contains xs x → Cont
 contains_later y x xs found = let less = found.1 in (suc found.0, omega (arith, less), found.2)
 
 -- What is behind some bodies is left to do.
-module _ (p : ProgramForm) (shuns : ℕ → Bool) (apart : Apart) (ghosts unnamed : Id → Bool) (behind : List (Frame Value)) (f : Frame Value) (there : Contains behind f) where
-  left_contains : (procedure : Option ℕ) (k : List (Frame Value)) (suspended : List (Activation Value)) → LeftShuns p shuns apart ghosts unnamed behind procedure k suspended → Contains k f
-  left_contains procedure [] suspended left = absurd left
-  left_contains procedure (g ∷ k) suspended left =
-      by _ _ (is_return g) (left_contains (procedure_of suspended) k (older suspended)) (left_contains procedure k suspended) left
-    where
-      by : (First Front : Type 0) (b : Bool)
-          → (LeftShuns p shuns apart ghosts unnamed behind (procedure_of suspended) k (older suspended) → Contains k f)
-          → (LeftShuns p shuns apart ghosts unnamed behind procedure k suspended → Contains k f)
-          → AtEnd b (IsLast behind g k ⊎ IsInner ghosts unnamed g k suspended (LeftShuns p shuns apart ghosts unnamed behind (procedure_of suspended) k (older suspended)))
-          (First × Front × LeftShuns p shuns apart ghosts unnamed behind procedure k suspended)
-          → Contains (g ∷ k) f
-      by first front true inner further (inl last) = subst (λ (j : List (Frame Value)). Contains j f) (sym last) (contains_later (frame.Returns [] []) f behind there)
-      by first front true inner further (inr on) = contains_later g f k (inner on.others)
-      by first front false inner further on = contains_later g f k (further on.2)
+module _ (p : ProgramForm) (shuns : ℕ → Bool) (apart : Apart) (ghosts : Id → Bool) (behind : Control) (lower : List Master) (f : Frame Value) (there : Contains behind f) where
+  left_contains : (procedure : Option ℕ) (k : Control) (own : List Master) (suspended : List (Activation Value))
+      → LeftShuns p shuns apart ghosts none_unnamed behind lower procedure k own suspended → Contains k f
+  left_contains procedure [] own suspended left = absurd left
+  left_contains procedure (frame.Returns actuals references ∷ k) own suspended (inl last) =
+      subst (λ (j : Control). Contains j f) (sym last.0) (contains_later (frame.Returns [] []) f behind there)
+  left_contains procedure (frame.Returns actuals references ∷ k) own suspended (inr inner) =
+      contains_later (frame.Returns actuals references) f k (left_contains (procedure_of suspended) k own (older suspended) inner.others)
+  left_contains procedure (g ∷ k) own suspended left =
+      let further = left_behind p shuns apart ghosts behind lower procedure g k own suspended refl left in
+      contains_later g f k (left_contains procedure k further.0 suspended further.1)
 
 -- So is what is behind a treatment.
 treating_contains : (v : Value) (treatment : Treatment) (tasks : List Task) (k : List (Frame Value)) (f : Frame Value) → Contains k f → Contains (treating v treatment tasks k) f
@@ -49,11 +47,11 @@ treating_contains v treatment (task ∷ tasks) k f found = contains_later (frame
 module _ (program : Program) (s : State) (d : Within program s) where
   member_goes : Contains s.control (frame.GivesBack (Names d.object) (Leaving d.master d.item) d.pool)
   member_goes =
-      left_contains _ _ d.apart d.ghosts _ d.behind (frame.GivesBack (Names d.object) (Leaving d.master d.item) d.pool)
+      left_contains _ _ d.apart d.ghosts d.behind d.lower (frame.GivesBack (Names d.object) (Leaving d.master d.item) d.pool)
       (subst (λ (k : List (Frame Value)). Contains k (frame.GivesBack (Names d.object) (Leaving d.master d.item) d.pool)) (sym d.is)
       (contains_later frame.Confines _ _
       (treating_contains (Names d.object) (ends (Leaving d.master d.item)) d.tasks (ending d.object d.master d.item d.pool d.mode d.k) _ (1, omega arith, refl))))
-      _ s.control _ d.reaching.control
+      _ s.control _ _ d.reaching.control
 
   pub is_being_left : IsBeingLeft s d.access d.item
   is_being_left = record {

@@ -1,7 +1,7 @@
 -- A member of a collection that goes is finalized (7.6.1), for whose objects operations may be called that touch storage: what is treated next, what the step leads to,
 -- and what is behind the body of an operation that has ended.
 
-use Rattle.std.proofs.Common.{◌≡◌, ◌≢◌, ℕ, suc, ◌≤◌, Bool, true, false, List, [], ◌∷◌, length, refl, sym, ap, subst, ◌∙◌, ◌⊎◌, inl, inr, arith}
+use Rattle.std.proofs.Common.{◌≡◌, ◌≢◌, ℕ, suc, ◌<◌, ◌≤◌, Bool, true, false, List, [], ◌∷◌, length, refl, sym, ap, subst, ◌∙◌, ◌⊎◌, inl, inr, arith}
 use Rattle.std.specs.Prelude.{◌==◌, if◌then◌else◌, Option, Some, None}
 use Rattle.std.specs.List.{slice_get}
 use Rattle.ada_deeds.specs.Implicit.{implicit_of}
@@ -30,14 +30,14 @@ use Rattle.ada_meaning.specs.Heap.{Cell, Found, Home, PartState, on_null, on_gon
 use Rattle.ada_meaning.specs.Law.{items_of}
 use Rattle.ada_meaning.specs.Named.{Object, State, Next, named, object_at, look, on_object, treated, finalized_part, changed, next}
 use Rattle.ada_meaning.specs.Run.{Event, settled}
-use Rattle.ada_meaning.specs.State.{Activation, Master}
+use Rattle.ada_meaning.specs.State.{Activation, Master, height}
 use Rattle.ada_meaning.specs.Step.{halts, moves, tells, asks, picks, direction_of, ended_next, finalized_next, older, operating, operation_next, part_reference, performed_next, picked_task, procedure_of, treated_on, treating, treats_next}
 use Rattle.ada_owners.proofs.Objects.{at_other}
 use Rattle.ada_reaching.proofs.Law.{operation_reaches}
 use Rattle.ada_reaching.specs.Apart.{Apart}
 use Rattle.ada_reaching.specs.Forms.{body_shuns}
 use Rattle.ada_reaching.specs.Law.{AreApart, GhostsStay, none_hidden}
-use Rattle.ada_reaching.specs.Reaching.{IsOfShunned, IsReaching, none_unnamed}
+use Rattle.ada_reaching.specs.Reaching.{AreLow, IsOfShunned, IsReaching, none_unnamed}
 use Rattle.ada_scopes.proofs.Components.{items_fit}
 use Rattle.ada_scopes.proofs.Homes.{ItemsFit}
 use Rattle.ada_typed.specs.Holding.{cells_of}
@@ -54,6 +54,7 @@ use Rattle.ada_sound.proofs.Departing.{Between, Departing, HasAccess, IsGoing, I
 use Rattle.ada_sound.proofs.DepartingGoes.{GoesDeparting, InDeparting}
 use Rattle.ada_sound.proofs.Grounded.{grounds}
 use Rattle.ada_sound.proofs.Grounds.{Grounds, Ordinary}
+use Rattle.ada_sound.proofs.Items.{HasItem, height_is, item_below}
 use Rattle.ada_sound.proofs.Invariant.{Control, EndsWell, Known, Ready, Stepped, departs_next}
 use Rattle.ada_sound.proofs.Operated.{OperatedAs}
 use Rattle.ada_sound.proofs.Operates.{Operates}
@@ -392,12 +393,30 @@ module _
               accessed = rw d.of_access accessed;
             }
 
+        -- The collection is an item of the masters that are entered.
+        item_low : item < height s.masters
+        item_low =
+            let home : HasItem item access pool (items_of s.masters) = subst (λ (ms : List Master). HasItem item access pool (items_of ms)) (sym going.is) (inl (refl, (refl, refl))) in
+            let less = item_below item access pool (items_of s.masters) o.ready.1.0.1.stored.counted home in
+            let all = height_is s.masters in
+            omega (arith, less, all)
+
+        -- So it is the home of the ghosts.
+        low : AreLow ghosts s.masters after.heap
+        low q x is found =
+            let d = seen.departed q is in
+            let there = ghosts_stay real_taken e after does q is ∙ d.there in
+            let same : d.object ≡ x = cc (there, found) in
+            let at : x.cell.home.item ≡ item = ap (λ (y : Object). y.cell.home.item) (sym same) ∙ d.at_home in
+            let less = item_low in
+            omega (arith, at, less)
+
         -- So such a body runs there.
-        reaching : IsReaching p (λ t. access == t) shunned.0 ghosts none_unnamed c.behind after
+        reaching : IsReaching p (λ t. access == t) shunned.0 ghosts none_unnamed c.behind s.masters after
         reaching =
-            subst (IsReaching p (λ t. access == t) shunned.0 ghosts none_unnamed c.behind) (sym after_is)
+            subst (IsReaching p (λ t. access == t) shunned.0 ghosts none_unnamed c.behind s.masters) (sym after_is)
             (operation_reaches p (λ t. access == t) shunned.0 ghosts none_unnamed c.number c.b (Part c.o c.place) c.behind (record (running behind_it a rest seen_heap) { heap = after.heap }) c.there shunned.2
-            ghosts_there (λ q is. absurd (cc is)) (rw same_object plain))
+            ghosts_there (λ q is. absurd (cc is)) low (rw same_object plain))
 
         -- The object is of this collection, and is so still.
         member : IsMember s.heap object access item pool
@@ -434,6 +453,7 @@ module _
           accessed = accessed;
           apart = shunned.0;
           are_apart = shunned.1;
+          lower = s.masters;
           reaching = reaching;
           goes = runs_so;
         })))

@@ -30,18 +30,19 @@ use Rattle.ada_reaching.specs.Law.{GhostsStay}
 use Rattle.ada_reaching.specs.Reaching.{IsReaching, LeftShuns}
 use Rattle.ada_reaching.proofs.Behind.{ends_other, reaching_kept, waiting_kept}
 use Rattle.ada_tracked.proofs.Lists.{is_apart, is_same}
-use Rattle.ada_sound.proofs.FrugalControl.{Frugal, Allowance, allowance_of}
+use Rattle.ada_sound.proofs.Allowance.{Allowance, allowance_of}
+use Rattle.ada_sound.proofs.FrugalControl.{Frugal}
 use Rattle.ada_sound.specs.Agreement.{running_procedure}
 use Rattle.ada_sound.proofs.Alters.{Alters, alters_same}
 use Rattle.ada_sound.proofs.Callers.{Suspension}
-use Rattle.ada_sound.proofs.Invariant.{Control, Known}
-use Rattle.ada_sound.proofs.Operating.{may_create_in}
-use Rattle.ada_sound.proofs.Touching.{IsSpared, Pause, Watch, Watched, Within, AreInner, operated_among, origin, is_unnamed, is_watched, watches}
+use Rattle.ada_sound.proofs.Invariant.{Control}
+use Rattle.ada_sound.proofs.Touching.{Pause, Watch, Watched, Within, AreInner, operated_among, origin, is_unnamed, is_watched, watches}
 
 -- What is known of an activation that waits for an operation, behind a step: of the object, what the step leaves, and the operands.
 abbrev pub pause_on :
     (program : Program) (depth later : ℕ) (s after : State) (e : Event) (f : Pause program depth s) → Alters s.heap e after.heap
-    → operands_of (drop (suc later) after.activations) ≡ operands_of (drop (suc depth) s.activations) → Watched program f.watch f.behind after → Pause program later after
+    → operands_of (drop (suc later) after.activations) ≡ operands_of (drop (suc depth) s.activations) → Watched program f.watch f.behind f.lower after
+    → Pause program later after
 pause_on program depth later s after e f alters same still = record {
   number = f.number;
   is_body = f.is_body;
@@ -74,25 +75,20 @@ pause_on program depth later s after e f alters same still = record {
   held = f.held;
   watch = f.watch;
   still = still;
-  at_end = f.at_end;
   rests = f.rests;
   lets = f.lets;
 }
 
--- Where something is watched, an object is finalized, whose Finalize creates none (7.6.1).
-pub spared_at_end : (known : Known) (treatment : Treatment) (o : Id) (access : ℕ) (heap : List Object) (watch : Option Watch)
-    → IsSpared known treatment o access heap watch → (w : Watch) → watch ≡ Some w → may_create_in treatment ≡ false
-spared_at_end known (begins by done) o access heap None spared w is = absurd (cc is)
-spared_at_end known (begins by done) o access heap (Some x) spared w is = absurd spared
-spared_at_end known (ends cause) o access heap watch spared w is = refl
-
 module _ (program : Program) (s : State) (frugal : Allowance) (back : Control) (lower : List Master) where
   -- What is watched in each of these activations that waits for an operation is so still in a state.
-  abbrev pub AllWatched : (after : State) (running : Option ℕ) (depth : ℕ) (outermost : Option ℕ) (others inner : List Suspension) → AreInner program s frugal back lower running objects depth outermost others inner → Type 0
-  AllWatched after running objects depth outermost others [] w = Unit {0}
-  AllWatched after running objects depth outermost others (g ∷ inner) (inl (call, more)) = AllWatched after g.procedure objects (suc depth) outermost others inner more
-  AllWatched after running objects depth outermost others (g ∷ inner) (inr (outer, operation, more)) =
-      Watched program operation.pause.watch operation.pause.behind after × AllWatched after g.procedure outer (suc depth) outermost others inner more
+  abbrev pub AllWatched :
+      (after : State) (running : Option ℕ) (depth : ℕ) (outermost : Option ℕ) (others inner : List Suspension)
+      → AreInner program s frugal back lower running depth outermost others inner → Type 0
+  AllWatched after running depth outermost others [] w = Unit {0}
+  AllWatched after running depth outermost others (g ∷ inner) (inl (call, more)) = AllWatched after g.procedure (suc depth) outermost others inner more
+  AllWatched after running depth outermost others (g ∷ inner) (inr (operation, more)) =
+      Watched program operation.pause.watch operation.pause.behind operation.pause.lower after
+      × AllWatched after g.procedure (suc depth) outermost others inner more
 
   -- The activations that wait, these and those behind them, have the operands that they had.
   abbrev pub SameBehind : (after : State) (depth later : ℕ) → Type 0
@@ -114,14 +110,13 @@ module _ (program : Program) (s : State) (frugal : Allowance) (back : Control) (
   -- What they wait for is known behind a step, too.
   pub inner_on :
       (after : State) (e : Event) (running : Option ℕ) (depth later : ℕ) (outermost : Option ℕ) (others inner : List Suspension)
-      (w : AreInner program s frugal back lower running objects depth outermost others inner)
+      (w : AreInner program s frugal back lower running depth outermost others inner)
       → Alters s.heap e after.heap → SameBehind after depth later
-      → AllWatched after running objects depth outermost others inner w → AreInner program after frugal back lower running objects later outermost others inner
-  inner_on after e running objects depth later outermost others [] w alters same still = w
-  inner_on after e running objects depth later outermost others (g ∷ inner) (inl (call, more)) alters same still =
-      inl (call, inner_on after e g.procedure objects (suc depth) (suc later) outermost others inner more alters (same_further after depth later same) still)
-  inner_on after e running objects depth later outermost others (g ∷ inner) (inr (outer, operation, more)) alters same still = inr (
-    outer,
+      → AllWatched after running depth outermost others inner w → AreInner program after frugal back lower running later outermost others inner
+  inner_on after e running depth later outermost others [] w alters same still = w
+  inner_on after e running depth later outermost others (g ∷ inner) (inl (call, more)) alters same still =
+      inl (call, inner_on after e g.procedure (suc depth) (suc later) outermost others inner more alters (same_further after depth later same) still)
+  inner_on after e running depth later outermost others (g ∷ inner) (inr (operation, more)) alters same still = inr (
     record {
       pause = pause_on program depth later s after e operation.pause alters (same_first after depth later same) still.0;
       is = operation.is;
@@ -132,7 +127,7 @@ module _ (program : Program) (s : State) (frugal : Allowance) (back : Control) (
       masters = operation.masters;
       leads = operation.leads;
     },
-    inner_on after e g.procedure outer (suc depth) (suc later) outermost others inner more alters (same_further after depth later same) still.1,
+    inner_on after e g.procedure (suc depth) (suc later) outermost others inner more alters (same_further after depth later same) still.1,
   )
 
 -- A part of an object has been finalized, and what is left of its finalization is next, behind which it ends (7.6.1).
@@ -161,24 +156,23 @@ OthersStay o before after = (q : Id) → q ≢ o → object_at after q ≡ objec
 
 -- What is around stays around while what is watched is so still, and what is left to do goes on.
 module _ (program : Program) (s after : State) (active : after.activations ≡ s.activations)
-    (still : (watch : Option Watch) (behind : Control) → Watched program watch behind s → Watched program watch behind after) where
+    (still : (watch : Option Watch) (behind : Control) (lower : List Master) → Watched program watch behind lower s → Watched program watch behind lower after) where
   -- What is watched in each of these activations is so still.
   all_on :
       (frugal : Allowance) (back : Control) (lower : List Master) (running : Option ℕ) (depth : ℕ) (outermost : Option ℕ) (waiting inner : List Suspension)
-      (w : AreInner program s frugal back lower running objects depth outermost waiting inner)
-      → AllWatched program s frugal back lower after running objects depth outermost waiting inner w
-  all_on frugal back lower running objects depth outermost waiting [] w = tt
-  all_on frugal back lower running objects depth outermost waiting (g ∷ inner) (inl (call, more)) =
-      all_on frugal back lower g.procedure objects (suc depth) outermost waiting inner more
-  all_on frugal back lower running objects depth outermost waiting (g ∷ inner) (inr (outer, operation, more)) = (
-    still operation.pause.watch operation.pause.behind operation.pause.still,
-    all_on frugal back lower g.procedure outer (suc depth) outermost waiting inner more,
+      (w : AreInner program s frugal back lower running depth outermost waiting inner)
+      → AllWatched program s frugal back lower after running depth outermost waiting inner w
+  all_on frugal back lower running depth outermost waiting [] w = tt
+  all_on frugal back lower running depth outermost waiting (g ∷ inner) (inl (call, more)) =
+      all_on frugal back lower g.procedure (suc depth) outermost waiting inner more
+  all_on frugal back lower running depth outermost waiting (g ∷ inner) (inr (operation, more)) = (
+    still operation.pause.watch operation.pause.behind operation.pause.lower operation.pause.still,
+    all_on frugal back lower g.procedure (suc depth) outermost waiting inner more,
   )
 
   within_by :
       (gs : List Suspension) (e : Event) (w : Within program gs s) → after.masters ≡ s.masters → Alters s.heap e after.heap
-      → Frugal (allowance_of (program_form program)) w.objects w.outermost.behind (operated_among w.inner) after.mode after.control
-      w.frugal.upper
+      → Frugal (allowance_of (program_form program)) w.outermost.behind (operated_among w.inner) after.mode after.control w.frugal.upper
       → Within program gs after
   within_by gs e w masters alters goes =
       let same : (n : ℕ) → operands_of (drop (suc n) after.activations) ≡ operands_of (drop (suc n) s.activations) =
@@ -188,17 +182,16 @@ module _ (program : Program) (s after : State) (active : after.activations ≡ s
       let waiting = origin program (length w.inner) s w.outermost ∷ w.outermost.suspensions in
       record {
         inner = w.inner;
-        objects = w.objects;
         outermost =
             pause_on program (length w.inner) (length w.inner) s after e w.outermost alters (same (length w.inner))
-            (still w.outermost.watch w.outermost.behind w.outermost.still);
+            (still w.outermost.watch w.outermost.behind w.outermost.lower w.outermost.still);
         are = w.are;
         within =
-            subst (λ (procedure : Option ℕ). AreInner program after frugal w.outermost.behind w.outermost.lower procedure w.objects 0 last waiting w.inner)
+            subst (λ (procedure : Option ℕ). AreInner program after frugal w.outermost.behind w.outermost.lower procedure 0 last waiting w.inner)
             (sym (ap procedure_of active))
-            (inner_on program s frugal w.outermost.behind w.outermost.lower after e (running_procedure s) w.objects 0 0 last waiting w.inner w.within alters
+            (inner_on program s frugal w.outermost.behind w.outermost.lower after e (running_procedure s) 0 0 last waiting w.inner w.within alters
             (λ n. same (0 + n))
-            (all_on frugal w.outermost.behind w.outermost.lower (running_procedure s) w.objects 0 last waiting w.inner w.within));
+            (all_on frugal w.outermost.behind w.outermost.lower (running_procedure s) 0 last waiting w.inner w.within));
         frugal = record {
           upper = w.frugal.upper;
           masters = masters ∙ w.frugal.masters;
@@ -216,8 +209,8 @@ module _ (program : Program) (s after : State) (o : Id) (going : GoesOnBehind o 
   abbrev p : ProgramForm
   p = program_form program
 
-  module _ (w : Watch) (apart : Apart) (behind : Control)
-      (reaching : IsReaching p (watches p.types (Some w)) apart (is_watched (Some w)) (is_unnamed p.types (Some w)) behind s) where
+  module _ (w : Watch) (apart : Apart) (behind : Control) (lower : List Master)
+      (reaching : IsReaching p (watches p.types (Some w)) apart (is_watched (Some w)) (is_unnamed p.types (Some w)) behind lower s) where
     holder_other : w.holder ≢ o
     holder_other same =
         let seen : (w.holder.0 == o.0) ≡ false = by going in
@@ -225,46 +218,51 @@ module _ (program : Program) (s after : State) (o : Id) (going : GoesOnBehind o 
       where
         by : GoesOnBehind o s.control → (w.holder.0 == o.0) ≡ false
         by (inl ending) =
-            ends_other p (watches p.types (Some w)) apart (is_watched (Some w)) (is_unnamed p.types (Some w)) behind (Names o) ending.cause ending.tasks
-            ending.rest (procedure_of s.activations) (older s.activations) (rw ending.is at reaching.control)
+            ends_other p (watches p.types (Some w)) apart (is_watched (Some w)) (is_unnamed p.types (Some w)) behind lower (Names o) ending.cause ending.tasks
+            ending.rest (procedure_of s.activations) reaching.upper (older s.activations) (rw ending.is at reaching.control)
         by (inr begun) =
-            let left : LeftShuns p (watches p.types (Some w)) apart (is_watched (Some w)) (is_unnamed p.types (Some w)) behind (procedure_of s.activations)
-            (frame.Awaits (Names o) Creation begun.done begun.of begun.part begun.tasks ∷ begun.rest) (older s.activations) =
+            let left : LeftShuns p (watches p.types (Some w)) apart (is_watched (Some w)) (is_unnamed p.types (Some w)) behind lower (procedure_of s.activations)
+            (frame.Awaits (Names o) Creation begun.done begun.of begun.part begun.tasks ∷ begun.rest) reaching.upper (older s.activations) =
             rw begun.is at reaching.control in
             left.0.0
 
     ghosts_stay : GhostsStay (is_watched (Some w)) s.heap after.heap
     ghosts_stay q is = others q (λ same. holder_other (id_is w.holder q (is_same w.holder.0 q.0 is) ∙ same))
 
-    reaching_still : IsReaching p (watches p.types (Some w)) apart (is_watched (Some w)) (is_unnamed p.types (Some w)) behind after
-    reaching_still = by going
+    reaching_still :
+        after.masters ≡ s.masters → IsReaching p (watches p.types (Some w)) apart (is_watched (Some w)) (is_unnamed p.types (Some w)) behind lower after
+    reaching_still masters = by going
       where
-        by : GoesOnBehind o s.control → IsReaching p (watches p.types (Some w)) apart (is_watched (Some w)) (is_unnamed p.types (Some w)) behind after
+        by : GoesOnBehind o s.control → IsReaching p (watches p.types (Some w)) apart (is_watched (Some w)) (is_unnamed p.types (Some w)) behind lower after
         by (inl ending) =
-            reaching_kept p (watches p.types (Some w)) apart (is_watched (Some w)) (is_unnamed p.types (Some w)) behind
-            (treating (Names o) (ends ending.cause) ending.tasks (frame.Ends (Names o) ∷ ending.rest)) s after ending.is control active ghosts_stay reaching
+            reaching_kept p (watches p.types (Some w)) apart (is_watched (Some w)) (is_unnamed p.types (Some w)) behind lower
+            (treating (Names o) (ends ending.cause) ending.tasks (frame.Ends (Names o) ∷ ending.rest)) s after ending.is control active masters ghosts_stay
+            reaching
         by (inr begun) =
-            waiting_kept p (watches p.types (Some w)) apart (is_watched (Some w)) (is_unnamed p.types (Some w)) behind
-            (frame.Awaits (Names o) Creation begun.done begun.of begun.part begun.tasks) begun.rest s after refl begun.is control active ghosts_stay reaching
+            waiting_kept p (watches p.types (Some w)) apart (is_watched (Some w)) (is_unnamed p.types (Some w)) behind lower
+            (frame.Awaits (Names o) Creation begun.done begun.of begun.part begun.tasks) begun.rest s after refl begun.is control active masters ghosts_stay
+            reaching
 
-  watched_on : (watch : Option Watch) (behind : Control) → Watched program watch behind s → Watched program watch behind after
-  watched_on None behind still = tt
-  watched_on (Some w) behind (found, (apart, are, reaching)) =
-      (others w.holder (holder_other w apart behind reaching) ∙ found, (apart, are, reaching_still w apart behind reaching))
+  watched_on :
+      after.masters ≡ s.masters → (watch : Option Watch) (behind : Control) (lower : List Master) → Watched program watch behind lower s
+      → Watched program watch behind lower after
+  watched_on masters None behind lower still = tt
+  watched_on masters (Some w) behind lower (found, (apart, are, reaching)) =
+      (others w.holder (holder_other w apart behind lower reaching) ∙ found, (apart, are, reaching_still w apart behind lower reaching masters))
 
   pub within_kept :
       (gs : List Suspension) (e : Event) → Within program gs s → after.mode ≡ s.mode → after.masters ≡ s.masters → Alters s.heap e after.heap
       → Within program gs after
-  within_kept gs e w mode masters alters = within_by program s after active watched_on gs e w masters alters (rw (mode, control) w.frugal.frugally)
+  within_kept gs e w mode masters alters = within_by program s after active (watched_on masters) gs e w masters alters (rw (mode, control) w.frugal.frugally)
 
 -- Where the operation has come to its end that begins a part of a new object, frugal bodies go on, too, if an exception has come out of it (7.6).
 raised_frugal :
     (frugal : Allowance) (back : Control) (among : List Value) (mode : Mode) (e : Exception) (v : Value) (done : List parts.Part) (of part : ℕ)
     (tasks : List Task) (k : Control) (ms : List Master) → Frugal frugal back among mode (frame.Awaits v Creation done of part tasks ∷ k) ms
     → Frugal frugal back among (Raising e) (frame.Awaits v Creation done of part tasks ∷ k) ms
-raised_frugal frugal objects back among mode e v done of part tasks k ms (inl leads) = absurd leads.0
-raised_frugal frugal objects back among mode e v done of part tasks k ms (inr (inl leaving)) = absurd leaving.1
-raised_frugal frugal objects back among mode e v done of part tasks k ms (inr (inr beginning)) = inr (inr (tt, beginning.1))
+raised_frugal frugal back among mode e v done of part tasks k ms (inl leads) = absurd leads.0
+raised_frugal frugal back among mode e v done of part tasks k ms (inr (inl leaving)) = absurd leaving.1
+raised_frugal frugal back among mode e v done of part tasks k ms (inr (inr beginning)) = inr (inr (tt, beginning.1))
 
 -- What is around stays around then.
 module _ (program : Program) (gs : List Suspension) (s : State) (e : Exception) where
@@ -272,16 +270,19 @@ module _ (program : Program) (gs : List Suspension) (s : State) (e : Exception) 
   raised = record s { mode = Raising e }
 
   -- What is watched is as it was.
-  raised_watched : (o : Id) → BeginsBehind o s.control → (watch : Option Watch) (behind : Control) → Watched program watch behind s → Watched program watch behind raised
-  raised_watched o begun None behind still = tt
-  raised_watched o begun (Some w) behind (found, (apart, are, reaching)) =
+  raised_watched :
+      (o : Id) → BeginsBehind o s.control → (watch : Option Watch) (behind : Control) (lower : List Master) → Watched program watch behind lower s
+      → Watched program watch behind lower raised
+  raised_watched o begun None behind lower still = tt
+  raised_watched o begun (Some w) behind lower (found, (apart, are, reaching)) =
       let p = program_form program in (
         found,
         (
           apart,
           are,
-          waiting_kept p (watches p.types (Some w)) apart (is_watched (Some w)) (is_unnamed p.types (Some w)) behind
-              (frame.Awaits (Names o) Creation begun.done begun.of begun.part begun.tasks) begun.rest s raised refl begun.is refl refl (λ q ghost. refl) reaching,
+          waiting_kept p (watches p.types (Some w)) apart (is_watched (Some w)) (is_unnamed p.types (Some w)) behind lower
+              (frame.Awaits (Names o) Creation begun.done begun.of begun.part begun.tasks) begun.rest s raised refl begun.is refl refl refl (λ q ghost. refl)
+              reaching,
         ),
       )
 
@@ -290,5 +291,5 @@ module _ (program : Program) (gs : List Suspension) (s : State) (e : Exception) 
       let frugal = allowance_of (program_form program) in
       within_by program s raised refl (raised_watched o begun) gs Quiet w refl (alters_same s.heap Quiet)
       (subst (λ (k : Control). Frugal frugal w.outermost.behind (operated_among w.inner) (Raising e) k w.frugal.upper) (sym begun.is)
-      (raised_frugal frugal w.objects w.outermost.behind (operated_among w.inner) s.mode e (Names o) begun.done begun.of begun.part begun.tasks begun.rest w.frugal.upper
+      (raised_frugal frugal w.outermost.behind (operated_among w.inner) s.mode e (Names o) begun.done begun.of begun.part begun.tasks begun.rest w.frugal.upper
       (subst (λ (k : Control). Frugal frugal w.outermost.behind (operated_among w.inner) s.mode k w.frugal.upper) begun.is w.frugal.frugally)))

@@ -1,7 +1,7 @@
 -- A state that stands for the real one, in which some objects of a collection that have gone exist still, has what steps rest on, as the real one has: values are of
 -- their kinds, collections nest, and finalization leaves the rest. Bodies that shun the access type run there as in the real one.
 
-use Rattle.std.proofs.Common.{◌≡◌, ℕ, Bool, true, false, not, List, [], ◌∷◌, ◌++◌, Option, Some, refl, sym, ap, ◌∙◌, subst, inl, inr}
+use Rattle.std.proofs.Common.{◌≡◌, ◌<◌, ℕ, Bool, true, false, not, List, [], ◌∷◌, ◌++◌, Option, Some, refl, sym, ap, ◌∙◌, subst, inl, inr}
 use Rattle.ada_program.specs.declared.program.Program.{Program}
 use Rattle.ada_program.specs.declared.program.TypeDefinition.{TypeDefinition}
 use Rattle.ada_program.specs.Form.{DeclarationForm, StmtsForm, HandlersForm}
@@ -27,14 +27,14 @@ use Rattle.ada_meaning.specs.Frame as frame
 use Rattle.ada_meaning.specs.Heap.{Cell}
 use Rattle.ada_meaning.specs.Law.{items_of}
 use Rattle.ada_meaning.specs.Named.{Object, State, Next, named, object_at, all_alive, next}
-use Rattle.ada_meaning.specs.State.{Item, Master, collection}
+use Rattle.ada_meaning.specs.State.{Item, Master, collection, height}
 use Rattle.ada_meaning.specs.Step.{halts, moves, tells, asks, picks, older, operands_of, procedure_of, treats_next}
 use Rattle.ada_parts.specs.Task.{Task, next as task_next}
 use Rattle.ada_quiet.specs.Apart.{is_tracker}
 use Rattle.ada_quiet.specs.Idle.{holds_parts}
 use Rattle.ada_reaching.specs.Apart.{Apart}
 use Rattle.ada_reaching.specs.Law.{none_hidden}
-use Rattle.ada_reaching.specs.Reaching.{IsOfShunned, IsReaching, OperandSeeks, Seeks, none_unnamed}
+use Rattle.ada_reaching.specs.Reaching.{AreLow, IsOfShunned, IsReaching, OperandSeeks, Seeks, none_unnamed}
 use Rattle.ada_scopes.proofs.Control.{Nested, standing, beginning, parting, whole_heap}
 use Rattle.ada_scopes.proofs.Homes.{HasHome, Housed, IsAtHome}
 use Rattle.ada_scopes.proofs.Runs.{Scoped, calls_in}
@@ -188,7 +188,7 @@ module _ {access item : ℕ} {pool : Option ℕ} {ghosts : Id → Bool} {s v : S
   }
 
   -- Bodies that shun the access type run.
-  module _ (p : ProgramForm) (shuns : ℕ → Bool) (apart : Apart) (behind : Control) where
+  module _ (p : ProgramForm) (shuns : ℕ → Bool) (apart : Apart) (behind : Control) (lower : List Master) where
     -- What is sought from the newest operand is the same.
     seeks_seen : (m : Mode) (k : Control) (vs : List Value) → OperandSeeks p.types shuns apart ghosts s.heap m k vs → OperandSeeks p.types shuns apart ghosts v.heap m k vs
     seeks_seen Running k (Names o ∷ vs) seeks = λ y found.
@@ -207,14 +207,24 @@ module _ {access item : ℕ} {pool : Option ℕ} {ghosts : Id → Bool} {s v : S
           accessed = subst (λ (c : Cell Value). is_access p.types c.access ≡ true) (sym y.2) g.accessed;
         }
 
+    -- The home of each ghost is the same.
+    low_seen : AreLow ghosts lower s.heap → AreLow ghosts lower v.heap
+    low_seen low = λ o y ghost found.
+        let x = real_there seen o y found in
+        subst (λ (c : Cell Value). c.home.item < height lower) (sym x.2) (low o x.0 ghost x.1)
+
     -- So they do in the state that stands for the real one.
-    pub reaching_seen : IsReaching p shuns apart ghosts none_unnamed behind s → IsReaching p shuns apart ghosts none_unnamed behind v
-    reaching_seen r = subst (λ (z : State). IsReaching p shuns apart ghosts none_unnamed behind z) (sym seen.alike.rest) (record {
+    pub reaching_seen : IsReaching p shuns apart ghosts none_unnamed behind lower s → IsReaching p shuns apart ghosts none_unnamed behind lower v
+    reaching_seen r = subst (λ (z : State). IsReaching p shuns apart ghosts none_unnamed behind lower z) (sym seen.alike.rest) (record {
       ghosts_there = λ o is. shunned_seen o (r.ghosts_there o is);
       are_ghosts = r.are_ghosts;
+      low = low_seen r.low;
       places = r.places;
       operands = r.operands;
+      upper = r.upper;
+      masters = r.masters;
       control = r.control;
+      jumps = r.jumps;
       seeks = seeks_seen s.mode s.control (operands_of s.activations) r.seeks;
     })
 

@@ -275,13 +275,13 @@ abbrev pub treated_frees : Implicit → Treatment → (access : ℕ) → (behind
 treated_frees implicit (begins by done) access k t = implicit.start_frees access t
 treated_frees implicit (ends cause) access k t = ended_frees implicit cause access k t
 
--- While a Free ends an object, the one that is watched, if there is one, is there, and is another one; the end of the object reaches none of its type, if that
--- is an access type.
+-- While a Free ends an object, the one that is watched, if there is one, is there as it was, and is another one; the end of the object reaches none of its
+-- type, if that is an access type.
 abbrev pub IsSpared : Known → Treatment → Id → (access : ℕ) → List Object → (watch : Option Watch) → Type 0
 IsSpared known treatment o access heap None = Unit {0}
 IsSpared known (begins by done) o access heap (Some w) = ⊥
 IsSpared known (ends cause) o access heap (Some w) =
-    (object_at heap w.holder ≡ Some w.is) × (w.holder ≢ o)
+    (object_at heap w.holder ≡ Some w.is) × (is_there w.is.stage ≡ true) × (w.holder ≢ o)
     × (is_access known.program.types w.is.cell.access ≡ true → known.implicit.end_reaches access w.is.cell.access ≡ false)
 
 -- What is watched, if something is, is there as it was; and the bodies that run in front of this, of procedures among some that neither follow nor free values

@@ -39,7 +39,6 @@ use Rattle.ada_sound.proofs.Bodies.{IsBody, seen_is}
 use Rattle.ada_sound.proofs.BodyRuns.{body_runs}
 use Rattle.ada_sound.proofs.Calls.{home_low, relied_says}
 use Rattle.ada_sound.proofs.Callers.{Suspension, caller_of, known_in, Stands}
-use Rattle.ada_sound.proofs.Pauses.{spared_at_end}
 use Rattle.ada_sound.proofs.Touching.{CoversBy, Enters, Pause, under_way, Watched, holding, origin}
 use Rattle.ada_sound.proofs.SparesOwn.{spares_end}
 use Rattle.ada_sound.specs.Agreement.{running_procedure}
@@ -47,7 +46,7 @@ use Rattle.ada_sound.specs.Always.{SparesOwn}
 use Rattle.ada_sound.proofs.Fits.{Fit, IsPlace, IsReferred, IsSaid, IsWithin, NoOuterAlias, none_spared, outer_access, outer_hold, place_at, IsRelied, there_by, Reference}
 use Rattle.ada_sound.proofs.Held.{fit_held, held_borrows, held_lies, holder_if, with_held}
 use Rattle.ada_sound.proofs.Invariant.{Control, CoveredIn, Known, Ready, RunsOn, Spares, outer_of, outers, body_among, IsAwaited}
-use Rattle.ada_sound.proofs.Operating.{WaitsFor, behind_operation, lets_out, may_create_in}
+use Rattle.ada_sound.proofs.Operating.{WaitsFor, behind_operation, lets_out}
 use Rattle.ada_sound.proofs.Orderings.{as_good}
 use Rattle.ada_sound.proofs.Returns.{same_types}
 use Rattle.ada_sound.proofs.Starts.{Obeys, untracked_body_obeys, lost_first, none_out, none_on}
@@ -238,7 +237,7 @@ module _ (program : Program) (well : IsWellFormed (program_form program)) (obeys
     under_low (frame.ends (Undoing number)) q (inr none) = absurd none
 
     pub touching_begins : (e : Event) (of : ℕ) (tasks : List Task) → Alters s.heap e heap → WaitsFor (program_form program).types o of treatment tasks k behind → IsAwaited behind → Stands program gs (record s { activations = a ∷ rest })
-        → Watched program at.watch behind (operating named number b (Part o place) behind (record s { activations = a ∷ rest; heap = heap; mode = Running }))
+        → Watched program at.watch behind s.masters (operating named number b (Part o place) behind (record s { activations = a ∷ rest; heap = heap; mode = Running }))
         → (begun : Begun program gs treatment behind s.masters (operating named number b (Part o place) behind (record s { activations = a ∷ rest; heap = heap; mode = Running }))) × (begun.pause.object ≡ o) × (begun.pause.after ≡ k)
     touching_begins e of tasks alters awaited waited stands watched =
         let before = record s { activations = a ∷ rest; heap = heap; mode = Running } in
@@ -277,7 +276,6 @@ module _ (program : Program) (well : IsWellFormed (program_form program)) (obeys
               held = at.held;
               watch = at.watch;
               still = watched;
-              at_end = spared_at_end known treatment o x.cell.access heap at.watch at.spared;
               rests = at.rests;
               lets = lets;
             };

@@ -16,16 +16,17 @@ use Rattle.ada_typed.proofs.Kept.{behind_call, Each}
 use Rattle.ada_sound.specs.Agreement.{running_procedure}
 use Rattle.ada_sound.proofs.Alters.{Alters}
 use Rattle.ada_sound.proofs.Callers.{Suspension, callers_of, known_in}
-use Rattle.ada_sound.proofs.FrugalControl.{Frugally, GoesFrugally, Allowance, allowance_of}
+use Rattle.ada_sound.proofs.Allowance.{Allowance, allowance_of}
+use Rattle.ada_sound.proofs.FrugalControl.{Frugally, GoesFrugally}
 use Rattle.ada_sound.proofs.Invariant.{Control, EndsWell, Fine, IsAwaited, Stepped, under_in}
 use Rattle.ada_sound.proofs.Operates.{InOperation}
-use Rattle.ada_sound.proofs.Operating.{InBody, IsCalm, may_create_in}
+use Rattle.ada_sound.proofs.Operating.{InBody, IsCalm}
 use Rattle.ada_sound.proofs.OperationStarts.{is_awaited}
 use Rattle.ada_sound.proofs.Pauses.{AllWatched, inner_on, pause_on}
 use Rattle.ada_sound.proofs.Returns.{Crosses, CrossesTo}
 use Rattle.ada_sound.proofs.Grounds.{Grounds}
 use Rattle.ada_sound.proofs.Touching.{AreInner, Pause, Touching, Watched, Within, operated_among, origin}
-use Rattle.ada_sound.proofs.TouchingWatched.{AllGoOnInside, all_watched, each_and, idle_within, watched_stays}
+use Rattle.ada_sound.proofs.TouchingWatched.{AllGoOnInside, all_watched, each_and, watched_stays}
 use Rattle.ada_sound.proofs.Waiting.{SameBody, stands_kept}
 
 -- The body of such an operation runs behind a step, or one since then; and what that does to objects.
@@ -86,23 +87,22 @@ module _ (program : Program) (s : State) (f : Touching program s) where
   thrifty = allowance_of (program_form program)
 
   -- What waits for operations since then, in a state.
-  abbrev pub InnerIn : State → (running : Option ℕ) → → List Suspension → Type 0
-  InnerIn after running objects inner = AreInner program after thrifty outermost.behind outermost.lower running objects 0 (Some outermost.number) behind_it inner
+  abbrev pub InnerIn : State → (running : Option ℕ) → List Suspension → Type 0
+  InnerIn after running inner = AreInner program after thrifty outermost.behind outermost.lower running 0 (Some outermost.number) behind_it inner
 
   -- What is watched is so still.
   abbrev pub Still : State → Type 0
   Still after =
-      Watched program outermost.watch outermost.behind after
-      × AllWatched program s thrifty outermost.behind outermost.lower after (running_procedure s) w.objects 0 (Some outermost.number) behind_it w.inner w.within
+      Watched program outermost.watch outermost.behind outermost.lower after
+      × AllWatched program s thrifty outermost.behind outermost.lower after (running_procedure s) 0 (Some outermost.number) behind_it w.inner w.within
 
   -- Whatever is called from now on, and whoever goes on: the outermost operation is the same.
   pub within_on :
-      (inner : List Suspension) (e : Event) (after : State) → InnerIn after (running_procedure after) objects inner
+      (inner : List Suspension) (e : Event) (after : State) → InnerIn after (running_procedure after) inner
       → operands_of (drop (suc (length inner)) after.activations) ≡ operands_of (drop (suc (length w.inner)) s.activations) → Frugally thrifty outermost.lower outermost.behind (operated_among inner) after
-      → Watched program outermost.watch outermost.behind after → Alters s.heap e after.heap → Within program (inner ++ behind_it) after
-  within_on inner objects e after are same goes still alters = record {
+      → Watched program outermost.watch outermost.behind outermost.lower after → Alters s.heap e after.heap → Within program (inner ++ behind_it) after
+  within_on inner e after are same goes still alters = record {
     inner = inner;
-    objects = objects;
     outermost = pause_on program (length w.inner) (length inner) s after e outermost alters same still;
     are = refl;
     within = are;
@@ -114,36 +114,36 @@ module _ (program : Program) (s : State) (f : Touching program s) where
   }
 
   pub touching_on :
-      (inner : List Suspension) (e : Event) (after : State) → InnerIn after (running_procedure after) objects inner
+      (inner : List Suspension) (e : Event) (after : State) → InnerIn after (running_procedure after) inner
       → operands_of (drop (suc (length inner)) after.activations) ≡ operands_of (drop (suc (length w.inner)) s.activations) → Frugally thrifty outermost.lower outermost.behind (operated_among inner) after
-      → Watched program outermost.watch outermost.behind after → CrossesTo program (inner ++ behind_it) s.heap e after → InTouching program s.heap e after
-  touching_on inner objects e after are same goes still c = record {
+      → Watched program outermost.watch outermost.behind outermost.lower after → CrossesTo program (inner ++ behind_it) s.heap e after → InTouching program s.heap e after
+  touching_on inner e after are same goes still c = record {
     body = record {
       suspensions = inner ++ behind_it;
       ready = c.stepped.ready;
       stands = c.stands;
-      within = within_on inner objects e after are same goes still c.stepped.alters;
+      within = within_on inner e after are same goes still c.stepped.alters;
     };
     alters = c.stepped.alters;
     says = c.stepped.says;
   }
 
   -- Where the same activations wait.
-  pub inner_stays : (e : Event) (after : State) → SameBody s after → Alters s.heap e after.heap → Still after → InnerIn after (running_procedure after) w.objects w.inner
+  pub inner_stays : (e : Event) (after : State) → SameBody s after → Alters s.heap e after.heap → Still after → InnerIn after (running_procedure after) w.inner
   inner_stays e after same alters still =
-      subst (λ (running : Option ℕ). InnerIn after running w.objects w.inner) (sym same.procedure)
-      (inner_on program s thrifty outermost.behind outermost.lower after e (running_procedure s) w.objects 0 0 (Some outermost.number) behind_it w.inner w.within alters
+      subst (λ (running : Option ℕ). InnerIn after running w.inner) (sym same.procedure)
+      (inner_on program s thrifty outermost.behind outermost.lower after e (running_procedure s) 0 0 (Some outermost.number) behind_it w.inner w.within alters
       (λ n. operands_behind (0 + n) after.activations s.activations same.suspended) still.1)
 
   pub stays_on : (e : Event) (after : State) → SameBody s after → Stepped (known_in program (running_procedure s) f.suspensions) s.heap e after → Frugally thrifty outermost.lower outermost.behind (operated_among w.inner) after → Still after → InTouching program s.heap e after
   stays_on e after same st goes still =
-      touching_on w.inner w.objects e after (inner_stays e after same st.alters still) (operands_behind (length w.inner) after.activations s.activations same.suspended) goes still.0
+      touching_on w.inner e after (inner_stays e after same st.alters still) (operands_behind (length w.inner) after.activations s.activations same.suspended) goes still.0
       (subst (λ (all : List Suspension). CrossesTo program all s.heap e after) w.are (record {
         stepped = subst (λ (procedure : Option ℕ). Stepped (known_in program procedure f.suspensions) s.heap e after) (sym same.procedure) st;
         stands = stands_kept program s after f.suspensions f.stands e same st.alters;
       }))
 
-  pub stays_next : (n : Next) → Each (SameBody s) n → Fine (known_in program (running_procedure s) f.suspensions) s.heap s.masters n → GoesFrugally thrifty outermost.lower w.objects outermost.behind (operated_among w.inner) n → Each Still n → GoesTouching program s n
+  pub stays_next : (n : Next) → Each (SameBody s) n → Fine (known_in program (running_procedure s) f.suspensions) s.heap s.masters n → GoesFrugally thrifty outermost.lower outermost.behind (operated_among w.inner) n → Each Still n → GoesTouching program s n
   stays_next (halts halt) same fine goes still = fine
   stays_next (moves e after) same fine goes still = inl (stays_on e after same fine goes still)
   stays_next (tells request e after) same fine goes still = inl (stays_on e after same fine goes still)
@@ -152,21 +152,21 @@ module _ (program : Program) (s : State) (f : Touching program s) where
 
   -- The body of no operation ends next.
   module _ (grounds : Grounds program s) (on : (k : Control) → IsAwaited k → s.control ≡ Returns [] [] ∷ k → ⊥) where
-    pub none_end : (running : Option ℕ) (depth : ℕ) (last : Option ℕ) (others inner : List Suspension) (are : AreInner program s thrifty outermost.behind outermost.lower running objects depth last others inner)
-        → AllGoOnInside program f.suspensions s w grounds thrifty outermost.behind outermost.lower running objects depth last others inner are
-    none_end running objects depth last others [] are = tt
-    none_end running objects depth last others (g ∷ inner) (inl (call, more)) = none_end g.procedure objects (suc depth) last others inner more
-    none_end running objects depth last others (g ∷ inner) (inr (outer, operation, more)) =
+    pub none_end : (running : Option ℕ) (depth : ℕ) (last : Option ℕ) (others inner : List Suspension) (are : AreInner program s thrifty outermost.behind outermost.lower running depth last others inner)
+        → AllGoOnInside program f.suspensions s f.ready grounds thrifty outermost.behind outermost.lower running depth last others inner are
+    none_end running depth last others [] are = tt
+    none_end running depth last others (g ∷ inner) (inl (call, more)) = none_end g.procedure (suc depth) last others inner more
+    none_end running depth last others (g ∷ inner) (inr (operation, more)) =
         let o = operation.pause in
-        (on o.behind (is_awaited p.types o.object o.of o.treatment o.tasks o.after o.behind o.awaited), none_end g.procedure outer (suc depth) last others inner more)
+        (on o.behind (is_awaited p.types o.object o.of o.treatment o.tasks o.after o.behind o.awaited), none_end g.procedure (suc depth) last others inner more)
 
     -- What is watched is so behind whatever comes next.
     pub still_on : Each Still (next program.types.items (body_forms program) s)
     still_on =
-        each_and (Watched program outermost.watch outermost.behind)
-        (λ after. AllWatched program s thrifty outermost.behind outermost.lower after (running_procedure s) w.objects 0 (Some outermost.number) behind_it w.inner w.within)
+        each_and (Watched program outermost.watch outermost.behind outermost.lower)
+        (λ after. AllWatched program s thrifty outermost.behind outermost.lower after (running_procedure s) 0 (Some outermost.number) behind_it w.inner w.within)
         (next program.types.items (body_forms program) s)
-        (watched_stays program f.suspensions s w grounds outermost.watch outermost.behind (λ x is. idle_within program f.suspensions s w (outermost.at_end x is)) outermost.still
+        (watched_stays program f.suspensions s f.ready grounds outermost.watch outermost.behind outermost.lower outermost.still
         (on outermost.behind (is_awaited p.types outermost.object outermost.of outermost.treatment outermost.tasks outermost.after outermost.behind outermost.awaited)))
-        (all_watched program f.suspensions s w grounds thrifty outermost.behind outermost.lower (running_procedure s) w.objects 0 (Some outermost.number) behind_it w.inner (λ idle. idle) w.within
-        (none_end (running_procedure s) w.objects 0 (Some outermost.number) behind_it w.inner w.within))
+        (all_watched program f.suspensions s f.ready grounds thrifty outermost.behind outermost.lower (running_procedure s) 0 (Some outermost.number) behind_it w.inner w.within
+        (none_end (running_procedure s) 0 (Some outermost.number) behind_it w.inner w.within))

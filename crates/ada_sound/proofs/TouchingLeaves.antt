@@ -16,7 +16,7 @@ use Rattle.ada_meaning.specs.State.{Master, Item, Owned, declared, collection, r
 use Rattle.ada_meaning.specs.Step.{places_of, operands_of}
 use Rattle.ada_scopes.proofs.Components.{items_fit}
 use Rattle.ada_scopes.proofs.Homes.{ItemsFit, OwnedFits, fit_before}
-use Rattle.ada_sound.proofs.Allowance.{Allowance, allowance_by}
+use Rattle.ada_sound.proofs.Allowance.{Allowance, allowance_of}
 use Rattle.ada_sound.proofs.Callers.{known_in}
 use Rattle.ada_sound.proofs.Touching.{Touching, operated_among}
 use Rattle.ada_sound.proofs.TouchingGoes.{thrifty}
@@ -26,20 +26,12 @@ use Rattle.ada_sound.proofs.Grounds.{Grounds}
 use Rattle.ada_sound.proofs.InOrder.{component_is_access, none_of_record}
 use Rattle.ada_sound.proofs.Invariant.{Control, ReadyIn, RunsOn, departs, departs_next, innermost, outers}
 use Rattle.ada_sound.proofs.Leavings.{HeldIn, NamedBelow, AreInOrder}
-use Rattle.ada_sound.proofs.Operating.{IsVariable}
 use Rattle.ada_sound.proofs.Items.{Houses}
 use Rattle.ada_sound.specs.Agreement.{running_procedure}
 use Rattle.ada_sound.proofs.Below.{named_below}
 use Rattle.ada_sound.proofs.Returns.{same_types}
 use Rattle.ada_quiet.specs.Calm.{are_calm_in}
 use Rattle.ada_sound.proofs.Fits.{from_ahead}
-
--- A variable is the home of no objects.
-pub variable_houses : (owned : Owned) (access : ℕ) (pool : Option ℕ) → IsVariable owned → Houses owned access pool → ⊥
-variable_houses (declared x) access pool own houses = houses
-variable_houses (collection t from) access pool own houses = own
-variable_houses (record_object t) access pool own houses = own
-variable_houses (storage_pool declaration number) access pool own houses = own
 
 -- No component is of the type of a record object, which is no access type, so nothing more is asked of the order in which such items go.
 module _ (allowance : Allowance) (ahead : Owned → Bool) (types : List TypeForm) (calm : ℕ → Bool) (fit : list_all (type_fits types) types ≡ true) where
@@ -67,10 +59,10 @@ fit_innermost types (m ∷ ms) fits = fit_before types m.items (items_of ms) fit
 
 -- The master that is left while the body of an operation that touches storage runs, or one since then, is one of the bodies' own.
 pub leaves_owned : (program : Program) (s : State) (f : Touching program s) (left : Mode) (k : Control) → s.control ≡ Leaves left ∷ k
-    → AreOwnedBy (allowance_by (program_form program) f.within.objects) (innermost s.masters)
+    → AreOwnedBy (allowance_of (program_form program)) (innermost s.masters)
 leaves_owned program s f left k leaves =
     let w = f.within in
-    let inner = leaves_own (thrifty program s f) w.objects w.outermost.behind (operated_among w.inner) s.mode left k w.frugal.upper w.outermost.lower (rw leaves at w.frugal.frugally) in
+    let inner = leaves_own (thrifty program s f) w.outermost.behind (operated_among w.inner) s.mode left k w.frugal.upper w.outermost.lower (rw leaves at w.frugal.frugally) in
     rw w.frugal.masters inner
 
 -- So its items go in order.
@@ -80,7 +72,7 @@ leaves_in_order program s grounds f left k leaves =
     let p = program_form program in
     let ahead = (known_in program (running_procedure s) f.suspensions).ahead in
     subst (λ (types : List TypeForm). AreInOrder ahead types (innermost s.masters)) (sym (same_types (running_procedure s) p))
-    (owned_in_order (allowance_by p f.within.objects) ahead p.types (are_calm_in p) grounds.well.types_fit (innermost s.masters) (leaves_owned program s f left k leaves)
+    (owned_in_order (allowance_of p) ahead p.types (are_calm_in p) grounds.well.types_fit (innermost s.masters) (leaves_owned program s f left k leaves)
     (fit_innermost p.types s.masters (items_fit p s grounds.nested)))
 
 -- While the body of an operation that touches storage runs, or one since then, the master that is left holds nothing but what lies in it; and what callers rely
@@ -94,7 +86,7 @@ touching_leaves program s grounds f runs left k leaves =
     let more = RunsOn known (Leaves left ∷ k) in
     let fits : ItemsFit known.program.types (items_of s.masters) =
     subst (λ (types : List TypeForm). ItemsFit types (items_of s.masters)) (sym (same_types (running_procedure s) p)) (items_fit p s grounds.nested) in (
-      held_in_none known s.heap _ s.masters more parting (allowance_by p f.within.objects) (leaves_owned program s f left k leaves) fits
+      held_in_none known s.heap _ s.masters more parting (allowance_of p) (leaves_owned program s f left k leaves) fits
           (λ may. subst (λ (types : List TypeForm). list_all (type_fits types) types ≡ true) (sym (same_types (running_procedure s) p)) grounds.well.types_fit),
       named_below known s.heap f.stands.standing.waiting f.stands.standing.low left k s.masters parting,
     )
@@ -106,4 +98,4 @@ touching_stays program s f runs =
     let known = known_in program (running_procedure s) f.suspensions in
     let ready : ReadyIn known Running s.control s.heap (places_of s.activations) (operands_of s.activations) (w.frugal.upper ++ w.outermost.lower) = rw (runs, w.frugal.masters) at f.ready.1 in
     subst (λ (ms : List Master). departs_next (departs known.ahead (innermost ms)) s.control ≡ false) (sym w.frugal.masters)
-    (frugal_stays known (thrifty program s f) w.objects w.outermost.behind (operated_among w.inner) s.mode s.control s.heap (places_of s.activations) (operands_of s.activations) w.frugal.upper w.outermost.lower w.frugal.frugally ready)
+    (frugal_stays known (thrifty program s f) w.outermost.behind (operated_among w.inner) s.mode s.control s.heap (places_of s.activations) (operands_of s.activations) w.frugal.upper w.outermost.lower w.frugal.frugally ready)

@@ -36,13 +36,14 @@ use Rattle.ada_sound.proofs.Callers.{Suspension, callers_of, known_in, Stands}
 use Rattle.ada_scopes.specs.Scopes.{is_innermost}
 use Rattle.ada_sound.proofs.Fits.{IsReferred, Reference, referred_behind, referred_first}
 use Rattle.ada_sound.proofs.FreesCovered.{frees_among}
-use Rattle.ada_sound.proofs.FrugalControl.{Frugal, FrugalLeads, FrugalLeaves, FrugalOperated, Allowance, begins_first, none_operated, operated_in, allowance_of}
+use Rattle.ada_sound.proofs.Allowance.{Allowance, allowance_of}
+use Rattle.ada_sound.proofs.FrugalControl.{Frugal, FrugalLeads, FrugalLeaves, FrugalOperated, begins_first, none_operated, operated_in}
 use Rattle.ada_sound.proofs.FrugalFrees.{LeftAlone}
 use Rattle.ada_sound.proofs.Leavings.{NamedBelow}
 use Rattle.ada_sound.proofs.Grounds.{Grounds, may_free}
 use Rattle.ada_sound.proofs.Homes.{NoneIsUnder}
 use Rattle.ada_sound.proofs.Invariant.{AllWait, Control, CoveredIn, Known, Ready, Rooms, outers, referenced_in, under_in, waits_covers}
-use Rattle.ada_sound.proofs.Operating.{IsCalm, WaitsFor, may_create_in}
+use Rattle.ada_sound.proofs.Operating.{IsCalm, WaitsFor}
 use Rattle.ada_sound.proofs.Returns.{same_types}
 use Rattle.ada_sound.proofs.SparesOwn.{spares_end}
 use Rattle.ada_sound.proofs.Standing.{AllStand, FinalizesBy, FinalizesIn, FreesAmong}
@@ -66,232 +67,232 @@ module _ (frugal : Allowance) where
     leads_begin :
         (v : Value) (behind : Control) (among : List Value) (k : Control) (ms : List Master) → (IsAmong v among → ⊥) → NothingBegins v behind
         → FrugalLeads frugal behind among k ms → NothingBegins v k
-    leads_begin objects v behind among [] ms apart none q = absurd q
-    leads_begin objects v behind among (frame.Returns actuals references ∷ k) ms apart none (inl q) = subst (NothingBegins v) (sym q.2) none
-    leads_begin objects v behind among (frame.Returns actuals references ∷ k) ms apart none (inr (inl q)) = leads_begin objects v behind among k ms apart none q
-    leads_begin objects v behind among (frame.Returns actuals references ∷ k) ms apart none (inr (inr (outer, q))) = operated_begin objects outer v behind among k ms apart none q
-    leads_begin objects v behind among (frame.Elaborates ds fs hs ∷ k) [] apart none q = absurd q
-    leads_begin objects v behind among (frame.Elaborates ds fs hs ∷ k) (m ∷ ms) apart none q = leads_begin objects v behind among k ms apart none q.1
-    leads_begin objects v behind among (frame.Closes ∷ k) [] apart none q = absurd q
-    leads_begin objects v behind among (frame.Closes ∷ k) (m ∷ ms) apart none q = leads_begin objects v behind among k ms apart none q.1
-    leads_begin objects v behind among (frame.Declares x ∷ k) [] apart none q = absurd q
-    leads_begin objects v behind among (frame.Declares x ∷ k) (m ∷ ms) apart none q = leads_begin objects v behind among k (m ∷ ms) apart none q.1
-    leads_begin objects v behind among (frame.Treats w (begins by done) tasks ∷ k) ms apart none q = absurd q.0.0
-    leads_begin objects v behind among (frame.Treats w (ends cause) tasks ∷ k) ms apart none q = leads_begin objects v behind among k ms apart none q.1
-    leads_begin objects v behind among (frame.Awaits w by done of part tasks ∷ k) ms apart none q = absurd q.0
-    leads_begin objects v behind among (f ∷ k) ms apart none q = leads_begin objects v behind among k ms apart none q.1
+    leads_begin v behind among [] ms apart none q = absurd q
+    leads_begin v behind among (frame.Returns actuals references ∷ k) ms apart none (inl q) = subst (NothingBegins v) (sym q.2) none
+    leads_begin v behind among (frame.Returns actuals references ∷ k) ms apart none (inr (inl q)) = leads_begin v behind among k ms apart none q
+    leads_begin v behind among (frame.Returns actuals references ∷ k) ms apart none (inr (inr q)) = operated_begin v behind among k ms apart none q
+    leads_begin v behind among (frame.Elaborates ds fs hs ∷ k) [] apart none q = absurd q
+    leads_begin v behind among (frame.Elaborates ds fs hs ∷ k) (m ∷ ms) apart none q = leads_begin v behind among k ms apart none q.1
+    leads_begin v behind among (frame.Closes ∷ k) [] apart none q = absurd q
+    leads_begin v behind among (frame.Closes ∷ k) (m ∷ ms) apart none q = leads_begin v behind among k ms apart none q.1
+    leads_begin v behind among (frame.Declares x ∷ k) [] apart none q = absurd q
+    leads_begin v behind among (frame.Declares x ∷ k) (m ∷ ms) apart none q = leads_begin v behind among k (m ∷ ms) apart none q.1
+    leads_begin v behind among (frame.Treats w (begins by done) tasks ∷ k) ms apart none q = absurd q.0.0
+    leads_begin v behind among (frame.Treats w (ends cause) tasks ∷ k) ms apart none q = leads_begin v behind among k ms apart none q.1
+    leads_begin v behind among (frame.Awaits w by done of part tasks ∷ k) ms apart none q = absurd q.0
+    leads_begin v behind among (f ∷ k) ms apart none q = leads_begin v behind among k ms apart none q.1
 
     -- So it is while a master is left.
     leaves_begin :
         (v : Value) (behind : Control) (among : List Value) (k : Control) (ms : List Master) → (IsAmong v among → ⊥) → NothingBegins v behind
         → FrugalLeaves frugal behind among k ms → NothingBegins v k
-    leaves_begin objects v behind among [] ms apart none q = absurd q
-    leaves_begin objects v behind among (frame.Leaves left ∷ k) [] apart none q = absurd q
-    leaves_begin objects v behind among (frame.Leaves left ∷ k) (m ∷ ms) apart none q = leads_begin objects v behind among k ms apart none q.1
-    leaves_begin objects v behind among (frame.Ends w ∷ k) ms apart none q = leaves_begin objects v behind among k ms apart none q
-    leaves_begin objects v behind among (frame.GivesBack w cause pool ∷ k) ms apart none q = leaves_begin objects v behind among k ms apart none q
-    leaves_begin objects v behind among (frame.Treats w (begins by done) tasks ∷ k) ms apart none q = absurd q.0.0
-    leaves_begin objects v behind among (frame.Treats w (ends cause) tasks ∷ k) ms apart none q = leaves_begin objects v behind among k ms apart none q.1
-    leaves_begin objects v behind among (frame.Confines ∷ k) ms apart none q = leaves_begin objects v behind among k ms apart none q.1
-    leaves_begin objects v behind among (f ∷ k) ms apart none q = absurd q
+    leaves_begin v behind among [] ms apart none q = absurd q
+    leaves_begin v behind among (frame.Leaves left ∷ k) [] apart none q = absurd q
+    leaves_begin v behind among (frame.Leaves left ∷ k) (m ∷ ms) apart none q = leads_begin v behind among k ms apart none q.1
+    leaves_begin v behind among (frame.Ends w ∷ k) ms apart none q = leaves_begin v behind among k ms apart none q
+    leaves_begin v behind among (frame.GivesBack w cause pool ∷ k) ms apart none q = leaves_begin v behind among k ms apart none q
+    leaves_begin v behind among (frame.Treats w (begins by done) tasks ∷ k) ms apart none q = absurd q.0.0
+    leaves_begin v behind among (frame.Treats w (ends cause) tasks ∷ k) ms apart none q = leaves_begin v behind among k ms apart none q.1
+    leaves_begin v behind among (frame.Confines ∷ k) ms apart none q = leaves_begin v behind among k ms apart none q.1
+    leaves_begin v behind among (f ∷ k) ms apart none q = absurd q
 
     operated_begin :
         (v : Value) (behind : Control) (among : List Value) (k : Control) (ms : List Master) → (IsAmong v among → ⊥) → NothingBegins v behind
         → FrugalOperated frugal behind among k ms → NothingBegins v k
-    operated_begin objects outer v behind among [] ms apart none q = absurd q
-    operated_begin objects outer v behind among (frame.Confines ∷ k) ms apart none (vs, is, idle, inl (ending, q)) =
-        leads_begin outer v behind vs k ms (λ later. apart (subst (IsAmong v) (sym is) (inr later))) none q
-    operated_begin objects outer v behind among (frame.Confines ∷ k) ms apart none (vs, is, idle, inr (ending, q)) =
-        leaves_begin outer v behind vs k ms (λ later. apart (subst (IsAmong v) (sym is) (inr later))) none q
-    operated_begin objects outer v behind among (frame.Awaits w by done of part tasks ∷ k) ms apart none (vs, is, creates, may, beginning, q) = (
+    operated_begin v behind among [] ms apart none q = absurd q
+    operated_begin v behind among (frame.Confines ∷ k) ms apart none (vs, is, inl (ending, q)) =
+        leads_begin v behind vs k ms (λ later. apart (subst (IsAmong v) (sym is) (inr later))) none q
+    operated_begin v behind among (frame.Confines ∷ k) ms apart none (vs, is, inr (ending, q)) =
+        leaves_begin v behind vs k ms (λ later. apart (subst (IsAmong v) (sym is) (inr later))) none q
+    operated_begin v behind among (frame.Awaits w by done of part tasks ∷ k) ms apart none (vs, is, beginning, q) = (
       (λ same. apart (subst (IsAmong v) (sym is) (inl (sym same)))),
-      leads_begin outer v behind vs k ms (λ later. apart (subst (IsAmong v) (sym is) (inr later))) none q,
+      leads_begin v behind vs k ms (λ later. apart (subst (IsAmong v) (sym is) (inr later))) none q,
     )
-    operated_begin objects outer v behind among (f ∷ k) ms apart none q = absurd q
+    operated_begin v behind among (f ∷ k) ms apart none q = absurd q
 
   frugal_begin :
       (v : Value) (behind : Control) (among : List Value) (mode : Mode) (k : Control) (ms : List Master) → begins_first k ≡ false → (IsAmong v among → ⊥)
       → NothingBegins v behind → Frugal frugal behind among mode k ms → NothingBegins v k
-  frugal_begin objects v behind among mode k ms other apart none (inl q) = leads_begin objects v behind among k ms apart none q
-  frugal_begin objects v behind among mode k ms other apart none (inr (inl leaving)) = leaves_begin objects v behind among k ms apart none leaving.1
-  frugal_begin objects v behind among mode [] ms other apart none (inr (inr beginning)) = absurd beginning.1
-  frugal_begin objects v behind among mode (frame.Treats w (begins by done) tasks ∷ k) ms other apart none (inr (inr beginning)) = absurd (cc other)
-  frugal_begin objects v behind among mode (frame.Awaits w by done of part tasks ∷ k) ms other apart none (inr (inr beginning)) = absurd (cc other)
-  frugal_begin objects v behind among mode (f ∷ k) ms other apart none (inr (inr beginning)) = absurd beginning.1
+  frugal_begin v behind among mode k ms other apart none (inl q) = leads_begin v behind among k ms apart none q
+  frugal_begin v behind among mode k ms other apart none (inr (inl leaving)) = leaves_begin v behind among k ms apart none leaving.1
+  frugal_begin v behind among mode [] ms other apart none (inr (inr beginning)) = absurd beginning.1
+  frugal_begin v behind among mode (frame.Treats w (begins by done) tasks ∷ k) ms other apart none (inr (inr beginning)) = absurd (cc other)
+  frugal_begin v behind among mode (frame.Awaits w by done of part tasks ∷ k) ms other apart none (inr (inr beginning)) = absurd (cc other)
+  frugal_begin v behind among mode (f ∷ k) ms other apart none (inr (inr beginning)) = absurd beginning.1
 
   mutual
     -- Where no operation of an object runs, none does behind that end.
     leads_alone :
         (v : Value) (behind : Control) (among : List Value) (k : Control) (ms : List Master) → NoOperationRunsOn v k → FrugalLeads frugal behind among k ms
         → NoOperationRunsOn v behind
-    leads_alone objects v behind among [] ms none q = absurd q
-    leads_alone objects v behind among (frame.Returns actuals references ∷ k) ms none (inl q) = subst (NoOperationRunsOn v) q.2 none
-    leads_alone objects v behind among (frame.Returns actuals references ∷ k) ms none (inr (inl q)) = leads_alone objects v behind among k ms none q
-    leads_alone objects v behind among (frame.Returns actuals references ∷ k) ms none (inr (inr (outer, q))) = operated_alone objects outer v behind among k ms none q
-    leads_alone objects v behind among (frame.Elaborates ds fs hs ∷ k) [] none q = absurd q
-    leads_alone objects v behind among (frame.Elaborates ds fs hs ∷ k) (m ∷ ms) none q = leads_alone objects v behind among k ms none q.1
-    leads_alone objects v behind among (frame.Closes ∷ k) [] none q = absurd q
-    leads_alone objects v behind among (frame.Closes ∷ k) (m ∷ ms) none q = leads_alone objects v behind among k ms none q.1
-    leads_alone objects v behind among (frame.Declares x ∷ k) [] none q = absurd q
-    leads_alone objects v behind among (frame.Declares x ∷ k) (m ∷ ms) none q = leads_alone objects v behind among k (m ∷ ms) none q.1
-    leads_alone objects v behind among (frame.Awaits w by done of part tasks ∷ k) ms none q = absurd q.0
-    leads_alone objects v behind among (frame.Confines ∷ k) ms none q = leads_alone objects v behind among k ms none.1 q.1
-    leads_alone objects v behind among (f ∷ k) ms none q = leads_alone objects v behind among k ms none q.1
+    leads_alone v behind among [] ms none q = absurd q
+    leads_alone v behind among (frame.Returns actuals references ∷ k) ms none (inl q) = subst (NoOperationRunsOn v) q.2 none
+    leads_alone v behind among (frame.Returns actuals references ∷ k) ms none (inr (inl q)) = leads_alone v behind among k ms none q
+    leads_alone v behind among (frame.Returns actuals references ∷ k) ms none (inr (inr q)) = operated_alone v behind among k ms none q
+    leads_alone v behind among (frame.Elaborates ds fs hs ∷ k) [] none q = absurd q
+    leads_alone v behind among (frame.Elaborates ds fs hs ∷ k) (m ∷ ms) none q = leads_alone v behind among k ms none q.1
+    leads_alone v behind among (frame.Closes ∷ k) [] none q = absurd q
+    leads_alone v behind among (frame.Closes ∷ k) (m ∷ ms) none q = leads_alone v behind among k ms none q.1
+    leads_alone v behind among (frame.Declares x ∷ k) [] none q = absurd q
+    leads_alone v behind among (frame.Declares x ∷ k) (m ∷ ms) none q = leads_alone v behind among k (m ∷ ms) none q.1
+    leads_alone v behind among (frame.Awaits w by done of part tasks ∷ k) ms none q = absurd q.0
+    leads_alone v behind among (frame.Confines ∷ k) ms none q = leads_alone v behind among k ms none.1 q.1
+    leads_alone v behind among (f ∷ k) ms none q = leads_alone v behind among k ms none q.1
 
     leaves_alone :
         (v : Value) (behind : Control) (among : List Value) (k : Control) (ms : List Master) → NoOperationRunsOn v k → FrugalLeaves frugal behind among k ms
         → NoOperationRunsOn v behind
-    leaves_alone objects v behind among [] ms none q = absurd q
-    leaves_alone objects v behind among (frame.Leaves left ∷ k) [] none q = absurd q
-    leaves_alone objects v behind among (frame.Leaves left ∷ k) (m ∷ ms) none q = leads_alone objects v behind among k ms none q.1
-    leaves_alone objects v behind among (frame.Ends w ∷ k) ms none q = leaves_alone objects v behind among k ms none q
-    leaves_alone objects v behind among (frame.GivesBack w cause pool ∷ k) ms none q = leaves_alone objects v behind among k ms none q
-    leaves_alone objects v behind among (frame.Treats w treatment tasks ∷ k) ms none q = leaves_alone objects v behind among k ms none q.1
-    leaves_alone objects v behind among (frame.Confines ∷ k) ms none q = leaves_alone objects v behind among k ms none.1 q.1
-    leaves_alone objects v behind among (f ∷ k) ms none q = absurd q
+    leaves_alone v behind among [] ms none q = absurd q
+    leaves_alone v behind among (frame.Leaves left ∷ k) [] none q = absurd q
+    leaves_alone v behind among (frame.Leaves left ∷ k) (m ∷ ms) none q = leads_alone v behind among k ms none q.1
+    leaves_alone v behind among (frame.Ends w ∷ k) ms none q = leaves_alone v behind among k ms none q
+    leaves_alone v behind among (frame.GivesBack w cause pool ∷ k) ms none q = leaves_alone v behind among k ms none q
+    leaves_alone v behind among (frame.Treats w treatment tasks ∷ k) ms none q = leaves_alone v behind among k ms none q.1
+    leaves_alone v behind among (frame.Confines ∷ k) ms none q = leaves_alone v behind among k ms none.1 q.1
+    leaves_alone v behind among (f ∷ k) ms none q = absurd q
 
     operated_alone :
         (v : Value) (behind : Control) (among : List Value) (k : Control) (ms : List Master) → NoOperationRunsOn v k
         → FrugalOperated frugal behind among k ms → NoOperationRunsOn v behind
-    operated_alone objects outer v behind among [] ms none q = absurd q
-    operated_alone objects outer v behind among (frame.Confines ∷ k) ms none (vs, is, idle, inl (ending, q)) = leads_alone outer v behind vs k ms none.1 q
-    operated_alone objects outer v behind among (frame.Confines ∷ k) ms none (vs, is, idle, inr (ending, q)) = leaves_alone outer v behind vs k ms none.1 q
-    operated_alone objects outer v behind among (frame.Awaits w by done of part tasks ∷ k) ms none (vs, is, creates, may, beginning, q) = leads_alone outer v behind vs k ms none.1 q
-    operated_alone objects outer v behind among (f ∷ k) ms none q = absurd q
+    operated_alone v behind among [] ms none q = absurd q
+    operated_alone v behind among (frame.Confines ∷ k) ms none (vs, is, inl (ending, q)) = leads_alone v behind vs k ms none.1 q
+    operated_alone v behind among (frame.Confines ∷ k) ms none (vs, is, inr (ending, q)) = leaves_alone v behind vs k ms none.1 q
+    operated_alone v behind among (frame.Awaits w by done of part tasks ∷ k) ms none (vs, is, beginning, q) = leads_alone v behind vs k ms none.1 q
+    operated_alone v behind among (f ∷ k) ms none q = absurd q
 
   mutual
     -- An operation runs of each of the objects whose operations run inside.
     pub operated_runs :
         (v : Value) (behind : Control) (among : List Value) (k : Control) (ms : List Master) → IsAmong v among → FrugalLeads frugal behind among k ms
         → NoOperationRunsOn v k → ⊥
-    operated_runs objects v behind among [] ms is q none = q
-    operated_runs objects v behind among (frame.Returns actuals references ∷ k) ms is (inl q) none = subst (IsAmong v) q.3 is
-    operated_runs objects v behind among (frame.Returns actuals references ∷ k) ms is (inr (inl q)) none = operated_runs objects v behind among k ms is q none
-    operated_runs objects v behind among (frame.Returns actuals references ∷ k) ms is (inr (inr (outer, q))) none = operation_runs objects outer v behind among k ms is q none
-    operated_runs objects v behind among (frame.Elaborates ds fs hs ∷ k) [] is q none = q
-    operated_runs objects v behind among (frame.Elaborates ds fs hs ∷ k) (m ∷ ms) is q none = operated_runs objects v behind among k ms is q.1 none
-    operated_runs objects v behind among (frame.Closes ∷ k) [] is q none = q
-    operated_runs objects v behind among (frame.Closes ∷ k) (m ∷ ms) is q none = operated_runs objects v behind among k ms is q.1 none
-    operated_runs objects v behind among (frame.Declares x ∷ k) [] is q none = q
-    operated_runs objects v behind among (frame.Declares x ∷ k) (m ∷ ms) is q none = operated_runs objects v behind among k (m ∷ ms) is q.1 none
-    operated_runs objects v behind among (frame.Awaits w by done of part tasks ∷ k) ms is q none = q.0
-    operated_runs objects v behind among (frame.Confines ∷ k) ms is q none = operated_runs objects v behind among k ms is q.1 none.1
-    operated_runs objects v behind among (f ∷ k) ms is q none = operated_runs objects v behind among k ms is q.1 none
+    operated_runs v behind among [] ms is q none = q
+    operated_runs v behind among (frame.Returns actuals references ∷ k) ms is (inl q) none = subst (IsAmong v) q.3 is
+    operated_runs v behind among (frame.Returns actuals references ∷ k) ms is (inr (inl q)) none = operated_runs v behind among k ms is q none
+    operated_runs v behind among (frame.Returns actuals references ∷ k) ms is (inr (inr q)) none = operation_runs v behind among k ms is q none
+    operated_runs v behind among (frame.Elaborates ds fs hs ∷ k) [] is q none = q
+    operated_runs v behind among (frame.Elaborates ds fs hs ∷ k) (m ∷ ms) is q none = operated_runs v behind among k ms is q.1 none
+    operated_runs v behind among (frame.Closes ∷ k) [] is q none = q
+    operated_runs v behind among (frame.Closes ∷ k) (m ∷ ms) is q none = operated_runs v behind among k ms is q.1 none
+    operated_runs v behind among (frame.Declares x ∷ k) [] is q none = q
+    operated_runs v behind among (frame.Declares x ∷ k) (m ∷ ms) is q none = operated_runs v behind among k (m ∷ ms) is q.1 none
+    operated_runs v behind among (frame.Awaits w by done of part tasks ∷ k) ms is q none = q.0
+    operated_runs v behind among (frame.Confines ∷ k) ms is q none = operated_runs v behind among k ms is q.1 none.1
+    operated_runs v behind among (f ∷ k) ms is q none = operated_runs v behind among k ms is q.1 none
 
     pub leaving_runs :
         (v : Value) (behind : Control) (among : List Value) (k : Control) (ms : List Master) → IsAmong v among → FrugalLeaves frugal behind among k ms
         → NoOperationRunsOn v k → ⊥
-    leaving_runs objects v behind among [] ms is q none = q
-    leaving_runs objects v behind among (frame.Leaves left ∷ k) [] is q none = q
-    leaving_runs objects v behind among (frame.Leaves left ∷ k) (m ∷ ms) is q none = operated_runs objects v behind among k ms is q.1 none
-    leaving_runs objects v behind among (frame.Ends w ∷ k) ms is q none = leaving_runs objects v behind among k ms is q none
-    leaving_runs objects v behind among (frame.GivesBack w cause pool ∷ k) ms is q none = leaving_runs objects v behind among k ms is q none
-    leaving_runs objects v behind among (frame.Treats w treatment tasks ∷ k) ms is q none = leaving_runs objects v behind among k ms is q.1 none
-    leaving_runs objects v behind among (frame.Confines ∷ k) ms is q none = leaving_runs objects v behind among k ms is q.1 none.1
-    leaving_runs objects v behind among (f ∷ k) ms is q none = q
+    leaving_runs v behind among [] ms is q none = q
+    leaving_runs v behind among (frame.Leaves left ∷ k) [] is q none = q
+    leaving_runs v behind among (frame.Leaves left ∷ k) (m ∷ ms) is q none = operated_runs v behind among k ms is q.1 none
+    leaving_runs v behind among (frame.Ends w ∷ k) ms is q none = leaving_runs v behind among k ms is q none
+    leaving_runs v behind among (frame.GivesBack w cause pool ∷ k) ms is q none = leaving_runs v behind among k ms is q none
+    leaving_runs v behind among (frame.Treats w treatment tasks ∷ k) ms is q none = leaving_runs v behind among k ms is q.1 none
+    leaving_runs v behind among (frame.Confines ∷ k) ms is q none = leaving_runs v behind among k ms is q.1 none.1
+    leaving_runs v behind among (f ∷ k) ms is q none = q
 
     operation_runs :
         (v : Value) (behind : Control) (among : List Value) (k : Control) (ms : List Master) → IsAmong v among
         → FrugalOperated frugal behind among k ms → NoOperationRunsOn v k → ⊥
-    operation_runs objects outer v behind among [] ms is q none = q
-    operation_runs objects outer v behind among (frame.Confines ∷ k) ms is (vs, same, idle, inl (ending, q)) none =
-        elim (subst (IsAmong v) same is) [ inl first ↦ none.0 (sym first) | inr later ↦ operated_runs outer v behind vs k ms later q none.1 ]
-    operation_runs objects outer v behind among (frame.Confines ∷ k) ms is (vs, same, idle, inr (ending, q)) none =
-        elim (subst (IsAmong v) same is) [ inl first ↦ none.0 (sym first) | inr later ↦ leaving_runs outer v behind vs k ms later q none.1 ]
-    operation_runs objects outer v behind among (frame.Awaits w by done of part tasks ∷ k) ms is (vs, same, creates, may, beginning, q) none =
-        elim (subst (IsAmong v) same is) [ inl first ↦ none.0 (sym first) | inr later ↦ operated_runs outer v behind vs k ms later q none.1 ]
-    operation_runs objects outer v behind among (f ∷ k) ms is q none = q
+    operation_runs v behind among [] ms is q none = q
+    operation_runs v behind among (frame.Confines ∷ k) ms is (vs, same, inl (ending, q)) none =
+        elim (subst (IsAmong v) same is) [ inl first ↦ none.0 (sym first) | inr later ↦ operated_runs v behind vs k ms later q none.1 ]
+    operation_runs v behind among (frame.Confines ∷ k) ms is (vs, same, inr (ending, q)) none =
+        elim (subst (IsAmong v) same is) [ inl first ↦ none.0 (sym first) | inr later ↦ leaving_runs v behind vs k ms later q none.1 ]
+    operation_runs v behind among (frame.Awaits w by done of part tasks ∷ k) ms is (vs, same, beginning, q) none =
+        elim (subst (IsAmong v) same is) [ inl first ↦ none.0 (sym first) | inr later ↦ operated_runs v behind vs k ms later q none.1 ]
+    operation_runs v behind among (f ∷ k) ms is q none = q
 
   -- The object whose operation comes to its end in front of this is none of those whose operations run behind that.
   pub operated_once :
       (v : Value) (behind : Control) (vs : List Value) (k : Control) (ms : List Master) → operated_in k ≡ v ∷ []
       → FrugalOperated frugal behind (operated_in k ++ vs) k ms → IsAmong v vs → ⊥
-  operated_once objects outer v behind vs [] ms first q among = q
-  operated_once objects outer v behind vs (frame.Confines ∷ k) ms first (ws, is, idle, inl (ending, q)) among =
+  operated_once v behind vs [] ms first q among = q
+  operated_once v behind vs (frame.Confines ∷ k) ms first (ws, is, inl (ending, q)) among =
       let one : finalized_before k ≡ v = cc first in
       let same : vs ≡ ws = cc is in
-      operated_runs outer v behind vs k ms among (subst (λ (us : List Value). FrugalLeads frugal behind us k ms) (sym same) q)
+      operated_runs v behind vs k ms among (subst (λ (us : List Value). FrugalLeads frugal behind us k ms) (sym same) q)
       (subst (λ (w : Value). NoOperationRunsOn w k) one ending.1)
-  operated_once objects outer v behind vs (frame.Confines ∷ k) ms first (ws, is, idle, inr (ending, q)) among =
+  operated_once v behind vs (frame.Confines ∷ k) ms first (ws, is, inr (ending, q)) among =
       let one : finalized_before k ≡ v = cc first in
       let same : vs ≡ ws = cc is in
-      leaving_runs outer v behind vs k ms among (subst (λ (us : List Value). FrugalLeaves frugal behind us k ms) (sym same) q)
+      leaving_runs v behind vs k ms among (subst (λ (us : List Value). FrugalLeaves frugal behind us k ms) (sym same) q)
       (subst (λ (w : Value). NoOperationRunsOn w k) one ending.1)
-  operated_once objects outer v behind vs (frame.Awaits w by done of part tasks ∷ k) ms first (ws, is, creates, may, beginning, q) among =
+  operated_once v behind vs (frame.Awaits w by done of part tasks ∷ k) ms first (ws, is, beginning, q) among =
       let one : w ≡ v = cc first in
       let same : vs ≡ ws = cc is in
-      operated_runs outer v behind vs k ms among (subst (λ (us : List Value). FrugalLeads frugal behind us k ms) (sym same) q)
+      operated_runs v behind vs k ms among (subst (λ (us : List Value). FrugalLeads frugal behind us k ms) (sym same) q)
       (subst (λ (u : Value). NoOperationRunsOn u k) one beginning.2)
-  operated_once objects outer v behind vs (f ∷ k) ms first q among = q
+  operated_once v behind vs (f ∷ k) ms first q among = q
 
   mutual
     -- Where no operation runs behind the call of the running body, none does behind that end.
     leads_calm : (behind : Control) (among : List Value) (k : Control) (ms : List Master) → NoOperationRuns k → FrugalLeads frugal behind among k ms → NoOperationRuns behind
-    leads_calm objects behind among [] ms none q = absurd q
-    leads_calm objects behind among (frame.Returns actuals references ∷ k) ms none (inl q) = subst NoOperationRuns q.2 none.1
-    leads_calm objects behind among (frame.Returns actuals references ∷ k) ms none (inr (inl q)) = leads_calm objects behind among k ms none.1 q
-    leads_calm objects behind among (frame.Returns actuals references ∷ k) ms none (inr (inr (outer, q))) = operated_calm objects outer behind among k ms none.1 q
-    leads_calm objects behind among (frame.Elaborates ds fs hs ∷ k) [] none q = absurd q
-    leads_calm objects behind among (frame.Elaborates ds fs hs ∷ k) (m ∷ ms) none q = leads_calm objects behind among k ms none.1 q.1
-    leads_calm objects behind among (frame.Closes ∷ k) [] none q = absurd q
-    leads_calm objects behind among (frame.Closes ∷ k) (m ∷ ms) none q = leads_calm objects behind among k ms none.1 q.1
-    leads_calm objects behind among (frame.Declares x ∷ k) [] none q = absurd q
-    leads_calm objects behind among (frame.Declares x ∷ k) (m ∷ ms) none q = leads_calm objects behind among k (m ∷ ms) none.1 q.1
-    leads_calm objects behind among (f ∷ k) ms none q = leads_calm objects behind among k ms none.1 q.1
+    leads_calm behind among [] ms none q = absurd q
+    leads_calm behind among (frame.Returns actuals references ∷ k) ms none (inl q) = subst NoOperationRuns q.2 none.1
+    leads_calm behind among (frame.Returns actuals references ∷ k) ms none (inr (inl q)) = leads_calm behind among k ms none.1 q
+    leads_calm behind among (frame.Returns actuals references ∷ k) ms none (inr (inr q)) = operated_calm behind among k ms none.1 q
+    leads_calm behind among (frame.Elaborates ds fs hs ∷ k) [] none q = absurd q
+    leads_calm behind among (frame.Elaborates ds fs hs ∷ k) (m ∷ ms) none q = leads_calm behind among k ms none.1 q.1
+    leads_calm behind among (frame.Closes ∷ k) [] none q = absurd q
+    leads_calm behind among (frame.Closes ∷ k) (m ∷ ms) none q = leads_calm behind among k ms none.1 q.1
+    leads_calm behind among (frame.Declares x ∷ k) [] none q = absurd q
+    leads_calm behind among (frame.Declares x ∷ k) (m ∷ ms) none q = leads_calm behind among k (m ∷ ms) none.1 q.1
+    leads_calm behind among (f ∷ k) ms none q = leads_calm behind among k ms none.1 q.1
 
     leaves_calm : (behind : Control) (among : List Value) (k : Control) (ms : List Master) → NoOperationRuns k → FrugalLeaves frugal behind among k ms → NoOperationRuns behind
-    leaves_calm objects behind among [] ms none q = absurd q
-    leaves_calm objects behind among (frame.Leaves left ∷ k) [] none q = absurd q
-    leaves_calm objects behind among (frame.Leaves left ∷ k) (m ∷ ms) none q = leads_calm objects behind among k ms none.1 q.1
-    leaves_calm objects behind among (frame.Ends w ∷ k) ms none q = leaves_calm objects behind among k ms none.1 q
-    leaves_calm objects behind among (frame.GivesBack w cause pool ∷ k) ms none q = leaves_calm objects behind among k ms none.1 q
-    leaves_calm objects behind among (frame.Treats w treatment tasks ∷ k) ms none q = leaves_calm objects behind among k ms none.1 q.1
-    leaves_calm objects behind among (frame.Confines ∷ k) ms none q = leaves_calm objects behind among k ms none.1 q.1
-    leaves_calm objects behind among (f ∷ k) ms none q = absurd q
+    leaves_calm behind among [] ms none q = absurd q
+    leaves_calm behind among (frame.Leaves left ∷ k) [] none q = absurd q
+    leaves_calm behind among (frame.Leaves left ∷ k) (m ∷ ms) none q = leads_calm behind among k ms none.1 q.1
+    leaves_calm behind among (frame.Ends w ∷ k) ms none q = leaves_calm behind among k ms none.1 q
+    leaves_calm behind among (frame.GivesBack w cause pool ∷ k) ms none q = leaves_calm behind among k ms none.1 q
+    leaves_calm behind among (frame.Treats w treatment tasks ∷ k) ms none q = leaves_calm behind among k ms none.1 q.1
+    leaves_calm behind among (frame.Confines ∷ k) ms none q = leaves_calm behind among k ms none.1 q.1
+    leaves_calm behind among (f ∷ k) ms none q = absurd q
 
     operated_calm :
         (behind : Control) (among : List Value) (k : Control) (ms : List Master) → NoOperationRuns k → FrugalOperated frugal behind among k ms
         → NoOperationRuns behind
-    operated_calm objects outer behind among [] ms none q = absurd q
-    operated_calm objects outer behind among (frame.Confines ∷ k) ms none (vs, is, idle, inl (ending, q)) = leads_calm outer behind vs k ms none.1 q
-    operated_calm objects outer behind among (frame.Confines ∷ k) ms none (vs, is, idle, inr (ending, q)) = leaves_calm outer behind vs k ms none.1 q
-    operated_calm objects outer behind among (frame.Awaits w by done of part tasks ∷ k) ms none (vs, is, creates, may, beginning, q) = leads_calm outer behind vs k ms none.1 q
-    operated_calm objects outer behind among (f ∷ k) ms none q = absurd q
+    operated_calm behind among [] ms none q = absurd q
+    operated_calm behind among (frame.Confines ∷ k) ms none (vs, is, inl (ending, q)) = leads_calm behind vs k ms none.1 q
+    operated_calm behind among (frame.Confines ∷ k) ms none (vs, is, inr (ending, q)) = leaves_calm behind vs k ms none.1 q
+    operated_calm behind among (frame.Awaits w by done of part tasks ∷ k) ms none (vs, is, beginning, q) = leads_calm behind vs k ms none.1 q
+    operated_calm behind among (f ∷ k) ms none q = absurd q
 
   pub leads_calm_behind :
       (behind : Control) (among : List Value) (k : Control) (ms : List Master) → IsCalm (behind_call k) → FrugalLeads frugal behind among k ms → NoOperationRuns behind
-  leads_calm_behind objects behind among [] ms calm q = absurd q
-  leads_calm_behind objects behind among (frame.Returns actuals references ∷ k) ms calm (inl q) = subst NoOperationRuns q.2 calm
-  leads_calm_behind objects behind among (frame.Returns actuals references ∷ k) ms calm (inr (inl q)) = leads_calm objects behind among k ms calm q
-  leads_calm_behind objects behind among (frame.Returns actuals references ∷ k) ms calm (inr (inr (outer, q))) = operated_calm objects outer behind among k ms calm q
-  leads_calm_behind objects behind among (frame.Elaborates ds fs hs ∷ k) [] calm q = absurd q
-  leads_calm_behind objects behind among (frame.Elaborates ds fs hs ∷ k) (m ∷ ms) calm q = leads_calm_behind objects behind among k ms calm q.1
-  leads_calm_behind objects behind among (frame.Closes ∷ k) [] calm q = absurd q
-  leads_calm_behind objects behind among (frame.Closes ∷ k) (m ∷ ms) calm q = leads_calm_behind objects behind among k ms calm q.1
-  leads_calm_behind objects behind among (frame.Declares x ∷ k) [] calm q = absurd q
-  leads_calm_behind objects behind among (frame.Declares x ∷ k) (m ∷ ms) calm q = leads_calm_behind objects behind among k (m ∷ ms) calm q.1
-  leads_calm_behind objects behind among (f ∷ k) ms calm q = leads_calm_behind objects behind among k ms calm q.1
+  leads_calm_behind behind among [] ms calm q = absurd q
+  leads_calm_behind behind among (frame.Returns actuals references ∷ k) ms calm (inl q) = subst NoOperationRuns q.2 calm
+  leads_calm_behind behind among (frame.Returns actuals references ∷ k) ms calm (inr (inl q)) = leads_calm behind among k ms calm q
+  leads_calm_behind behind among (frame.Returns actuals references ∷ k) ms calm (inr (inr q)) = operated_calm behind among k ms calm q
+  leads_calm_behind behind among (frame.Elaborates ds fs hs ∷ k) [] calm q = absurd q
+  leads_calm_behind behind among (frame.Elaborates ds fs hs ∷ k) (m ∷ ms) calm q = leads_calm_behind behind among k ms calm q.1
+  leads_calm_behind behind among (frame.Closes ∷ k) [] calm q = absurd q
+  leads_calm_behind behind among (frame.Closes ∷ k) (m ∷ ms) calm q = leads_calm_behind behind among k ms calm q.1
+  leads_calm_behind behind among (frame.Declares x ∷ k) [] calm q = absurd q
+  leads_calm_behind behind among (frame.Declares x ∷ k) (m ∷ ms) calm q = leads_calm_behind behind among k (m ∷ ms) calm q.1
+  leads_calm_behind behind among (f ∷ k) ms calm q = leads_calm_behind behind among k ms calm q.1
 
   pub leaves_calm_behind :
       (behind : Control) (among : List Value) (k : Control) (ms : List Master) → IsCalm (behind_call k) → FrugalLeaves frugal behind among k ms → NoOperationRuns behind
-  leaves_calm_behind objects behind among [] ms calm q = absurd q
-  leaves_calm_behind objects behind among (frame.Leaves left ∷ k) [] calm q = absurd q
-  leaves_calm_behind objects behind among (frame.Leaves left ∷ k) (m ∷ ms) calm q = leads_calm_behind objects behind among k ms calm q.1
-  leaves_calm_behind objects behind among (frame.Ends w ∷ k) ms calm q = leaves_calm_behind objects behind among k ms calm q
-  leaves_calm_behind objects behind among (frame.GivesBack w cause pool ∷ k) ms calm q = leaves_calm_behind objects behind among k ms calm q
-  leaves_calm_behind objects behind among (frame.Treats w treatment tasks ∷ k) ms calm q = leaves_calm_behind objects behind among k ms calm q.1
-  leaves_calm_behind objects behind among (frame.Confines ∷ k) ms calm q = leaves_calm_behind objects behind among k ms calm q.1
-  leaves_calm_behind objects behind among (f ∷ k) ms calm q = absurd q
+  leaves_calm_behind behind among [] ms calm q = absurd q
+  leaves_calm_behind behind among (frame.Leaves left ∷ k) [] calm q = absurd q
+  leaves_calm_behind behind among (frame.Leaves left ∷ k) (m ∷ ms) calm q = leads_calm_behind behind among k ms calm q.1
+  leaves_calm_behind behind among (frame.Ends w ∷ k) ms calm q = leaves_calm_behind behind among k ms calm q
+  leaves_calm_behind behind among (frame.GivesBack w cause pool ∷ k) ms calm q = leaves_calm_behind behind among k ms calm q
+  leaves_calm_behind behind among (frame.Treats w treatment tasks ∷ k) ms calm q = leaves_calm_behind behind among k ms calm q.1
+  leaves_calm_behind behind among (frame.Confines ∷ k) ms calm q = leaves_calm_behind behind among k ms calm q.1
+  leaves_calm_behind behind among (f ∷ k) ms calm q = absurd q
 
   pub frugal_calm :
       (behind : Control) (among : List Value) (mode : Mode) (k : Control) (ms : List Master) → IsCalm (behind_call k) → Frugal frugal behind among mode k ms
       → NoOperationRuns behind
-  frugal_calm objects behind among mode k ms calm (inl q) = leads_calm_behind objects behind among k ms calm q
-  frugal_calm objects behind among mode k ms calm (inr (inl leaving)) = leaves_calm_behind objects behind among k ms calm leaving.1
-  frugal_calm objects behind among mode [] ms calm (inr (inr beginning)) = absurd beginning.1
-  frugal_calm objects behind among mode (frame.Treats w (begins by done) tasks ∷ k) ms calm (inr (inr beginning)) = leads_calm_behind objects behind among k ms calm beginning.1.1
-  frugal_calm objects behind among mode (frame.Awaits w by done of part tasks ∷ k) ms calm (inr (inr beginning)) = leads_calm_behind objects behind among k ms calm beginning.1.1
-  frugal_calm objects behind among mode (f ∷ k) ms calm (inr (inr beginning)) = absurd beginning.1
+  frugal_calm behind among mode k ms calm (inl q) = leads_calm_behind behind among k ms calm q
+  frugal_calm behind among mode k ms calm (inr (inl leaving)) = leaves_calm_behind behind among k ms calm leaving.1
+  frugal_calm behind among mode [] ms calm (inr (inr beginning)) = absurd beginning.1
+  frugal_calm behind among mode (frame.Treats w (begins by done) tasks ∷ k) ms calm (inr (inr beginning)) = leads_calm_behind behind among k ms calm beginning.1.1
+  frugal_calm behind among mode (frame.Awaits w by done of part tasks ∷ k) ms calm (inr (inr beginning)) = leads_calm_behind behind among k ms calm beginning.1.1
+  frugal_calm behind among mode (f ∷ k) ms calm (inr (inr beginning)) = absurd beginning.1
 
 -- Nor does anything begin where an object is finalized.
 treating_begin : (v w : Value) (cause : Cause) (tasks : List Task) (k : Control) → NothingBegins v k → NothingBegins v (treating w (ends cause) tasks k)
@@ -407,27 +408,27 @@ module _ (program : Program) (spares : SparesOwn program) (s : State) where
   module _ (frugal : Allowance) (back : Control) (lower : List Master) where
     -- What the running body may free, that of the outermost operation may free.
     pub covers_outermost :
-        (procedure : Option ℕ) (depth number : ℕ) (others inner : List Suspension) → AreInner program s frugal back lower procedure objects depth (Some number) others inner
+        (procedure : Option ℕ) (depth number : ℕ) (others inner : List Suspension) → AreInner program s frugal back lower procedure depth (Some number) others inner
         → AllWait (implicit_of p) (seen_in procedure p) (callers_of program (inner ++ others)) → (t : ℕ) → Covers procedure t → Covers (Some number) t
-    covers_outermost procedure objects depth number others [] w waits t covered = subst (λ (own : Option ℕ). Covers own t) w.0 covered
-    covers_outermost procedure objects depth number others (g ∷ inner) (inl (call, more)) waits t covered =
-        covers_outermost g.procedure objects (suc depth) number others inner more waits.1 t (waits_covers waits.0 t covered)
-    covers_outermost procedure objects depth number others (g ∷ inner) (inr (outer, operation, more)) waits t covered =
-        covers_outermost g.procedure outer (suc depth) number others inner more waits.1 t (waits_covers waits.0 t covered)
+    covers_outermost procedure depth number others [] w waits t covered = subst (λ (own : Option ℕ). Covers own t) w.0 covered
+    covers_outermost procedure depth number others (g ∷ inner) (inl (call, more)) waits t covered =
+        covers_outermost g.procedure (suc depth) number others inner more waits.1 t (waits_covers waits.0 t covered)
+    covers_outermost procedure depth number others (g ∷ inner) (inr (operation, more)) waits t covered =
+        covers_outermost g.procedure (suc depth) number others inner more waits.1 t (waits_covers waits.0 t covered)
 
     -- No object under way in the activations that wait is one that the running body may free, if none is in those behind them.
     pub none_in :
-        (procedure : Option ℕ) (depth number : ℕ) (others inner : List Suspension) → AreInner program s frugal back lower procedure objects depth (Some number) others inner
+        (procedure : Option ℕ) (depth number : ℕ) (others inner : List Suspension) → AreInner program s frugal back lower procedure depth (Some number) others inner
         → AllWait (implicit_of p) (seen_in procedure p) (callers_of program (inner ++ others)) → (o : Id) (x : Object) → object_at s.heap o ≡ Some x → is_access p.types x.cell.access ≡ true
         → Covers procedure x.cell.access → (Covers (Some number) x.cell.access → IsUnder (under_in (callers_of program others)) o → ⊥) → IsUnder (under_in (callers_of program (inner ++ others))) o → ⊥
-    none_in procedure objects depth number others [] w waits o x found of covered behind under = behind (subst (λ (own : Option ℕ). Covers own x.cell.access) w.0 covered) under
-    none_in procedure objects depth number others (g ∷ inner) (inl (call, more)) waits o x found of covered behind under =
+    none_in procedure depth number others [] w waits o x found of covered behind under = behind (subst (λ (own : Option ℕ). Covers own x.cell.access) w.0 covered) under
+    none_in procedure depth number others (g ∷ inner) (inl (call, more)) waits o x found of covered behind under =
         elim (either_one g.under (under_in (callers_of program (inner ++ others))) o under) [
           | inl here ↦ subst (λ (under' : List Id). IsUnder under' o) call.1 here
-          | inr later ↦ none_in g.procedure objects (suc depth) number others inner more waits.1 o x found of (waits_covers waits.0 x.cell.access covered) behind later
+          | inr later ↦ none_in g.procedure (suc depth) number others inner more waits.1 o x found of (waits_covers waits.0 x.cell.access covered) behind later
         ]
-    none_in procedure objects depth number others (g ∷ inner) (inr (outer, operation, more)) waits o x found of covered behind under =
-        by (λ later. none_in g.procedure outer (suc depth) number others inner more waits.1 o x found of (waits_covers waits.0 x.cell.access covered) behind later)
+    none_in procedure depth number others (g ∷ inner) (inr (operation, more)) waits o x found of covered behind under =
+        by (λ later. none_in g.procedure (suc depth) number others inner more waits.1 o x found of (waits_covers waits.0 x.cell.access covered) behind later)
         (either_one g.under (under_in (callers_of program (inner ++ others))) o under)
       where
         by : (IsUnder (under_in (callers_of program (inner ++ others))) o → ⊥) → IsUnder g.under o ⊎ IsUnder (under_in (callers_of program (inner ++ others))) o → ⊥
@@ -439,23 +440,23 @@ module _ (program : Program) (spares : SparesOwn program) (s : State) where
 
     -- The object whose operation such an activation waits for is the first one.
     operated_first : (running : Option ℕ) (depth : ℕ) (others : List Suspension) (among : List Value) (g : Suspension)
-        → (operation : IsOperation program s frugal back lower running objects outer depth others among g) → operated_in g.control ≡ Names operation.pause.object ∷ []
-    operated_first running objects outer depth others among g operation =
+        → (operation : IsOperation program s frugal back lower running depth others among g) → operated_in g.control ≡ Names operation.pause.object ∷ []
+    operated_first running depth others among g operation =
         ap (λ (waiting : Suspension). operated_in waiting.control) operation.is ∙ operated_is program depth s operation.pause
 
     -- Nor is it one whose operation they wait for.
     pub operated_apart :
-        (procedure : Option ℕ) (depth number : ℕ) (others inner : List Suspension) → AreInner program s frugal back lower procedure objects depth (Some number) others inner
+        (procedure : Option ℕ) (depth number : ℕ) (others inner : List Suspension) → AreInner program s frugal back lower procedure depth (Some number) others inner
         → AllWait (implicit_of p) (seen_in procedure p) (callers_of program (inner ++ others)) → (o : Id) (x : Object) → object_at s.heap o ≡ Some x → is_access p.types x.cell.access ≡ true
         → Covers procedure x.cell.access → IsAmong (Names o) (operated_among inner) → ⊥
-    operated_apart procedure objects depth number others [] w waits o x found of covered among = among
-    operated_apart procedure objects depth number others (g ∷ inner) (inl (call, more)) waits o x found of covered among =
-        operated_apart g.procedure objects (suc depth) number others inner more waits.1 o x found of (waits_covers waits.0 x.cell.access covered)
+    operated_apart procedure depth number others [] w waits o x found of covered among = among
+    operated_apart procedure depth number others (g ∷ inner) (inl (call, more)) waits o x found of covered among =
+        operated_apart g.procedure (suc depth) number others inner more waits.1 o x found of (waits_covers waits.0 x.cell.access covered)
         (subst (λ (vs : List Value). IsAmong (Names o) (vs ++ operated_among inner)) (none_operated g.control call.0) among)
-    operated_apart procedure objects depth number others (g ∷ inner) (inr (outer, operation, more)) waits o x found of covered among =
-        by (λ later. operated_apart g.procedure outer (suc depth) number others inner more waits.1 o x found of (waits_covers waits.0 x.cell.access covered) later)
+    operated_apart procedure depth number others (g ∷ inner) (inr (operation, more)) waits o x found of covered among =
+        by (λ later. operated_apart g.procedure (suc depth) number others inner more waits.1 o x found of (waits_covers waits.0 x.cell.access covered) later)
         (subst (λ (vs : List Value). IsAmong (Names o) (vs ++ operated_among inner))
-        (operated_first procedure objects outer depth (inner ++ others) (operated_among inner) g operation) among)
+        (operated_first procedure depth (inner ++ others) (operated_among inner) g operation) among)
       where
         by : (IsAmong (Names o) (operated_among inner) → ⊥) → IsAmong (Names o) (Names operation.pause.object ∷ operated_among inner) → ⊥
         by further (inl same) = frees_not depth operation.pause o x found (cc same) (subst (λ (own : Option ℕ). Covers own x.cell.access) operation.runs covered) of
@@ -464,17 +465,17 @@ module _ (program : Program) (spares : SparesOwn program) (s : State) where
     -- Each of these is one to which an activation that waits refers.
     operated_referred :
         (running : Option ℕ) (depth : ℕ) (outermost : Option ℕ) (others inner : List Suspension)
-        → AreInner program s frugal back lower running objects depth outermost others inner
+        → AreInner program s frugal back lower running depth outermost others inner
         → (o : Id) → IsAmong (Names o) (operated_among inner) → (t : ℕ) × IsReferred (referenced_in (callers_of program (inner ++ others))) o t
-    operated_referred running objects depth outermost others [] w o among = absurd among
-    operated_referred running objects depth outermost others (g ∷ inner) (inl (call, more)) o among =
-        let later = operated_referred g.procedure objects (suc depth) outermost others inner more o
+    operated_referred running depth outermost others [] w o among = absurd among
+    operated_referred running depth outermost others (g ∷ inner) (inl (call, more)) o among =
+        let later = operated_referred g.procedure (suc depth) outermost others inner more o
         (subst (λ (vs : List Value). IsAmong (Names o) (vs ++ operated_among inner)) (none_operated g.control call.0) among) in
         (later.0, referred_behind g.referenced (referenced_in (callers_of program (inner ++ others))) o later.0 later.1)
-    operated_referred running objects depth outermost others (g ∷ inner) (inr (outer, operation, more)) o among =
-        by (operated_referred g.procedure outer (suc depth) outermost others inner more o)
+    operated_referred running depth outermost others (g ∷ inner) (inr (operation, more)) o among =
+        by (operated_referred g.procedure (suc depth) outermost others inner more o)
         (subst (λ (vs : List Value). IsAmong (Names o) (vs ++ operated_among inner))
-        (operated_first running objects outer depth (inner ++ others) (operated_among inner) g operation) among)
+        (operated_first running depth (inner ++ others) (operated_among inner) g operation) among)
       where
         behind : List Reference
         behind = referenced_in (callers_of program (inner ++ others))
@@ -532,7 +533,7 @@ module _ (program : Program) (s : State) (grounds : Grounds program s) (gs : Lis
   not_freed : (o : Id) (x : Object) → IsUnder (under_in (callers_of program gs)) o → object_at s.heap o ≡ Some x → may_free program s x.cell.access ≡ true → ⊥
   not_freed o x under found may =
       let so = may_cover program s x.cell.access may in
-      none_in program grounds.spares_own s thrifty outermost.behind outermost.lower (running_procedure s) w.objects 0 outermost.number behind_it w.inner w.within waiting o x found so.0 so.1
+      none_in program grounds.spares_own s thrifty outermost.behind outermost.lower (running_procedure s) 0 outermost.number behind_it w.inner w.within waiting o x found so.0 so.1
       (λ covered there. frees_not program grounds.spares_own s (length w.inner) outermost o x found (under_outermost o there) covered so.0)
       (subst (λ (all : List Suspension). IsUnder (under_in (callers_of program all)) o) w.are under)
 
@@ -547,7 +548,7 @@ module _ (program : Program) (s : State) (grounds : Grounds program s) (gs : Lis
   -- What is left to do initializes and adjusts no other object but those whose operations run inside, if none begins first.
   pub begins_nothing : begins_first s.control ≡ false → (v : Value) → (v ≢ Names outermost.object) → (IsAmong v (operated_among w.inner) → ⊥) → NothingBegins v s.control
   begins_nothing other v ne apart =
-      frugal_begin thrifty w.objects v outermost.behind (operated_among w.inner) s.mode s.control w.frugal.upper other apart
+      frugal_begin thrifty v outermost.behind (operated_among w.inner) s.mode s.control w.frugal.upper other apart
       (waits_begin v ne outermost.treatment outermost.awaited) w.frugal.frugally
 
   -- So it is of an object that is treated next, behind its treatment.
@@ -558,16 +559,16 @@ module _ (program : Program) (s : State) (grounds : Grounds program s) (gs : Lis
     where
       behind : (ms : List Master) → NoOperationRunsOn v k → FrugalLeads thrifty outermost.behind (operated_among w.inner) k ms → NothingBegins v k
       behind ms alone q =
-          let other = other_treated program (length w.inner) s outermost v (leads_alone thrifty w.objects v outermost.behind (operated_among w.inner) k ms alone q) in
-          leads_begin thrifty w.objects v outermost.behind (operated_among w.inner) k ms
-          (λ among. operated_runs thrifty w.objects v outermost.behind (operated_among w.inner) k ms among q alone)
+          let other = other_treated program (length w.inner) s outermost v (leads_alone thrifty v outermost.behind (operated_among w.inner) k ms alone q) in
+          leads_begin thrifty v outermost.behind (operated_among w.inner) k ms
+          (λ among. operated_runs thrifty v outermost.behind (operated_among w.inner) k ms among q alone)
           (waits_begin v other outermost.treatment outermost.awaited) q
 
       behind_leaving : (ms : List Master) → NoOperationRunsOn v k → FrugalLeaves thrifty outermost.behind (operated_among w.inner) k ms → NothingBegins v k
       behind_leaving ms alone q =
-          let other = other_treated program (length w.inner) s outermost v (leaves_alone thrifty w.objects v outermost.behind (operated_among w.inner) k ms alone q) in
-          leaves_begin thrifty w.objects v outermost.behind (operated_among w.inner) k ms
-          (λ among. leaving_runs thrifty w.objects v outermost.behind (operated_among w.inner) k ms among q alone)
+          let other = other_treated program (length w.inner) s outermost v (leaves_alone thrifty v outermost.behind (operated_among w.inner) k ms alone q) in
+          leaves_begin thrifty v outermost.behind (operated_among w.inner) k ms
+          (λ among. leaving_runs thrifty v outermost.behind (operated_among w.inner) k ms among q alone)
           (waits_begin v other outermost.treatment outermost.awaited) q
 
       by : (way : Treatment) (ms : List Master) → Frugal thrifty outermost.behind (operated_among w.inner) s.mode (frame.Treats v way tasks ∷ k) ms → NothingBegins v k
@@ -580,14 +581,14 @@ module _ (program : Program) (s : State) (grounds : Grounds program s) (gs : Lis
   other_object : (o : Id) (x : Object) → object_at s.heap o ≡ Some x → may_free program s x.cell.access ≡ true → Names o ≡ Names outermost.object → ⊥
   other_object o x found may same =
       let so = may_cover program s x.cell.access may in
-      let covered = covers_outermost program grounds.spares_own s thrifty outermost.behind outermost.lower (running_procedure s) w.objects 0 outermost.number behind_it w.inner w.within waiting x.cell.access so.1 in
+      let covered = covers_outermost program grounds.spares_own s thrifty outermost.behind outermost.lower (running_procedure s) 0 outermost.number behind_it w.inner w.within waiting x.cell.access so.1 in
       frees_not program grounds.spares_own s (length w.inner) outermost o x found (cc same) covered so.0
 
   -- Nor are those of the operations inside.
   other_objects : (o : Id) (x : Object) → object_at s.heap o ≡ Some x → may_free program s x.cell.access ≡ true → IsAmong (Names o) (operated_among w.inner) → ⊥
   other_objects o x found may among =
       let so = may_cover program s x.cell.access may in
-      operated_apart program grounds.spares_own s thrifty outermost.behind outermost.lower (running_procedure s) w.objects 0 outermost.number behind_it w.inner w.within waiting o x found so.0 so.1 among
+      operated_apart program grounds.spares_own s thrifty outermost.behind outermost.lower (running_procedure s) 0 outermost.number behind_it w.inner w.within waiting o x found so.0 so.1 among
 
   -- Nothing begins of an object that the running body may free.
   pub freed_begin : begins_first s.control ≡ false → (o : Id) (x : Object) → object_at s.heap o ≡ Some x → may_free program s x.cell.access ≡ true → NothingBegins (Names o) s.control
@@ -611,7 +612,7 @@ module _ (program : Program) (s : State) (grounds : Grounds program s) (gs : Lis
 
     operated_out : (o : Id) (x : Object) → object_at s.heap o ≡ Some x → is_innermost s.masters x.cell.home.item ≡ true → IsAmong (Names o) (operated_among w.inner) → ⊥
     operated_out o x found inner among =
-        let is = operated_referred program grounds.spares_own s thrifty outermost.behind outermost.lower (running_procedure s) w.objects 0 (Some outermost.number) behind_it
+        let is = operated_referred program grounds.spares_own s thrifty outermost.behind outermost.lower (running_procedure s) 0 (Some outermost.number) behind_it
         w.inner w.within o among in
         referred_out o x found inner is.0 is.1
 
@@ -637,7 +638,7 @@ module _ (program : Program) (s : State) (grounds : Grounds program s) (gs : Lis
   waits_operated (ends cause) (is, inside) none = let waits = (subst NoOperationRuns is none).0 in cc waits
 
   pub touching_runs : IsCalm (behind_call s.control) → ⊥
-  touching_runs calm = waits_operated outermost.treatment outermost.awaited (frugal_calm thrifty w.objects outermost.behind (operated_among w.inner) s.mode s.control w.frugal.upper calm w.frugal.frugally)
+  touching_runs calm = waits_operated outermost.treatment outermost.awaited (frugal_calm thrifty outermost.behind (operated_among w.inner) s.mode s.control w.frugal.upper calm w.frugal.frugally)
 
   -- Each object that may be freed stands.
   stand : begins_first s.control ≡ false → (forms : List TypeForm) → AllStand (may_free program s) forms s.heap

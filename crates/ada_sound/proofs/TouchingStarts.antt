@@ -42,10 +42,10 @@ use Rattle.ada_typed.proofs.Bodies.{seen_as}
 use Rattle.ada_typed.proofs.Control as typed
 use Rattle.ada_typed.proofs.Kept.{behind_call}
 use Rattle.ada_typed.proofs.Overridings.{OperationFor, beginning_for, ending_for}
-use Rattle.ada_sound.proofs.Allowance.{body_thrifty}
+use Rattle.ada_sound.proofs.Allowance.{allowance_of, body_thrifty}
 use Rattle.ada_sound.proofs.Alters.{Alters}
 use Rattle.ada_sound.proofs.Callers.{Suspension, known_in, Stands, callers_of}
-use Rattle.ada_sound.proofs.FrugalControl.{Frugally, IsEnded, IsLeft, frugal_starts, allowance_of}
+use Rattle.ada_sound.proofs.FrugalControl.{Frugally, IsEnded, IsLeft, frugal_starts}
 use Rattle.ada_sound.proofs.Touching.{CoversBy, Enters, Touching, origin}
 use Rattle.ada_sound.proofs.Trackers.{touches_apart}
 use Rattle.ada_sound.proofs.TouchingBegins.{Begun, IsAlone, alone, touching_begins}
@@ -61,7 +61,7 @@ use Rattle.ada_sound.proofs.FrugalUseEnds.{ends_free, ends_in_starts, starts_fre
 use Rattle.ada_sound.proofs.OperationsLet.{touches_let}
 use Rattle.ada_sound.proofs.Invariant.{Control, CopiesBehind, CoveredIn, EndsTo, IsCopied, Known, TreatsBy, body_among, under_in, LiesAmong}
 use Rattle.ada_sound.proofs.Operated.{OperatedAs}
-use Rattle.ada_sound.proofs.Operating.{IsCalled, IsCalm, lets_out, may_create_in, WaitsFor}
+use Rattle.ada_sound.proofs.Operating.{IsCalled, IsCalm, lets_out, WaitsFor}
 use Rattle.ada_sound.proofs.OperationBegins.{formal_holds, formal_within}
 use Rattle.ada_sound.proofs.OperationStarts.{calm_behind, is_awaited, live_there}
 use Rattle.ada_sound.proofs.Returns.{same_types}
@@ -255,7 +255,7 @@ module _ (program : Program) (a : Activation Value) (rest : List (Activation Val
         touches_let program grounds.well grounds.lets_nothing_out made c.x.cell.access c.of operated.1 c.number c.b operable c.treatment touches c.called c.there in
         rw c.is (touching_begins program grounds.well grounds.obeys c.number (touches_apart program grounds.obeys.0 c.of c.number c.treatment touches c.called) c.b c.there single a rest gs s k c.o c.x c.heap c.found (live_there c.x.stage c.live) c.place within c.treatment frugal grounds.spares_own at c.behind frees
         (covers_by may made c.x.cell.access c.of operated.1 c.number c.b c.treatment operable touches c.called c.there) lets e c.of c.tasks c.alters waits (is_awaited p.types c.o c.of c.treatment c.tasks k c.behind waits) stands
-        (watched_begins program grounds.well uses a rest gs s c.treatment at.watch c.o c.x.cell.access c.of operated.1 c.number c.b c.place c.behind c.heap operable c.called c.there frugal at.spared))
+        (watched_begins program grounds.well uses a rest gs s c.treatment at.watch c.o c.x.cell.access c.of operated.1 c.number c.b c.place c.behind c.heap operable c.called c.there frugal at.spared at.stored))
 
     -- That is known of it, whatever runs behind it.
     pub touching_starts : operations_may_be_called p ≡ true → makes_parts p ≡ true → (e : Event) (after : State) (c : Begins known a rest s program.types.items (body_forms program) k IsOperated e after) → MayTouch c.treatment → may_be_frugal p ≡ true → is_frugal_body (thrift_of p) c.b ≡ true → TouchesStorage p c.treatment c.b
@@ -330,21 +330,19 @@ module _ (program : Program) (a : Activation Value) (rest : List (Activation Val
           let started = begins_so whole same grounds lone_outermost stands (treats_in_use program whole grounds (Treats v treatment tasks ∷ k) is tt) (treats_made program whole grounds v treatment tasks k is) e after c touches may frugal stores typing in
           let begun = started.0 in
           let waits : WaitsFor p.types c.o c.of c.treatment c.tasks k c.behind = subst (λ (types : List TypeForm). WaitsFor types c.o c.of c.treatment c.tasks k c.behind) (same_types a.procedure p) c.waits in
-          let objects = may_create_in c.treatment in
           let before = record s { activations = a ∷ rest; heap = c.heap; mode = Running; control = k } in
-          let runs : Frugally (allowance_of p objects) s.masters objects c.behind [] after =
-          rw c.is (frugal_starts (allowance_of p objects) c.number c.b (body_thrifty p objects c.b frugal) (Part c.o c.place) c.behind before) in
+          let runs : Frugally (allowance_of p) s.masters c.behind [] after =
+          rw c.is (frugal_starts (allowance_of p) c.number c.b (body_thrifty p c.b frugal) (Part c.o c.place) c.behind before) in
           record {
             suspensions = origin program 0 after begun.pause ∷ gs;
             ready = begun.ready;
             stands = begun.stands;
             within = record {
               inner = [];
-              objects = may_create_in c.treatment;
               outermost = begun.pause;
               are = ap (λ (others : List Suspension). origin program 0 after begun.pause ∷ others) (sym begun.suspensions);
-              within = (begun.runs, ap may_create_in (sym begun.treated));
-              frugal = rw (begun.is_lower, begun.is_behind, begun.treated) runs;
+              within = begun.runs;
+              frugal = rw (begun.is_lower, begun.is_behind) runs;
               untreated = λ u other. subst (NothingBegins u) (sym started.2) (untreated_outermost u (λ same. other (same ∙ ap Names (sym started.1))));
               calm = rw begun.is_behind (calm_behind p.types c.o c.of c.treatment c.tasks k c.behind waits calm);
               settled = rw begun.suspensions settled;

@@ -1,7 +1,7 @@
 -- Each step while an operation that touches storage is under way: of its body, or of one that it has called, or of the operation of an object that one of these
 -- frees or allocates, or that is undone; their ends included (7.6, 7.6.1, 13.11.2, 4.8).
 
-use Rattle.std.proofs.Common.{◌≡◌, ℕ, Bool, true, false, List, [], ◌∷◌, ◌++◌, refl, sym, ap, subst, ◌∙◌, inl, inr, suc}
+use Rattle.std.proofs.Common.{◌≡◌, ℕ, true, false, List, [], ◌∷◌, ◌++◌, refl, sym, ap, subst, ◌∙◌, inl, inr, suc}
 use Rattle.std.specs.Prelude.{Some}
 use Rattle.ada_program.specs.declared.program.Exception.{Exception}
 use Rattle.ada_program.specs.declared.program.Program.{Program}
@@ -25,10 +25,10 @@ use Rattle.ada_sound.specs.Agreement.{running_procedure}
 use Rattle.ada_sound.proofs.CallBegins.{runs_called}
 use Rattle.ada_sound.proofs.Callers.{Suspension, known_in, Stands}
 use Rattle.ada_sound.proofs.Calls.{calls_to, waiting}
-use Rattle.ada_sound.proofs.FrugalControl.{Frugal, Frugally, GoesFrugally, Allowance, is_return_first, none_operated, operated_in}
+use Rattle.ada_sound.proofs.Allowance.{Allowance}
+use Rattle.ada_sound.proofs.FrugalControl.{Frugal, Frugally, GoesFrugally, is_return_first, none_operated, operated_in}
 use Rattle.ada_sound.proofs.FrugalSteps.{TreatsNothing, frugal_goes}
 use Rattle.ada_sound.proofs.Invariant.{CallsOn, Control, IsAwaited, Known, Rooms, RunsOn, Working}
-use Rattle.ada_sound.proofs.Operating.{may_create_in}
 use Rattle.ada_sound.proofs.Pauses.{inner_on}
 use Rattle.ada_sound.proofs.Ready.{at_work}
 use Rattle.ada_sound.proofs.Returns.{CrossesTo}
@@ -60,10 +60,10 @@ module _ (program : Program) (s : State) (f : Touching program s) (grounds : Gro
   coming = next program.types.items (body_forms program) s
 
   -- What is left to do is so behind each step but the end of a body, and the treatment of an object.
-  goes_on : (s.mode ≡ Running → TreatsNothing s.control) → GoesFrugally (thrifty program s f) f.within.outermost.lower f.within.objects f.within.outermost.behind (operated_among f.within.inner) coming
+  goes_on : (s.mode ≡ Running → TreatsNothing s.control) → GoesFrugally (thrifty program s f) f.within.outermost.lower f.within.outermost.behind (operated_among f.within.inner) coming
   goes_on plain =
       let w = f.within in
-      frugal_goes program grounds.frees_own (may_create_in w.outermost.treatment) w.outermost.lower w.objects w.outermost.behind (operated_among w.inner) s w.frugal
+      frugal_goes program grounds.frees_own w.outermost.lower w.outermost.behind (operated_among w.inner) s w.frugal
       (λ actuals references k is. absurd (let end = not_end in cc (rw is at end))) plain grounds.typed.inside
       (may_free program s) (touching_frees program s grounds f.suspensions f.ready)
       (λ first o x found listed may. listed_alone program s grounds f.suspensions w f.stands first o x found listed may) grounds.unborn
@@ -116,7 +116,7 @@ treats_none g k plain w by left j is =
 -- An activation that waits for a call waits for the operation of no object.
 called_frugally : (frugal : Allowance) (lower : List Master) (behind : Control) (among : List Value) (k : Control) (after : State) → (IsAwaited k → ⊥)
     → Frugally frugal lower behind among after → Frugally frugal lower behind (operated_in k ++ among) after
-called_frugally frugal lower objects behind among k after none goes =
+called_frugally frugal lower behind among k after none goes =
     subst (λ (os : List Value). Frugally frugal lower behind (os ++ among) after) (sym (none_operated k none)) goes
 
 module _ (program : Program) (a : Activation Value) (k : Control) (s : State) (rest : List (Activation Value)) where
@@ -154,13 +154,13 @@ module _ (program : Program) (a : Activation Value) (k : Control) (s : State) (r
       let waits = waiting program number b given k a rest gs s works in
       let c = calls_to program number b given k a rest gs s works ready.rest.1 (inside.heap_typed (seen_in a.procedure (program_form program)) before grounds.typed.inside).1 stands
       (runs_called program number b given k a gs s grounds.well grounds.obeys (called_apart program before number b given k refl grounds.obeys.0 grounds.apart) works stands.body ready.rest.1 rest stands) in
-      inl (touching_on program before f (waits ∷ w.inner) w.objects Quiet _ (inl (
+      inl (touching_on program before f (waits ∷ w.inner) Quiet _ (inl (
         (unawaited, refl),
-        inner_on program before (thrifty program before f) w.outermost.behind w.outermost.lower _ Quiet a.procedure w.objects 0 (suc 0) (Some w.outermost.number)
+        inner_on program before (thrifty program before f) w.outermost.behind w.outermost.lower _ Quiet a.procedure 0 (suc 0) (Some w.outermost.number)
             (behind_it program before f) w.inner w.within c.stepped.alters (λ n. sym (operands_deeper n rest a _)) still.1,
       ))
       refl
-      (called_frugally (thrifty program before f) w.outermost.lower w.objects w.outermost.behind (operated_among w.inner) k _ unawaited
+      (called_frugally (thrifty program before f) w.outermost.lower w.outermost.behind (operated_among w.inner) k _ unawaited
       (goes_on program before f grounds refl (λ runs v treatment tasks j is. cc is)))
       still.0
       (subst (λ (all : List Suspension). CrossesTo program (waits ∷ all) s.heap Quiet _) w.are c))
@@ -204,14 +204,14 @@ module _ (program : Program) (a : Activation Value) (k : Control) (s : State) (r
 
 -- Nothing is left to do of no body.
 nothing_left : (frugal : Allowance) (behind : Control) (among : List Value) (mode : Mode) (ms : List Master) → Frugal frugal behind among mode [] ms → ⊥
-nothing_left frugal objects behind among mode ms (inl q) = q
-nothing_left frugal objects behind among mode ms (inr (inl leaving)) = leaving.1
-nothing_left frugal objects behind among mode ms (inr (inr beginning)) = beginning.1
+nothing_left frugal behind among mode ms (inl q) = q
+nothing_left frugal behind among mode ms (inr (inl leaving)) = leaving.1
+nothing_left frugal behind among mode ms (inr (inr beginning)) = beginning.1
 
 -- Any step while such an operation is under way.
 step_by : (program : Program) (mode : Mode) (k : Control) (all : List (Activation Value)) (s : State) → (grounds : Grounds program (with_parts mode k all s)) (f : Touching program (with_parts mode k all s)) → GoesTouching program (with_parts mode k all s) (mode_next named program.types.items (body_forms program) mode (with_parts mode k all s))
 step_by program mode k [] s grounds f = absurd f.ready.0
-step_by program mode [] (a ∷ rest) s grounds f = absurd (nothing_left (thrifty program (with_parts mode [] (a ∷ rest) s) f) f.within.objects f.within.outermost.behind (operated_among f.within.inner) mode f.within.frugal.upper f.within.frugal.frugally)
+step_by program mode [] (a ∷ rest) s grounds f = absurd (nothing_left (thrifty program (with_parts mode [] (a ∷ rest) s) f) f.within.outermost.behind (operated_among f.within.inner) mode f.within.frugal.upper f.within.frugal.frugally)
 step_by program Running (g ∷ k) (a ∷ rest) s grounds f = running_step program a k s rest g grounds f
 step_by program (Raising e) (g ∷ k) (a ∷ rest) s grounds f = raising_step program a k s rest e g grounds f
 step_by program Exiting (g ∷ k) (a ∷ rest) s grounds f = exiting_step program a k s rest g grounds f

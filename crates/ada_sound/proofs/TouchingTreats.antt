@@ -29,14 +29,14 @@ use Rattle.ada_reaching.specs.Reaching.{IsReaching}
 use Rattle.ada_typed.proofs.Control as typed
 use Rattle.ada_typed.proofs.Kept.{Each}
 use Rattle.ada_typed.proofs.Runs.{step_typed}
-use Rattle.ada_sound.proofs.Allowance.{body_thrifty, is_thrifty_body}
+use Rattle.ada_sound.proofs.Allowance.{Allowance, body_thrifty, is_thrifty_body}
 use Rattle.ada_sound.specs.Agreement.{running_procedure}
 use Rattle.ada_sound.proofs.Alters.{Alters}
 use Rattle.ada_sound.proofs.Callers.{Suspension, known_in, Stands, AreOf}
-use Rattle.ada_sound.proofs.FrugalControl.{BeginsThere, EndsThere, LeavesThere, Frugal, Frugally, FrugalLeads, FrugalLeaves, FrugalOperated, IsInside, Allowance, begun_leads, ends_leads, leaves_operated, frugal_starts_inside, operated_in, operated_on}
+use Rattle.ada_sound.proofs.FrugalControl.{BeginsThere, EndsThere, LeavesThere, Frugal, Frugally, FrugalLeads, FrugalLeaves, FrugalOperated, IsInside, begun_leads, ends_leads, leaves_operated, frugal_starts_inside, operated_in, operated_on}
 use Rattle.ada_sound.proofs.FrugalSteps.{GoesOrBegins, treats_frugally}
 use Rattle.ada_sound.proofs.Invariant.{Control, Known, Stepped}
-use Rattle.ada_sound.proofs.Operating.{PlainBody, WaitsFor, behind_operation, may_create_in}
+use Rattle.ada_sound.proofs.Operating.{PlainBody, WaitsFor, behind_operation}
 use Rattle.ada_sound.proofs.OperationBegins.{begins_operation}
 use Rattle.ada_sound.proofs.Pauses.{AllWatched, inner_on}
 use Rattle.ada_sound.proofs.QuietOperations.{AdjustsCopy, IsUsedAs, LetsNothingOut, MayTouch, TouchesStorage, used_as}
@@ -82,12 +82,9 @@ module _ (program : Program) (a : Activation Value) (rest : List (Activation Val
     abbrev operation : Pause program (length f.within.inner) whole
     operation = outermost program whole f
 
-    -- What bodies go by, and whether the one that runs may create objects.
+    -- What bodies go by.
     abbrev frugal : Allowance
     frugal = thrifty program whole f
-
-    abbrev objects : Bool
-    objects = f.within.objects
 
     abbrev upper : List Master
     upper = f.within.frugal.upper
@@ -144,11 +141,11 @@ module _ (program : Program) (a : Activation Value) (rest : List (Activation Val
 
     -- It goes on in the body that frees, allocates or declares it, or that leaves its master, or out of whose beginning an exception has come.
     goes_here : (e : Event) (after : State) → Stepped treater s.heap e after × StaysHere treater a rest s program.types.items (body_forms program) k Operated after
-        → GoesOrBegins frugal operation.lower objects operation.behind among program.types.items (body_forms program) whole after → Still program whole f after → InTouching program s.heap e after
+        → GoesOrBegins frugal operation.lower operation.behind among program.types.items (body_forms program) whole after → Still program whole f after → InTouching program s.heap e after
     goes_here e after (st, (acts, behind)) goes still =
         stays_on program whole f e after (record { procedure = ap procedure_of acts; suspended = ap older acts }) st (by goes) still
       where
-        by : GoesOrBegins frugal operation.lower objects operation.behind among program.types.items (body_forms program) whole after → Frugally frugal operation.lower operation.behind among after
+        by : GoesOrBegins frugal operation.lower operation.behind among program.types.items (body_forms program) whole after → Frugally frugal operation.lower operation.behind among after
         by (inl stays) = stays
         by (inr more) =
             let same : length after.activations ≡ length (a ∷ rest) = ap length acts in
@@ -168,7 +165,7 @@ module _ (program : Program) (a : Activation Value) (rest : List (Activation Val
       alters_here : Alters s.heap e after.heap
       alters_here = rw c.is c.alters
 
-      -- What is behind its operation is left to do, which may create objects where the object begins.
+      -- What is behind its operation is left to do.
       leads_behind : FrugalOperated frugal operation.behind (Names c.o ∷ among) c.behind upper
       leads_behind = by c.treatment is_treated waits_here
         where
@@ -176,15 +173,15 @@ module _ (program : Program) (a : Activation Value) (rest : List (Activation Val
               → FrugalOperated frugal operation.behind (Names c.o ∷ among) c.behind upper
           by (begins how done) beginning (part, is) =
               subst (λ (j : Control). FrugalOperated frugal operation.behind (Names c.o ∷ among) j upper) (sym is)
-              (begun_leads frugal objects operation.behind among (Names c.o) how done c.of part c.tasks k upper beginning.0.1
+              (begun_leads frugal operation.behind among (Names c.o) how done c.of part c.tasks k upper
               (subst (λ (u : Value). BeginsThere frugal u how k) c.operated.3 beginning.0) beginning.1)
           by (ends cause) (inl ending) (is, inside) =
               subst (λ (j : Control). FrugalOperated frugal operation.behind (Names c.o ∷ among) j upper) (sym is)
-              (ends_leads frugal objects operation.behind among (Names c.o) (ends cause) c.tasks k upper
+              (ends_leads frugal operation.behind among (Names c.o) (ends cause) c.tasks k upper
               (subst (λ (u : Value). EndsThere frugal u (ends cause) k) c.operated.3 ending.0) ending.1)
           by (ends cause) (inr leaving) (is, inside) =
               subst (λ (j : Control). FrugalOperated frugal operation.behind (Names c.o ∷ among) j upper) (sym is)
-              (leaves_operated frugal objects operation.behind among (Names c.o) (ends cause) c.tasks k upper
+              (leaves_operated frugal operation.behind among (Names c.o) (ends cause) c.tasks k upper
               (subst (λ (u : Value). LeavesThere frugal u (ends cause) k) c.operated.3 leaving.0) leaving.1)
 
       -- That of the object runs in front of it.
@@ -207,7 +204,7 @@ module _ (program : Program) (a : Activation Value) (rest : List (Activation Val
 
       -- So it is once that has come to its end.
       frugal_behind : Frugal frugal operation.behind among Running c.behind upper
-      frugal_behind = operated_on frugal (may_create_in c.treatment) objects operation.behind among Running c.behind upper tt leads_operated
+      frugal_behind = operated_on frugal operation.behind among Running c.behind upper tt leads_operated
 
       -- What is behind its operation.
       abbrev behind_it_all : State
@@ -217,10 +214,10 @@ module _ (program : Program) (a : Activation Value) (rest : List (Activation Val
       abbrev started : State
       started = record (running k a rest s) { heap = c.heap }
 
-      module _ (w : Watch) (behind : Control) where
+      module _ (w : Watch) (behind : Control) (lower : List Master) where
         -- The bodies that run in front of this refer to nothing in what is watched.
         abbrev Reaches : Apart → State → Type 0
-        Reaches apart t = IsReaching p (watches p.types (Some w)) apart (is_watched (Some w)) (is_unnamed p.types (Some w)) behind t
+        Reaches apart t = IsReaching p (watches p.types (Some w)) apart (is_watched (Some w)) (is_unnamed p.types (Some w)) behind lower t
 
         -- Where they treat the object, they go on behind its operation, if that begins so.
         reaches_behind : (before apart : Apart) → Reaches before whole → Reaches apart after → Reaches apart behind_it_all
@@ -233,17 +230,21 @@ module _ (program : Program) (a : Activation Value) (rest : List (Activation Val
                 let there : Reaches apart (operating named c.number c.b (Part c.o c.place) left started) =
                 subst (λ (j : Control). Reaches apart (operating named c.number c.b (Part c.o c.place) j started)) is first in
                 let within =
-                waiting_inside p (watches p.types (Some w)) before (is_watched (Some w)) (is_unnamed p.types (Some w)) behind
-                (Awaits (Names c.o) Creation done c.of part c.tasks) a.procedure k rest treats.control.2 in
+                waiting_inside p (watches p.types (Some w)) before (is_watched (Some w)) (is_unnamed p.types (Some w)) behind lower
+                (Awaits (Names c.o) Creation done c.of part c.tasks) a.procedure k treats.upper rest treats.control.2 in
                 let reaching =
-                waiting_reaches p (watches p.types (Some w)) apart (is_watched (Some w)) (is_unnamed p.types (Some w)) behind c.number c.b (Part c.o c.place)
-                (Awaits (Names c.o) Creation done c.of part c.tasks) k started refl within there in
+                waiting_reaches p (watches p.types (Some w)) apart (is_watched (Some w)) (is_unnamed p.types (Some w)) behind lower c.number c.b
+                (Part c.o c.place) (Awaits (Names c.o) Creation done c.of part c.tasks) k started refl within there in
                 rw (c.is, is) (record {
                   ghosts_there = reaching.ghosts_there;
                   are_ghosts = reaching.are_ghosts;
+                  low = reaching.low;
                   places = reaching.places;
                   operands = reaching.operands;
+                  upper = reaching.upper;
+                  masters = reaching.masters;
                   control = reaching.control;
+                  jumps = reaching.jumps;
                   seeks = reaching.seeks;
                 })
             by (begins Copy done) inside' waits = absurd inside'
@@ -254,42 +255,48 @@ module _ (program : Program) (a : Activation Value) (rest : List (Activation Val
                 let there : Reaches apart (operating named c.number c.b (Part c.o c.place) (Confines ∷ left) started) =
                 subst (λ (j : Control). Reaches apart (operating named c.number c.b (Part c.o c.place) j started)) is first in
                 let within =
-                treating_inside p (watches p.types (Some w)) before (is_watched (Some w)) (is_unnamed p.types (Some w)) behind (Names c.o) (ends cause) c.tasks
-                a.procedure k rest treats.control.2 in
+                treating_inside p (watches p.types (Some w)) before (is_watched (Some w)) (is_unnamed p.types (Some w)) behind lower (Names c.o) (ends cause)
+                c.tasks a.procedure k treats.upper rest treats.control.2 in
                 let reaching =
-                behind_reaches p (watches p.types (Some w)) apart (is_watched (Some w)) (is_unnamed p.types (Some w)) behind c.number c.b (Part c.o c.place)
-                left started within there in
+                behind_reaches p (watches p.types (Some w)) apart (is_watched (Some w)) (is_unnamed p.types (Some w)) behind lower c.number c.b
+                (Part c.o c.place) left started within there in
                 rw (c.is, is) (record {
                   ghosts_there = reaching.ghosts_there;
                   are_ghosts = reaching.are_ghosts;
+                  low = reaching.low;
                   places = reaching.places;
                   operands = reaching.operands;
+                  upper = reaching.upper;
+                  masters = reaching.masters;
                   control = reaching.control;
+                  jumps = reaching.jumps;
                   seeks = reaching.seeks;
                 })
 
       -- What is watched where the operation begins is so behind it, too.
       watched_behind :
-          (watch : Option Watch) (behind : Control) → Watched program watch behind whole → Watched program watch behind after
-          → Watched program watch behind behind_it_all
-      watched_behind None behind treats begun = tt
-      watched_behind (Some w) behind (found, (before, are, treats)) (found', (apart, are', begun)) =
-          (found', (apart, are', reaches_behind w behind before apart treats begun))
+          (watch : Option Watch) (behind : Control) (lower : List Master) → Watched program watch behind lower whole → Watched program watch behind lower after
+          → Watched program watch behind lower behind_it_all
+      watched_behind None behind lower treats begun = tt
+      watched_behind (Some w) behind lower (found, (before, are, treats)) (found', (apart, are', begun)) =
+          (found', (apart, are', reaches_behind w behind lower before apart treats begun))
 
       all_behind :
-          (procedure : Option ℕ) (creates : Bool) (depth : ℕ) (last : Option ℕ) (others inner : List Suspension)
-          (are : AreInner program whole frugal operation.behind operation.lower procedure creates depth last others inner)
-          → AllWatched program whole frugal operation.behind operation.lower after procedure creates depth last others inner are
-          → AllWatched program whole frugal operation.behind operation.lower behind_it_all procedure creates depth last others inner are
-      all_behind procedure creates depth last others [] are begun = tt
-      all_behind procedure creates depth last others (g ∷ inner) (inl (call, more)) begun = all_behind g.procedure creates (suc depth) last others inner more begun
-      all_behind procedure creates depth last others (g ∷ inner) (inr (outer, further, more)) begun =
-          (watched_behind further.pause.watch further.pause.behind further.pause.still begun.0, all_behind g.procedure outer (suc depth) last others inner more begun.1)
+          (procedure : Option ℕ) (depth : ℕ) (last : Option ℕ) (others inner : List Suspension)
+          (are : AreInner program whole frugal operation.behind operation.lower procedure depth last others inner)
+          → AllWatched program whole frugal operation.behind operation.lower after procedure depth last others inner are
+          → AllWatched program whole frugal operation.behind operation.lower behind_it_all procedure depth last others inner are
+      all_behind procedure depth last others [] are begun = tt
+      all_behind procedure depth last others (g ∷ inner) (inl (call, more)) begun = all_behind g.procedure (suc depth) last others inner more begun
+      all_behind procedure depth last others (g ∷ inner) (inr (further, more)) begun = (
+        watched_behind further.pause.watch further.pause.behind further.pause.lower further.pause.still begun.0,
+        all_behind g.procedure (suc depth) last others inner more begun.1,
+      )
 
       still_behind : Still program whole f behind_it_all
       still_behind = (
-        watched_behind operation.watch operation.behind operation.still still.0,
-        all_behind a.procedure objects 0 (Some operation.number) waiting f.within.inner f.within.within still.1,
+        watched_behind operation.watch operation.behind operation.lower operation.still still.0,
+        all_behind a.procedure 0 (Some operation.number) waiting f.within.inner f.within.within still.1,
       )
 
       same_behind : SameBody whole behind_it_all
@@ -298,7 +305,7 @@ module _ (program : Program) (a : Activation Value) (rest : List (Activation Val
       within_behind : Within program f.suspensions behind_it_all
       within_behind =
           subst (λ (all : List Suspension). Within program all behind_it_all) (sym f.within.are)
-          (within_on program whole f f.within.inner objects e behind_it_all
+          (within_on program whole f f.within.inner e behind_it_all
           (inner_stays program whole f e behind_it_all same_behind alters_here still_behind)
           refl
           (record {
@@ -345,9 +352,9 @@ module _ (program : Program) (a : Activation Value) (rest : List (Activation Val
               let bodies : AreOf program (a ∷ rest) (waits_for ∷ f.suspensions) = subst (λ (all : List (Activation Value)). AreOf program all (waits_for ∷ f.suspensions)) (ap (λ (t : State). older t.activations) c.is) begun.stands.bodies in
               bodies.0
 
-          inner_begun : AreInner program after frugal operation.behind operation.lower (running_procedure after) (may_create_in c.treatment) 0 (Some operation.number) waiting (waits_for ∷ f.within.inner)
+          inner_begun :
+              AreInner program after frugal operation.behind operation.lower (running_procedure after) 0 (Some operation.number) waiting (waits_for ∷ f.within.inner)
           inner_begun = inr (
-            objects,
             record {
               pause = begun.pause;
               is = refl;
@@ -360,22 +367,21 @@ module _ (program : Program) (a : Activation Value) (rest : List (Activation Val
                   subst (λ (j : Control). FrugalOperated frugal operation.behind (operated_in j ++ among) j upper) (sym begun.is_behind)
                   leads_operated;
             },
-            subst (λ (procedure : Option ℕ). AreInner program after frugal operation.behind operation.lower procedure objects (suc 0) (Some operation.number) waiting f.within.inner) of_body
-                (inner_on program whole frugal operation.behind operation.lower after e a.procedure objects 0 (suc 0) (Some operation.number) waiting f.within.inner f.within.within alters_here deeper still.1),
+            subst (λ (procedure : Option ℕ). AreInner program after frugal operation.behind operation.lower procedure (suc 0) (Some operation.number) waiting f.within.inner) of_body
+                (inner_on program whole frugal operation.behind operation.lower after e a.procedure 0 (suc 0) (Some operation.number) waiting f.within.inner f.within.within alters_here deeper still.1),
           )
 
           -- Its body is frugal as the others are.
           runs_begun : Frugally frugal operation.lower operation.behind (operated_among (waits_for ∷ f.within.inner)) after
           runs_begun =
-              let creates = may_create_in c.treatment in
-              let body : is_thrifty_body (frugal.by creates) c.b ≡ true = body_thrifty p creates c.b frugal_body in
-              subst (λ (t : State). Frugally frugal operation.lower creates operation.behind (operated_among (waits_for ∷ f.within.inner)) t) (sym c.is)
-              (frugal_starts_inside frugal creates objects operation.behind (operated_in begun.pause.behind ++ among) upper operation.lower c.number c.b body (Part c.o c.place) c.behind (record (running k a rest s) { heap = c.heap }) f.within.frugal.masters
-              (subst (λ (j : Control). FrugalOperated frugal creates objects operation.behind (operated_in j ++ among) c.behind upper) (sym begun.is_behind) leads_operated))
+              let body : is_thrifty_body frugal c.b ≡ true = body_thrifty p c.b frugal_body in
+              subst (λ (t : State). Frugally frugal operation.lower operation.behind (operated_among (waits_for ∷ f.within.inner)) t) (sym c.is)
+              (frugal_starts_inside frugal operation.behind (operated_in begun.pause.behind ++ among) upper operation.lower c.number c.b body (Part c.o c.place) c.behind (record (running k a rest s) { heap = c.heap }) f.within.frugal.masters
+              (subst (λ (j : Control). FrugalOperated frugal operation.behind (operated_in j ++ among) c.behind upper) (sym begun.is_behind) leads_operated))
 
           begins_inside : InTouching program s.heap e after
           begins_inside =
-              touching_on program whole f (waits_for ∷ f.within.inner) (may_create_in c.treatment) e after inner_begun (one_more (length f.within.inner)) runs_begun still.0
+              touching_on program whole f (waits_for ∷ f.within.inner) e after inner_begun (one_more (length f.within.inner)) runs_begun still.0
               (subst (λ (all : List Suspension). CrossesTo program (waits_for ∷ all) s.heap e after) f.within.are (record {
                 stepped = record {
                   ready = begun.ready;
@@ -410,7 +416,7 @@ module _ (program : Program) (a : Activation Value) (rest : List (Activation Val
 
     -- Whatever comes next.
     treated_went : (n : Next) → next program.types.items (body_forms program) whole ≡ n → TreatedIn treater a rest s program.types.items (body_forms program) k Operated v n
-        → Each (GoesOrBegins frugal operation.lower objects operation.behind among program.types.items (body_forms program) whole) n → Each (Still program whole f) n → GoesTouching program whole n
+        → Each (GoesOrBegins frugal operation.lower operation.behind among program.types.items (body_forms program) whole) n → Each (Still program whole f) n → GoesTouching program whole n
     treated_went (halts halt) is t goes still = t
     treated_went (moves e after) is (inl st) goes still = inl (goes_here e after st goes still)
     treated_went (moves e after) is (inr (inl c)) goes still = begins_there e after c still is
@@ -424,5 +430,5 @@ module _ (program : Program) (a : Activation Value) (rest : List (Activation Val
     unfolding next
     treats_step =
         treated_went _ refl (treated_next program a rest k s v treatment tasks grounds f.suspensions (touching_stands program whole grounds f.suspensions f.within f.stands treater.program.types) f.ready.1)
-        (treats_frugally frugal operation.lower objects operation.behind among program.types.items (body_forms program) whole f.within.frugal refl v treatment tasks k refl)
+        (treats_frugally frugal operation.lower operation.behind among program.types.items (body_forms program) whole f.within.frugal refl v treatment tasks k refl)
         (still_on program whole f grounds (λ j awaited last. cc last))

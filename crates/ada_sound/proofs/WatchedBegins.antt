@@ -1,7 +1,7 @@
 -- The body of a Finalize begins while an object is freed (7.6.1, 13.11.2): what is watched, the object in which a component lies that names the freed one, is
 -- left alone by that body, by those that it calls, and by the operations of what they free.
 
-use Rattle.std.proofs.Common.{◌≡◌, ℕ, Bool, true, false, not, ◌==◌, ◌&&◌, List, ◌∷◌, refl, subst, sym}
+use Rattle.std.proofs.Common.{◌≡◌, ℕ, Bool, true, false, not, ◌==◌, ◌&&◌, List, ◌∷◌, arith, refl, subst, sym}
 use Rattle.std.specs.Prelude.{Option, Some, None}
 use Rattle.std.specs.List.{slice_get}
 use Rattle.std.proofs.lemmas.Bool.{and_parts}
@@ -27,14 +27,16 @@ use Rattle.ada_reaching.proofs.Law.{operation_reaches}
 use Rattle.ada_reaching.specs.Apart.{Apart}
 use Rattle.ada_reaching.specs.Forms.{body_shuns}
 use Rattle.ada_reaching.specs.Law.{AreApart}
-use Rattle.ada_reaching.specs.Reaching.{IsGhost, IsReaching}
+use Rattle.ada_reaching.specs.Reaching.{AreLow, IsGhost, IsReaching}
 use Rattle.ada_tracked.proofs.Lists.{apart_is, is_same}
 use Rattle.ada_typed.proofs.Lying.{IsOperable}
 use Rattle.ada_sound.proofs.Callers.{Suspension, known_in}
+use Rattle.ada_sound.proofs.Calls.{home_low}
 use Rattle.ada_sound.proofs.Invariant.{Control, Known}
-use Rattle.ada_sound.proofs.Operating.{IsCalled, may_create_in}
+use Rattle.ada_sound.proofs.Operating.{IsCalled}
 use Rattle.ada_sound.proofs.Returns.{same_types}
 use Rattle.ada_sound.proofs.ShunningEnds.{body_is_shaped, finalize_shuns}
+use Rattle.ada_sound.proofs.Stored.{Stored}
 use Rattle.ada_sound.proofs.Touching.{IsSpared, Watch, Watched, is_unnamed, is_watched, watches}
 
 module _
@@ -48,13 +50,14 @@ module _
 
   -- What is watched, if something is, is left alone by the body of a Finalize that begins, and by those that run in front of it.
   pub watched_begins :
-      (by : Treatment) (watch : Option Watch) (o : Id) (access of part number : ℕ) (b : BodyForm) (place : Place) (behind : Control) (heap : List Object)
+      {under : List Id} (by : Treatment) (watch : Option Watch) (o : Id) (access of part number : ℕ) (b : BodyForm) (place : Place) (behind : Control)
+      (heap : List Object)
       → IsOperable p.types access of part → IsCalled (operations_of program.types.items of) by number → slice_get (body_forms program) number ≡ Some b
-      → is_frugal_body (thrift_of p) b ≡ true → IsSpared known by o access heap watch
-      → Watched program watch behind (operating named number b (Part o place) behind (record s { activations = a ∷ rest; heap = heap; mode = Running }))
-  watched_begins by None o access of part number b place behind heap operable called there frugal spared = tt
-  watched_begins (begins by done) (Some w) o access of part number b place behind heap operable called there frugal spared = absurd spared
-  watched_begins (ends cause) (Some w) o access of part number b place behind heap operable called there frugal (at, other, spared) =
+      → is_frugal_body (thrift_of p) b ≡ true → IsSpared known by o access heap watch → Stored under heap s.masters
+      → Watched program watch behind s.masters (operating named number b (Part o place) behind (record s { activations = a ∷ rest; heap = heap; mode = Running }))
+  watched_begins by None o access of part number b place behind heap operable called there frugal spared stored = tt
+  watched_begins (begins by done) (Some w) o access of part number b place behind heap operable called there frugal spared stored = absurd spared
+  watched_begins (ends cause) (Some w) o access of part number b place behind heap operable called there frugal (at, exists, other, spared) stored =
       (at, (shunned.0, shunned.1, reaching))
     where
       -- The end of the object reaches none of the type of what is watched, if that is an access type.
@@ -89,12 +92,21 @@ module _
         declared = is;
       })
 
+      -- Its home is an item of the masters that were entered before.
+      low : AreLow (is_watched (Some w)) s.masters heap
+      low q x is found =
+          let home = home_low heap s.masters w.holder stored (w.is, at, exists) in
+          let here : object_at heap w.holder ≡ Some x = subst (λ (r : Id). object_at heap r ≡ Some x) (sym (id_is w.holder q (is_same w.holder.0 q.0 is))) found in
+          let one : home.0 ≡ x = let there' = home.1 in cc (there', here) in
+          let below = home.2 in
+          rw (← one) (omega (arith, below))
+
       -- The body begins so, for a part of another object.
       reaching :
-          IsReaching p (watches p.types (Some w)) shunned.0 (is_watched (Some w)) (is_unnamed p.types (Some w)) behind
+          IsReaching p (watches p.types (Some w)) shunned.0 (is_watched (Some w)) (is_unnamed p.types (Some w)) behind s.masters
           (operating named number b (Part o place) behind (record s { activations = a ∷ rest; heap = heap; mode = Running }))
       reaching =
           operation_reaches p (watches p.types (Some w)) shunned.0 (is_watched (Some w)) (is_unnamed p.types (Some w)) number b (Part o place) behind
           (record s { activations = a ∷ rest; heap = heap; mode = Running }) there shunned.2 (ghost_by (is_access p.types w.is.cell.access) refl)
-          (λ q is. (and_parts (not (is_access p.types w.is.cell.access)) (is_watched (Some w) q) is).1)
+          (λ q is. (and_parts (not (is_access p.types w.is.cell.access)) (is_watched (Some w) q) is).1) low
           (apart_is w.holder.0 o.0 (λ same. other (id_is w.holder o same)))
