@@ -10,14 +10,15 @@ use Rattle.ada_meaning.specs.declared.state.Value.{Value}
 use Rattle.ada_meaning.specs.declared.state.Value.TheVariants.{Null, Names, Scalar, Part}
 use Rattle.ada_meaning.specs.Frame.{Frame, is_return}
 use Rattle.ada_meaning.specs.Frame as frame
+use Rattle.ada_meaning.specs.State.{Item, Master}
 use Rattle.ada_meaning.specs.Step.{places, operands, newest}
-use Rattle.ada_meaning.specs.Named.{State, named, whole, inside}
+use Rattle.ada_meaning.specs.Named.{Object, State, named, whole, inside}
 use Rattle.ada_tracked.specs.Frames.{View}
-use Rattle.ada_tracked.specs.Law.{TakesNone}
+use Rattle.ada_tracked.specs.Law.{NewestHousesNone, InnermostHousesNone, TakesNone}
 use Rattle.ada_tracked.specs.Seen.{IsOther, ArePlaces, IsWatched}
 use Rattle.ada_tracked.specs.Staying.{UnlessItEnds}
 use Rattle.ada_tracked.proofs.Lists.{other_first}
-use Rattle.ada_untouched.specs.Untouched.{hides, IsInSight, IsOpen, LeadsOn, LeadsToHolder, ExpressionIsOpen, ItemsAreOpen, RightIsOpen, StatementsAreOpen, FrameIsOpen, JumpIsOpen, FirstIsOpen, Untouched}
+use Rattle.ada_untouched.specs.Untouched.{hides, IsInSight, IsOpen, LeadsOn, LeadsToHolder, NewestHousesNoGhost, InnermostHousesNoGhost, ExpressionIsOpen, ItemsAreOpen, RightIsOpen, StatementsAreOpen, FrameIsOpen, JumpIsOpen, FirstIsOpen, Untouched}
 use Rattle.ada_untouched.specs.Unwritten.{FrameWritesShown, FirstWritesShown, Unwritten}
 use Rattle.ada_beside.specs.Confined.{IsConfinedFrom, ExpressionIsConfined, ItemsAreConfined, RightIsConfined, StatementsAreConfined, StoresReached, FrameIsConfined, BodyIsConfined, OperandsAreConfined, IsConfined}
 use Rattle.ada_beside.specs.Law.{LieBeside, hidden_beside, no_ghosts, TreatsNone, IsWithin}
@@ -29,6 +30,16 @@ in_sight Null = refl
 in_sight (Names o) = refl
 in_sight (Scalar v) = refl
 in_sight (Part o place) = refl
+
+-- Where the newest of some items houses no objects, it houses no ghost.
+newest_no_ghost : (heap : List Object) (items : List Item) → NewestHousesNone items → NewestHousesNoGhost no_ghosts heap items
+newest_no_ghost heap [] none = tt
+newest_no_ghost heap (i ∷ is) none = inl none
+
+-- So it is with the newest item of the innermost master.
+innermost_no_ghost : (heap : List Object) (masters : List Master) → InnermostHousesNone masters → InnermostHousesNoGhost no_ghosts heap masters
+innermost_no_ghost heap [] none = tt
+innermost_no_ghost heap (m ∷ ms) none = newest_no_ghost heap m.items none
 
 -- A conjunction is false whose first part is.
 not_first : (a b : Bool) → a ≡ false → (a && b) ≡ false
@@ -120,7 +131,7 @@ module _ (w : View) (reaches beside : ℕ → Bool) (apart : LieBeside w reaches
         (f : Frame Value) (k : List (Frame Value)) → FrameIsConfined w reaches f → OperandsAreConfined w reaches Running (f ∷ k) (operands s)
         → TreatsNone f → TakesNone f s.masters → FrameIsOpen (hidden_beside w beside) no_ghosts s f
     frame_open (frame.Does fs) k confined others untreated none = statements_open fs confined
-    frame_open (frame.Leaves mode) k confined others untreated none = inl none
+    frame_open (frame.Leaves mode) k confined others untreated none = innermost_no_ghost s.heap s.masters none
     frame_open (frame.Evaluates right) k confined others untreated none = right_open right confined
     frame_open (frame.Computes e) k confined others untreated none = expression_open e confined
     frame_open (frame.Follows cs) k confined others untreated none = followed_open cs (newest named s) (other_first w.object (operands s) others)
