@@ -243,8 +243,8 @@ module _ (w : World) where
     frame_goes (frame.Evaluates right) s sound on parts h houses root seeks running r = right_goes w tds right s sound h.0 root r h.2 h.1
     frame_goes (frame.Computes e) s sound on parts h houses root seeks running r = expression_goes w e s sound h.0 root r h.2 h.1
     frame_goes (frame.Follows cs) s sound on parts h houses root seeks running r =
-        follow_goes cs (newest named s) (popped s) sound.filled (elsewhere_first w.ghosts w.unnamed (operands s) r.operands) seeks (popped_runs w s r) h.2
-        h.1
+        follow_goes cs (newest named s) (popped s) sound.filled (elsewhere_first w.ghosts w.unnamed (operands s) r.operands) seeks
+        (popped_runs w s r) h.2 h.1
     frame_goes (frame.TestsNull equal) s sound on parts h houses root seeks running r =
         null_test_goes w equal (reads_null (newest named s)) (popped s) (popped_runs w s r) h.2 h.1
     frame_goes (frame.Refers q) s sound on parts h houses root seeks running r =

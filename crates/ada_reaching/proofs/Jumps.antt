@@ -174,7 +174,7 @@ module _ (w : World) where
       → (IsLast w.behind (frame.Returns actuals references) s.control → ⊥) → AreParts references → Left w (frame.Returns actuals references ∷ s.control)
       → Runs w s
       → AllGoOn (On w) (pass_next named false (landing m (frame.Returns actuals references)) m (unwound named m (frame.Returns actuals references) s))
-  ends_go m actuals references s is on parts (inl (ends, none)) r = absurd (on ends)
+  ends_go m actuals references s is on parts (inl (last, none)) r = absurd (on last)
   ends_go Running actuals references s is on parts (inr inner) r = absurd is
   ends_go (Raising e) actuals references s is on parts (inr inner) r = left_goes w s (frame.Returns actuals references) r inner s.mode
   ends_go Exiting actuals references s is on parts (inr inner) r = left_goes w s (frame.Returns actuals references) r inner s.mode

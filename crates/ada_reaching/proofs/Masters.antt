@@ -68,18 +68,6 @@ module _ (apart : Apart) (lower : List Master) where
   declares_out x [] left h = absurd h
   declares_out x (m ∷ ms) left h = h
 
-  -- Behind each frame what is left is so in some of the masters.
-  pub in_masters : (f : Frame Value) (ms : List Master) (left : List Master → Type 0) → InMasters apart lower f ms left → (ns : List Master) × left ns
-  in_masters (frame.Elaborates ds fs hs) [] left h = absurd h
-  in_masters (frame.Elaborates ds fs hs) (m ∷ ms) left h = (ms, h.1)
-  in_masters frame.Closes [] left h = absurd h
-  in_masters frame.Closes (m ∷ ms) left h = (ms, h.1)
-  in_masters (frame.Leaves mode) [] left h = absurd h
-  in_masters (frame.Leaves mode) (m ∷ ms) left h = (ms, h.1)
-  in_masters (frame.Declares x) [] left h = absurd h
-  in_masters (frame.Declares x) (m ∷ ms) left h = (m ∷ ms, h)
-  in_masters f ms left h = (ms, h)
-
 module _ (p : ProgramForm) (shuns : ℕ → Bool) (apart : Apart) (ghosts unnamed : Id → Bool) (behind : List (Frame Value)) (lower : List Master) (item : Item)
     (own : IsOwnedApart apart item.owned × (height lower ≤ item.number)) (m : Master) (ms : List Master) where
   -- What is left shuns the types still once the innermost master owns an item more.
@@ -96,11 +84,11 @@ module _ (p : ProgramForm) (shuns : ℕ → Bool) (apart : Apart) (ghosts unname
     anew = inner.anew;
     others = grown_left (procedure_of suspended) k (older suspended) inner.others;
   })
-  grown_left procedure (frame.Elaborates ds fs hs ∷ k) suspended (shun, front, left) = (shun, front, ((own, left.0), left.1))
-  grown_left procedure (frame.Closes ∷ k) suspended (shun, front, left) = (shun, front, ((own, left.0), left.1))
-  grown_left procedure (frame.Leaves mode ∷ k) suspended (shun, front, left) = (shun, front, ((own, left.0), left.1))
-  grown_left procedure (frame.Declares x ∷ k) suspended (shun, front, left) = (shun, front, grown_left procedure k suspended left)
-  grown_left procedure (f ∷ k) suspended (shun, front, left) = (shun, front, grown_left procedure k suspended left)
+  grown_left procedure (frame.Elaborates ds fs hs ∷ k) suspended left = (left.0, left.1, ((own, left.2.0), left.2.1))
+  grown_left procedure (frame.Closes ∷ k) suspended left = (left.0, left.1, ((own, left.2.0), left.2.1))
+  grown_left procedure (frame.Leaves mode ∷ k) suspended left = (left.0, left.1, ((own, left.2.0), left.2.1))
+  grown_left procedure (frame.Declares x ∷ k) suspended left = (left.0, left.1, grown_left procedure k suspended left.2)
+  grown_left procedure (f ∷ k) suspended left = (left.0, left.1, grown_left procedure k suspended left.2)
 
 module _ (w : World) (acts : List (Activation Value)) (masters : List Master) (heap : List Object) (r : IsRun w acts masters heap) where
   -- The items of the masters that were entered before are numbered below the next one.

@@ -53,7 +53,9 @@ module _ (heap : List Object) (item : ℕ) where
 
   -- So is the member of a number.
   pub member_there : (i : ℕ) → i < length (members heap item) → IsMember heap item (slice_index_or (members heap item) i Null)
-  member_there i below = one_there (members_of heap item) i (members_there 0 heap (λ j x at. at)) below
+  member_there i below =
+      one_there (members_of heap item) i
+      (members_there 0 heap (λ j x at. let same : j ≡ 0 + j = omega arith in subst (λ (n : ℕ). slice_get heap n ≡ Some x) same at)) below
 
 -- A member has its home in the item.
 pub member_home : (item : ℕ) (x : Object) → is_member item x ≡ true → x.cell.home.item ≡ item
