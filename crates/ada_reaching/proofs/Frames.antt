@@ -124,7 +124,8 @@ module _ (w : World) where
   module _ (tds : List TypeDefinition) (own : w.apart.definitions ≡ tds) (mode : Mode) (s : State) (running : s.mode ≡ Running) (r : Runs w s)
       (anew : begins_anew s.control ≡ true)
       (h : InMasters w.apart w.lower (frame.Leaves mode) w.upper (λ (ns : List Master). LeftIn w ns s.control)) where
-    -- The bodies go on as an object is taken out of the collection of an item, which they may end: it is finalized, ends and goes back before the master is left.
+    -- The bodies go on as an object is taken out of the collection of an item, which they may end: it is finalized, ends and goes back before the master is
+    -- left.
     object_goes :
         (t : ℕ) (cause : Cause) (v : Value) (found : Found (Cell Value)) → look s.heap v ≡ found → w.apart.ends t ≡ true → IsInSight w.ghosts v
         → ((o : Id) (x : Object) → v ≡ Names o → object_at s.heap o ≡ Some x → t ≡ x.cell.access)
@@ -237,8 +238,10 @@ module _ (w : World) where
         let left = in_own w.apart w.lower frame.Closes w.upper (λ (ns : List Master). LeftIn w ns s.control) refl h.2 in
         runs_on w (at (frame.Leaves Running ∷ s.control) s) running r
         (tt, h.1, own_in w.apart w.lower (frame.Leaves Running) w.upper (λ (ns : List Master). LeftIn w ns s.control) refl left) refl
-    frame_goes (frame.Leaves mode) s sound on parts h houses root seeks running r = leave_goes tds are_apart.own mode s running r h.1 h.2 w.upper refl h.2 houses
-    frame_goes (frame.Calls procedure callee actuals) s sound on parts h houses root seeks running r = begun_goes w procedure callee actuals s h.0.0 h.0.1 r h.2 h.1
+    frame_goes (frame.Leaves mode) s sound on parts h houses root seeks running r =
+        leave_goes tds are_apart.own mode s running r h.1 h.2 w.upper refl h.2 houses
+    frame_goes (frame.Calls procedure callee actuals) s sound on parts h houses root seeks running r =
+        begun_goes w procedure callee actuals s h.0.0 h.0.1 r h.2 h.1
     frame_goes (frame.Returns actuals references) s sound on parts h houses root seeks running r = returns_go actuals references s on parts h r
     frame_goes (frame.Evaluates right) s sound on parts h houses root seeks running r = right_goes w tds right s sound h.0 root r h.2 h.1
     frame_goes (frame.Computes e) s sound on parts h houses root seeks running r = expression_goes w e s sound h.0 root r h.2 h.1

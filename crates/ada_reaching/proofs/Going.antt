@@ -225,17 +225,19 @@ module _ (w : World) where
 
   -- They run on with other operands that refer to no ghost.
   pub operands_run :
-      (vs : List Value) (acts : List (Activation Value)) (masters : List Master) (heap : List Object) → AreElsewhere w.ghosts w.unnamed vs → IsRun acts masters heap
-      → IsRun (with_operands vs acts) masters heap
+      (vs : List Value) (acts : List (Activation Value)) (masters : List Master) (heap : List Object) → AreElsewhere w.ghosts w.unnamed vs
+      → IsRun acts masters heap → IsRun (with_operands vs acts) masters heap
   operands_run vs [] masters heap others r = r
-  operands_run vs (a ∷ acts) masters heap others r = record { runs = r.runs; waits = r.waits; owns = r.owns; places = r.places; operands = others; same = r.same }
+  operands_run vs (a ∷ acts) masters heap others r =
+      record { runs = r.runs; waits = r.waits; owns = r.owns; places = r.places; operands = others; same = r.same }
 
   -- So they do with other values of variables.
   pub places_run :
-      (vs : List Value) (acts : List (Activation Value)) (masters : List Master) (heap : List Object) → AreElsewhere w.ghosts w.unnamed vs → IsRun acts masters heap
-      → IsRun (with_places vs acts) masters heap
+      (vs : List Value) (acts : List (Activation Value)) (masters : List Master) (heap : List Object) → AreElsewhere w.ghosts w.unnamed vs
+      → IsRun acts masters heap → IsRun (with_places vs acts) masters heap
   places_run vs [] masters heap others r = r
-  places_run vs (a ∷ acts) masters heap others r = record { runs = r.runs; waits = r.waits; owns = r.owns; places = others; operands = r.operands; same = r.same }
+  places_run vs (a ∷ acts) masters heap others r =
+      record { runs = r.runs; waits = r.waits; owns = r.owns; places = others; operands = r.operands; same = r.same }
 
   -- They run on once an object has changed that is no ghost.
   pub changed_run :
@@ -337,4 +339,5 @@ module _ (w : World) where
 
   -- They run on once a variable has a value that refers to no ghost.
   pub put_runs : (x : ℕ) (v : Value) (s : State) → IsElsewhere w.ghosts w.unnamed v → Runs s → Runs (put x v s)
-  put_runs x v s other r = places_run (slice_set (places s) x v) s.activations s.masters s.heap (elsewhere_set w.ghosts w.unnamed (places s) x v other r.places) r
+  put_runs x v s other r =
+      places_run (slice_set (places s) x v) s.activations s.masters s.heap (elsewhere_set w.ghosts w.unnamed (places s) x v other r.places) r

@@ -142,8 +142,8 @@ none_sought types shuns apart ghosts heap (Raising e) k = tt
 none_sought types shuns apart ghosts heap Exiting k = tt
 none_sought types shuns apart ghosts heap Returning k = tt
 
--- The body of an operation begins that shuns some access types (7.6), for a part of an object that is no ghost: it runs so, in front of what is behind it, and in
--- masters of its own behind those that were entered before.
+-- The body of an operation begins that shuns some access types (7.6), for a part of an object that is no ghost: it runs so, in front of what is behind it, and
+-- in masters of its own behind those that were entered before.
 pub operation_reaches :
     (p : ProgramForm) (shuns : ℕ → Bool) (apart : Apart) (ghosts unnamed : Id → Bool) (procedure : ℕ) (b : BodyForm) (reference : Value)
     (behind : List (Frame Value)) (s : State)

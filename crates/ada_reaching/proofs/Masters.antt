@@ -37,7 +37,9 @@ height_behind (m ∷ ms) lower = let more = height_behind ms lower in omega (ari
 
 module _ (apart : Apart) (lower : List Master) where
   -- Such a frame stands for the innermost master.
-  pub in_own : (f : Frame Value) (ms : List Master) (left : List Master → Type 0) → is_own f ≡ true → InMasters apart lower f ms left → InOwn apart lower ms left
+  pub in_own :
+      (f : Frame Value) (ms : List Master) (left : List Master → Type 0) → is_own f ≡ true → InMasters apart lower f ms left
+      → InOwn apart lower ms left
   in_own (frame.Elaborates ds fs hs) [] left is h = h
   in_own (frame.Elaborates ds fs hs) (m ∷ ms) left is h = h
   in_own frame.Closes [] left is h = h
@@ -47,7 +49,9 @@ module _ (apart : Apart) (lower : List Master) where
   in_own f ms left is h = absurd (cc)
 
   -- So does another one in its place.
-  pub own_in : (f : Frame Value) (ms : List Master) (left : List Master → Type 0) → is_own f ≡ true → InOwn apart lower ms left → InMasters apart lower f ms left
+  pub own_in :
+      (f : Frame Value) (ms : List Master) (left : List Master → Type 0) → is_own f ≡ true → InOwn apart lower ms left
+      → InMasters apart lower f ms left
   own_in (frame.Elaborates ds fs hs) [] left is h = h
   own_in (frame.Elaborates ds fs hs) (m ∷ ms) left is h = h
   own_in frame.Closes [] left is h = h

@@ -73,7 +73,8 @@ module _ (w : World) where
 
   -- A master is left there where one is left behind.
   treating_stands :
-      (v : Value) (treatment : Treatment) (tasks : List Task) (k : List (Frame Value)) → is_leaving k ≡ false → is_leaving (treating v treatment tasks k) ≡ false
+      (v : Value) (treatment : Treatment) (tasks : List Task) (k : List (Frame Value)) → is_leaving k ≡ false
+      → is_leaving (treating v treatment tasks k) ≡ false
   treating_stands v treatment [] k stands = stands
   treating_stands v treatment (task ∷ tasks) k stands = stands
 
